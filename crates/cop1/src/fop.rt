@@ -114,7 +114,7 @@ impl<U: Drop> Fop<U> {
         usize::from(self.sender.fields().due)
     }
 
-    /// The transmission count, 1 to the limit (CCSDS 232.1-B-2, 5.1).
+    /// The transmission count, at least 1; the limit may be set below it (CCSDS 232.1-B-2, 5.1).
     pub fn count(&self) -> u8
         ensures { result ≡ self.now.count }
     {

@@ -179,7 +179,7 @@ impl Ground {
         self.fop.bypassed()
     }
 
-    /// The sender's transmission count, 1 to its limit (CCSDS 232.1-B-2, 5.1).
+    /// The sender's transmission count, at least 1; its limit may be set below it (CCSDS 232.1-B-2, 5.1).
     pub fn count(&self) -> u8
         ensures { result ≡ self.now.fop.count }
     {

@@ -30,14 +30,10 @@ use Rattle.sedgechisel_nodes.specs.Heard.{no_heard, heard_kept, no_word}
 use Rattle.cop1.specs.declared.vocabulary.Directive.TheVariants as directives
 use Rattle.nodes.specs.declared.event.Event.TheVariants as events
 
--- What a simulated link of a program in C holds.
-
 -- the world, and the octets of the frame or the packet that the last event gave
 pub record LinkState : Type 0 where
   pub world : World
   pub octets : List ℕ
-
--- The simulated link of a program in C: what it holds, and what an event answers and leaves.
 
 abbrev pub new_link : Config → LinkState
 new_link c = record { world = new_world c; octets = [] }
