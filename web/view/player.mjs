@@ -82,6 +82,6 @@ export class Player {
         const own = [{ ...fop, unsent: fop.waiting + fop.pending, bypassed: fop.bypass }, { ...farm, value: farm.vr }];
         [ground, spacecraft].forEach((said, k) => Object.keys(said).forEach((field) =>
             machines.same(own[k][field] ?? said[field], said[field], field)));
-        fop.whole = [ground.submitted, ground.sent_whole, ground.acknowledged_whole];
+        fop.whole = [ground.submitted, ground.sent_whole, ground.acknowledged_whole].map(Number);
     }
 }
