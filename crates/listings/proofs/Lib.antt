@@ -3,3 +3,4 @@ pub mod ListedPackets
 pub mod Digits
 pub mod Lanes
 pub mod Pieces
+pub mod OneMapLines

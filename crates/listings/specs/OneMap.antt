@@ -1,7 +1,7 @@
 -- The packets of one MAP. The receiver takes the frames of all MAPs: FARM-1 counts the Type-AD
 -- frames of a virtual channel, whatever their MAP (CCSDS 232.1-B-2, 6.1).
-use Rattle.std.specs.Prelude.{ℕ, is_ok, Bool, true, List, [], if◌then◌else◌, Option, Result, Ok}
-use Rattle.std.specs.Prelude.{Err}
+use Rattle.std.specs.Prelude.{◌≡◌, ℕ, ◌+◌, is_ok, Bool, true, List, [], ◌∷◌, ◌++◌}
+use Rattle.std.specs.Prelude.{if◌then◌else◌, Option, Result, Ok, Err}
 use Rattle.tc_frame.specs.declared.frame.Check.{Check}
 use Rattle.tc_frame.specs.declared.fault.TcFault.{TcFault}
 use Rattle.tc_frame.specs.Layout.{BodyView, Ad, Bd, Bc, FrameView}
@@ -9,8 +9,9 @@ use Rattle.tc_frame.specs.Decoding.{frame_at}
 use Rattle.listings.specs.FarmLines as farms
 use Rattle.listings.specs.Filters.{is_asked}
 use Rattle.listings.specs.FirstNumber.{farm_begun}
-use Rattle.listings.specs.Listing.{Lines}
-use Rattle.listings.specs.MapLines.{MapState, after_body, body_text}
+use Rattle.listings.specs.Listing.{Lines, record_lines}
+use Rattle.listings.specs.MapLines.{MapState, map_opened, after_body, after_record, body_text}
+use Rattle.listings.specs.MapLines.{record_text}
 use Rattle.listings.specs.RefusalLines.{frame_fault_line}
 
 -- the MAP that is asked for, where one is, and the receiver and the assembler
@@ -53,3 +54,24 @@ one_map_lines check = record {
   is_good = λ octets. is_ok (frame_at check octets);
   fault_line = frame_fault_line;
 }
+
+-- a record is no frame with a segment of another MAP
+abbrev pub is_record_on : Option ℕ → Result FrameView TcFault → Bool
+is_record_on map (Ok f) = is_on map f.body
+is_record_on map (Err e) = true
+
+-- the lines that a listing of all MAPs has of these records, of those that are no frames with a
+-- segment of another MAP; the first record has this number
+abbrev pub lines_on : Check → Option ℕ → MapState → ℕ → List (List ℕ) → List ℕ
+lines_on check map x i [] = []
+lines_on check map x i (o ∷ os) =
+    (if is_record_on map (frame_at check o) then record_text x i (frame_at check o) else [])
+    ++ lines_on check map (after_record check x o) (i + 1) os
+
+-- what is listed of a MAP are the lines that a listing of all MAPs has of it
+abbrev pub ListsAsAll : Type 0
+ListsAsAll =
+    (check : Check) (map : Option ℕ) (width vr : ℕ) (blocking : Bool) (records : List (List ℕ))
+    → record_lines (one_map_lines check)
+    (record { map = map; packets = map_opened width vr blocking }) 1 records
+    ≡ lines_on check map (map_opened width vr blocking) 1 records

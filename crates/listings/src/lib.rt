@@ -40,7 +40,7 @@ pub use frame_cutter::{FrameCutter, FrameLength};
 pub use frames::FrameListing;
 pub use listing::Listing;
 pub use maps::{MapListing, law_of_listed_packets};
-pub use one_map::OneMap;
+pub use one_map::{OneMap, law_of_one_map};
 pub use only::{Kept, Only};
 pub use output::{WriteFailed, write_all};
 pub use packets::PacketListing;

@@ -6,7 +6,7 @@ ghost use Rattle.tc_frame.specs.Decoding.{frame_at};
 ghost use Rattle.tc_frame.specs.Splitter.{check_if};
 ghost use Rattle.listings.specs.Filters.{is_asked};
 ghost use Rattle.listings.specs.Text.{Appends};
-ghost use Rattle.listings.specs.OneMap.{OneMapState, is_on, after_frame, one_map_begun, one_map_text, one_map_lines};
+ghost use Rattle.listings.specs.OneMap.{OneMapState, ListsAsAll, is_on, after_frame, one_map_begun, one_map_text, one_map_lines};
 
 use crate::first_number::Begins;
 use crate::lines::{push_invalid, push_refused};
@@ -88,6 +88,11 @@ fn is_asked(asked: Option<u8>, map: u8) -> bool
         Some(asked) => map == asked,
     }
 }
+
+/// What is listed of a MAP are the lines that a listing of all MAPs has of it, whatever comes on the others.
+pub fn law_of_one_map()
+    ensures { ListsAsAll }
+{}
 
 impl Begins for OneMap {
     ghost begun = { one_map_begun };
