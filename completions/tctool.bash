@@ -3,7 +3,7 @@ _tctool() {
     local word=${COMP_WORDS[COMP_CWORD]} before=${COMP_WORDS[COMP_CWORD - 1]} words
     COMPREPLY=()
     if [ "$COMP_CWORD" -eq 1 ]; then
-        words='farm map tc tm clcw check packets sim ground spacecraft help --help --version -h -V'
+        words='farm map tc tm clcw check packets encode sim ground spacecraft help --help --version -h -V'
     else
         case $before in
             --width | --vr | --scid | --vcid | --map | --length | --apid) return ;;
@@ -16,7 +16,8 @@ _tctool() {
             clcw | sim | ground | spacecraft) words='--help -h' ;;
             check) words='--scid --vcid --help -h' ;;
             packets) words='--apid --help -h' ;;
-            help) words='farm map tc tm clcw check packets sim ground spacecraft' ;;
+            encode) words='--check --help -h' ;;
+            help) words='farm map tc tm clcw check packets encode sim ground spacecraft' ;;
         esac
     fi
     if [ "$COMP_CWORD" -eq 1 ] || [ "${COMP_WORDS[1]}" = help ] || [ "${word#-}" != "$word" ]; then

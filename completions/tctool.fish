@@ -1,5 +1,5 @@
 # Completion of tctool for fish, made by tools/completions.
-set -l commands farm map tc tm clcw check packets sim ground spacecraft help
+set -l commands farm map tc tm clcw check packets encode sim ground spacecraft help
 complete -c tctool -n "not __fish_seen_subcommand_from $commands" -f
 complete -c tctool -n "not __fish_seen_subcommand_from $commands" -a farm -d 'Lists what a receiver (FARM-1) makes of each frame'
 complete -c tctool -n "not __fish_seen_subcommand_from $commands" -a map -d 'Lists the packets out of the frames that a receiver accepts'
@@ -8,16 +8,17 @@ complete -c tctool -n "not __fish_seen_subcommand_from $commands" -a tm -d 'List
 complete -c tctool -n "not __fish_seen_subcommand_from $commands" -a clcw -d 'Lists what each control word (CLCW) reports'
 complete -c tctool -n "not __fish_seen_subcommand_from $commands" -a check -d 'Lists the telecommand frames with check that are refused'
 complete -c tctool -n "not __fish_seen_subcommand_from $commands" -a packets -d 'Lists the fields of each space packet'
+complete -c tctool -n "not __fish_seen_subcommand_from $commands" -a encode -d 'Writes the octets of lines as tc and packets write them'
 complete -c tctool -n "not __fish_seen_subcommand_from $commands" -a sim -d 'Plays a script of the simulated link'
 complete -c tctool -n "not __fish_seen_subcommand_from $commands" -a ground -d 'Plays a ground (FOP-1), answering each line before it reads more'
 complete -c tctool -n "not __fish_seen_subcommand_from $commands" -a spacecraft -d 'Plays a spacecraft (FARM-1), answering each line before it reads more'
 complete -c tctool -n "not __fish_seen_subcommand_from $commands" -a help -d 'The help of a command'
-complete -c tctool -n "__fish_seen_subcommand_from help" -f -a 'farm map tc tm clcw check packets sim ground spacecraft'
+complete -c tctool -n "__fish_seen_subcommand_from help" -f -a 'farm map tc tm clcw check packets encode sim ground spacecraft'
 complete -c tctool -n "__fish_seen_subcommand_from farm map" -l width -x -d 'Width of the window, even, 2 to 254'
 complete -c tctool -n "__fish_seen_subcommand_from farm map" -l vr -x -d 'Number of the first frame that is expected, 0 to 255, or first'
 complete -c tctool -n "__fish_seen_subcommand_from farm map tc tm check" -l scid -x -d 'Lists the frames of this spacecraft alone, 0 to 1023'
 complete -c tctool -n "__fish_seen_subcommand_from farm map tc check" -l vcid -x -d 'Lists the frames of this virtual channel alone, 0 to 63'
-complete -c tctool -n "__fish_seen_subcommand_from farm map tc" -l check -d 'The frames end with their check'
+complete -c tctool -n "__fish_seen_subcommand_from farm map tc encode" -l check -d 'The frames end with their check'
 complete -c tctool -n "__fish_seen_subcommand_from map" -l map -x -d 'Lists the packets of this MAP alone, 0 to 63; the receiver takes the frames of all'
 complete -c tctool -n "__fish_seen_subcommand_from map" -l blocking -d 'A segment may hold several packets'
 complete -c tctool -n "__fish_seen_subcommand_from tm" -l length -x -d 'Octets of a frame, 16 to 2048'

@@ -29,14 +29,14 @@ def spelled(text):
 
 class Row:
     """What an entry says: `runs` has each input with what is written of it, `records` each line of octets, and of lines
-    that are answered one by one each line."""
+    that are answered or encoded one by one each line."""
 
     def __init__(self, name, says, head):
         self.name, self.says, self.words, self.has, self.records = name, says, [], [], []
         self.status, self.error, self.pieces, self.rest, kind, lines = 0, None, [], None, "script", []
         for at, line in enumerate(head):
             key, _, value = line.partition(":")
-            if key in ("octets", "script", "each") and not value:
+            if key in ("octets", "script", "each", "encoded") and not value:
                 kind, lines = key, head[at + 1 :]
                 break
             self.take(key, value.removeprefix(" "))
@@ -72,6 +72,12 @@ class Row:
 
     def take_each(self, lines):
         self.runs = [(spelled(it or ""), spelled(written)) for it, written in lines]
+
+    def take_encoded(self, lines):
+        for line, written in lines:
+            octets = bytes.fromhex(spelled(written).decode())
+            self.records.append((spelled(f"{line}\n"), octets) if line is not None else (b"", octets))
+        self.runs = [tuple(b"".join(it) for it in zip(*self.records))]
 
     def take_octets(self, lines):
         for front, written in lines:

@@ -63,6 +63,7 @@ impl Named {
                 file_argument(alloc, help),
             ]?,
             Named::Packets => vec![in alloc; apid_option(alloc), file_argument(alloc, help)]?,
+            Named::Encode => vec![in alloc; check_flag(alloc), file_argument(alloc, help)]?,
             Named::Clcw | Named::Sim => vec![in alloc; file_argument(alloc, help)]?,
             Named::Ground | Named::Spacecraft => vec![in alloc; input_argument(alloc, help)]?,
         })

@@ -21,6 +21,7 @@ pub enum Named {
     Clcw,
     Check,
     Packets,
+    Encode,
     Sim,
     Ground,
     Spacecraft,

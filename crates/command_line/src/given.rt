@@ -48,6 +48,9 @@ impl Named {
             Named::Packets => Task::Packets {
                 apid: apid_given(given),
             },
+            Named::Encode => Task::Encode {
+                check: given.get_flag("check"),
+            },
             Named::Sim => Task::Sim,
             Named::Ground => Task::Ground,
             Named::Spacecraft => Task::Spacecraft,

@@ -16,11 +16,16 @@ pub struct Described<'a> {
     pub ending: &'a str,
 }
 
-/// The end of a help: a line of output, what more there is to say, and the statuses.
+/// The end of a help: a line of output, or of input after the word that says so, what more there is to say,
+/// and the statuses.
 macro_rules! ending_of_help {
     ($line:literal $(, $more:literal)*) => {
+        ending_of_help!("Writes"; $line $(, $more)*)
+    };
+    ($verb:literal; $line:literal $(, $more:literal)*) => {
         concat!(
-            "Writes lines such as\n  ",
+            $verb,
+            " lines such as\n  ",
             $line,
             "\n\n",
             $($more,)*
@@ -57,7 +62,7 @@ pub(crate) use ending_of_help;
 const FRAMES: &str = "Telecommand frames, one after another";
 
 /// The commands in the order in which the help lists them.
-pub const COMMANDS: [Described<'static>; 10] = [
+pub const COMMANDS: [Described<'static>; 11] = [
     Described {
         command: Named::Farm,
         name: "farm",
@@ -155,6 +160,19 @@ pub const COMMANDS: [Described<'static>; 10] = [
             "  2 Version            the version number is not 000\n",
             "  3 IdleWithSecondary  an idle packet with a secondary header\n",
             "\nWithout --apid the packets of all application processes are listed.\n\n"
+        ),
+    },
+    Described {
+        command: Named::Encode,
+        name: "encode",
+        bin_name: "tctool encode",
+        about: "Writes the octets of lines as tc and packets write them",
+        file: "Lines, one for each frame or packet, with or without their numbers",
+        ending: ending_of_help!(
+            "Reads";
+            "1 AD scid=1 vcid=2 n=3 seg=3 map=4 data=1005C0000000AA",
+            "and writes the frame or the packet of each. A line that is empty or begins with #\n",
+            "has none. Nothing is written of a line that is unreadable, or after it.\n\n"
         ),
     },
     Described {

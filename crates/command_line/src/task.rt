@@ -68,6 +68,10 @@ pub enum Task {
     Packets {
         apid: Option<u16>,
     },
+    /// Writes the octets of lines as those of `Tc` and of `Packets` are.
+    Encode {
+        check: bool,
+    },
     /// Plays a script of the simulated link.
     Sim,
     /// Plays a ground, line by line.

@@ -9,7 +9,7 @@ use Rattle.octets.specs.Beginning.{IsBeginning}
 use Rattle.listings.proofs.Pieces.{gained_more, gained_whole, gained_none, begins_more}
 use Rattle.line_stream.specs.Lines.{parts_of, all_but_last, last_part, ended_lines, left_of, line_left}
 use Rattle.line_stream.specs.Playing.{Playing, Standing, answers, after_lines, are_good, answers_of, answers_so_far}
-use Rattle.line_stream.specs.Playing.{is_all_good, joined, fed}
+use Rattle.line_stream.specs.Playing.{after_text, is_all_good, joined, fed}
 use Rattle.line_stream.proofs.Cutting.{ended_lines-append, left_of-append}
 use Rattle.line_stream.proofs.Steps.{and_assoc}
 
@@ -174,3 +174,10 @@ module _ {S : Type 0} (playing : Playing S) where
         ap (λ (x : Standing S). x.all_good && are_good playing x.player (line_left x.left)) is.stands
         ∙ sym (is_all_good-so_far s (gained old given))
         ∙ ap (is_all_good playing s) (sym same)
+
+    pub player_at_end : after_lines playing code.player (line_left code.left) ≡ after_text playing s (gained old new)
+    player_at_end =
+        let octets = gained old given in
+        ap (λ (x : Standing S). after_lines playing x.player (line_left x.left)) is.stands
+        ∙ sym (after_lines-append s (ended_lines octets) (line_left (left_of octets)))
+        ∙ ap (after_text playing s) (sym same)

@@ -37,7 +37,7 @@ module _ {S : Type 0} (playing : Playing S) where
       (and-true (playing.is_good st.player line)))
 
   -- octets in which a line feed ends a line
-  pub fed_line : (st : Standing S) (part rest after : List ℕ) → parts_of rest ≡ part ∷ parts_of after
+  fed_line : (st : Standing S) (part rest after : List ℕ) → parts_of rest ≡ part ∷ parts_of after
       → fed playing (played playing st ((st.left ++ part) ∷ [] ∷ [])) after ≡ fed playing st rest
   fed_line st part rest after e =
       let has = text_has_parts after in
@@ -47,3 +47,12 @@ module _ {S : Type 0} (playing : Playing S) where
       ∙ played_one st line has.first has.more
       ∙ ap (λ (ps : List (List ℕ)). played playing st (line ∷ ps)) (sym has.is)
       ∙ ap (λ (ps : List (List ℕ)). played playing st (joined st.left ps)) (sym e)
+
+  -- the same, from what the code has: octets go on the part that is there, and that is played as a line
+  pub fed_after : (st next : Standing S) (line part rest after : List ℕ) → line ≡ st.left ++ part
+      → next ≡ played playing (record st { left = line }) (line ∷ [] ∷ []) → parts_of rest ≡ part ∷ parts_of after
+      → fed playing next after ≡ fed playing st rest
+  fed_after st next line part rest after goes_on plays cuts =
+      ap (λ (x : Standing S). fed playing x after)
+      (plays ∙ ap (λ (l : List ℕ). played playing (record st { left = l }) (l ∷ [] ∷ [])) goes_on)
+      ∙ fed_line st part rest after cuts

@@ -57,6 +57,10 @@ module _ {S : Type 0} (playing : Playing S) where
   abbrev pub is_all_good : S → List ℕ → Bool
   is_all_good s text = are_good s (lines_of text)
 
+  -- the player after a text that has ended
+  abbrev pub after_text : S → List ℕ → S
+  after_text s text = after_lines s (lines_of text)
+
   -- a text that is played further: each of these parts but the last is a line
   abbrev pub played : Standing S → List (List ℕ) → Standing S
   played st parts = record {

@@ -1,14 +1,14 @@
 // Reads a text in pieces, and plays its lines.
 
-ghost use Rattle.std.specs.Prelude.{◌≡◌, ◌⊎◌, ◌+◌, ◌&&◌, ◌++◌, ◌∷◌, [], string_bytes, Err, OnOk, IfOk, IfErr};
+ghost use Rattle.std.specs.Prelude.{◌≡◌, ◌⊎◌, ◌+◌, ◌&&◌, ◌++◌, ◌∷◌, [], Err, OnOk, IfOk, IfErr};
 ghost use Rattle.listings.specs.Devices.{HasEnded, gained, writes_failed_in, Writes, BeginsToWrite};
 ghost use Rattle.listings.specs.Streams.{Reads, WritesText};
 ghost use Rattle.line_stream.specs.Lines.{line_left};
-ghost use Rattle.line_stream.specs.Playing.{answers, answers_of, answers_so_far, are_good, is_all_good, fresh};
-ghost use Rattle.line_stream.specs.Playing.{played, fed, standing, HasPlayed};
+ghost use Rattle.line_stream.specs.Playing.{after_lines, after_text, answers, answers_of, answers_so_far, are_good, is_all_good};
+ghost use Rattle.line_stream.specs.Playing.{fed, fresh, played, standing, HasPlayed};
 
 use crate::parts::cut;
-use crate::player::Player;
+use crate::player::{Gathered, Player, Responder};
 use listings::{ListingFault, MOST_OCTETS, Sink, Source, WriteFailed, write_all};
 use std::alloc::{AllocError, Global};
 
@@ -20,32 +20,32 @@ pub struct Progress {
 }
 
 // Plays what is left as a line, after which nothing is.
-fn play_line<P: Player>(
+fn play_line<T: Gathered, P: Responder<T>>(
     alloc: Global,
     player: &mut P,
     progress: &mut Progress,
-    text: &mut String,
+    text: &mut T,
 ) -> Result<(), AllocError>
-    ensures { OnOk result (standing (string_bytes text.new) player.new progress.new
-        ≡ played P.playing (standing (string_bytes text.old) player.old progress.old)
+    ensures { OnOk result (standing (T.octets text.new) player.new progress.new
+        ≡ played P.playing (standing (T.octets text.old) player.old progress.old)
         (progress.old.left.items ∷ [] ∷ [])) }
 {
-    let good = player.play(alloc, progress.left.as_slice(), text)?;
+    let good = player.respond(alloc, progress.left.as_slice(), text)?;
     progress.all_good = progress.all_good && good;
     progress.left.clear();
     Ok(())
 }
 
 // Plays all lines that a piece ends, and keeps what is left of it.
-fn play_parts<P: Player>(
+fn play_parts<T: Gathered, P: Responder<T>>(
     alloc: Global,
     player: &mut P,
     progress: &mut Progress,
-    text: &mut String,
+    text: &mut T,
     piece: &[u8],
 ) -> Result<(), AllocError>
-    ensures { OnOk result (standing (string_bytes text.new) player.new progress.new
-        ≡ fed P.playing (standing (string_bytes text.old) player.old progress.old) piece.now) }
+    ensures { OnOk result (standing (T.octets text.new) player.new progress.new
+        ≡ fed P.playing (standing (T.octets text.old) player.old progress.old) piece.now) }
 {
     let mut rest = piece;
     'lines: loop {
@@ -60,11 +60,11 @@ fn play_parts<P: Player>(
 }
 
 // Plays a piece, and writes the answers to all lines that it ends.
-fn play_piece<P: Player, W: Sink>(
+fn play_piece<T: Gathered, P: Responder<T>, W: Sink>(
     alloc: Global,
     player: &mut P,
     progress: &mut Progress,
-    text: &mut String,
+    text: &mut T,
     writer: &mut W,
     piece: &[u8],
 ) -> Result<(), ListingFault>
@@ -81,7 +81,7 @@ fn play_piece<P: Player, W: Sink>(
     let Ok(()) = play_parts(alloc, player, progress, text, piece) else {
         return Err(ListingFault::Memory);
     };
-    match write_all(writer, text.as_bytes()) {
+    match write_all(writer, text.as_octets()) {
         Ok(()) => Ok(()),
         Err(WriteFailed) => Err(ListingFault::Write),
     }
@@ -89,15 +89,17 @@ fn play_piece<P: Player, W: Sink>(
 
 // Plays what is left when the input has ended, where anything is, as if a line feed ended it, and says
 // whether all lines were good.
-fn play_rest<P: Player, W: Sink>(
+fn play_rest<T: Gathered, P: Responder<T>, W: Sink>(
     alloc: Global,
     player: &mut P,
     progress: &mut Progress,
-    text: &mut String,
+    text: &mut T,
     writer: &mut W,
 ) -> Result<bool, ListingFault>
     ensures good { IfOk result (λ good. good ≡ (progress.old.all_good
         && are_good P.playing player.old (line_left progress.old.left.items))) }
+    ensures player { OnOk result (player.new
+        ≡ after_lines P.playing player.old (line_left progress.old.left.items)) }
     ensures text { Writes result (W.taken_octets writer.old) (W.taken_octets writer.new)
         (answers P.playing player.old (line_left progress.old.left.items)) }
     ensures beginning { BeginsToWrite result (W.taken_octets writer.old) (W.taken_octets writer.new)
@@ -138,22 +140,45 @@ pub fn play_stream<P: Player + Drop, R: Source, W: Sink>(
         ≡ is_all_good P.playing player (gained (R.given reader.old) (R.given reader.new))) }
     ensures end { OnOk result (HasEnded (R.has_ended reader.new) (R.remaining reader.new)) }
 {
+    respond_to_stream(alloc, reader, writer, &mut player, String::new(alloc))
+}
+
+/// `play_stream` for answers of any kind, which are gathered in `text`; the player is used again.
+/// Faults: Read, Write, Memory, TooLong. Memory: yes. Cost: the number of octets, and the player's.
+pub fn respond_to_stream<T: Gathered + Drop, P: Responder<T>, R: Source, W: Sink>(
+    alloc: Global,
+    reader: &mut R,
+    writer: &mut W,
+    player: &mut P,
+    mut text: T,
+) -> Result<bool, ListingFault>
+    ensures reads { Reads R.given R.remaining R.failures result reader.old reader.new }
+    ensures writes { WritesText W.taken_octets W.failures result writer.old writer.new
+        (answers_of P.playing player.old (gained (R.given reader.old) (R.given reader.new))) }
+    ensures in_time { result ≡ Err ListingFault.Read
+        → W.taken_octets writer.new ≡ W.taken_octets writer.old
+        ++ answers_so_far P.playing player.old (gained (R.given reader.old) (R.given reader.new)) }
+    ensures good { IfOk result (λ good. good
+        ≡ is_all_good P.playing player.old (gained (R.given reader.old) (R.given reader.new))) }
+    ensures player { OnOk result (player.new
+        ≡ after_text P.playing player.old (gained (R.given reader.old) (R.given reader.new))) }
+    ensures end { OnOk result (HasEnded (R.has_ended reader.new) (R.remaining reader.new)) }
+{
     let mut progress = Progress {
         left: Vec::new(alloc),
         all_good: true,
     };
-    let mut text = String::new(alloc);
-    play_pieces(alloc, reader, writer, &mut player, &mut progress, &mut text)
+    play_pieces(alloc, reader, writer, player, &mut progress, &mut text)
 }
 
 // Plays a text of which nothing was read yet.
-fn play_pieces<P: Player, R: Source, W: Sink>(
+fn play_pieces<T: Gathered, P: Responder<T>, R: Source, W: Sink>(
     alloc: Global,
     reader: &mut R,
     writer: &mut W,
     player: &mut P,
     progress: &mut Progress,
-    text: &mut String,
+    text: &mut T,
 ) -> Result<bool, ListingFault>
     requires begins { standing [] player.old progress.old ≡ fresh player.old }
     ensures reads { Reads R.given R.remaining R.failures result reader.old reader.new }
@@ -164,6 +189,8 @@ fn play_pieces<P: Player, R: Source, W: Sink>(
         ++ answers_so_far P.playing player.old (gained (R.given reader.old) (R.given reader.new)) }
     ensures good { IfOk result (λ good. good
         ≡ is_all_good P.playing player.old (gained (R.given reader.old) (R.given reader.new))) }
+    ensures player { OnOk result (player.new
+        ≡ after_text P.playing player.old (gained (R.given reader.old) (R.given reader.new))) }
     ensures end { OnOk result (HasEnded (R.has_ended reader.new) (R.remaining reader.new)) }
 {
     let mut piece = [0; 4096];

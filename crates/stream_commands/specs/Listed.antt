@@ -84,12 +84,14 @@ work_of (tasks.Tm size report channel) = telemetry_work size report channel
 work_of tasks.Clcw = Lists word_layout report_lines tt
 work_of (tasks.Check channel) = frames_work On refusal_lines tt channel
 work_of (tasks.Packets apid) = packet_work apid
+work_of (tasks.Encode check) = Plays
 work_of tasks.Sim = Plays
 work_of tasks.Ground = Plays
 work_of tasks.Spacecraft = Plays
 
 -- whether a file is listed
 abbrev pub is_listed : Task → Bool
+is_listed (tasks.Encode check) = false
 is_listed tasks.Sim = false
 is_listed tasks.Ground = false
 is_listed tasks.Spacecraft = false

@@ -101,7 +101,7 @@ pub fn list<R: Source, W: Sink>(
             list_on::<true, _, R, W>(alloc, reader, writer, task, RefusalListing, channel)
         }
         Task::Packets { apid } => list_packets(alloc, reader, writer, task, apid),
-        Task::Sim | Task::Ground | Task::Spacecraft => unreachable!(),
+        Task::Encode { .. } | Task::Sim | Task::Ground | Task::Spacecraft => unreachable!(),
     }
 }
 

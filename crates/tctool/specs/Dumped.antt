@@ -1,5 +1,5 @@
 -- What the commands write of the octets of a file, those that play it among them.
-use Rattle.std.specs.Prelude.{◌≡◌, List, ℕ, ◌++◌, Result, Err}
+use Rattle.std.specs.Prelude.{◌≡◌, List, ℕ, ◌++◌, Option, Some, None, Result, Err}
 use Rattle.script.specs.Ending as ends
 use Rattle.script.specs.Ending.{script_ending, script_text}
 use Rattle.command_line.specs.declared.task.Task.{Task}
@@ -10,6 +10,8 @@ use Rattle.stream_commands.specs.Outcome.{outcome_if}
 use Rattle.stream_commands.specs.declared.outcome.Outcome.{Outcome}
 use Rattle.listings.specs.declared.fault.ListingFault.{ListingFault}
 use Rattle.listings.specs.declared.fault.ListingFault.TheVariants.{Read}
+use Rattle.tc_frame.specs.Splitter.{check_if}
+use Rattle.encode_lines.specs.Octets.{octets_in, unreadable_in}
 use Rattle.line_stream.specs.Playing.{answers_of, answers_so_far, is_all_good}
 use Rattle.node_lines.specs.Ground.{ground_rules}
 use Rattle.node_lines.specs.Spacecraft.{spacecraft_rules}
@@ -21,8 +23,14 @@ as_outcome ends.Good = Good
 as_outcome (ends.Unreadable line) = Unreadable line
 as_outcome (ends.OutOfRange field) = OutOfRange field
 
--- the lines for all octets of a file, its rest included
+-- how lines end, by the number of the first one that is unreadable
+abbrev pub as_read : Option ℕ → OutcomeView
+as_read None = Good
+as_read (Some line) = Unreadable line
+
+-- the lines for all octets of a file, its rest included, or the octets for its lines
 abbrev pub lines_of : Task → List ℕ → List ℕ
+lines_of (tasks.Encode check) octets = octets_in (check_if check) octets
 lines_of tasks.Sim octets = script_text octets
 lines_of tasks.Ground octets = answers_of (node_playing ground_rules) fresh_player octets
 lines_of tasks.Spacecraft octets = answers_of (node_playing spacecraft_rules) fresh_player octets
@@ -39,9 +47,10 @@ AnswersInTime tasks.Spacecraft result old new octets =
     → new ≡ old ++ answers_so_far (node_playing spacecraft_rules) fresh_player octets
 AnswersInTime task result old new octets = Unit {0}
 
--- Good exactly where every record is good and nothing is left, or every line that a node is asked
--- is good; a script is judged whole
+-- Good exactly where every record is good and nothing is left, every line of a record is readable,
+-- or every line that a node is asked is good; a script is judged whole
 abbrev pub outcome_for : Task → List ℕ → OutcomeView
+outcome_for (tasks.Encode check) octets = as_read (unreadable_in (check_if check) octets)
 outcome_for tasks.Sim octets = as_outcome (script_ending octets)
 outcome_for tasks.Ground octets =
     outcome_view (outcome_if (is_all_good (node_playing ground_rules) fresh_player octets))

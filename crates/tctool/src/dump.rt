@@ -9,6 +9,7 @@ ghost use Rattle.stream_commands.specs.Listed.{StopsAt};
 ghost use Rattle.stream_commands.specs.Outcome.{outcome_view};
 ghost use Rattle.tctool.specs.Dumped.{lines_of, outcome_for, AnswersInTime};
 
+use crate::encoding::encode;
 use crate::node::play_node;
 use crate::simulation::simulate;
 use command_line::{Options, Task};
@@ -18,11 +19,13 @@ use std::alloc::Global;
 use stream_commands::{Outcome, list};
 
 /// Reads the input to its end, in pieces, and writes the lines that the words ask for: of each piece
-/// before the next is read, but of a script once all of it is read. A node answers each line of a piece.
+/// before the next is read, but of a script once all of it is read. A node answers each line of a piece. For
+/// `Task::Encode` octets are written in place of lines.
 ///
 /// An `Ok` says that all lines are written and nothing else, and whether every record was good. Where
 /// a record declares a length that none can have, its line is the last and nothing more is read. Of a
-/// script that is not played nothing is written. The
+/// script that is not played nothing is written, and nothing of lines of frames and packets from the first
+/// unreadable one on. The
 /// fault is `Read` or `Write` where that device failed, `Memory` where none was left, and `TooLong`
 /// past `MOST_OCTETS` octets; what is written by then is a beginning of the lines. A call that failed
 /// is the last of its device.
@@ -44,6 +47,7 @@ pub fn dump<R: Source, W: Sink>(
         ⊎ StopsAt options.now.task (gained (R.given reader.old) (R.given reader.new))) }
 {
     match options.task {
+        Task::Encode { check } => encode(alloc, reader, writer, check),
         Task::Sim => simulate(alloc, reader, writer),
         Task::Ground => play_node::<Ground, R, W>(alloc, reader, writer),
         Task::Spacecraft => play_node::<Spacecraft, R, W>(alloc, reader, writer),

@@ -1,11 +1,12 @@
 //! The command `tctool`: what files of telecommand frames, telemetry frames and space packets hold, what a
-//! receiver makes of telecommand frames and which packets come out of them, what scripts of a simulated link
-//! answer, and what a node answers that is played line by line.
+//! receiver makes of telecommand frames and which packets come out of them, what octets lines of frames and
+//! packets have, what scripts of a simulated link answer, and what a node answers that is played line by line.
 #![tactic(auto)]
 
 ghost use Rattle.command_line.specs.Arguments.{IsInRange};
 
 mod dump;
+mod encoding;
 mod given;
 mod node;
 mod simulation;

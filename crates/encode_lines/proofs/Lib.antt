@@ -1,0 +1,9 @@
+pub mod FrameWords
+pub mod Found
+pub mod FieldWords
+pub mod WordLines
+pub mod ReadFrames
+pub mod SpelledFrames
+pub mod ReadPackets
+pub mod SpelledPackets
+pub mod Runs

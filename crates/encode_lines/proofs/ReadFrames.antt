@@ -1,0 +1,210 @@
+-- A line that says a frame is the line of that frame.
+use Rattle.std.proofs.Common.{◌≡◌, ◌∙◌, ◌≤◌, ◌&&◌, ◌++◌, ℕ, zero, suc, List, [], ◌∷◌}
+use Rattle.std.proofs.Common.{Option, Some, refl, sym, ap, arith, append_assoc}
+use Rattle.std.specs.Prelude.{codes, decimal, option_map, option_and_then}
+use Rattle.std.specs.Str.{bytes_eq}
+use Rattle.std.proofs.lemmas.Bool.{and_parts}
+use Rattle.std.proofs.lemmas.Option.{same_Some}
+use Rattle.hex.specs.Hex.{encode_upper}
+use Rattle.tc_frame.specs.declared.frame.Command.TheVariants.{Unlock, SetVr}
+use Rattle.tc_frame.specs.Layout.{SegmentView, BodyView, Ad, Bd, Bc, FrameView, flags_code}
+use Rattle.tc_frame.specs.Decoding.{flags_at, frame_with}
+use Rattle.script_lines.specs.Words.{words_in, number_in_word}
+use Rattle.script_lines.proofs.Numerals.{read}
+use Rattle.encode_lines.specs.Fields.{number_after, octets_after, without_number}
+use Rattle.encode_lines.specs.Frames.{frame_of, segment_of, segment_with, frame_in, sequence_line, bypass_line}
+use Rattle.encode_lines.specs.Frames.{unlock_line, set_line}
+use Rattle.encode_lines.specs.Listed.{IsLineOf, frame_text}
+use Rattle.encode_lines.proofs.Found.{mapped, chained, passed, same_word}
+use Rattle.encode_lines.proofs.FieldWords.{number_read, data_read}
+use Rattle.encode_lines.proofs.WordLines.{ended, line_read}
+
+pub flags_again : (code : ℕ) → code ≤ 3 → flags_code (flags_at code) ≡ code
+flags_again zero le = refl
+flags_again (suc zero) le = refl
+flags_again (suc (suc zero)) le = refl
+flags_again (suc (suc (suc zero))) le = refl
+flags_again (suc (suc (suc (suc n)))) le = absurd (omega arith)
+
+-- ---- the parts of a frame, and the words that say them
+
+pub record SaysChannel (scid vcid : List ℕ) (body : Option BodyView) (f : FrameView) : Type 0 where
+  pub scid_is : scid ≡ codes "scid=" ++ decimal f.scid
+  pub vcid_is : vcid ≡ codes "vcid=" ++ decimal f.vcid
+  pub body_is : body ≡ Some f.body
+
+says_channel : (scid vcid : List ℕ) (body : Option BodyView) (f : FrameView) → frame_of scid vcid body ≡ Some f
+    → SaysChannel scid vcid body f
+says_channel scid vcid body f e =
+    let s = chained (λ (x : ℕ). option_and_then (λ (v : ℕ). option_map (frame_with x v) body)
+    (number_after (codes "vcid=") 63 vcid)) (number_after (codes "scid=") 1023 scid) f e in
+    let v = chained (λ (x : ℕ). option_map (frame_with s.value x) body) (number_after (codes "vcid=") 63 vcid) f
+    s.gives in
+    let b = mapped (frame_with s.value v.value) body f v.gives in
+    record {
+      scid_is = (number_read (codes "scid=") 1023 scid s.value (omega arith) s.is).0
+          ∙ ap (λ (x : FrameView). codes "scid=" ++ decimal x.scid) b.gives;
+      vcid_is = (number_read (codes "vcid=") 63 vcid v.value (omega arith) v.is).0
+          ∙ ap (λ (x : FrameView). codes "vcid=" ++ decimal x.vcid) b.gives;
+      body_is = b.is ∙ ap (λ (x : FrameView). Some x.body) b.gives;
+    }
+
+pub record SaysSegment (flags map payload : List ℕ) (s : SegmentView) : Type 0 where
+  pub flags_is : flags ≡ codes "seg=" ++ decimal (flags_code s.header.flags)
+  pub map_is : map ≡ codes "map=" ++ decimal s.header.map
+  pub payload_is : payload ≡ codes "data=" ++ encode_upper s.payload
+
+says_segment : (flags map payload : List ℕ) (s : SegmentView) → segment_of flags map payload ≡ Some s
+    → SaysSegment flags map payload s
+says_segment flags map payload s e =
+    let q = chained (λ (x : ℕ). option_and_then (λ (m : ℕ). option_map (segment_with x m)
+    (octets_after (codes "data=") payload)) (number_after (codes "map=") 63 map))
+    (number_after (codes "seg=") 3 flags) s e in
+    let m = chained (λ (x : ℕ). option_map (segment_with q.value x) (octets_after (codes "data=") payload))
+    (number_after (codes "map=") 63 map) s q.gives in
+    let o = mapped (segment_with q.value m.value) (octets_after (codes "data=") payload) s m.gives in
+    let flags_so = number_read (codes "seg=") 3 flags q.value (omega arith) q.is in
+    record {
+      flags_is = flags_so.0 ∙ ap (λ (x : ℕ). codes "seg=" ++ decimal x) (sym (flags_again q.value flags_so.1))
+          ∙ ap (λ (x : SegmentView). codes "seg=" ++ decimal (flags_code x.header.flags)) o.gives;
+      map_is = (number_read (codes "map=") 63 map m.value (omega arith) m.is).0
+          ∙ ap (λ (x : SegmentView). codes "map=" ++ decimal x.header.map) o.gives;
+      payload_is = data_read (codes "data=") payload o.value o.is
+          ∙ ap (λ (x : SegmentView). codes "data=" ++ encode_upper x.payload) o.gives;
+    }
+
+-- ---- the words of the line of a frame
+
+abbrev pub channel_words : List ℕ → FrameView → List (List ℕ) → List (List ℕ)
+channel_words kind f words = kind ∷ (codes "scid=" ++ decimal f.scid) ∷ (codes "vcid=" ++ decimal f.vcid) ∷ words
+
+abbrev pub segment_words : SegmentView → List (List ℕ)
+segment_words s =
+    (codes "seg=" ++ decimal (flags_code s.header.flags)) ∷ (codes "map=" ++ decimal s.header.map)
+    ∷ (codes "data=" ++ encode_upper s.payload)
+    ∷ []
+
+abbrev pub words_with : FrameView → BodyView → List (List ℕ)
+words_with f (Ad n s) = channel_words (codes "AD") f ((codes "n=" ++ decimal n) ∷ segment_words s)
+words_with f (Bd s) = channel_words (codes "BD") f (segment_words s)
+words_with f (Bc Unlock) = channel_words (codes "BC") f (codes "unlock" ∷ [])
+words_with f (Bc (SetVr x)) = channel_words (codes "BC") f (codes "set" ∷ decimal x ∷ [])
+
+-- ---- these words, joined
+
+pub onto : (word rest more whole : List ℕ) → rest ++ more ≡ whole → (word ++ rest) ++ more ≡ word ++ whole
+onto word rest more whole e = append_assoc word rest more ∙ ap (λ (t : List ℕ). word ++ t) e
+
+joined_channel : (kind scid vcid rest whole : List ℕ) → rest ++ 10 ∷ [] ≡ whole
+    → (kind ++ 32 ∷ ((codes "scid=" ++ scid) ++ 32 ∷ ((codes "vcid=" ++ vcid) ++ rest))) ++ 10 ∷ []
+    ≡ (kind ++ (codes " scid=" ++ (scid ++ (codes " vcid=" ++ vcid)))) ++ whole
+joined_channel kind scid vcid rest whole e =
+    let body : List ℕ = codes " scid=" ++ (scid ++ (codes " vcid=" ++ (vcid ++ whole))) in
+    onto kind (32 ∷ ((codes "scid=" ++ scid) ++ 32 ∷ ((codes "vcid=" ++ vcid) ++ rest))) (10 ∷ []) body
+    (ap (λ (t : List ℕ). codes " scid=" ++ t)
+    (onto scid (32 ∷ ((codes "vcid=" ++ vcid) ++ rest)) (10 ∷ []) (codes " vcid=" ++ (vcid ++ whole))
+    (ap (λ (t : List ℕ). codes " vcid=" ++ t) (onto vcid rest (10 ∷ []) whole e))))
+    ∙ sym (onto kind (codes " scid=" ++ (scid ++ (codes " vcid=" ++ vcid))) whole body
+    (ap (λ (t : List ℕ). codes " scid=" ++ t)
+    (onto scid (codes " vcid=" ++ vcid) whole (codes " vcid=" ++ (vcid ++ whole)) refl)))
+
+joined_segment : (flags map payload : List ℕ)
+    → (32 ∷ ((codes "seg=" ++ flags) ++ 32 ∷ ((codes "map=" ++ map) ++ 32 ∷ (codes "data=" ++ payload)))) ++ 10 ∷ []
+    ≡ codes " seg=" ++ (flags ++ (codes " map=" ++ (map ++ (codes " data=" ++ (payload ++ 10 ∷ [])))))
+joined_segment flags map payload =
+    ap (λ (t : List ℕ). codes " seg=" ++ t)
+    (onto flags (32 ∷ ((codes "map=" ++ map) ++ 32 ∷ (codes "data=" ++ payload))) (10 ∷ [])
+    (codes " map=" ++ (map ++ (codes " data=" ++ (payload ++ 10 ∷ []))))
+    (ap (λ (t : List ℕ). codes " map=" ++ t) (onto map (32 ∷ (codes "data=" ++ payload)) (10 ∷ [])
+    (codes " data=" ++ (payload ++ 10 ∷ [])) refl)))
+
+joined_as : (f : FrameView) (b : BodyView) → ended (words_with f b) ≡ frame_text (frame_with f.scid f.vcid b)
+joined_as f (Ad n s) =
+    joined_channel (codes "AD") (decimal f.scid) (decimal f.vcid) _ _
+    (ap (λ (t : List ℕ). codes " n=" ++ t) (onto (decimal n) _ (10 ∷ []) _
+    (joined_segment (decimal (flags_code s.header.flags)) (decimal s.header.map) (encode_upper s.payload))))
+joined_as f (Bd s) =
+    joined_channel (codes "BD") (decimal f.scid) (decimal f.vcid) _ _
+    (joined_segment (decimal (flags_code s.header.flags)) (decimal s.header.map) (encode_upper s.payload))
+joined_as f (Bc Unlock) = joined_channel (codes "BC") (decimal f.scid) (decimal f.vcid) (codes " unlock") _ refl
+joined_as f (Bc (SetVr x)) =
+    joined_channel (codes "BC") (decimal f.scid) (decimal f.vcid) (codes " set " ++ decimal x) _ refl
+
+-- the words of the line of a frame, joined, are that line
+pub frame_words_joined : (f : FrameView) → ended (words_with f f.body) ≡ frame_text f
+frame_words_joined f = joined_as f f.body
+
+-- ---- the rows
+
+sequence_row : (kind scid vcid n flags map payload : List ℕ) (f : FrameView)
+    → sequence_line kind scid vcid n flags map payload ≡ Some f
+    → kind ∷ scid ∷ vcid ∷ n ∷ flags ∷ map ∷ payload ∷ [] ≡ words_with f f.body
+sequence_row kind scid vcid n flags map payload f e =
+    let body = option_and_then (λ (x : ℕ). option_map (Ad x) (segment_of flags map payload))
+    (number_after (codes "n=") 255 n) in
+    let test = passed (bytes_eq kind (codes "AD")) (frame_of scid vcid body) f e in
+    let channel = says_channel scid vcid body f test.1 in
+    let number = chained (λ (x : ℕ). option_map (Ad x) (segment_of flags map payload)) (number_after (codes "n=") 255 n)
+    f.body channel.body_is in
+    let segment = mapped (Ad number.value) (segment_of flags map payload) f.body number.gives in
+    let said = says_segment flags map payload segment.value segment.is in
+    let kind_is = same_word kind (codes "AD") test.0 in
+    let n_is = (number_read (codes "n=") 255 n number.value (omega arith) number.is).0 in
+    let same : kind ∷ scid ∷ vcid ∷ n ∷ flags ∷ map ∷ payload ∷ [] ≡ words_with f (Ad number.value segment.value) =
+    cc (kind_is, channel.scid_is, channel.vcid_is, n_is, said.flags_is, said.map_is, said.payload_is) in
+    same ∙ ap (words_with f) segment.gives
+
+bypass_row : (kind scid vcid flags map payload : List ℕ) (f : FrameView)
+    → bypass_line kind scid vcid flags map payload ≡ Some f
+    → kind ∷ scid ∷ vcid ∷ flags ∷ map ∷ payload ∷ [] ≡ words_with f f.body
+bypass_row kind scid vcid flags map payload f e =
+    let body = option_map Bd (segment_of flags map payload) in
+    let test = passed (bytes_eq kind (codes "BD")) (frame_of scid vcid body) f e in
+    let channel = says_channel scid vcid body f test.1 in
+    let segment = mapped Bd (segment_of flags map payload) f.body channel.body_is in
+    let said = says_segment flags map payload segment.value segment.is in
+    let kind_is = same_word kind (codes "BD") test.0 in
+    let same : kind ∷ scid ∷ vcid ∷ flags ∷ map ∷ payload ∷ [] ≡ words_with f (Bd segment.value) =
+    cc (kind_is, channel.scid_is, channel.vcid_is, said.flags_is, said.map_is, said.payload_is) in
+    same ∙ ap (words_with f) segment.gives
+
+unlock_row : (kind scid vcid word : List ℕ) (f : FrameView) → unlock_line kind scid vcid word ≡ Some f
+    → kind ∷ scid ∷ vcid ∷ word ∷ [] ≡ words_with f f.body
+unlock_row kind scid vcid word f e =
+    let test = passed (bytes_eq kind (codes "BC") && bytes_eq word (codes "unlock"))
+    (frame_of scid vcid (Some (Bc Unlock))) f e in
+    let words = and_parts (bytes_eq kind (codes "BC")) (bytes_eq word (codes "unlock")) test.0 in
+    let channel = says_channel scid vcid (Some (Bc Unlock)) f test.1 in
+    let kind_is = same_word kind (codes "BC") words.0 in
+    let word_is = same_word word (codes "unlock") words.1 in
+    let same : kind ∷ scid ∷ vcid ∷ word ∷ [] ≡ words_with f (Bc Unlock) =
+    cc (kind_is, channel.scid_is, channel.vcid_is, word_is) in
+    same ∙ ap (words_with f) (same_Some (Bc Unlock) f.body channel.body_is)
+
+set_row : (kind scid vcid word number : List ℕ) (f : FrameView) → set_line kind scid vcid word number ≡ Some f
+    → kind ∷ scid ∷ vcid ∷ word ∷ number ∷ [] ≡ words_with f f.body
+set_row kind scid vcid word number f e =
+    let body = option_map (λ (x : ℕ). Bc (SetVr x)) (number_in_word 255 number) in
+    let test = passed (bytes_eq kind (codes "BC") && bytes_eq word (codes "set")) (frame_of scid vcid body) f e in
+    let words = and_parts (bytes_eq kind (codes "BC")) (bytes_eq word (codes "set")) test.0 in
+    let channel = says_channel scid vcid body f test.1 in
+    let x = mapped (λ (x : ℕ). Bc (SetVr x)) (number_in_word 255 number) f.body channel.body_is in
+    let kind_is = same_word kind (codes "BC") words.0 in
+    let word_is = same_word word (codes "set") words.1 in
+    let number_is = (read 255 x.value number (omega arith) x.is).0 in
+    let same : kind ∷ scid ∷ vcid ∷ word ∷ number ∷ [] ≡ words_with f (Bc (SetVr x.value)) =
+    cc (kind_is, channel.scid_is, channel.vcid_is, word_is, number_is) in
+    same ∙ ap (words_with f) x.gives
+
+frame_in_read : (words : List (List ℕ)) (f : FrameView) → frame_in words ≡ Some f → words ≡ words_with f f.body
+frame_in_read (kind ∷ scid ∷ vcid ∷ n ∷ flags ∷ map ∷ payload ∷ []) f e =
+    sequence_row kind scid vcid n flags map payload f e
+frame_in_read (kind ∷ scid ∷ vcid ∷ flags ∷ map ∷ payload ∷ []) f e = bypass_row kind scid vcid flags map payload f e
+frame_in_read (kind ∷ scid ∷ vcid ∷ word ∷ []) f e = unlock_row kind scid vcid word f e
+frame_in_read (kind ∷ scid ∷ vcid ∷ word ∷ number ∷ []) f e = set_row kind scid vcid word number f e
+frame_in_read words f e = cc e
+
+pub frame_line_read : (line : List ℕ) (f : FrameView) → frame_in (without_number (words_in line)) ≡ Some f
+    → IsLineOf (frame_text f) line
+frame_line_read line f e =
+    line_read frame_in frame_text refl (λ words g h. ap ended (frame_in_read words g h) ∙ frame_words_joined g) line f e

@@ -1,0 +1,175 @@
+-- A line that says a packet is the line of that packet.
+use Rattle.std.proofs.Common.{◌≡◌, ◌∙◌, ◌≤◌, ◌==◌, ◌||◌, ◌++◌, ℕ, zero, suc, Bool, true, false, cond, List, []}
+use Rattle.std.proofs.Common.{◌∷◌, Option, Some, None, refl, sym, ap, arith, append_assoc}
+use Rattle.std.specs.Prelude.{codes, decimal, option_map, option_and_then, is_some}
+use Rattle.std.specs.Str.{bytes_eq}
+use Rattle.std.proofs.lemmas.Option.{same_Some}
+use Rattle.hex.specs.Hex.{encode_upper}
+use Rattle.space_packet.specs.declared.packet.PacketKind.{PacketKind}
+use Rattle.space_packet.specs.declared.packet.PacketKind.TheVariants.{Telemetry, Telecommand}
+use Rattle.space_packet.specs.Layout.{PacketView, secondary_bit}
+use Rattle.listings.specs.PacketLines.{kind_word, gap_text}
+use Rattle.script_lines.specs.Words.{words_in}
+use Rattle.encode_lines.specs.Fields.{number_after, octets_after, without_number}
+use Rattle.encode_lines.specs.Packets.{kind_in, is_gap, packet_with, packet_of, packet_line, packet_in}
+use Rattle.encode_lines.specs.Listed.{IsLineOf, IsGap, packet_text}
+use Rattle.encode_lines.proofs.Found.{mapped, chained, passed, same_word}
+use Rattle.encode_lines.proofs.FieldWords.{number_read, data_read}
+use Rattle.encode_lines.proofs.WordLines.{ended, line_read}
+use Rattle.encode_lines.proofs.ReadFrames.{onto}
+
+-- ---- the words of the line of a packet
+
+abbrev pub gap_word : Option ℕ → List ℕ
+gap_word None = codes "gap=-"
+gap_word (Some n) = codes "gap=" ++ decimal n
+
+abbrev pub more_words_with : Option ℕ → PacketView → List (List ℕ)
+more_words_with gap p =
+    (codes "secondary=" ++ decimal (secondary_bit p.secondary)) ∷ (codes "apid=" ++ decimal p.apid)
+    ∷ (codes "flags=" ++ decimal p.flags)
+    ∷ (codes "count=" ++ decimal p.count)
+    ∷ gap_word gap
+    ∷ (codes "data=" ++ encode_upper p.payload)
+    ∷ []
+
+abbrev pub words_with : Option ℕ → PacketView → List (List ℕ)
+words_with gap p = kind_word p.kind ∷ more_words_with gap p
+
+-- ---- these words, joined
+
+joined_gap : (gap : Option ℕ) (payload : List ℕ)
+    → (32 ∷ (gap_word gap ++ 32 ∷ (codes "data=" ++ payload))) ++ 10 ∷ [] ≡ gap_text gap ++ (payload ++ 10 ∷ [])
+joined_gap None payload = refl
+joined_gap (Some n) payload =
+    ap (λ (t : List ℕ). codes " gap=" ++ t)
+    (onto (decimal n) (32 ∷ (codes "data=" ++ payload)) (10 ∷ []) (codes " data=" ++ (payload ++ 10 ∷ [])) refl
+    ∙ sym (append_assoc (decimal n) (codes " data=") (payload ++ 10 ∷ [])))
+
+joined : (kind secondary apid flags count rest whole : List ℕ) → rest ++ 10 ∷ [] ≡ whole
+    → (kind ++ 32 ∷ ((codes "secondary=" ++ secondary) ++ 32 ∷ ((codes "apid=" ++ apid)
+    ++ 32 ∷ ((codes "flags=" ++ flags) ++ 32 ∷ ((codes "count=" ++ count) ++ rest))))) ++ 10 ∷ []
+    ≡ (kind ++ (codes " secondary=" ++ (secondary ++ (codes " apid=" ++ apid))))
+    ++ ((codes " flags=" ++ (flags ++ (codes " count=" ++ count))) ++ whole)
+joined kind secondary apid flags count rest whole e =
+    let tail : List ℕ = codes " flags=" ++ (flags ++ (codes " count=" ++ (count ++ whole))) in
+    let body : List ℕ = codes " secondary=" ++ (secondary ++ (codes " apid=" ++ (apid ++ tail))) in
+    onto kind _ (10 ∷ []) body
+    (ap (λ (t : List ℕ). codes " secondary=" ++ t) (onto secondary _ (10 ∷ []) (codes " apid=" ++ (apid ++ tail))
+    (ap (λ (t : List ℕ). codes " apid=" ++ t) (onto apid _ (10 ∷ []) tail
+    (ap (λ (t : List ℕ). codes " flags=" ++ t) (onto flags _ (10 ∷ []) (codes " count=" ++ (count ++ whole))
+    (ap (λ (t : List ℕ). codes " count=" ++ t) (onto count rest (10 ∷ []) whole e))))))))
+    ∙ sym (onto kind (codes " secondary=" ++ (secondary ++ (codes " apid=" ++ apid)))
+    ((codes " flags=" ++ (flags ++ (codes " count=" ++ count))) ++ whole) body
+    (ap (λ (t : List ℕ). codes " secondary=" ++ t) (onto secondary (codes " apid=" ++ apid)
+    ((codes " flags=" ++ (flags ++ (codes " count=" ++ count))) ++ whole) (codes " apid=" ++ (apid ++ tail))
+    (ap (λ (t : List ℕ). codes " apid=" ++ (apid ++ (codes " flags=" ++ t)))
+    (onto flags (codes " count=" ++ count) whole (codes " count=" ++ (count ++ whole)) refl)))))
+
+-- the words of the line of a packet, joined, are that line
+pub packet_words_joined : (gap : Option ℕ) (p : PacketView) → ended (words_with gap p) ≡ packet_text gap p
+packet_words_joined gap p =
+    joined (kind_word p.kind) (decimal (secondary_bit p.secondary)) (decimal p.apid) (decimal p.flags) (decimal p.count)
+    (32 ∷ (gap_word gap ++ 32 ∷ (codes "data=" ++ encode_upper p.payload))) _ (joined_gap gap (encode_upper p.payload))
+
+-- ---- what is read of words
+
+or_none : (a : Bool) → a || false ≡ true → a ≡ true
+or_none true e = refl
+or_none false e = cc e
+
+gap_case : (word : List ℕ) (gap : Option ℕ) → number_after (codes "gap=") 16383 word ≡ gap
+    → bytes_eq word (codes "gap=-") || is_some gap ≡ true → (word ≡ gap_word gap) × IsGap gap
+gap_case word None is e = (same_word word (codes "gap=-") (or_none _ e), tt)
+gap_case word (Some n) is e = number_read (codes "gap=") 16383 word n (omega arith) is
+
+secondary_again : (n : ℕ) → n ≤ 1 → secondary_bit (n == 1) ≡ n
+secondary_again zero le = refl
+secondary_again (suc zero) le = refl
+secondary_again (suc (suc n)) le = absurd (omega arith)
+
+kind_case : (word : List ℕ) (k : PacketKind) (a b : Bool) → bytes_eq word (codes "TC") ≡ a
+    → bytes_eq word (codes "TM") ≡ b → cond a (Some Telecommand) (cond b (Some Telemetry) None) ≡ Some k
+    → word ≡ kind_word k
+unfolding kind_word
+kind_case word k true b first second e =
+    same_word word (codes "TC") first ∙ ap (λ (x : PacketKind). kind_word x) (same_Some Telecommand k e)
+kind_case word k false true first second e =
+    same_word word (codes "TM") second ∙ ap (λ (x : PacketKind). kind_word x) (same_Some Telemetry k e)
+kind_case word k false false first second e = cc e
+
+kind_read : (word : List ℕ) (k : PacketKind) → kind_in word ≡ Some k → word ≡ kind_word k
+kind_read word k e = kind_case word k (bytes_eq word (codes "TC")) (bytes_eq word (codes "TM")) refl refl e
+
+seven : {a b c d e f g k l m n o p q : List ℕ} → a ≡ k → b ≡ l → c ≡ m → d ≡ n → e ≡ o → f ≡ p → g ≡ q
+    → a ∷ b ∷ c ∷ d ∷ e ∷ f ∷ g ∷ [] ≡ k ∷ l ∷ m ∷ n ∷ o ∷ p ∷ q ∷ []
+seven h i j r s t u = cc
+
+abbrev pub gap_in : List (List ℕ) → Option ℕ
+gap_in (kind ∷ secondary ∷ apid ∷ flags ∷ count ∷ gap ∷ payload ∷ []) = number_after (codes "gap=") 16383 gap
+gap_in words = None
+
+packet_row : (kind secondary apid flags count gap payload : List ℕ) (p : PacketView)
+    → packet_line kind secondary apid flags count gap payload ≡ Some p
+    → (kind ∷ secondary ∷ apid ∷ flags ∷ count ∷ gap ∷ payload ∷ []
+    ≡ words_with (number_after (codes "gap=") 16383 gap) p) × IsGap (number_after (codes "gap=") 16383 gap)
+packet_row kind secondary apid flags count gap payload p e =
+    let data_of = octets_after (codes "data=") payload in
+    let count_of = number_after (codes "count=") 16383 count in
+    let flags_of = number_after (codes "flags=") 3 flags in
+    let apid_of = number_after (codes "apid=") 2047 apid in
+    let secondary_of = number_after (codes "secondary=") 1 secondary in
+    let test = passed (is_gap gap) (packet_of (kind_in kind) secondary_of apid_of flags_of count_of data_of) p e in
+    let k = chained (λ (x : PacketKind). option_and_then (λ (s : ℕ). option_and_then (λ (a : ℕ). option_and_then
+    (λ (f : ℕ). option_and_then (λ (c : ℕ). option_map (packet_with x s a f c) data_of) count_of) flags_of)
+    apid_of) secondary_of) (kind_in kind) p test.1 in
+    let s = chained (λ (x : ℕ). option_and_then (λ (a : ℕ). option_and_then (λ (f : ℕ). option_and_then
+    (λ (c : ℕ). option_map (packet_with k.value x a f c) data_of) count_of) flags_of) apid_of) secondary_of p k.gives in
+    let a = chained (λ (x : ℕ). option_and_then (λ (f : ℕ). option_and_then
+    (λ (c : ℕ). option_map (packet_with k.value s.value x f c) data_of) count_of) flags_of) apid_of p s.gives in
+    let f = chained (λ (x : ℕ). option_and_then
+    (λ (c : ℕ). option_map (packet_with k.value s.value a.value x c) data_of) count_of) flags_of p a.gives in
+    let c = chained (λ (x : ℕ). option_map (packet_with k.value s.value a.value f.value x) data_of) count_of p
+    f.gives in
+    let d = mapped (packet_with k.value s.value a.value f.value c.value) data_of p c.gives in
+    let kind_is = kind_read kind k.value k.is in
+    let secondary_so = number_read (codes "secondary=") 1 secondary s.value (omega arith) s.is in
+    let secondary_is = secondary_so.0
+    ∙ ap (λ (x : ℕ). codes "secondary=" ++ decimal x) (sym (secondary_again s.value secondary_so.1)) in
+    let apid_is = (number_read (codes "apid=") 2047 apid a.value (omega arith) a.is).0 in
+    let flags_is = (number_read (codes "flags=") 3 flags f.value (omega arith) f.is).0 in
+    let count_is = (number_read (codes "count=") 16383 count c.value (omega arith) c.is).0 in
+    let gap_is = gap_case gap (number_after (codes "gap=") 16383 gap) refl test.0 in
+    let payload_is = data_read (codes "data=") payload d.value d.is in
+    let same : kind ∷ secondary ∷ apid ∷ flags ∷ count ∷ gap ∷ payload ∷ []
+    ≡ words_with (number_after (codes "gap=") 16383 gap)
+    (packet_with k.value s.value a.value f.value c.value d.value) =
+    seven kind_is secondary_is apid_is flags_is count_is gap_is.0 payload_is in
+    (same ∙ ap (words_with (number_after (codes "gap=") 16383 gap)) d.gives, gap_is.1)
+
+packet_in_read : (words : List (List ℕ)) (p : PacketView) → packet_in words ≡ Some p
+    → (words ≡ words_with (gap_in words) p) × IsGap (gap_in words)
+packet_in_read (kind ∷ secondary ∷ apid ∷ flags ∷ count ∷ gap ∷ payload ∷ []) p e =
+    packet_row kind secondary apid flags count gap payload p e
+packet_in_read words p e = cc e
+
+-- a packet with the gap before it
+abbrev with_gap : List (List ℕ) → Option (Option ℕ × PacketView)
+with_gap words = option_map (λ (p : PacketView). (gap_in words, p)) (packet_in words)
+
+with_gap_read : (words : List (List ℕ)) (it : Option ℕ × PacketView) → with_gap words ≡ Some it
+    → ended words ≡ packet_text it.0 it.1
+with_gap_read words it e =
+    let p = mapped (λ (x : PacketView). (gap_in words, x)) (packet_in words) it e in
+    ap ended (packet_in_read words p.value p.is).0 ∙ packet_words_joined (gap_in words) p.value
+    ∙ ap (λ (x : Option ℕ × PacketView). packet_text x.0 x.1) p.gives
+
+pub packet_line_read : (line : List ℕ) (p : PacketView) → packet_in (without_number (words_in line)) ≡ Some p
+    → (gap : Option ℕ) × IsGap gap × IsLineOf (packet_text gap p) line
+packet_line_read line p e =
+    let words = without_number (words_in line) in (
+      gap_in words,
+      (packet_in_read words p e).1,
+      line_read with_gap (λ (x : Option ℕ × PacketView). packet_text x.0 x.1) refl with_gap_read line (gap_in words, p)
+          (ap (option_map (λ (x : PacketView). (gap_in words, x))) e),
+    )

@@ -1,0 +1,44 @@
+use Rattle.std.proofs.Common.{◌≡◌, ◌∙◌, ◌++◌, List, ℕ, ap, subst}
+use Rattle.octets.specs.Beginning.{IsBeginning}
+use Rattle.listings.specs.Devices.{gained}
+use Rattle.line_stream.specs.Lines.{lines_of}
+use Rattle.line_stream.specs.Playing.{answers_of, after_text}
+use Rattle.encode_lines.specs.declared.encoder.Encoder.{Encoder}
+use Rattle.encode_lines.specs.Octets.{octets_in}
+use Rattle.encode_lines.specs.Encoding.{encoding}
+use Rattle.encode_lines.proofs.Runs.{written, refused}
+use Rattle.encode_lines.proofs.encoder.encode_stream.Goals as goal
+
+pub returns-in-Ok-clause-writes : goal.returns-in-Ok-clause-writes
+returns-in-Ok-clause-writes g c =
+    let text : List ℕ =
+    gained (g.R.Source.given c.args.reader.now) (g.R.Source.given c.respond_to_stream.new.reader) in
+    let all : answers_of encoding c.new-encoder.result text ≡ octets_in c.args.check text =
+    ap (λ (e : Encoder). answers_of encoding e text) c.new-encoder.ensures ∙ written c.args.check 0 (lines_of text) in
+    record {
+      whole = c.in-Ok.ensures.writes.whole
+          ∙ ap (λ (t : List ℕ). g.W.Sink.taken_octets c.args.writer.now ++ t) all;
+      beginning = tt;
+      failed = c.in-Ok.ensures.writes.failed;
+    }
+
+pub returns-in-Ok-clause-unreadable : goal.returns-in-Ok-clause-unreadable
+returns-in-Ok-clause-unreadable g c =
+    let text : List ℕ =
+    gained (g.R.Source.given c.args.reader.now) (g.R.Source.given c.respond_to_stream.new.reader) in
+    ap (λ (e : Encoder). e.refused) c.in-Ok.ensures.player
+    ∙ ap (λ (e : Encoder). (after_text encoding e text).refused) c.new-encoder.ensures
+    ∙ refused c.args.check 0 (lines_of text)
+
+pub returns-in-Err-clause-writes : goal.returns-in-Err-clause-writes
+returns-in-Err-clause-writes g c =
+    let text : List ℕ =
+    gained (g.R.Source.given c.args.reader.now) (g.R.Source.given c.respond_to_stream.new.reader) in
+    let all : answers_of encoding c.new-encoder.result text ≡ octets_in c.args.check text =
+    ap (λ (e : Encoder). answers_of encoding e text) c.new-encoder.ensures ∙ written c.args.check 0 (lines_of text) in
+    record {
+      whole = tt;
+      beginning = subst (λ (t : List ℕ). IsBeginning (g.W.Sink.taken_octets c.respond_to_stream.new.writer)
+          (g.W.Sink.taken_octets c.args.writer.now ++ t)) all c.in-Err.ensures.writes.beginning;
+      failed = c.in-Err.ensures.writes.failed;
+    }

@@ -1,0 +1,132 @@
+// Lines in, octets out.
+
+ghost use Rattle.std.specs.Prelude.{◌≡◌, None, map, OnOk, IfOk};
+ghost use Rattle.listings.specs.Devices.{HasEnded, gained};
+ghost use Rattle.listings.specs.Streams.{Reads, WritesText};
+ghost use Rattle.encode_lines.specs.Puts.{Puts};
+ghost use Rattle.encode_lines.specs.Octets.{words_octets, line_octets, octets_in, unreadable_in};
+
+use crate::fields::{without_number, words_in};
+use crate::frames::frame_in;
+use crate::packets::packet_in;
+use crate::spellings::{put_frame, put_packet};
+use line_stream::{Responder, respond_to_stream};
+use listings::{ListingFault, Sink, Source};
+use std::alloc::{AllocError, Global};
+use tc_frame::Check;
+
+// Appends the octets of the frame or packet that these words say, and says whether they say one.
+fn put_words(
+    alloc: Global,
+    check: Check,
+    words: &[&[u8]],
+    text: &mut Vec<u8>,
+) -> Result<bool, AllocError>
+    ensures { Puts result text.old.items text.new.items
+        (words_octets check (map (λ word. word.now) words.now)) }
+{
+    if let Some(frame) = frame_in(words) {
+        if put_frame(alloc, &frame, check, text)? {
+            return Ok(true);
+        }
+    }
+    match packet_in(words) {
+        Some(packet) => put_packet(alloc, &packet, text),
+        None => Ok(false),
+    }
+}
+
+// Appends the octets of a line, and says whether it is one that has octets, or is skipped.
+fn put_line(
+    alloc: Global,
+    check: Check,
+    line: &[u8],
+    text: &mut Vec<u8>,
+) -> Result<bool, AllocError>
+    ensures { Puts result text.old.items text.new.items (line_octets check line.now) }
+{
+    match line {
+        [] => Ok(true),
+        [b'#', ..] => Ok(true),
+        _ => {
+            let words = words_in(alloc, line)?;
+            put_words(alloc, check, without_number(words.as_slice()), text)
+        }
+    }
+}
+
+// Makes octets of lines, up to the first one that is unreadable.
+#[derive(Drop)]
+pub struct Encoder {
+    // Whether telecommand frames have their FECF.
+    check: Check,
+    // How many lines there were.
+    lines: u64,
+    // The number of the first line that is unreadable.
+    refused: Option<u64>,
+}
+
+impl Encoder {
+    ghost use Rattle.encode_lines.specs.Encoding.{fresh};
+
+    // Before the first line.
+    fn new(check: Check) -> Self
+        ensures { result ≡ fresh check }
+    {
+        Encoder {
+            check,
+            lines: 0,
+            refused: None,
+        }
+    }
+}
+
+impl Responder<Vec<u8>> for Encoder {
+    ghost use Rattle.encode_lines.specs.Encoding.{encoding};
+
+    ghost playing = { encoding };
+
+    fn respond(
+        &mut self,
+        alloc: Global,
+        line: &[u8],
+        text: &mut Vec<u8>,
+    ) -> Result<bool, AllocError> {
+        let Some(lines) = self.lines.checked_add(1) else {
+            // There are more lines than octets can be read.
+            return Err(AllocError);
+        };
+        if self.refused.is_none() && !put_line(alloc, self.check, line, text)? {
+            self.refused = Some(lines);
+        }
+        self.lines = lines;
+        Ok(self.refused.is_none())
+    }
+}
+
+/// Reads lines in pieces, and writes the octets of the lines of each piece before it reads the next. It
+/// answers the number of the first line that is unreadable, from 1 on. Lines after it are read, and nothing
+/// is written of them.
+///
+/// A line is one that `tctool tc` or `tctool packets` writes, with or without its number. One that is empty,
+/// or begins with `#`, has no octets. With `Check::On` telecommand frames have their FECF.
+/// Faults: Read, Write, Memory, TooLong. Memory: yes. Cost: the number of octets read and written.
+pub fn encode_stream<R: Source, W: Sink>(
+    alloc: Global,
+    reader: &mut R,
+    writer: &mut W,
+    check: Check,
+) -> Result<Option<u64>, ListingFault>
+    ensures reads { Reads R.given R.remaining R.failures result reader.old reader.new }
+    ensures writes { WritesText W.taken_octets W.failures result writer.old writer.new
+        (octets_in check (gained (R.given reader.old) (R.given reader.new))) }
+    ensures unreadable { IfOk result (λ line. line
+        ≡ unreadable_in check (gained (R.given reader.old) (R.given reader.new))) }
+    ensures end { OnOk result (HasEnded (R.has_ended reader.new) (R.remaining reader.new)) }
+{
+    let mut encoder = Encoder::new(check);
+    match respond_to_stream(alloc, reader, writer, &mut encoder, Vec::<u8>::new(alloc)) {
+        Ok(_) => Ok(encoder.refused),
+        Err(fault) => Err(fault),
+    }
+}

@@ -1,0 +1,74 @@
+// Fields of a line: a key and, after it, a number or octets.
+
+ghost use Rattle.std.specs.Prelude.{◌≡◌, ◌++◌, ◌≤◌, map, option_copied, option_map, option_and_then, IfOk, IfSome};
+ghost use Rattle.script_lines.specs.Words.{words_in};
+ghost use Rattle.encode_lines.specs.Fields.{after_key, number_after, octets_of_digits, without_number};
+
+use script_lines::{cut, number_in_word};
+use std::alloc::{AllocError, Global};
+
+/// What follows a key in a word that begins with it.
+pub fn after_key<'a>(word: &'a [u8], key: &[u8]) -> Option<&'a [u8]>
+    ensures { option_copied result ≡ after_key key.now word.now }
+{
+    let [letter, key @ ..] = key else {
+        return Some(word);
+    };
+    match word {
+        [octet, word @ ..] if octet == letter => after_key(word, key),
+        _ => None,
+    }
+}
+
+/// The number after a key, where it is no greater than `most`.
+pub fn number_after(word: &[u8], key: &[u8], most: u64) -> Option<u64>
+    ensures number { result ≡ number_after key.now most word.now }
+    ensures most { IfSome result (λ n. n ≤ most) }
+{
+    number_in_word(after_key(word, key)?, most)
+}
+
+/// The octets that are written so, with upper-case digits.
+#[tactic(auto, unfolding(crate::specs::Fields::octets_of_digits))]
+pub fn octets_of_digits(alloc: Global, word: &[u8]) -> Result<Option<Vec<u8>>, AllocError>
+    ensures { IfOk result (λ octets. option_map (λ some. some.items) octets ≡ octets_of_digits word.now) }
+{
+    match hex::decode(alloc, word) {
+        Ok(octets) => {
+            let digits = hex::encode_upper(alloc, octets.as_slice())?;
+            if digits.as_bytes() == word {
+                Ok(Some(octets))
+            } else {
+                Ok(None)
+            }
+        }
+        Err(hex::FromHexError::OutOfMemory) => Err(AllocError),
+        Err(_) => Ok(None),
+    }
+}
+
+/// The words of a line, which one space parts.
+pub fn words_in<'a>(alloc: Global, line: &'a [u8]) -> Result<Vec<&'a [u8]>, AllocError>
+    ensures { IfOk result (λ words. map (λ word. word.now) words.items ≡ words_in line.now) }
+{
+    let mut words = Vec::new(alloc);
+    let mut rest = line;
+    'words: loop {
+        let (word, after) = cut(rest, b' ');
+        words.push(word)?;
+        let Some(after) = after else {
+            return Ok(words);
+        };
+        rest = after;
+    }
+}
+
+/// The words of a line but for the number before them, where there is one.
+pub fn without_number<'w, 'a>(words: &'w [&'a [u8]]) -> &'w [&'a [u8]]
+    ensures { map (λ word. word.now) result.now ≡ without_number (map (λ word. word.now) words.now) }
+{
+    match words {
+        [word, rest @ ..] if number_in_word(word, u64::MAX).is_some() => rest,
+        _ => words,
+    }
+}

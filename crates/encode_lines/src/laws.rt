@@ -1,0 +1,40 @@
+// Laws of the definitions: what is made of a line has that line.
+
+ghost use Rattle.std.specs.Prelude.{◌≡◌, ℕ, List, Option, true, length, Some, Ok};
+ghost use Rattle.hex.specs.Hex.{IsBytes};
+ghost use Rattle.script_lines.specs.Words.{words_in};
+ghost use Rattle.space_packet.specs.Layout.{PacketView};
+ghost use Rattle.space_packet.specs.Decoding.{packet_at};
+ghost use Rattle.space_packet.specs.Encoding.{packet_fits};
+ghost use Rattle.tc_frame.specs.declared.frame.Check.{Check};
+ghost use Rattle.tc_frame.specs.Layout.{FrameView};
+ghost use Rattle.tc_frame.specs.Decoding.{frame_at};
+ghost use Rattle.tc_frame.specs.Encoding.{frame_fits};
+ghost use Rattle.encode_lines.specs.Fields.{without_number};
+ghost use Rattle.encode_lines.specs.Frames.{frame_in, frame_octets};
+ghost use Rattle.encode_lines.specs.Packets.{packet_in, packet_octets};
+ghost use Rattle.encode_lines.specs.Listed.{IsLineOf, HasOctets, IsGap, frame_text, packet_text};
+
+/// A line says the frame of which `tctool tc` writes it, with or without its number, and no other. The octets
+/// that are made of that frame are read as it.
+pub fn law_of_frame_lines()
+    ensures says { (line : List ℕ) (f : FrameView) → frame_in (without_number (words_in line)) ≡ Some f
+        → IsLineOf (frame_text f) line }
+    ensures said { (check : Check) (line : List ℕ) (f : FrameView) → frame_fits check f ≡ true
+        → HasOctets f.body → IsLineOf (frame_text f) line
+        → frame_in (without_number (words_in line)) ≡ Some f }
+    ensures read { (check : Check) (f : FrameView) (octets : List ℕ)
+        → frame_octets check f ≡ Some octets → frame_at check octets ≡ Ok f }
+{}
+
+/// A line says the packet of which `tctool packets` writes it, with or without its number and whatever number
+/// of packets is missing before it, and no other. The octets that are made of that packet are read as it.
+pub fn law_of_packet_lines()
+    ensures says { (line : List ℕ) (p : PacketView) → packet_in (without_number (words_in line)) ≡ Some p
+        → (gap : Option ℕ) × IsGap gap × IsLineOf (packet_text gap p) line }
+    ensures said { (line : List ℕ) (p : PacketView) (gap : Option ℕ) → packet_fits p ≡ true
+        → IsBytes p.payload → IsGap gap → IsLineOf (packet_text gap p) line
+        → packet_in (without_number (words_in line)) ≡ Some p }
+    ensures read { (p : PacketView) (octets : List ℕ) → packet_octets p ≡ Some octets
+        → packet_at octets ≡ Ok (p, length octets) }
+{}

@@ -1,0 +1,36 @@
+// `tctool encode`: octets of the lines that other commands write.
+
+ghost use Rattle.std.specs.Prelude.{◌≡◌, OnOk, IfOk};
+ghost use Rattle.encode_lines.specs.Octets.{octets_in, unreadable_in};
+ghost use Rattle.listings.specs.Devices.{HasEnded, gained};
+ghost use Rattle.listings.specs.Streams.{Reads, WritesText};
+ghost use Rattle.stream_commands.specs.Outcome.{outcome_view};
+ghost use Rattle.tc_frame.specs.Splitter.{check_if};
+ghost use Rattle.tctool.specs.Dumped.{as_read};
+
+use encode_lines::encode_stream;
+use listings::{ListingFault, Sink, Source};
+use std::alloc::Global;
+use stream_commands::Outcome;
+use tc_frame::check_if;
+
+/// Writes the octets of lines, up to the first one that is unreadable; with `check` frames get their FECF.
+pub fn encode<R: Source, W: Sink>(
+    alloc: Global,
+    reader: &mut R,
+    writer: &mut W,
+    check: bool,
+) -> Result<Outcome, ListingFault>
+    ensures reads { Reads R.given R.remaining R.failures result reader.old reader.new }
+    ensures writes { WritesText W.taken_octets W.failures result writer.old writer.new
+        (octets_in (check_if check) (gained (R.given reader.old) (R.given reader.new))) }
+    ensures outcome { IfOk result (λ outcome. outcome_view outcome
+        ≡ as_read (unreadable_in (check_if check) (gained (R.given reader.old) (R.given reader.new)))) }
+    ensures end { OnOk result (HasEnded (R.has_ended reader.new) (R.remaining reader.new)) }
+{
+    match encode_stream(alloc, reader, writer, check_if(check)) {
+        Ok(None) => Ok(Outcome::Good),
+        Ok(Some(line)) => Ok(Outcome::Unreadable(line)),
+        Err(fault) => Err(fault),
+    }
+}
