@@ -92,7 +92,7 @@ static double sends(void)
         told(sedge_fop_submit(&fop));
         told((uint64_t)sedge_fop_next(&fop, &number) + number);
         word.value = fop.vs;
-        told(k % 4 == 3 ? sedge_fop_report(&fop, 0, &word, &released) : sedge_fop_tick(&fop));
+        told(k % 4 == 3 ? sedge_fop_clcw(&fop, 0, &word, &released) : sedge_fop_tick(&fop));
     }
     told(released);
     return (nanoseconds_now() - start) / (3.0 * SENT);
@@ -133,7 +133,7 @@ static double carries(void)
             want(sedge_ground_submit(&ground, MAP, packet, sizeof packet) == SEDGE_NODE_OK, "a submission");
         }
         for (k = at; k < at + WINDOW; k++) goes_up(&ground, &spacecraft);
-        want(sedge_spacecraft_report(&spacecraft, down, sizeof down, &count) == SEDGE_NODE_OK, "a report");
+        want(sedge_spacecraft_telemetry_frame(&spacecraft, down, sizeof down, &count) == SEDGE_NODE_OK, "a report");
         want(sedge_ground_telemetry(&ground, down, count, &heard) == SEDGE_NODE_OK && heard.alert == 0, "it is heard");
     }
     start = (nanoseconds_now() - start) / at;

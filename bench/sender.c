@@ -20,7 +20,7 @@ struct calls {
     uint8_t (*tick)(struct sedge_fop *);
 };
 
-static const struct calls library_calls = {sedge_fop_submit, sedge_fop_next, sedge_fop_report, sedge_fop_tick};
+static const struct calls library_calls = {sedge_fop_submit, sedge_fop_next, sedge_fop_clcw, sedge_fop_tick};
 static const struct calls plain_calls = {plain_fop_submit, plain_fop_next, plain_fop_report, plain_fop_tick};
 static const struct calls tested_calls = {tested_fop_submit, tested_fop_next, tested_fop_report, tested_fop_tick};
 

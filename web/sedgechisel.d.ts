@@ -239,13 +239,13 @@ export interface Calls {
     sedge_farm_unlock(farm: Partial<sedge_farm>): number;
     sedge_farm_set_vr(farm: Partial<sedge_farm>, vr: number): number;
     sedge_farm_released(farm: Partial<sedge_farm>): number;
-    sedge_farm_report(farm: sedge_farm, vcid: number, word: Partial<sedge_clcw>): number;
+    sedge_farm_control_word(farm: sedge_farm, vcid: number, word: Partial<sedge_clcw>): number;
     sedge_farm_state(farm: sedge_farm): number;
     sedge_fop_open(fop: Partial<sedge_fop>, width: number, window: number, limit: number, timer: number): number;
     sedge_fop_directive(fop: Partial<sedge_fop>, directive: number, value: number): number;
     sedge_fop_submit(fop: Partial<sedge_fop>): number;
     sedge_fop_next(fop: Partial<sedge_fop>, number: Partial<Box>): number;
-    sedge_fop_report(fop: Partial<sedge_fop>, vcid: number, word: sedge_clcw, released: Partial<Box>): number;
+    sedge_fop_clcw(fop: Partial<sedge_fop>, vcid: number, word: sedge_clcw, released: Partial<Box>): number;
     sedge_fop_tick(fop: Partial<sedge_fop>): number;
     sedge_fop_accepted_beyond(fop: sedge_fop, value: number, accepted: Partial<Box>): number;
     sedge_accepted_beyond(nn: number, vs: number, value: number, accepted: Partial<Box>): number;
@@ -291,7 +291,7 @@ export interface Calls {
     sedge_ground_telemetry(ground: Partial<sedge_ground>, octets: Uint8Array, heard: Partial<sedge_heard>): number;
     sedge_ground_clcw(ground: Partial<sedge_ground>, octets: Uint8Array, heard: Partial<sedge_heard>): number;
     sedge_ground_forget_telemetry(ground: Partial<sedge_ground>): number;
-    sedge_ground_report(ground: Partial<sedge_ground>, octets: Uint8Array, report: Partial<sedge_clcw>): number;
+    sedge_ground_clcw_in(ground: Partial<sedge_ground>, octets: Uint8Array, report: Partial<sedge_clcw>): number;
     sedge_ground_next_telemetry(ground: Partial<sedge_ground>, count: Partial<Box>): number;
     sedge_ground_take_telemetry(ground: Partial<sedge_ground>, out: Uint8Array, count: Partial<Box>): number;
     sedge_ground_tick(ground: Partial<sedge_ground>): number;
@@ -307,7 +307,7 @@ export interface Calls {
     sedge_spacecraft_next_bypass(spacecraft: Partial<sedge_spacecraft>, map: Partial<Box>, count: Partial<Box>): number;
     sedge_spacecraft_take_bypass(spacecraft: Partial<sedge_spacecraft>, map: Partial<Box>, out: Uint8Array, count: Partial<Box>): number;
     sedge_spacecraft_telemetry(spacecraft: Partial<sedge_spacecraft>, packet: Uint8Array): number;
-    sedge_spacecraft_report(spacecraft: Partial<sedge_spacecraft>, out: Uint8Array, count: Partial<Box>): number;
+    sedge_spacecraft_telemetry_frame(spacecraft: Partial<sedge_spacecraft>, out: Uint8Array, count: Partial<Box>): number;
     sedge_spacecraft_read(spacecraft: Partial<sedge_spacecraft>, read: Partial<sedge_spacecraft_reading>): number;
     sedge_sim_open(config: sedge_config, sim: Partial<sedge_sim>): number;
     sedge_sim_close(sim: Partial<sedge_sim>): void;

@@ -27,7 +27,7 @@ function machines() {
     assert.equal(sedge.sedge_farm_open(farm, 10, 0), n.SEDGE_OK);
     assert.equal(sedge.sedge_farm_ad(farm, 0, true), n.SEDGE_ACCEPTED);
     assert.equal(farm.vr, 1);
-    assert.equal(sedge.sedge_farm_report(farm, 2, word), n.SEDGE_OK);
+    assert.equal(sedge.sedge_farm_control_word(farm, 2, word), n.SEDGE_OK);
     assert.equal(word.value, 1);
     assert.equal(sedge.sedge_fop_open(fop, 10, 5, 3, 10), n.SEDGE_OK);
     assert.equal(sedge.sedge_fop_directive(fop, n.SEDGE_INIT_WITHOUT_CHECK, 0), n.SEDGE_OK);
@@ -48,7 +48,7 @@ function nodes() {
     assert.deepEqual([received.kind, received.verdict, received.ready], [3, n.SEDGE_ACCEPTED, 1]);
     assert.equal(sedge.sedge_spacecraft_take(spacecraft, map, out, count), n.SEDGE_NODE_OK);
     assert.deepEqual([map.value, digitsOf(out.subarray(0, count.value))], [4, digitsOf(packet)]);
-    assert.equal(sedge.sedge_spacecraft_report(spacecraft, out, count), n.SEDGE_NODE_OK);
+    assert.equal(sedge.sedge_spacecraft_telemetry_frame(spacecraft, out, count), n.SEDGE_NODE_OK);
     assert.equal(sedge.sedge_ground_telemetry(ground, out.subarray(0, count.value), heard), n.SEDGE_NODE_OK);
     assert.deepEqual([heard.kind, heard.report, heard.alert], [3, 0, 0]);
     const read = {}, board = {};

@@ -126,7 +126,7 @@ static void send_telemetry(void) {
     uint8_t word[4], frame[TM_LENGTH];
     struct sedge_clcw clcw;
     size_t total;
-    sure(sedge_farm_report(&farm, TC_CHANNEL, &clcw));
+    sure(sedge_farm_control_word(&farm, TC_CHANNEL, &clcw));
     sure(sedge_clcw_encode(&clcw, word, sizeof word));
     sure(sedge_tm_builder_build(&builder, word, sizeof word, answers, sizeof answers, frame, sizeof frame, &total));
     fwrite(frame, 1, total, stdout);

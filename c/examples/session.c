@@ -37,10 +37,10 @@ static int carry_up(uint8_t n, uint8_t unit) {
 static int carry_down(void) {
     struct sedge_clcw word;
     uint8_t octets[4], released;
-    if (sedge_farm_report(&farm, CHANNEL, &word) != SEDGE_OK || sedge_clcw_encode(&word, octets, 4) != SEDGE_OK) return 1;
+    if (sedge_farm_control_word(&farm, CHANNEL, &word) != SEDGE_OK || sedge_clcw_encode(&word, octets, 4) != SEDGE_OK) return 1;
     if (is_lost()) return 0;
     if (sedge_clcw_decode(octets, 4, &word) != SEDGE_OK) return 1;
-    if (sedge_fop_report(&fop, CHANNEL, &word, &released) != SEDGE_NO_ALERT) return 1;
+    if (sedge_fop_clcw(&fop, CHANNEL, &word, &released) != SEDGE_NO_ALERT) return 1;
     acknowledged += released;
     return 0;
 }

@@ -18,7 +18,7 @@
  *
  * Most functions return 0, SEDGE_OK, or the number of the first fault that applies, by the enum before them. Such a
  * call that returns anything but 0 has written nothing, except where the number is not a fault: a verdict
- * (sedge_farm_ad), what goes on the link next (sedge_fop_next), or an alert (sedge_fop_report, sedge_fop_tick). A call
+ * (sedge_farm_ad), what goes on the link next (sedge_fop_next), or an alert (sedge_fop_clcw, sedge_fop_tick). A call
  * that returns a bool and writes (sedge_check_append, sedge_map_packet, sedge_tm_packet) has written if it returns
  * true, and nothing if it returns false. */
 #ifndef SEDGECHISEL_H
@@ -106,7 +106,7 @@ struct sedge_clcw {
 };
 
 /* Reads four octets as a control word, of whichever virtual channel: compare vcid with your own before you use its
- * value or its flags (sedge_fop_report does so itself). Returns 0, or the first of 1 to 4 of sedge_clcw_fault, or
+ * value or its flags (sedge_fop_clcw does so itself). Returns 0, or the first of 1 to 4 of sedge_clcw_fault, or
  * SEDGE_WRONG_COUNT if the octets are not four. */
 uint8_t sedge_clcw_decode(const uint8_t *octets, size_t count, struct sedge_clcw *word);
 
@@ -180,7 +180,7 @@ uint8_t sedge_farm_released(struct sedge_farm *farm);
 /* Makes the control word (232.0-B-4, 4.2) that reports on the receiver as it is, for the virtual channel vcid; the
  * flags for the radio channel and bit lock are 0. Returns 0, or SEDGE_DAMAGED, or SEDGE_CLCW_RANGE if vcid is not below
  * 64. */
-uint8_t sedge_farm_report(const struct sedge_farm *farm, uint8_t vcid, struct sedge_clcw *word);
+uint8_t sedge_farm_control_word(const struct sedge_farm *farm, uint8_t vcid, struct sedge_clcw *word);
 
 /* Returns the state, of sedge_farm_mode, or SEDGE_DAMAGED. */
 uint8_t sedge_farm_state(const struct sedge_farm *farm);
@@ -204,7 +204,7 @@ uint8_t sedge_farm_state(const struct sedge_farm *farm);
  *     }
  *     ...
  *     uint8_t released;
- *     uint8_t alert = sedge_fop_report(&fop, CHANNEL, &word, &released);
+ *     uint8_t alert = sedge_fop_clcw(&fop, CHANNEL, &word, &released);
  *
  * A report acknowledges the oldest units sent, as many as it writes to released; their places may be used again. An
  * alert (of a report, of a tick, or by sedge_fop_terminate) discards all units, the one that waits too; nothing else
@@ -341,7 +341,7 @@ uint8_t sedge_fop_next(struct sedge_fop *fop, uint8_t *number);
  * sedge_alert, and writes the number of units that are acknowledged, the oldest of those sent; or with nothing
  * written and nothing changed it returns the first of SEDGE_ABSENT, if the word reports on another channel, and
  * SEDGE_DAMAGED. */
-uint8_t sedge_fop_report(struct sedge_fop *fop, uint8_t vcid, const struct sedge_clcw *word, uint8_t *released);
+uint8_t sedge_fop_clcw(struct sedge_fop *fop, uint8_t vcid, const struct sedge_clcw *word, uint8_t *released);
 
 /* A tick of the clock has passed. Returns the alert, of sedge_alert, or SEDGE_DAMAGED. */
 uint8_t sedge_fop_tick(struct sedge_fop *fop);

@@ -182,8 +182,8 @@ uint8_t sedge_ground_forget_telemetry(struct sedge_ground *ground);
 
 /* Writes the report that a telemetry frame carries, of whichever spacecraft and virtual channel (232.0-B-4, 4.2); the
  * ground stays as it was. Returns 0, or SEDGE_NODE_ABSENT if the octets are no frame or the frame carries no report. */
-uint8_t sedge_ground_report(struct sedge_ground *ground, const uint8_t *octets, size_t count,
-                            struct sedge_clcw *report);
+uint8_t sedge_ground_clcw_in(struct sedge_ground *ground, const uint8_t *octets, size_t count,
+                             struct sedge_clcw *report);
 
 /* Writes how many octets the oldest packet of telemetry has, 7 to 65,542; 0 where none waits. Returns 0. */
 uint8_t sedge_ground_next_telemetry(struct sedge_ground *ground, size_t *count);
@@ -290,7 +290,7 @@ uint8_t sedge_spacecraft_telemetry(struct sedge_spacecraft *spacecraft, const ui
 
 /* Writes the next telemetry frame (132.0-B-3, 4.1), which reports on the receiver, and the number of its octets, which
  * is frame_length. Returns 0 or SEDGE_NODE_ROOM. */
-uint8_t sedge_spacecraft_report(struct sedge_spacecraft *spacecraft, uint8_t *out, size_t room, size_t *count);
+uint8_t sedge_spacecraft_telemetry_frame(struct sedge_spacecraft *spacecraft, uint8_t *out, size_t room, size_t *count);
 
 struct sedge_spacecraft_reading {
     size_t frame_length; /* of telemetry, in octets */

@@ -289,7 +289,7 @@ static void hear(const struct heard *heard) {
     need(word.farm_b == heard->counted % 4, "FARM-B counts the frames past the sequence control");
     extract(&frame, heard->octets + data.from, data.count);
     waited += (word.flags & SEDGE_CLCW_WAIT) != 0;
-    alert = sedge_fop_report(&fop, TC_CHANNEL, &word, &released);
+    alert = sedge_fop_clcw(&fop, TC_CHANNEL, &word, &released);
     if (alert == SEDGE_ALERT_LOCKOUT) alerted = true, quiet = 0;
     else need(alert == SEDGE_NO_ALERT, "no alert but Lockout");
     if (alerted && quiet > 2 * DELAY) alerted = false, sessions++, go_on(&word);

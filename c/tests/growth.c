@@ -33,7 +33,7 @@ static void waits_on_board(size_t length) {
 }
 
 static void report_and_queue(void) {
-    DONE(sedge_spacecraft_report(&spacecraft, octets, sizeof octets, &count));
+    DONE(sedge_spacecraft_telemetry_frame(&spacecraft, octets, sizeof octets, &count));
     DONE(sedge_spacecraft_telemetry(&spacecraft, packet, sizeof packet));
 }
 
@@ -41,7 +41,7 @@ static void report_and_queue(void) {
 
 static void comes_down(void) {
     struct sedge_heard heard;
-    DONE(sedge_spacecraft_report(&spacecraft, octets, sizeof octets, &count));
+    DONE(sedge_spacecraft_telemetry_frame(&spacecraft, octets, sizeof octets, &count));
     DONE(sedge_ground_telemetry(&ground, octets, count, &heard));
     DONE(heard.kind != 3 || heard.alert != 0);
 }

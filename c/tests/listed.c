@@ -202,7 +202,7 @@ static void send_telemetry(struct sedge_spacecraft *spacecraft, unsigned turns) 
             GIVES(0, sedge_spacecraft_telemetry(spacecraft, packet, traffic.telemetry_octets));
         }
         GIVES(0, sedge_tm_builder_build(&builder, ocf, 4, memory, sizeof memory, octets, sizeof octets, &total));
-        GIVES(0, sedge_spacecraft_report(spacecraft, octets, sizeof octets, &total));
+        GIVES(0, sedge_spacecraft_telemetry_frame(spacecraft, octets, sizeof octets, &total));
     }
 }
 
@@ -306,7 +306,7 @@ static bool something_comes(struct sedge_spacecraft *spacecraft) {
     case 3:
         GIVES(0, sedge_tm_builder_build(&builder, ocf, 4, builder_memory, sizeof builder_memory, octets, sizeof octets,
                                         &count));
-        GIVES(0, sedge_spacecraft_report(spacecraft, octets, sizeof octets, &count));
+        GIVES(0, sedge_spacecraft_telemetry_frame(spacecraft, octets, sizeof octets, &count));
         return true;
     case 4: GIVES(0, sedge_spacecraft_take(spacecraft, &map, packet, sizeof packet, &count)); return true;
     case 5: GIVES(0, sedge_spacecraft_take_bypass(spacecraft, &map, packet, sizeof packet, &count)); return true;

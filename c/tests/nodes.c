@@ -141,14 +141,14 @@ static void session(void) {
     WANT(board.state == SEDGE_FARM_OPEN);
     wait_on_board(&board, 0, 0);
     count = 77, down[0] = 77;
-    WANT(sedge_spacecraft_report(&spacecraft, down, 63, &count) == SEDGE_NODE_ROOM && count == 77 && down[0] == 77);
-    WANT(sedge_spacecraft_report(&spacecraft, down, 64, &count) == 0 && count == 64);
+    WANT(sedge_spacecraft_telemetry_frame(&spacecraft, down, 63, &count) == SEDGE_NODE_ROOM && count == 77 && down[0] == 77);
+    WANT(sedge_spacecraft_telemetry_frame(&spacecraft, down, 64, &count) == 0 && count == 64);
     while (again(sedge_ground_telemetry(&ground, down, count, &heard)))
         ;
     WANT(heard.kind == 3 && heard.first == 1 && heard.report == 0 && heard.alert == 0 && heard.packets == 1);
-    WANT(sedge_ground_report(&ground, down, 64, &word) == 0 && word.vcid == 2 && word.value == 3 && word.flags == 0);
+    WANT(sedge_ground_clcw_in(&ground, down, 64, &word) == 0 && word.vcid == 2 && word.value == 3 && word.flags == 0);
     word.value = 77;
-    WANT(sedge_ground_report(&ground, down, 63, &word) == SEDGE_NODE_ABSENT && word.value == 77);
+    WANT(sedge_ground_clcw_in(&ground, down, 63, &word) == SEDGE_NODE_ABSENT && word.value == 77);
     static const uint8_t control_word[4] = {0x01, 0x08, 0x00, 0x03};
     WANT(sedge_ground_clcw(&ground, control_word, 4, &heard) == 0 && heard.kind == 4);
     WANT(heard.report == 0 && heard.word_fault == 0 && heard.alert == 0 && heard.packets == 0);
@@ -266,7 +266,7 @@ static void sends(struct sedge_ground *ground, struct sedge_spacecraft *spacecra
 static void hears_of(struct sedge_ground *ground, struct sedge_spacecraft *spacecraft) {
     struct sedge_heard heard = {0};
     size_t count = 77;
-    WANT(sedge_spacecraft_report(spacecraft, down, 64, &count) == 0 && count == 64);
+    WANT(sedge_spacecraft_telemetry_frame(spacecraft, down, 64, &count) == 0 && count == 64);
     while (again(sedge_ground_telemetry(ground, down, count, &heard)))
         ;
     WANT(heard.kind == 3 && heard.report == 0 && heard.alert == 0);
@@ -401,7 +401,7 @@ static void handles_that_hold_none(void) {
     WANT(sedge_ground_init_unlock(&ground) == SEDGE_NODE_NONE && sedge_ground_tick(&ground) == SEDGE_NODE_NONE);
     WANT(sedge_ground_submit(&ground, 0, packet, 7) == 255 && sedge_ground_bypass(&ground, 0, packet, 7) == 255);
     WANT(sedge_ground_next(&ground, &count) == 255 && sedge_ground_pull(&ground, up, 1024, &count) == 255);
-    WANT(sedge_ground_report(&ground, packet, 7, &word) == 255 && sedge_ground_clcw(&ground, packet, 4, &heard) == 255);
+    WANT(sedge_ground_clcw_in(&ground, packet, 7, &word) == 255 && sedge_ground_clcw(&ground, packet, 4, &heard) == 255);
     WANT(sedge_ground_forget_telemetry(&ground) == 255 && sedge_ground_advance(&ground) == 255);
     WANT(sedge_ground_peek(&ground, up, 1024, &count) == 255 && count == 77);
     WANT(count == 77 && word.value == 77);
@@ -415,7 +415,7 @@ static void handles_that_hold_none(void) {
     WANT(sedge_spacecraft_take(&spacecraft, &map, out, sizeof out, &count) == 255);
     WANT(sedge_spacecraft_take_bypass(&spacecraft, &map, out, sizeof out, &count) == 255);
     WANT(sedge_spacecraft_telemetry(&spacecraft, packet, 7) == 255);
-    WANT(sedge_spacecraft_report(&spacecraft, down, 2048, &count) == 255);
+    WANT(sedge_spacecraft_telemetry_frame(&spacecraft, down, 2048, &count) == 255);
     WANT(sedge_spacecraft_read(&spacecraft, &board) == SEDGE_NODE_NONE);
     WANT(count == 77 && map == 77 && read.state == 77 && read.submitted == 77);
     waits(&read, 77, 77, 77, 77, 77);

@@ -61,7 +61,7 @@ static void close_nodes(void) {
 static void comes_down(void) {
     struct sedge_heard heard = {0};
     size_t count;
-    WANT(sedge_spacecraft_report(&spacecraft, down, sizeof down, &count) == 0);
+    WANT(sedge_spacecraft_telemetry_frame(&spacecraft, down, sizeof down, &count) == 0);
     WANT(sedge_ground_telemetry(&ground, down, count, &heard) == 0 && heard.report == 0 && heard.alert == 0);
 }
 

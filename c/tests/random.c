@@ -123,7 +123,7 @@ static void receivers(void) {
         answer = sedge_farm_ad(farm, (uint8_t)(farm->vr + (below(2) ? 0 : below(256))), below(2));
         WANT(is_damaged ? answer == SEDGE_DAMAGED : answer <= SEDGE_DISCARDED);
     } else if (which == 1) {
-        answer = sedge_farm_report(farm, (uint8_t)below(80), word);
+        answer = sedge_farm_control_word(farm, (uint8_t)below(80), word);
         WANT(answer == SEDGE_OK || (is_kept((uint8_t *)word) && (answer == SEDGE_CLCW_RANGE || answer == is_damaged)));
     } else if (which == 2) {
         WANT(is_answer(sedge_farm_open(farm, (uint8_t)below(256), 0), SEDGE_COP_WIDTH, farm, &kept, sizeof kept));
@@ -201,7 +201,7 @@ static void senders(void) {
     case 9: answer = sedge_fop_set_timer(fop, value); break;
     case 10: answer = sedge_fop_submit(fop); break;
     case 11: answer = sedge_fop_next(fop, number); break;
-    case 12: answer = sedge_fop_report(fop, vcid, &word, number); break;
+    case 12: answer = sedge_fop_clcw(fop, vcid, &word, number); break;
     case 13: answer = sedge_fop_accepted_beyond(fop, value, number); break;
     case 14: answer = sedge_fop_directive(fop, named = (uint8_t)below(LAST_DIRECTIVE + 3), wide); break;
     default: answer = sedge_fop_tick(fop); break;

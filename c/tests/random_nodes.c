@@ -344,7 +344,7 @@ static void reports(void) {
     WANT(read.ready <= 63 + 145 && read.bypassed <= 64); /* a segment brings up to 145 packets where one slot is free */
     WANT(read.frame_length >= 16 && read.frame_length <= 2048 && read.state <= 2 && read.farm_b <= 3);
     out = room_of(room = any_room(read.frame_length));
-    answer = sedge_spacecraft_report(&spacecraft, out, room, &count);
+    answer = sedge_spacecraft_telemetry_frame(&spacecraft, out, room, &count);
     look_at_written(answer, read.frame_length, room, count, out);
     if (answer == SEDGE_NODE_OK) memcpy(down, out, down_count = count);
 }
@@ -355,7 +355,7 @@ static void hears(void) {
     uint8_t *octets, answer, nn = nn_of_ground();
     octets = any_octets(down_count);
     if (below(16) != 0) memcpy(octets, down, down_count);
-    answer = sedge_ground_report(&ground, octets, down_count, &word);
+    answer = sedge_ground_clcw_in(&ground, octets, down_count, &word);
     WANT(ground.node == NULL ? answer == SEDGE_NODE_NONE : answer == SEDGE_NODE_OK || answer == SEDGE_NODE_ABSENT);
     WANT(answer == SEDGE_NODE_OK ? word.vcid < 64 : word.vcid == 77);
     answer = CALL(SEDGE_NODE_MEMORY, sedge_ground_telemetry(&ground, octets, down_count, &heard));

@@ -156,7 +156,7 @@ static void a_receiver_waits_for_a_buffer(void) {
 static int reports(const struct sedge_farm *farm, const char *octets) {
     struct sedge_clcw word;
     uint8_t out[4];
-    return sedge_farm_report(farm, 2, &word) == SEDGE_OK && sedge_clcw_encode(&word, out, 4) == SEDGE_OK
+    return sedge_farm_control_word(farm, 2, &word) == SEDGE_OK && sedge_clcw_encode(&word, out, 4) == SEDGE_OK
            && memcmp(out, octets, 4) == 0;
 }
 
@@ -287,7 +287,7 @@ static void judge_fields(struct sedge_farm farm) {
     memset(&word, 0x55, sizeof word);
     blank = word;
     WANT((sedge_farm_state(&farm) == SEDGE_DAMAGED) == damaged);
-    WANT(sedge_farm_report(&farm, 2, &word) == (damaged ? SEDGE_DAMAGED : SEDGE_OK));
+    WANT(sedge_farm_control_word(&farm, 2, &word) == (damaged ? SEDGE_DAMAGED : SEDGE_OK));
     WANT(!damaged || memcmp(&word, &blank, sizeof word) == 0);
     for (event = 0; event < EVENTS; event++) {
         farm = kept;
@@ -329,8 +329,8 @@ static void refusals_of_a_receiver(void) {
         WANT(farm.width == (is_width ? width : 77));
     }
     WANT(sedge_farm_open(&farm, 254, 3) == SEDGE_OK);
-    WANT(sedge_farm_report(&farm, 64, &word) == SEDGE_CLCW_RANGE && is_word(&word, 1, 2, 8, 3, 4));
-    WANT(sedge_farm_report(&farm, 63, &word) == SEDGE_OK && is_word(&word, 0, 63, 0, 0, 3));
+    WANT(sedge_farm_control_word(&farm, 64, &word) == SEDGE_CLCW_RANGE && is_word(&word, 1, 2, 8, 3, 4));
+    WANT(sedge_farm_control_word(&farm, 63, &word) == SEDGE_OK && is_word(&word, 0, 63, 0, 0, 3));
 }
 
 /* ---- The sender. ---- */
@@ -361,17 +361,17 @@ static void a_sender_sends_again(void) {
     for (number = 0; number < 3; number++) send_first(&fop, number);
     WANT(fop.vs == 3 && fop.nn == 0 && fop.sent == 3 && fop.ticks == 10);
     released = 99;
-    WANT(sedge_fop_report(&fop, word.vcid + 1, &word, &released) == SEDGE_ABSENT && released == 99 && fop.nn == 0);
-    WANT(sedge_fop_report(&fop, word.vcid, &word, &released) == SEDGE_NO_ALERT && released == 1);
+    WANT(sedge_fop_clcw(&fop, word.vcid + 1, &word, &released) == SEDGE_ABSENT && released == 99 && fop.nn == 0);
+    WANT(sedge_fop_clcw(&fop, word.vcid, &word, &released) == SEDGE_NO_ALERT && released == 1);
     WANT(fop.state == SEDGE_FOP_S2 && fop.nn == 1 && fop.sent == 2 && fop.due == 2);
     WANT(sedge_fop_next(&fop, &number) == SEDGE_NEXT_AGAIN && number == 1 && fop.due == 1);
     WANT(sedge_fop_next(&fop, &number) == SEDGE_NEXT_AGAIN && number == 2 && fop.due == 0);
     word.flags = 0;
     word.value = 3;
-    WANT(sedge_fop_report(&fop, word.vcid, &word, &released) == SEDGE_NO_ALERT && released == 2);
+    WANT(sedge_fop_clcw(&fop, word.vcid, &word, &released) == SEDGE_NO_ALERT && released == 2);
     WANT(fop.state == SEDGE_FOP_S1 && fop.sent == 0 && fop.ticks == 0);
     word.value = 4;
-    WANT(sedge_fop_report(&fop, word.vcid, &word, &released) == SEDGE_ALERT_NNR && released == 0 && fop.state == SEDGE_FOP_S6);
+    WANT(sedge_fop_clcw(&fop, word.vcid, &word, &released) == SEDGE_ALERT_NNR && released == 0 && fop.state == SEDGE_FOP_S6);
 }
 
 /* The timer ends three times, and then the sender gives up. */
@@ -423,7 +423,7 @@ static void the_directives(void) {
     WANT(sedge_fop_set_timer(&fop, 0) == SEDGE_COP_TIMER && fop.window == 5 && fop.timer == 300);
     WANT(sedge_fop_set_vs(&fop, 7) == SEDGE_OK && fop.vs == 7 && fop.nn == 7);
     WANT(sedge_fop_init_with_check(&fop) == SEDGE_OK && fop.state == SEDGE_FOP_S4 && fop.ticks == 300);
-    WANT(sedge_fop_report(&fop, word.vcid, &word, &released) == SEDGE_NO_ALERT && fop.state == SEDGE_FOP_S1);
+    WANT(sedge_fop_clcw(&fop, word.vcid, &word, &released) == SEDGE_NO_ALERT && fop.state == SEDGE_FOP_S1);
     WANT(sedge_fop_set_vs(&fop, 8) == SEDGE_COP_WRONG_STATE && sedge_fop_init_unlock(&fop) == SEDGE_COP_WRONG_STATE);
     WANT(sedge_fop_terminate(&fop) == SEDGE_OK && fop.state == SEDGE_FOP_S6);
     WANT(sedge_fop_init_unlock(&fop) == SEDGE_OK && fop.state == SEDGE_FOP_S5);
@@ -433,7 +433,7 @@ static void the_directives(void) {
     WANT(fop.control == SEDGE_CONTROL_SET_VR_DUE && fop.vr == 200 && fop.vs == 200 && fop.nn == 200);
     WANT(sedge_fop_next(&fop, &number) == SEDGE_NEXT_SET_VR && number == 200);
     word.value = 200;
-    WANT(sedge_fop_report(&fop, word.vcid, &word, &released) == SEDGE_NO_ALERT && fop.state == SEDGE_FOP_S1 && fop.vr == 0);
+    WANT(sedge_fop_clcw(&fop, word.vcid, &word, &released) == SEDGE_NO_ALERT && fop.state == SEDGE_FOP_S1 && fop.vr == 0);
 }
 
 /* By number and value: what names no directive, and a value out of its range, is refused, and changes nothing. */
@@ -475,7 +475,7 @@ static void is_damaged_sender(struct sedge_fop fop) {
     WANT(sedge_fop_set_window(&fop, 1) == SEDGE_DAMAGED && sedge_fop_set_limit(&fop, 1) == SEDGE_DAMAGED);
     WANT(sedge_fop_set_timer(&fop, 1) == SEDGE_DAMAGED && sedge_fop_submit(&fop) == SEDGE_DAMAGED);
     WANT(sedge_fop_next(&fop, &number) == SEDGE_DAMAGED && sedge_fop_tick(&fop) == SEDGE_DAMAGED);
-    WANT(sedge_fop_report(&fop, word.vcid, &word, &number) == SEDGE_DAMAGED && number == 99);
+    WANT(sedge_fop_clcw(&fop, word.vcid, &word, &number) == SEDGE_DAMAGED && number == 99);
     WANT(sedge_fop_accepted_beyond(&fop, 0, &number) == SEDGE_DAMAGED && number == 99);
     WANT(memcmp(&fop, &kept, sizeof fop) == 0);
 }

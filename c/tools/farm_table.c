@@ -84,7 +84,7 @@ static void try_report(const struct sedge_farm *before) {
     struct sedge_clcw word;
     int flags = before->lockout * SEDGE_CLCW_LOCKOUT + before->wait * SEDGE_CLCW_WAIT
                 + before->retransmit * SEDGE_CLCW_RETRANSMIT;
-    if (sedge_farm_report(&after, 2, &word) != SEDGE_OK || word.value != before->vr || word.flags != flags
+    if (sedge_farm_control_word(&after, 2, &word) != SEDGE_OK || word.value != before->vr || word.flags != flags
         || word.farm_b != before->farm_b || word.vcid != 2 || word.status != 0)
         fail(kinds[REPORT].what, "not the receiver's V(R), flags and FARM-B");
     keep(REPORT, before, &after, 0, REPORTED);

@@ -143,7 +143,7 @@ static void try_reports(const struct sedge_fop *before) {
             struct sedge_clcw word = {0, 2, (uint8_t)(flags << 3), 0, 0};
             uint8_t released = 0, alert;
             word.value = (uint8_t)((k < 8 ? before->nn : before->vs) + beyond[k % 8]);
-            alert = sedge_fop_report(&after, 2, &word, &released);
+            alert = sedge_fop_clcw(&after, 2, &word, &released);
             if (alert > SEDGE_ALERT_TERMINATED) fail("report", "refused");
             if (released != (uint8_t)(after.nn - before->nn)) fail("report", "not what NN(R) says is acknowledged");
             keep(report_kind(before, &word), before, &after, 256, word.value, alert ? ALERT + alert : DONE);
@@ -157,7 +157,7 @@ static void try_invalid(const struct sedge_fop *before) {
     struct sedge_fop after = *before;
     uint8_t released;
     if (sedge_clcw_decode(octets, sizeof octets, &word) != SEDGE_CLCW_KIND)
-        sedge_fop_report(&after, 2, &word, &released);
+        sedge_fop_clcw(&after, 2, &word, &released);
     keep(E15, before, &after, 256, before->nn, NOT_ASKED);
 }
 

@@ -208,7 +208,7 @@ class Farm(_Struct):
     def report(self, vcid: int) -> Clcw:
         """The Clcw that reports the receiver as it is for a virtual channel; a ClcwFault where that is not below 64."""
         word = Clcw.__new__(Clcw)
-        ClcwFault._look_at(_farm_report(self, vcid, word))
+        ClcwFault._look_at(_farm_control_word(self, vcid, word))
         return word
 
     @property
@@ -223,7 +223,7 @@ _farm_bd = _call("farm_bd", c_uint8, POINTER(Farm))
 _farm_unlock = _call("farm_unlock", c_uint8, POINTER(Farm))
 _farm_set_vr = _call("farm_set_vr", c_uint8, POINTER(Farm), ("vr", c_uint8))
 _farm_released = _call("farm_released", c_uint8, POINTER(Farm))
-_farm_report = _call("farm_report", c_uint8, POINTER(Farm), ("vcid", c_uint8), POINTER(Clcw))
+_farm_control_word = _call("farm_control_word", c_uint8, POINTER(Farm), ("vcid", c_uint8), POINTER(Clcw))
 _farm_state = _call("farm_state", c_uint8, POINTER(Farm))
 
 # ---- The sender ----
@@ -351,7 +351,7 @@ class Fop(_Struct):
         """A Clcw has come, and the sender is that of the virtual channel vcid: the Alert, and how many of the oldest
         units are acknowledged. None, and nothing changes, for a word that reports on another channel."""
         released = c_uint8()
-        answer = _fop_report(self, vcid, _struct_of("word", Clcw, word), released)
+        answer = _fop_clcw(self, vcid, _struct_of("word", Clcw, word), released)
         return None if answer == _ABSENT else (_answered(Alert, answer), released.value)
 
     def tick(self) -> Alert:
@@ -383,7 +383,7 @@ _fop_open = _call("fop_open", c_uint8, POINTER(Fop), ("width", c_uint8), ("windo
 _fop_directive = _call("fop_directive", c_uint8, POINTER(Fop), ("directive", c_uint8), ("value", c_uint16))
 _fop_submit = _call("fop_submit", c_uint8, POINTER(Fop))
 _fop_next = _call("fop_next", c_uint8, POINTER(Fop), POINTER(c_uint8))
-_fop_report = _call("fop_report", c_uint8, POINTER(Fop), ("vcid", c_uint8), POINTER(Clcw), POINTER(c_uint8))
+_fop_clcw = _call("fop_clcw", c_uint8, POINTER(Fop), ("vcid", c_uint8), POINTER(Clcw), POINTER(c_uint8))
 _fop_tick = _call("fop_tick", c_uint8, POINTER(Fop))
 _fop_accepted_beyond = _call("fop_accepted_beyond", c_uint8, POINTER(Fop), ("value", c_uint8), POINTER(c_uint8))
 _accepted_beyond = _call("accepted_beyond", c_uint8, ("nn", c_uint8), ("vs", c_uint8), ("value", c_uint8),

@@ -373,7 +373,7 @@ class Ground(Sender):
         """The report that a telemetry frame carries, of whichever spacecraft and virtual channel; None where the octets
         are no frame, or the frame carries no report. The ground stays as it is."""
         octets, word = _octets_of("octets", octets), Clcw.__new__(Clcw)
-        return None if self._is_absent(_ground_report(self._handle, octets, len(octets), word)) else word
+        return None if self._is_absent(_ground_clcw_in(self._handle, octets, len(octets), word)) else word
 
     def take_telemetry(self) -> Optional[bytes]:
         """Takes the oldest packet that telemetry frames carried, or None."""
@@ -500,7 +500,7 @@ _ground_advance = _call("ground_advance", c_uint8, POINTER(_Raw))
 _ground_telemetry = _call("ground_telemetry", c_uint8, POINTER(_Raw), c_char_p, c_size_t, POINTER(_Heard))
 _ground_clcw = _call("ground_clcw", c_uint8, POINTER(_Raw), c_char_p, c_size_t, POINTER(_Heard))
 _ground_forget_telemetry = _call("ground_forget_telemetry", c_uint8, POINTER(_Raw))
-_ground_report = _call("ground_report", c_uint8, POINTER(_Raw), c_char_p, c_size_t, POINTER(Clcw))
+_ground_clcw_in = _call("ground_clcw_in", c_uint8, POINTER(_Raw), c_char_p, c_size_t, POINTER(Clcw))
 _ground_take_telemetry = _call("ground_take_telemetry", c_uint8, POINTER(_Raw), c_char_p, c_size_t, POINTER(c_size_t))
 _ground_tick = _call("ground_tick", c_uint8, POINTER(_Raw))
 _ground_known_on_board = _call("ground_known_on_board", c_uint8, POINTER(_Raw), ("value", c_uint8), POINTER(c_uint64))
@@ -562,7 +562,7 @@ class Spacecraft(Handle):
 
     def report(self) -> bytes:
         """Takes the next telemetry frame, which reports on the receiver: as many octets as `frame_length` says."""
-        return self._given(_spacecraft_report, 2048)
+        return self._given(_spacecraft_telemetry_frame, 2048)
 
     def _read(self) -> _SpacecraftReading:
         read = _SpacecraftReading()
@@ -606,5 +606,6 @@ _spacecraft_take = _call("spacecraft_take", c_uint8, POINTER(_Raw), POINTER(c_ui
 _spacecraft_take_bypass = _call("spacecraft_take_bypass", c_uint8, POINTER(_Raw), POINTER(c_uint8), c_char_p, c_size_t,
                                 POINTER(c_size_t))
 _spacecraft_telemetry = _call("spacecraft_telemetry", c_uint8, POINTER(_Raw), c_char_p, c_size_t)
-_spacecraft_report = _call("spacecraft_report", c_uint8, POINTER(_Raw), c_char_p, c_size_t, POINTER(c_size_t))
+_spacecraft_telemetry_frame = _call("spacecraft_telemetry_frame", c_uint8, POINTER(_Raw), c_char_p, c_size_t,
+                                    POINTER(c_size_t))
 _spacecraft_read = _call("spacecraft_read", c_uint8, POINTER(_Raw), POINTER(_SpacecraftReading))

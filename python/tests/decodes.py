@@ -130,7 +130,7 @@ def calls_at_once(it):
                 (it._calls, "_packet_decode", *(lambda each=each: it.Packet.decode(each) for each in (COMMAND, OTHER))),
                 (it._calls, "_tm_decode", *(lambda each=each: it.TmFrame.decode(each) for each in tm)),
                 (it._calls, "_clcw_decode", *(lambda each=each: it.Clcw.decode(each) for each in words)),
-                (it._nodes, "_ground_report", *(lambda each=each: one.report_in(each) for each in tm)),
+                (it._nodes, "_ground_clcw_in", *(lambda each=each: one.report_in(each) for each in tm)),
                 (it._nodes, "_ground_telemetry", *(lambda each=each: one.telemetry(each) for each in no_frames[:2])),
                 (it._nodes, "_spacecraft_receive", *(lambda each=each: board.receive(each) for each in no_frames[::2])),
                 (it._nodes, "_ground_peek", one.peek, other.peek)):

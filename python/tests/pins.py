@@ -121,11 +121,11 @@ PREFIXES = {"Clcw": "clcw", "Farm": "farm", "Fop": "fop", "TcFrame": "tc", "Pack
             "Ground": "ground", "Spacecraft": "spacecraft", "Link": "sim", "Sender": "sender"}
 # Methods that make other calls than the one of their own name, and what these are.
 OTHERS = {
-    "Farm.__init__": "farm_open", "Farm.mode": "farm_state", "Fop.__init__": "fop_open",
+    "Farm.__init__": "farm_open", "Farm.report": "farm_control_word", "Fop.report": "fop_clcw", "Spacecraft.report": "spacecraft_telemetry_frame", "Farm.mode": "farm_state", "Fop.__init__": "fop_open",
     "TmBuilder.__init__": "tm_builder_open", "TmExtractor.take": "tm_extractor_frame tm_packet",
     "segments": "map_count map_count map_segment", "_parts_of": "map_packet",
     "Alert.word": "alert_word", "Verdict.word": "verdict_word", "Map.take": "map_take dropped_word",
-    "_Received.value": "dropped_word", "Handle.__init__": "config_fault", "Ground.report_in": "ground_report",
+    "_Received.value": "dropped_word", "Handle.__init__": "config_fault", "Ground.report_in": "ground_clcw_in",
     "Ground._read": "ground_read", "Ground._direct": "ground_directive", "Fop._direct": "fop_directive",
     "Spacecraft._read": "spacecraft_read", "Link._read": "sim_read", "Link._event": "sim_step",
     "Link._read_ground": "sim_ground_read", "Link._read_spacecraft": "sim_spacecraft_read",

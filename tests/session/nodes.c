@@ -90,7 +90,7 @@ static void sends(void) {
 
 static void reports(void) {
     struct frame *frame = last_of(&down);
-    if (sedge_spacecraft_report(&spacecraft, frame->octets, sizeof frame->octets, &frame->count) != 0) {
+    if (sedge_spacecraft_telemetry_frame(&spacecraft, frame->octets, sizeof frame->octets, &frame->count) != 0) {
         give_up("report");
     }
     down.count++;

@@ -202,7 +202,7 @@ static void hear(const struct frame *frame, long now) {
     alerts += heard.alert != 0;
     was_active |= read_ground().state == SEDGE_FOP_S1;
     if (heard.alert != 0 || read_ground().state != SEDGE_FOP_S6 || heard.kind != 3 || heard.report != 0) return;
-    expect(sedge_ground_report(&ground, frame->octets, frame->count, &report) == 0, "sedge_ground_report");
+    expect(sedge_ground_clcw_in(&ground, frame->octets, frame->count, &report) == 0, "sedge_ground_clcw_in");
     if (is_early || now - sent > 2 * (long)up.delay) begin(report.value);
 }
 
@@ -228,7 +228,7 @@ static void tick(long now) {
     }
     while (draw(pause) == 0 && take()) continue;
     frame = place_on(&down);
-    expect(sedge_spacecraft_report(&spacecraft, frame->octets, sizeof frame->octets, &frame->count) == 0, "report");
+    expect(sedge_spacecraft_telemetry_frame(&spacecraft, frame->octets, sizeof frame->octets, &frame->count) == 0, "report");
     send(&down, now, frame);
     while ((frame = arrived(&down, now)) != NULL) hear(frame, now);
     alerts += sedge_ground_tick(&ground) != 0;

@@ -140,14 +140,14 @@ export class Machines {
 
     report(word) {
         const own = {};
-        this.calls.sedge_farm_report(this.farm, this.config.vcid, own);
+        this.calls.sedge_farm_control_word(this.farm, this.config.vcid, own);
         for (const field of ['value', 'flags', 'farm_b']) this.same(own[field], word[field], field);
         return 'E11';
     }
 
     hear(down, word) {
         const event = reportEvent(this.fop, word), rule = reportRule(this.fop.state, event);
-        this.same(this.calls.sedge_fop_report(this.fop, this.config.vcid, word, {}), down.alert, 'the alert');
+        this.same(this.calls.sedge_fop_clcw(this.fop, this.config.vcid, word, {}), down.alert, 'the alert');
         return { event, part: 'a report', rule };
     }
 

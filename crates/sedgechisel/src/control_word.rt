@@ -8,7 +8,7 @@ use crate::numbers::WRONG_COUNT;
 use clcw::Clcw;
 
 /// Reads four octets as a control word, of whichever virtual channel: compare vcid with your own before you use its
-/// value or its flags (`sedge_fop_report` does so itself). Returns 0, or the first of 1 to 4 of `sedge_clcw_fault`, or
+/// value or its flags (`sedge_fop_clcw` does so itself). Returns 0, or the first of 1 to 4 of `sedge_clcw_fault`, or
 /// `SEDGE_WRONG_COUNT` if the octets are not four.
 #[unsafe(no_mangle)]
 pub extern "C" fn sedge_clcw_decode(octets: &[u8], word: &mut Clcw) -> u8

@@ -103,7 +103,7 @@ pub extern "C" fn sedge_farm_released(receiver: &mut Receiver) -> u8
 /// flags for the radio channel and bit lock are 0. Returns 0, or `SEDGE_DAMAGED`, or `SEDGE_CLCW_RANGE` if `vcid` is
 /// not below 64.
 #[unsafe(no_mangle)]
-pub extern "C" fn sedge_farm_report(receiver: &Receiver, vcid: u8, word: &mut Clcw) -> u8
+pub extern "C" fn sedge_farm_control_word(receiver: &Receiver, vcid: u8, word: &mut Clcw) -> u8
     ensures { IsWritten (λ found. found) (farm_report receiver.now vcid) word.old word.new result }
 {
     let Ok(farm) = described(receiver) else {

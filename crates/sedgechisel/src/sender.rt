@@ -106,7 +106,7 @@ pub extern "C" fn sedge_fop_next(sender: &mut KeptSender, number: &mut u8) -> u8
 /// written and nothing changed it returns the first of `SEDGE_ABSENT`, if the word reports on another channel, and
 /// `SEDGE_DAMAGED`.
 #[unsafe(no_mangle)]
-pub extern "C" fn sedge_fop_report(
+pub extern "C" fn sedge_fop_clcw(
     sender: &mut KeptSender,
     vcid: u8,
     word: &Clcw,

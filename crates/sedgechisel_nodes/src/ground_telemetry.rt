@@ -193,7 +193,7 @@ pub extern "C" fn sedge_ground_forget_telemetry(alloc: Global, ground: &mut Grou
 /// Writes the report that a telemetry frame carries, of whichever spacecraft and virtual channel (232.0-B-4, 4.2); the
 /// ground stays as it was. Returns 0, or `SEDGE_NODE_ABSENT` if the octets are no frame or the frame carries no report.
 #[unsafe(no_mangle)]
-pub extern "C" fn sedge_ground_report(
+pub extern "C" fn sedge_ground_clcw_in(
     alloc: Global,
     ground: &mut GroundHandle,
     octets: &[u8],

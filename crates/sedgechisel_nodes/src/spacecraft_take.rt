@@ -151,7 +151,7 @@ fn reported(node: &mut Spacecraft, out: &mut [u8], count: &mut usize) -> u8
 /// Writes the next telemetry frame (132.0-B-3, 4.1), which reports on the receiver, and the number of its octets, which
 /// is frame_length. Returns 0 or `SEDGE_NODE_ROOM`.
 #[unsafe(no_mangle)]
-pub extern "C" fn sedge_spacecraft_report(
+pub extern "C" fn sedge_spacecraft_telemetry_frame(
     alloc: Global,
     spacecraft: &mut SpacecraftHandle,
     out: &mut [u8],

@@ -168,7 +168,7 @@ impl Farm {
     /// channel and bit lock are false. Refused with 5 [`Range`](ClcwFault::Range) if `vcid` is not below 64.
     pub fn report(&self, vcid: u8) -> Result<Clcw, ClcwFault> {
         let mut word = ffi::Clcw::default();
-        ClcwFault::judge(ffi::sedge_farm_report(&self.0, vcid, &mut word))?;
+        ClcwFault::judge(ffi::sedge_farm_control_word(&self.0, vcid, &mut word))?;
         Ok(Clcw::from_raw(word))
     }
 }

@@ -249,14 +249,14 @@ unsafe extern "C" {
     pub safe fn sedge_farm_unlock(farm: &mut Farm) -> u8;
     pub safe fn sedge_farm_set_vr(farm: &mut Farm, vr: u8) -> u8;
     pub safe fn sedge_farm_released(farm: &mut Farm) -> u8;
-    pub safe fn sedge_farm_report(farm: &Farm, vcid: u8, word: &mut Clcw) -> u8;
+    pub safe fn sedge_farm_control_word(farm: &Farm, vcid: u8, word: &mut Clcw) -> u8;
     pub safe fn sedge_farm_state(farm: &Farm) -> u8;
 
     pub safe fn sedge_fop_open(fop: &mut Fop, width: u8, window: u8, limit: u8, timer: u16) -> u8;
     pub safe fn sedge_fop_directive(fop: &mut Fop, directive: u8, value: u16) -> u8;
     pub safe fn sedge_fop_submit(fop: &mut Fop) -> u8;
     pub safe fn sedge_fop_next(fop: &mut Fop, number: &mut u8) -> u8;
-    pub safe fn sedge_fop_report(fop: &mut Fop, vcid: u8, word: &Clcw, released: &mut u8) -> u8;
+    pub safe fn sedge_fop_clcw(fop: &mut Fop, vcid: u8, word: &Clcw, released: &mut u8) -> u8;
     pub safe fn sedge_fop_tick(fop: &mut Fop) -> u8;
     pub safe fn sedge_fop_accepted_beyond(fop: &Fop, value: u8, accepted: &mut u8) -> u8;
     pub safe fn sedge_accepted_beyond(nn: u8, vs: u8, value: u8, accepted: &mut u8) -> u8;

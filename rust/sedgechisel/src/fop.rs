@@ -227,7 +227,7 @@ impl Fop {
     #[must_use]
     pub fn report(&mut self, vcid: u8, word: &Clcw) -> Option<Reported> {
         let mut released = 0;
-        match ffi::sedge_fop_report(&mut self.0, vcid, &word.raw(), &mut released) {
+        match ffi::sedge_fop_clcw(&mut self.0, vcid, &word.raw(), &mut released) {
             ffi::SEDGE_ABSENT => None,
             alert => Some(Reported { released, alert: alert_of(alert) }),
         }

@@ -366,7 +366,7 @@ unsafe extern "C" {
     fn sedge_ground_telemetry(ground: &mut Ground, octets: *const u8, count: usize, heard: &mut Heard) -> u8;
     fn sedge_ground_clcw(ground: &mut Ground, octets: *const u8, count: usize, heard: &mut Heard) -> u8;
     pub safe fn sedge_ground_forget_telemetry(ground: &mut Ground) -> u8;
-    fn sedge_ground_report(ground: &mut Ground, octets: *const u8, count: usize, report: &mut Clcw) -> u8;
+    fn sedge_ground_clcw_in(ground: &mut Ground, octets: *const u8, count: usize, report: &mut Clcw) -> u8;
     pub safe fn sedge_ground_next_telemetry(ground: &mut Ground, count: &mut usize) -> u8;
     fn sedge_ground_take_telemetry(ground: &mut Ground, out: *mut u8, room: usize, count: &mut usize) -> u8;
     pub safe fn sedge_ground_tick(ground: &mut Ground) -> u8;
@@ -391,7 +391,7 @@ unsafe extern "C" {
         spacecraft: &mut Spacecraft, map: &mut u8, out: *mut u8, room: usize, count: &mut usize,
     ) -> u8;
     fn sedge_spacecraft_telemetry(spacecraft: &mut Spacecraft, packet: *const u8, count: usize) -> u8;
-    fn sedge_spacecraft_report(
+    fn sedge_spacecraft_telemetry_frame(
         spacecraft: &mut Spacecraft, out: *mut u8, room: usize, count: &mut usize,
     ) -> u8;
     pub safe fn sedge_spacecraft_read(spacecraft: &mut Spacecraft, read: &mut SpacecraftReading) -> u8;
@@ -443,8 +443,8 @@ pub fn ground_clcw(ground: &mut Ground, octets: &[u8], heard: &mut Heard) -> u8 
     unsafe { sedge_ground_clcw(ground, octets.as_ptr(), octets.len(), heard) }
 }
 
-pub fn ground_report(ground: &mut Ground, octets: &[u8], report: &mut Clcw) -> u8 {
-    unsafe { sedge_ground_report(ground, octets.as_ptr(), octets.len(), report) }
+pub fn ground_clcw_in(ground: &mut Ground, octets: &[u8], report: &mut Clcw) -> u8 {
+    unsafe { sedge_ground_clcw_in(ground, octets.as_ptr(), octets.len(), report) }
 }
 
 pub fn ground_take_telemetry(ground: &mut Ground, out: &mut [u8], count: &mut usize) -> u8 {
@@ -469,8 +469,8 @@ pub fn spacecraft_telemetry(spacecraft: &mut Spacecraft, packet: &[u8]) -> u8 {
     unsafe { sedge_spacecraft_telemetry(spacecraft, packet.as_ptr(), packet.len()) }
 }
 
-pub fn spacecraft_report(spacecraft: &mut Spacecraft, out: &mut [u8], count: &mut usize) -> u8 {
-    unsafe { sedge_spacecraft_report(spacecraft, out.as_mut_ptr(), out.len(), count) }
+pub fn spacecraft_telemetry_frame(spacecraft: &mut Spacecraft, out: &mut [u8], count: &mut usize) -> u8 {
+    unsafe { sedge_spacecraft_telemetry_frame(spacecraft, out.as_mut_ptr(), out.len(), count) }
 }
 
 pub fn sim_octets(sim: &mut Sim, out: &mut [u8], count: &mut usize) -> u8 {

@@ -194,7 +194,7 @@ impl Ground {
     #[must_use]
     pub fn report_in(&self, octets: &[u8]) -> Option<Clcw> {
         let mut word = Default::default();
-        let found = self.0.is_there(|it| raw::ground_report(it, octets, &mut word));
+        let found = self.0.is_there(|it| raw::ground_clcw_in(it, octets, &mut word));
         found.then(|| Clcw::from_raw(word))
     }
 

@@ -146,7 +146,7 @@ impl Spacecraft {
     /// Takes the next telemetry frame, which reports on the receiver, and writes it to the beginning of the room.
     pub fn report<'o>(&mut self, room: &'o mut [u8; TmFrame::LONGEST]) -> &'o mut [u8] {
         let mut count = 0;
-        done(raw::spacecraft_report(self.0.get(), room, &mut count));
+        done(raw::spacecraft_telemetry_frame(self.0.get(), room, &mut count));
         &mut room[..count]
     }
 
