@@ -34,7 +34,7 @@ with sc.Ground(config) as ground, sc.Spacecraft(config) as spacecraft:
             spacecraft.receive(frame)
         for _, packet in spacecraft.packets():
             print(f"tick {now}: packet {sc.Packet.decode(packet)[0].count} is delivered")
-        send(down, spacecraft.report())
+        send(down, spacecraft.telemetry_frame())
         for frame in arrived(down):
             heard = ground.telemetry(frame)
             alert = alert or heard.alert
@@ -42,7 +42,7 @@ with sc.Ground(config) as ground, sc.Spacecraft(config) as spacecraft:
             # made with nothing on its way up if it comes more than a round trip later.
             is_quiet = ground.state == sc.State.S6 and not alert and now - stopped > ROUND_TRIP
             if is_quiet and heard.report == sc.Report.USED:
-                value = ground.report_in(frame).value
+                value = ground.clcw_in(frame).value
                 try:
                     done += ground.resume(value)
                 except sc.LinkFault as fault:

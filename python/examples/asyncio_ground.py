@@ -74,7 +74,7 @@ class Board:
     async def reports(self):
         while True:
             await asyncio.sleep(TICK)
-            frame = self.spacecraft.report()
+            frame = self.spacecraft.telemetry_frame()
             if chance.randrange(3):
                 self.writer.write(frame)
 

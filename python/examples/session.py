@@ -15,7 +15,7 @@ with sc.Ground(config) as ground, sc.Spacecraft(config) as spacecraft:
             number, is_lost = sc.TcFrame.decode(frame)[0].n, chance.randrange(3) == 0
             came = "x" if is_lost else f"-----> {spacecraft.receive(frame).verdict.word}"
             print(f"AD {number} -----{came}")
-        word, frame, is_lost = spacecraft.control_word, spacecraft.report(), chance.randrange(3) == 0
+        word, frame, is_lost = spacecraft.control_word, spacecraft.telemetry_frame(), chance.randrange(3) == 0
         print(f"     {'     x' if is_lost else '<-----'}----- V(R)={word.value}{', again' * (word.flags > 0)}")
         alert = ground.tick() if is_lost else ground.telemetry(frame).alert or ground.tick()
         assert alert == sc.Alert.NONE, alert

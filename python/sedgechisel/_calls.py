@@ -11,7 +11,7 @@ from typing import Any, Callable, Dict, Iterator, List, Optional, Tuple, Type, T
 from ._faults import (
     CheckFault, ClcwFault, CopFault, Fault, MapFault, PacketFault, TcFault, Text, TmFault, word_of as _word_of)
 from ._library import (
-    FIRST, Single, call_of, number_of as _number_of, octets_of as _octets_of, room_of as _room_of,
+    FIRST, Single, call_of, number_of as _number_of, octets_of as _octets_of, renamed, room_of as _room_of,
     struct_of as _struct_of, within as _within, written as _written)
 
 _ABSENT, _DAMAGED = 253, 255
@@ -205,11 +205,13 @@ class Farm(_Struct):
         """There is room on board again."""
         CopFault._look_at(_farm_released(self))
 
-    def report(self, vcid: int) -> Clcw:
+    def control_word(self, vcid: int) -> Clcw:
         """The Clcw that reports the receiver as it is for a virtual channel; a ClcwFault where that is not below 64."""
         word = Clcw.__new__(Clcw)
         ClcwFault._look_at(_farm_control_word(self, vcid, word))
         return word
+
+    report = renamed("report", control_word)
 
     @property
     def mode(self) -> Mode:
@@ -347,12 +349,14 @@ class Fop(_Struct):
         number = c_uint8()
         return _answered(Next, _fop_next(self, number)), number.value
 
-    def report(self, vcid: int, word: Clcw) -> Optional[Tuple[Alert, int]]:
+    def clcw(self, vcid: int, word: Clcw) -> Optional[Tuple[Alert, int]]:
         """A Clcw has come, and the sender is that of the virtual channel vcid: the Alert, and how many of the oldest
         units are acknowledged. None, and nothing changes, for a word that reports on another channel."""
         released = c_uint8()
         answer = _fop_clcw(self, vcid, _struct_of("word", Clcw, word), released)
         return None if answer == _ABSENT else (_answered(Alert, answer), released.value)
+
+    report = renamed("report", clcw)
 
     def tick(self) -> Alert:
         """A tick of the clock has passed: the Alert."""

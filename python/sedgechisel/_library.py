@@ -2,15 +2,18 @@
 from __future__ import annotations
 
 import ctypes
+import warnings
 from ctypes import c_size_t, c_uint8, c_uint16, c_uint32, c_uint64
+from functools import wraps
 from os import path
-from typing import Any, Callable, Dict, List, Tuple, TypeVar
+from typing import Any, Callable, Dict, List, Tuple, TypeVar, cast
 
 _LOST = """{file} cannot be loaded: {why}
 The package sedgechisel needs it beside its modules. In the repository of Sedgechisel run one of these:
     ./install --wheel DIR      and then  pip install --no-index DIR/sedgechisel-*.whl
     ./install --prefix DIR     and then  export PYTHONPATH=DIR/lib/python"""
 _Own = TypeVar("_Own", bound="Single")
+_Call = TypeVar("_Call", bound=Callable[..., Any])
 _MOST: Dict[Any, int] = {c_uint8: 0xFF, c_uint16: 0xFFFF, c_uint32: 0xFFFFFFFF, c_uint64: 0xFFFF_FFFF_FFFF_FFFF}
 LONGEST = 65542
 _rooms: List[Any] = []  # of LONGEST octets each, that no call has
@@ -23,6 +26,22 @@ def _load(name: str) -> ctypes.PyDLL:
         return ctypes.PyDLL(file)
     except OSError as why:
         raise ImportError(_LOST.format(file=file, why=why), name="sedgechisel", path=file) from None
+
+
+def warn_of(old: str, new: str) -> None:
+    """Warns a program of a name that goes after 0.3."""
+    warnings.warn(f"{old} is {new} now; the old name goes after 0.3", DeprecationWarning, stacklevel=3)
+
+
+def renamed(old: str, call: _Call) -> _Call:
+    """A method under the name that it had."""
+    @wraps(call)
+    def called(*values: Any, **named: Any) -> Any:
+        warn_of(old, call.__name__)
+        return call(*values, **named)
+
+    called.__name__ = old
+    return cast(_Call, called)
 
 
 def number_of(name: str, value: Any) -> int:

@@ -4,14 +4,15 @@ from __future__ import annotations
 import ctypes
 from ctypes import POINTER, c_bool, c_char_p, c_size_t, c_uint8, c_uint16, c_uint32, c_uint64, c_void_p
 from dataclasses import dataclass
-from enum import IntEnum
+from enum import EnumMeta, IntEnum
 from threading import RLock
 from types import TracebackType
 from typing import Any, Callable, Dict, Iterator, Optional, Tuple, Type, TypeVar
 
 from ._calls import Alert, Clcw, Command, Mode, Verdict, _directive, _dropped_word, _Struct
 from ._faults import ClcwFault, ConfigFault, CopFault, Fault, LinkFault, TcFault, TelemetryFault, TmFault
-from ._library import LONGEST, NODES, Single, call_of, octets_of as _octets_of, written as _written
+from ._library import (
+    LONGEST, NODES, Single, call_of, octets_of as _octets_of, renamed, warn_of as _warn_of, written as _written)
 
 _ABSENT, _OUT_OF_RANGE, _NONE = 253, 254, 255
 _Own = TypeVar("_Own", bound="Handle")
@@ -158,11 +159,23 @@ class Arrived(IntEnum):
     INVALID, FOREIGN, AD, BD, BC, TM, CLCW = range(1, 8)
 
 
-class Report(IntEnum):
-    """What becomes of a report: it is given to the sender (USED), there is none, the octets being no control word
-    (NONE), or it is about another virtual channel (OTHER)."""
+class _Renamed(EnumMeta):
+    """An enumeration whose members have other names too, those of before 0.3."""
 
-    USED, NONE, OTHER = range(3)
+    def __getattr__(cls, name: str) -> Any:
+        new = {"NONE": "REFUSED", "OTHER": "OTHER_CHANNEL"}.get(name, name)
+        if name.startswith("_") or new not in cls._member_map_:
+            raise AttributeError(name)
+        if new != name:
+            _warn_of(f"{cls.__name__}.{name}", new)
+        return cls._member_map_[new]
+
+
+class Report(IntEnum, metaclass=_Renamed):
+    """What becomes of a report: it is given to the sender (USED), it is none, the octets being no control word
+    (REFUSED), or it is about another virtual channel (OTHER_CHANNEL)."""
+
+    USED, REFUSED, OTHER_CHANNEL = range(3)
 
 
 class State(IntEnum):
@@ -220,7 +233,7 @@ class Heard:
 
     - INVALID: `fault`
     - TM: the number of frames that are missing before it, `gap`, or None for the first; the number of `packets` that
-      came to wait to be taken; its `report`, and where that is NONE the `word_fault`; and why the sender has given up,
+      came to wait to be taken; its `report`, and where that is REFUSED the `word_fault`; and why the sender has given up,
       `alert`
     - CLCW: `report`, `word_fault` and `alert` in the same way"""
 
@@ -244,7 +257,7 @@ class _Heard(ctypes.Structure):
             return Heard(Arrived.FOREIGN)
         kind, report = Arrived.CLCW if self.kind == 4 else Arrived.TM, _REPORTS[self.report]
         gap = None if self.first or kind == Arrived.CLCW else self.missing
-        word_fault = ClcwFault(self.word_fault) if report == Report.NONE else None
+        word_fault = ClcwFault(self.word_fault) if report == Report.REFUSED else None
         return Heard(kind, None, gap, self.packets, report, word_fault, _ALERTS[self.alert])
 
 
@@ -369,11 +382,13 @@ class Ground(Sender):
         finished is dropped. Packets that wait to be taken stay."""
         self._asked(_ground_forget_telemetry(self._handle))
 
-    def report_in(self, octets: bytes) -> Optional[Clcw]:
+    def clcw_in(self, octets: bytes) -> Optional[Clcw]:
         """The report that a telemetry frame carries, of whichever spacecraft and virtual channel; None where the octets
         are no frame, or the frame carries no report. The ground stays as it is."""
         octets, word = _octets_of("octets", octets), Clcw.__new__(Clcw)
         return None if self._is_absent(_ground_clcw_in(self._handle, octets, len(octets), word)) else word
+
+    report_in = renamed("report_in", clcw_in)
 
     def take_telemetry(self) -> Optional[bytes]:
         """Takes the oldest packet that telemetry frames carried, or None."""
@@ -560,9 +575,11 @@ class Spacecraft(Handle):
         packet = _octets_of("packet", packet)
         self._asked(_spacecraft_telemetry(self._handle, packet, len(packet)), TelemetryFault)
 
-    def report(self) -> bytes:
+    def telemetry_frame(self) -> bytes:
         """Takes the next telemetry frame, which reports on the receiver: as many octets as `frame_length` says."""
         return self._given(_spacecraft_telemetry_frame, 2048)
+
+    report = renamed("report", telemetry_frame)
 
     def _read(self) -> _SpacecraftReading:
         read = _SpacecraftReading()

@@ -135,7 +135,7 @@ class OverNodes:
         self.up = self.ground.pull() or self.up
 
     def reports(self):
-        self.down = self.board.report()
+        self.down = self.board.telemetry_frame()
 
     def events(self):
         it, chance, ground, board = self.it, self.chance, self.ground, self.board

@@ -100,8 +100,8 @@ def frames_and_packets_that_stay(it):
         for command, packet in zip(commands, telemetry):
             ground.submit(4, command), board.telemetry(packet)
     frames = [[ground.pull() for ground, _ in nodes] for _ in range(9)]
-    reports = [[board.report() for _, board in nodes] for _ in range(180)]
-    words = [[ground.report_in(octets) for (ground, _), octets in zip(nodes, each)] for each in reports]
+    reports = [[board.telemetry_frame() for _, board in nodes] for _ in range(180)]
+    words = [[ground.clcw_in(octets) for (ground, _), octets in zip(nodes, each)] for each in reports]
     heard = [[ground.telemetry(octets) for (ground, _), octets in zip(nodes, each)] for each in reports]
     received = [[board.receive(octets) for (_, board), octets in zip(nodes, each)] for each in frames]
     taken = [[board.take() for _, board in nodes] for _ in range(9)]
@@ -130,7 +130,7 @@ def calls_at_once(it):
                 (it._calls, "_packet_decode", *(lambda each=each: it.Packet.decode(each) for each in (COMMAND, OTHER))),
                 (it._calls, "_tm_decode", *(lambda each=each: it.TmFrame.decode(each) for each in tm)),
                 (it._calls, "_clcw_decode", *(lambda each=each: it.Clcw.decode(each) for each in words)),
-                (it._nodes, "_ground_clcw_in", *(lambda each=each: one.report_in(each) for each in tm)),
+                (it._nodes, "_ground_clcw_in", *(lambda each=each: one.clcw_in(each) for each in tm)),
                 (it._nodes, "_ground_telemetry", *(lambda each=each: one.telemetry(each) for each in no_frames[:2])),
                 (it._nodes, "_spacecraft_receive", *(lambda each=each: board.receive(each) for each in no_frames[::2])),
                 (it._nodes, "_ground_peek", one.peek, other.peek)):

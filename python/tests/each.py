@@ -6,6 +6,7 @@ import inspect
 import io
 import sys
 import threading
+import warnings
 
 from wanted import says
 
@@ -50,9 +51,9 @@ def alerts(it):
     retransmit, wait, lockout = it.Flags.RETRANSMIT, it.Flags.WAIT, it.Flags.LOCKOUT
     rows = (("LOCKOUT", 2, lockout, 0), ("NNR", 2, 0, 2), ("CLCW", 2, wait, 0), ("SYNCH", 2, retransmit, 1),
             ("LIMIT", 1, retransmit, 0), ("NONE", 2, 0, 1))
-    found = [active(it, limit).report(2, it.Clcw(vcid=2, flags=flags, value=value)) for _, limit, flags, value in rows]
+    found = [active(it, limit).clcw(2, it.Clcw(vcid=2, flags=flags, value=value)) for _, limit, flags, value in rows]
     assert found == [(it.Alert[name], 1 if name == "NONE" else 0) for name, *_ in rows]
-    assert active(it).report(2, it.Clcw(vcid=3)) is None
+    assert active(it).clcw(2, it.Clcw(vcid=3)) is None
     last = active(it, 1)
     assert (last.tick(), last.tick(), last.tick()) == (it.Alert.NONE, it.Alert.TIMER, it.Alert.NONE)
     words = ["", "Lockout", "NnR", "Clcw", "Synch", "Limit", "Timer", "Terminated"]
@@ -76,7 +77,7 @@ def senders(it):
     fop.init_set_vr(7)
     found += [fop.next()]
     again = active(it)
-    again.report(0, it.Clcw(flags=it.Flags.RETRANSMIT))
+    again.clcw(0, it.Clcw(flags=it.Flags.RETRANSMIT))
     found += [again.next()]
     which = it.Next
     assert found == [(which.NOTHING, 0), (which.UNLOCK, 0), (which.SET_VR, 7), (which.AGAIN, 0)]
@@ -157,8 +158,8 @@ def arrivals(it):
         heard.append(ground.clcw(it.Clcw(vcid=2).encode()))
         assert heard == [
             it.Heard(kind.INVALID, fault=it.TmFault(1)), it.Heard(kind.FOREIGN),
-            it.Heard(kind.TM, gap=None, report=it.Report.NONE, word_fault=it.ClcwFault(1)),
-            it.Heard(kind.TM, gap=2, report=it.Report.OTHER), it.Heard(kind.TM, gap=0, report=it.Report.USED),
+            it.Heard(kind.TM, gap=None, report=it.Report.REFUSED, word_fault=it.ClcwFault(1)),
+            it.Heard(kind.TM, gap=2, report=it.Report.OTHER_CHANNEL), it.Heard(kind.TM, gap=0, report=it.Report.USED),
             it.Heard(kind.CLCW, report=it.Report.USED)], heard
     with it.Spacecraft(max_packet=7) as board:
         long = it.TcFrame(scid=1, vcid=2, flags=it.Segment.ALONE)
@@ -273,7 +274,7 @@ def longest_machines(it):
     farm = it.Farm(254, 255)
     farm.bd(), farm.set_vr(254), farm.unlock(), farm.released()
     assert (farm.ad(254, True), farm.ad(255)) == (it.Verdict.ACCEPTED, it.Verdict.ACCEPTED)
-    assert farm.report(63) == it.Clcw(vcid=63, farm_b=3, value=0) and farm.mode == it.Mode.OPEN
+    assert farm.control_word(63) == it.Clcw(vcid=63, farm_b=3, value=0) and farm.mode == it.Mode.OPEN
     fop = it.Fop(width=254, window=127, limit=255, timer=65535)
     for directs in (lambda: fop.set_vs(255), lambda: fop.set_window(127), lambda: fop.set_limit(255),
                     lambda: fop.set_timer(65535), fop.init_with_check, fop.terminate, fop.init_unlock, fop.terminate,
@@ -285,7 +286,7 @@ def longest_machines(it):
         assert fop.next() == (it.Next.FIRST, (255 + k) % 256)
     assert fop.tick() == it.Alert.NONE and fop.ticks == 65534 and (fop.sent, fop.vs) == (127, 126)
     assert fop.accepted_beyond(126) == it.accepted_beyond(255, 126, 126) == 127 and fop.accepted_beyond(127) is None
-    assert fop.report(63, it.Clcw(vcid=63, value=126)) == (it.Alert.NONE, 127)
+    assert fop.clcw(63, it.Clcw(vcid=63, value=126)) == (it.Alert.NONE, 127)
     # Nothing is sent and not acknowledged, whatever the value.
     assert {fop.accepted_beyond(value) for value in range(256)} == {0}
     assert {it.accepted_beyond(126, 126, value) for value in range(256)} == {0}
@@ -315,9 +316,9 @@ def reports_alone(it, ground, down, word):
     ground.forget_telemetry()
     assert ground.telemetry(down).gap is None
     assert ground.clcw(word) == it.Heard(it.Arrived.CLCW, report=it.Report.USED)
-    assert ground.clcw(b"\x01\x00\x00\x00") == it.Heard(it.Arrived.CLCW, report=it.Report.OTHER)
+    assert ground.clcw(b"\x01\x00\x00\x00") == it.Heard(it.Arrived.CLCW, report=it.Report.OTHER_CHANNEL)
     assert ground.clcw(b"\x81\xfc\x00\x00") == it.Heard(
-        it.Arrived.CLCW, report=it.Report.NONE, word_fault=it.ClcwFault(1))
+        it.Arrived.CLCW, report=it.Report.REFUSED, word_fault=it.ClcwFault(1))
     says(ValueError, "word: 3 octets", ground.clcw, word[:3])
 
 
@@ -330,9 +331,9 @@ def longest_nodes(it):
         assert it.TcFrame.decode(octets)[0] == it.TcFrame(scid=1023, vcid=63, kind=it.Kind.BC, command=1, vr=255)
         assert board.receive(octets) == it.Received(it.Arrived.BC, command=it.Command.SET_VR, vr=255)
         assert board.control_word == it.Clcw(vcid=63, farm_b=1, value=255) and board.mode == it.Mode.OPEN
-        down = board.report()
+        down = board.telemetry_frame()
         assert len(down) == ground.frame_length == board.frame_length == 2048
-        assert ground.report_in(down) == board.control_word
+        assert ground.clcw_in(down) == board.control_word
         assert ground.telemetry(down) == it.Heard(it.Arrived.TM, report=it.Report.USED)
         reports_alone(it, ground, down, board.control_word.encode())
         assert ground.submit(63, command) == 0
@@ -360,9 +361,9 @@ def longest_nodes(it):
         assert len(octets) == 1024 and board.receive(octets) == it.Received(it.Arrived.BD, kept=True)
         assert board.bypassed == 1 and board.take_bypass() == (63, octets[6:-2]) and [*board.bypass_packets()] == []
         for _ in range(255):
-            board.report()
+            board.telemetry_frame()
         board.telemetry(packet)
-        heard = [ground.telemetry(board.report()) for _ in range(33)]
+        heard = [ground.telemetry(board.telemetry_frame()) for _ in range(33)]
         assert [one.gap for one in heard] == [255] + [0] * 32 and [one.packets for one in heard] == [0] * 32 + [1]
         assert (ground.nn, ground.outstanding) == (64, 0) and ground.take_telemetry() == packet
         assert [*ground.packets()] == [] and ground.tick() == it.Alert.NONE and not ground.closed
@@ -512,4 +513,23 @@ def threads_that_share(it):
         assert between(link_calls, "_sim_submissions", begins, lambda: link.submissions) == [(4, COMMAND)]
 
 
-TESTS = (each_member_of_each_enumeration, each_method_with_the_longest_values, each_wrong_argument, threads_that_share)
+def names_before_0_3(it):
+    """Each name that goes after 0.3 serves as the one that stands for it, with a DeprecationWarning of the caller's
+    line."""
+    farm, fop, ground, board = it.Farm(10), it.Fop(10, 5, 3, 10), it.Ground(), it.Spacecraft()
+    with warnings.catch_warnings(record=True) as said:
+        warnings.simplefilter("always")
+        word = farm.report(2)
+        assert word == farm.control_word(2) and fop.report(3, word) is None
+        assert fop.report(2, word=word) == (it.Alert.NONE, 0)
+        assert ground.report_in(board.report()) == board.control_word
+        assert it.Report.NONE is it.Report.REFUSED and it.Report.OTHER is it.Report.OTHER_CHANNEL
+    assert [str(one.message).partition(";")[0] for one in said] == [
+        "report is control_word now", "report is clcw now", "report is clcw now", "report is telemetry_frame now",
+        "report_in is clcw_in now", "Report.NONE is REFUSED now", "Report.OTHER is OTHER_CHANNEL now"]
+    assert {(one.category, one.filename) for one in said} == {(DeprecationWarning, __file__)}
+    assert not hasattr(it.Report, "ABSENT") and [*it.Report.__members__] == ["USED", "REFUSED", "OTHER_CHANNEL"]
+
+
+TESTS = (each_member_of_each_enumeration, each_method_with_the_longest_values, each_wrong_argument, threads_that_share,
+         names_before_0_3)

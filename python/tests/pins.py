@@ -16,14 +16,12 @@ NOT_CALLED = {"sedge_ground_next", "sedge_ground_next_telemetry", "sedge_spacecr
 # The kinds of nodes.
 HANDLES = ("ground", "spacecraft", "sim")
 
-# Each enumeration with its enum in the headers, and the members that have another name there; and those of which the
-# headers have the numbers in a note.
+# Each enumeration with its enum in the headers, and the members that have another name there. (Arrived has the kinds of
+# both, sedge_received_kind and sedge_heard_kind.)
 ENUMS = {"Verdict": "verdict", "Mode": "farm_mode", "Alert": "alert", "Next": "next", "Kind": "tc_kind",
          "Segment": "segment_flags", "Command": "command", "PacketKind": "packet_kind", "Flags": "clcw_flags",
-         "State": "fop_state", "Begun": "begun"}
+         "State": "fop_state", "Begun": "begun", "SequenceFlags": "sequence_flags", "Report": "heard_report"}
 MEMBERS = {"SEDGE_NO_ALERT": "NONE"}
-NOTED = {"SequenceFlags": "CONTINUATION FIRST LAST UNSEGMENTED", "Report": "USED NONE OTHER",
-         "Arrived": "- INVALID FOREIGN AD BD BC TM CLCW"}
 
 
 def text_of(file):
@@ -47,7 +45,7 @@ def calls_of_the_headers(it):
     """Each call of the headers is called."""
     bound = {name for library in (it._library.FIRST, it._library.NODES) for name in vars(library)
              if name.startswith("sedge_")}
-    wanted = {*re.findall(r"^(?!static )[a-z][\w ]* (sedge_\w+)\(", header(), re.M)} - NOT_CALLED
+    wanted = {*re.findall(r"^(?!static )(?:SEDGE_CHECK )?[a-z][\w ]* (sedge_\w+)\(", header(), re.M)} - NOT_CALLED
     assert bound == wanted and len(wanted) > 70, bound ^ wanted
 
 
@@ -90,7 +88,7 @@ def enumerations_of_the_headers(it):
     """Each enumeration has the members of its enum, with their numbers."""
     bodies = dict(re.findall(r"^enum sedge_(\w+) \{(.*?)^\};", header(), re.M | re.S))
     classes = {name: kind for name, kind in vars(it).items() if isinstance(kind, enum.EnumMeta)}
-    assert {*classes} == {*ENUMS, *NOTED}
+    assert {*classes} == {*ENUMS, "Arrived"}
     for name, own in ENUMS.items():
         numbers = {case: int(number, 0) for case, number in re.findall(r"(SEDGE_\w+) = (\w+)", bodies[own])}
         members = {case: member.value for case, member in classes[name].__members__.items()}
@@ -98,9 +96,10 @@ def enumerations_of_the_headers(it):
         for case, number in numbers.items():
             member = classes[name](number).name
             assert MEMBERS.get(case) == member or is_name_of(member, case), f"{name}.{member} is {case}"
-    for name, members in NOTED.items():
-        assert [(member.name, member.value) for member in classes[name]] == [
-            (member, number) for number, member in enumerate(members.split()) if member != "-"], name
+    cases = [case.removeprefix("SEDGE_").partition("_") for own in ("received_kind", "heard_kind")
+             for case in re.findall(r"SEDGE_\w+", bodies[own])]
+    members = ["TM" if (of, case) == ("HEARD", "FRAME") else case for of, _, case in cases]
+    assert [member.name for member in it.Arrived] == [*dict.fromkeys(members)]
     for known, own, before in ((it._calls._DIRECTIVES, "directive", "SEDGE"),
                                (it._link._EVENTS, "event_kind", "SEDGE_EVENT")):
         numbers = {case: int(number) for case, number in re.findall(r"(SEDGE_\w+) = (\d+)", bodies[own])}
@@ -121,11 +120,11 @@ PREFIXES = {"Clcw": "clcw", "Farm": "farm", "Fop": "fop", "TcFrame": "tc", "Pack
             "Ground": "ground", "Spacecraft": "spacecraft", "Link": "sim", "Sender": "sender"}
 # Methods that make other calls than the one of their own name, and what these are.
 OTHERS = {
-    "Farm.__init__": "farm_open", "Farm.report": "farm_control_word", "Fop.report": "fop_clcw", "Spacecraft.report": "spacecraft_telemetry_frame", "Farm.mode": "farm_state", "Fop.__init__": "fop_open",
+    "Farm.__init__": "farm_open", "Farm.mode": "farm_state", "Fop.__init__": "fop_open",
     "TmBuilder.__init__": "tm_builder_open", "TmExtractor.take": "tm_extractor_frame tm_packet",
     "segments": "map_count map_count map_segment", "_parts_of": "map_packet",
     "Alert.word": "alert_word", "Verdict.word": "verdict_word", "Map.take": "map_take dropped_word",
-    "_Received.value": "dropped_word", "Handle.__init__": "config_fault", "Ground.report_in": "ground_clcw_in",
+    "_Received.value": "dropped_word", "Handle.__init__": "config_fault",
     "Ground._read": "ground_read", "Ground._direct": "ground_directive", "Fop._direct": "fop_directive",
     "Spacecraft._read": "spacecraft_read", "Link._read": "sim_read", "Link._event": "sim_step",
     "Link._read_ground": "sim_ground_read", "Link._read_spacecraft": "sim_spacecraft_read",

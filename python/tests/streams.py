@@ -60,7 +60,7 @@ def packets_one_at_a_time(it):
             assert [*packets] == [*call()] == [] and take() is None
         for packet in TELEMETRY:
             board.telemetry(packet)
-        assert ground.telemetry(board.report()).packets == 4
+        assert ground.telemetry(board.telemetry_frame()).packets == 4
         packets = ground.packets()
         assert [ground.take_telemetry(), next(packets), *ground.packets()] == TELEMETRY and [*packets] == []
         ended = ground.frames(), ground.packets(), board.packets(), board.bypass_packets()
@@ -73,7 +73,7 @@ def packets_one_at_a_time(it):
 
 def reports(it, count, length=64):
     with it.Spacecraft(frame_length=length) as board:
-        return [board.report() for _ in range(count)]
+        return [board.telemetry_frame() for _ in range(count)]
 
 
 def piped(octets, chance, buffering):

@@ -87,7 +87,7 @@ class Nodes:
         return f"sent {frame.hex().upper()}"
 
     def on_report(self):
-        word, frame = self.spacecraft.control_word, self.spacecraft.report()
+        word, frame = self.spacecraft.control_word, self.spacecraft.telemetry_frame()
         self.down.append(frame)
         return f"report {word.encode().hex().upper()}"
 

@@ -188,7 +188,7 @@ impl Ends for Nodes {
             .expect("a control word in its ranges");
         let mut room = [0; TmFrame::LONGEST];
         self.down
-            .push_back(self.spacecraft.report(&mut room).to_vec());
+            .push_back(self.spacecraft.telemetry_frame(&mut room).to_vec());
         Ok(format!("report {}", digits_of(&word)))
     }
 

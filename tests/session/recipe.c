@@ -201,7 +201,8 @@ static void hear(const struct frame *frame, long now) {
     expect(sedge_ground_telemetry(&ground, frame->octets, frame->count, &heard) == 0, "sedge_ground_telemetry");
     alerts += heard.alert != 0;
     was_active |= read_ground().state == SEDGE_FOP_S1;
-    if (heard.alert != 0 || read_ground().state != SEDGE_FOP_S6 || heard.kind != 3 || heard.report != 0) return;
+    if (heard.alert != SEDGE_NO_ALERT || read_ground().state != SEDGE_FOP_S6) return;
+    if (heard.kind != SEDGE_HEARD_FRAME || heard.report != SEDGE_REPORT_USED) return;
     expect(sedge_ground_clcw_in(&ground, frame->octets, frame->count, &report) == 0, "sedge_ground_clcw_in");
     if (is_early || now - sent > 2 * (long)up.delay) begin(report.value);
 }

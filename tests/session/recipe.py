@@ -114,7 +114,7 @@ class Run:
             return heard.alert
         is_made_after = now - self.sent > 2 * self.delay
         if IS_EARLY or is_made_after:
-            self.begin(ground, ground.report_in(frame).value)
+            self.begin(ground, ground.clcw_in(frame).value)
         return heard.alert
 
     def tick(self, ground, spacecraft, now):
@@ -123,7 +123,7 @@ class Run:
             spacecraft.receive(frame)
         while draw(self.pause) == 0 and self.take(spacecraft):
             pass
-        self.down.send(now, spacecraft.report())
+        self.down.send(now, spacecraft.telemetry_frame())
         for frame in self.down.arrived(now):
             alerts += self.hear(ground, frame, now) != 0
         alerts += ground.tick() != 0

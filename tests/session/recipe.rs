@@ -218,7 +218,7 @@ impl Run {
         }
         let report = self
             .ground
-            .report_in(frame)
+            .clcw_in(frame)
             .ok_or("a frame without a report")?;
         let is_made_after = now - self.sent > 2 * i64::from(self.up.delay);
         if all.is_early || is_made_after {
@@ -246,7 +246,7 @@ impl Run {
         }
         while all.draw(self.pause.into()) == 0 && self.take(all)? {}
         let mut room = [0; TmFrame::LONGEST];
-        let report = self.spacecraft.report(&mut room).to_vec();
+        let report = self.spacecraft.telemetry_frame(&mut room).to_vec();
         self.down.send(all, now, report);
         while let Some(frame) = self.down.arrived(now) {
             self.hear(all, &frame, now)?;

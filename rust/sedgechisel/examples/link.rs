@@ -79,7 +79,7 @@ fn carry_down(
     ground: &mut Ground, spacecraft: &mut Spacecraft, link: &mut Link,
 ) -> Result<(Option<u8>, Option<Alert>), Box<dyn Error>> {
     let mut room = [0; TmFrame::LONGEST];
-    let frame = spacecraft.report(&mut room);
+    let frame = spacecraft.telemetry_frame(&mut room);
     if !link.carries() {
         return Ok((None, None));
     }

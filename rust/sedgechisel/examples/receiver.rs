@@ -27,7 +27,7 @@ impl Board<'_> {
             Ok(TcFrame { scid: SPACECRAFT, vcid: CHANNEL, body }) => self.receive(body),
             Ok(_) => {}
         }
-        println!("report{}", spelled(&self.farm.report(CHANNEL)?.encode()?));
+        println!("report{}", spelled(&self.farm.control_word(CHANNEL)?.encode()?));
         Ok(())
     }
 

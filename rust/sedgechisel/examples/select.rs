@@ -104,7 +104,7 @@ impl Control {
         if self.ground.state() != FopState::S6 || self.silence < ROUND_TRIP {
             return Ok(());
         }
-        let word = self.ground.report_in(octets).ok_or("the frame has no report")?;
+        let word = self.ground.clcw_in(octets).ok_or("the frame has no report")?;
         let more = self.ground.accepted_beyond(word.value).ok_or("nothing is known of what was sent")?;
         self.accepted += usize::from(more);
         self.submitted = self.accepted;
@@ -151,7 +151,7 @@ fn on_board(
             Ok(_) => {}
             Err(RecvTimeoutError::Timeout) => {
                 clock = Instant::now() + REPORT;
-                let frame = spacecraft.report(&mut room);
+                let frame = spacecraft.telemetry_frame(&mut room);
                 if link.carries(true) {
                     // A ground that has ended takes no more.
                     down.send(Event::Down(frame.to_vec())).ok();

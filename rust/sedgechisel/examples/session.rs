@@ -45,7 +45,7 @@ impl Link {
 
     /// A report goes down; returns it if it arrives.
     fn carry_down(&mut self, farm: &Farm) -> Result<Option<Clcw>, Box<dyn Error>> {
-        let octets = farm.report(CHANNEL)?.encode()?;
+        let octets = farm.control_word(CHANNEL)?.encode()?;
         if self.is_lost() {
             return Ok(None);
         }
@@ -75,7 +75,7 @@ fn main() -> Result<(), Box<dyn Error>> {
                 handed_on += 1;
             }
         }
-        if let Some(reported) = link.carry_down(&farm)?.and_then(|it| fop.report(CHANNEL, &it)) {
+        if let Some(reported) = link.carry_down(&farm)?.and_then(|it| fop.clcw(CHANNEL, &it)) {
             reported.alert.map_or(Ok(()), Err)?;
             acknowledged += reported.released;
         }

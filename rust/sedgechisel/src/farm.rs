@@ -166,9 +166,16 @@ impl Farm {
 
     /// The control word that reports on the receiver as it is, for the virtual channel `vcid`; the flags for the radio
     /// channel and bit lock are false. Refused with 5 [`Range`](ClcwFault::Range) if `vcid` is not below 64.
-    pub fn report(&self, vcid: u8) -> Result<Clcw, ClcwFault> {
+    pub fn control_word(&self, vcid: u8) -> Result<Clcw, ClcwFault> {
         let mut word = ffi::Clcw::default();
         ClcwFault::judge(ffi::sedge_farm_control_word(&self.0, vcid, &mut word))?;
         Ok(Clcw::from_raw(word))
+    }
+
+    /// The control word by the name of its call up to 0.2.
+    #[deprecated(since = "0.3.0", note = "it is `control_word` now")]
+    #[allow(clippy::missing_errors_doc)]
+    pub fn report(&self, vcid: u8) -> Result<Clcw, ClcwFault> {
+        self.control_word(vcid)
     }
 }

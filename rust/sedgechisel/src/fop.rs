@@ -127,7 +127,7 @@ pub struct FopFields {
 ///     None => {}
 /// }
 /// let word = Clcw { vcid: 2, value: 1, ..Clcw::default() };
-/// assert_eq!(fop.report(2, &word), Some(Reported { released: 1, alert: None }));
+/// assert_eq!(fop.clcw(2, &word), Some(Reported { released: 1, alert: None }));
 /// # Ok::<(), sedgechisel::CopFault>(())
 /// ```
 #[derive(Clone, Debug, PartialEq, Eq)]
@@ -225,12 +225,19 @@ impl Fop {
     /// A control word has arrived, and this sender is that of the virtual channel `vcid`. Nothing is returned, and
     /// nothing changes, for a word that reports on another channel.
     #[must_use]
-    pub fn report(&mut self, vcid: u8, word: &Clcw) -> Option<Reported> {
+    pub fn clcw(&mut self, vcid: u8, word: &Clcw) -> Option<Reported> {
         let mut released = 0;
         match ffi::sedge_fop_clcw(&mut self.0, vcid, &word.raw(), &mut released) {
             ffi::SEDGE_ABSENT => None,
             alert => Some(Reported { released, alert: alert_of(alert) }),
         }
+    }
+
+    /// A control word has arrived, by the name of this call up to 0.2.
+    #[must_use]
+    #[deprecated(since = "0.3.0", note = "it is `clcw` now")]
+    pub fn report(&mut self, vcid: u8, word: &Clcw) -> Option<Reported> {
+        self.clcw(vcid, word)
     }
 
     /// A tick of the clock has passed: the alert, if there is one.

@@ -22,7 +22,7 @@
 //!     assert_eq!(farm.ad(n, true), Verdict::Accepted);
 //!     assert_eq!((segment.flags, segment.map, segment.data.len()), (SegmentFlags::Alone, 4, 7));
 //! }
-//! assert_eq!(farm.report(frame.vcid)?.encode()?, [0x01, 0x08, 0x00, 0x01]);
+//! assert_eq!(farm.control_word(frame.vcid)?.encode()?, [0x01, 0x08, 0x00, 0x01]);
 //! # Ok::<(), Box<dyn std::error::Error>>(())
 //! ```
 //!

@@ -15,6 +15,26 @@ pub const SEDGE_NODE_ABSENT: u8 = 253;
 pub const SEDGE_NODE_OUT_OF_RANGE: u8 = 254;
 pub const SEDGE_NODE_NONE: u8 = 255;
 
+pub const SEDGE_NO_PARAMETER: u8 = 0;
+
+// enum sedge_heard_kind
+pub const SEDGE_HEARD_INVALID: u8 = 1;
+pub const SEDGE_HEARD_FOREIGN: u8 = 2;
+pub const SEDGE_HEARD_FRAME: u8 = 3;
+pub const SEDGE_HEARD_CLCW: u8 = 4;
+
+// enum sedge_heard_report
+pub const SEDGE_REPORT_USED: u8 = 0;
+pub const SEDGE_REPORT_REFUSED: u8 = 1;
+pub const SEDGE_REPORT_OTHER_CHANNEL: u8 = 2;
+
+// enum sedge_received_kind
+pub const SEDGE_RECEIVED_INVALID: u8 = 1;
+pub const SEDGE_RECEIVED_FOREIGN: u8 = 2;
+pub const SEDGE_RECEIVED_AD: u8 = 3;
+pub const SEDGE_RECEIVED_BD: u8 = 4;
+pub const SEDGE_RECEIVED_BC: u8 = 5;
+
 // enum sedge_event_kind
 pub const SEDGE_EVENT_SUBMIT: u8 = 1;
 pub const SEDGE_EVENT_BYPASS: u8 = 2;
@@ -366,7 +386,7 @@ unsafe extern "C" {
     fn sedge_ground_telemetry(ground: &mut Ground, octets: *const u8, count: usize, heard: &mut Heard) -> u8;
     fn sedge_ground_clcw(ground: &mut Ground, octets: *const u8, count: usize, heard: &mut Heard) -> u8;
     pub safe fn sedge_ground_forget_telemetry(ground: &mut Ground) -> u8;
-    fn sedge_ground_clcw_in(ground: &mut Ground, octets: *const u8, count: usize, report: &mut Clcw) -> u8;
+    fn sedge_ground_clcw_in(ground: &mut Ground, octets: *const u8, count: usize, word: &mut Clcw) -> u8;
     pub safe fn sedge_ground_next_telemetry(ground: &mut Ground, count: &mut usize) -> u8;
     fn sedge_ground_take_telemetry(ground: &mut Ground, out: *mut u8, room: usize, count: &mut usize) -> u8;
     pub safe fn sedge_ground_tick(ground: &mut Ground) -> u8;
@@ -443,8 +463,8 @@ pub fn ground_clcw(ground: &mut Ground, octets: &[u8], heard: &mut Heard) -> u8 
     unsafe { sedge_ground_clcw(ground, octets.as_ptr(), octets.len(), heard) }
 }
 
-pub fn ground_clcw_in(ground: &mut Ground, octets: &[u8], report: &mut Clcw) -> u8 {
-    unsafe { sedge_ground_clcw_in(ground, octets.as_ptr(), octets.len(), report) }
+pub fn ground_clcw_in(ground: &mut Ground, octets: &[u8], word: &mut Clcw) -> u8 {
+    unsafe { sedge_ground_clcw_in(ground, octets.as_ptr(), octets.len(), word) }
 }
 
 pub fn ground_take_telemetry(ground: &mut Ground, out: &mut [u8], count: &mut usize) -> u8 {

@@ -135,7 +135,7 @@ impl Config {
     #[must_use]
     pub fn fault(&self) -> Option<Parameter> {
         match raw::sedge_config_fault(&self.raw()) {
-            0 => None,
+            raw::SEDGE_NO_PARAMETER => None,
             number => Some(Parameter::of(number)),
         }
     }

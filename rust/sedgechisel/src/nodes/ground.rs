@@ -14,9 +14,9 @@ pub enum HeardReport {
     /// It is given to the sender.
     Used,
     /// It is none.
-    None(ClcwFault),
+    Refused(ClcwFault),
     /// It is about another virtual channel.
-    Other,
+    OtherChannel,
 }
 
 /// What the ground makes of a report that came by itself.
@@ -48,12 +48,27 @@ pub enum Heard {
     },
 }
 
+/// The names of two cases up to 0.2.
+#[allow(non_snake_case, non_upper_case_globals)]
+impl HeardReport {
+    /// It is about another virtual channel.
+    #[deprecated(since = "0.3.0", note = "it is `OtherChannel` now")]
+    pub const Other: Self = Self::OtherChannel;
+
+    /// It is none.
+    #[must_use]
+    #[deprecated(since = "0.3.0", note = "it is `Refused` now")]
+    pub const fn None(fault: ClcwFault) -> Self {
+        Self::Refused(fault)
+    }
+}
+
 impl HeardReport {
     fn from_raw(heard: &raw::Heard) -> Self {
         match heard.report {
-            0 => Self::Used,
-            1 => Self::None(ClcwFault::of(heard.word_fault)),
-            2 => Self::Other,
+            raw::SEDGE_REPORT_USED => Self::Used,
+            raw::SEDGE_REPORT_REFUSED => Self::Refused(ClcwFault::of(heard.word_fault)),
+            raw::SEDGE_REPORT_OTHER_CHANNEL => Self::OtherChannel,
             _ => never(),
         }
     }
@@ -62,9 +77,9 @@ impl HeardReport {
 impl Heard {
     pub(super) fn from_raw(heard: &raw::Heard) -> Self {
         match heard.kind {
-            1 => Self::Invalid(TmFault::of(heard.fault)),
-            2 => Self::Foreign,
-            3 => Self::Frame {
+            raw::SEDGE_HEARD_INVALID => Self::Invalid(TmFault::of(heard.fault)),
+            raw::SEDGE_HEARD_FOREIGN => Self::Foreign,
+            raw::SEDGE_HEARD_FRAME => Self::Frame {
                 gap: (heard.first == 0).then_some(heard.missing),
                 packets: heard.packets,
                 report: HeardReport::from_raw(heard),
@@ -192,10 +207,17 @@ impl Ground {
     /// The report that a telemetry frame carries, of whichever spacecraft and virtual channel; `None` if the octets are
     /// no frame, or the frame carries no report.
     #[must_use]
-    pub fn report_in(&self, octets: &[u8]) -> Option<Clcw> {
+    pub fn clcw_in(&self, octets: &[u8]) -> Option<Clcw> {
         let mut word = Default::default();
         let found = self.0.is_there(|it| raw::ground_clcw_in(it, octets, &mut word));
         found.then(|| Clcw::from_raw(word))
+    }
+
+    /// The report that a telemetry frame carries, by the name of this call up to 0.2.
+    #[must_use]
+    #[deprecated(since = "0.3.0", note = "it is `clcw_in` now")]
+    pub fn report_in(&self, octets: &[u8]) -> Option<Clcw> {
+        self.clcw_in(octets)
     }
 
     /// Takes the oldest packet that telemetry frames carried, if one waits. Refused with 6

@@ -38,9 +38,9 @@ pub enum Received {
 impl Received {
     pub(super) fn from_raw(received: &raw::Received) -> Self {
         match received.kind {
-            1 => Self::Invalid(TcFault::of(received.fault)),
-            2 => Self::Foreign,
-            3 => Self::Sequence {
+            raw::SEDGE_RECEIVED_INVALID => Self::Invalid(TcFault::of(received.fault)),
+            raw::SEDGE_RECEIVED_FOREIGN => Self::Foreign,
+            raw::SEDGE_RECEIVED_AD => Self::Sequence {
                 n: received.n,
                 verdict: Verdict::of(received.verdict),
                 ready: received.ready,
@@ -144,10 +144,16 @@ impl Spacecraft {
     }
 
     /// Takes the next telemetry frame, which reports on the receiver, and writes it to the beginning of the room.
-    pub fn report<'o>(&mut self, room: &'o mut [u8; TmFrame::LONGEST]) -> &'o mut [u8] {
+    pub fn telemetry_frame<'o>(&mut self, room: &'o mut [u8; TmFrame::LONGEST]) -> &'o mut [u8] {
         let mut count = 0;
         done(raw::spacecraft_telemetry_frame(self.0.get(), room, &mut count));
         &mut room[..count]
+    }
+
+    /// Takes the next telemetry frame, by the name of this call up to 0.2.
+    #[deprecated(since = "0.3.0", note = "it is `telemetry_frame` now")]
+    pub fn report<'o>(&mut self, room: &'o mut [u8; TmFrame::LONGEST]) -> &'o mut [u8] {
+        self.telemetry_frame(room)
     }
 
     fn read(&self) -> raw::SpacecraftReading {

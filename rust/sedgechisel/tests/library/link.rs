@@ -154,7 +154,7 @@ fn events_that_do_not_happen() {
     link.report().unwrap();
     let mut spacecraft = Spacecraft::new(&Config::default()).unwrap();
     let mut room = [0; TmFrame::LONGEST];
-    let frame = spacecraft.report(&mut room);
+    let frame = spacecraft.telemetry_frame(&mut room);
     assert_eq!(link.down_damage(frame), Err(SimFault::NotDetectable));
     frame[63] ^= 1;
     assert_eq!(link.down_damage(frame), Ok(Heard::Invalid(TmFault::Check)));

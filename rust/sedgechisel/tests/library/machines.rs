@@ -41,7 +41,7 @@ fn a_receiver_waits_for_a_buffer() {
 
 #[test]
 fn a_receiver_reports() {
-    let report = |farm: &Farm| farm.report(2).and_then(|it| it.encode()).unwrap();
+    let report = |farm: &Farm| farm.control_word(2).and_then(|it| it.encode()).unwrap();
     let mut farm = Farm::new(10, 0).unwrap();
     assert_eq!((farm.ad(0, false), report(&farm)), (Verdict::NoBuffer, [0x01, 0x08, 0x18, 0x00]));
     assert_eq!((farm.ad(5, true), report(&farm)), (Verdict::Outside, [0x01, 0x08, 0x38, 0x00]));
@@ -51,8 +51,19 @@ fn a_receiver_reports() {
     assert_eq!(report(&farm), [0x01, 0x08, 0x2a, 0x00]);
     farm.unlock();
     assert_eq!(report(&farm), [0x01, 0x08, 0x04, 0x00]);
-    assert_eq!(farm.report(64), Err(ClcwFault::Range));
-    assert_eq!(farm.report(63).map(|it| it.vcid), Ok(63));
+    assert_eq!(farm.control_word(64), Err(ClcwFault::Range));
+    assert_eq!(farm.control_word(63).map(|it| it.vcid), Ok(63));
+}
+
+/// The names of calls before 0.3.
+#[test]
+#[allow(deprecated)]
+fn machines_by_older_names() {
+    let (mut farm, mut fop) = (Farm::new(10, 0).unwrap(), Fop::new(10, 5, 3, 10).unwrap());
+    farm.bd();
+    assert_eq!(farm.report(2), farm.control_word(2));
+    assert_eq!(fop.report(3, &farm.control_word(2).unwrap()), None);
+    assert_eq!(fop.report(2, &farm.control_word(2).unwrap()), Some(Reported { released: 0, alert: None }));
 }
 
 /// What may happen to a receiver.
@@ -153,15 +164,15 @@ fn a_sender_sends_again() {
     (0..3).for_each(|it| send_first(&mut fop, it));
     let FopFields { vs, nn, sent, ticks, .. } = fop.fields();
     assert_eq!((vs, nn, sent, ticks), (3, 0, 3, 10));
-    assert_eq!((fop.report(2, &word(true, 1)), fop.state()), (reported(1, None), FopState::S2));
+    assert_eq!((fop.clcw(2, &word(true, 1)), fop.state()), (reported(1, None), FopState::S2));
     let FopFields { nn, sent, due, .. } = fop.fields();
     assert_eq!((nn, sent, due), (1, 2, 2));
     assert_eq!((fop.next(), fop.next()), (Some(Next::Again(1)), Some(Next::Again(2))));
     let wait = Clcw { wait: true, ..word(true, 1) };
-    assert_eq!((fop.report(2, &wait), fop.state(), fop.next()), (reported(0, None), FopState::S3, None));
-    assert_eq!((fop.report(2, &word(false, 3)), fop.state()), (reported(2, None), FopState::S1));
+    assert_eq!((fop.clcw(2, &wait), fop.state(), fop.next()), (reported(0, None), FopState::S3, None));
+    assert_eq!((fop.clcw(2, &word(false, 3)), fop.state()), (reported(2, None), FopState::S1));
     assert_eq!((fop.fields().sent, fop.fields().ticks), (0, 0));
-    assert_eq!(fop.report(2, &word(false, 4)), reported(0, Some(Alert::NnR)));
+    assert_eq!(fop.clcw(2, &word(false, 4)), reported(0, Some(Alert::NnR)));
     assert_eq!(fop.state(), FopState::S6);
 }
 
@@ -173,10 +184,10 @@ fn a_report_of_another_channel() {
     send_first(&mut fop, 0);
     let before = fop.clone();
     for value in 0..=255 {
-        assert_eq!(fop.report(3, &word(true, value)), None);
+        assert_eq!(fop.clcw(3, &word(true, value)), None);
     }
     assert_eq!(fop, before);
-    assert_eq!(fop.report(2, &word(false, 1)), reported(1, None));
+    assert_eq!(fop.clcw(2, &word(false, 1)), reported(1, None));
 }
 
 /// The timer ends three times, and then the sender gives up.
@@ -203,7 +214,7 @@ fn why_a_sender_gives_up() {
         let mut fop = Fop::new(254, 127, limit, 10).unwrap();
         fop.init_without_check().unwrap();
         (0..2).for_each(|it| send_first(&mut fop, it));
-        assert_eq!(fop.report(2, &word).and_then(|it| it.alert), Some(alert));
+        assert_eq!(fop.clcw(2, &word).and_then(|it| it.alert), Some(alert));
         assert_eq!((fop.state(), fop.terminate()), (FopState::S6, Err(CopFault::WrongState)));
     }
 }
@@ -233,7 +244,7 @@ fn the_directives() {
     assert_eq!((fop.set_timer(300), fop.set_timer(0)), (Ok(()), Err(CopFault::Timer)));
     assert_eq!((fop.set_vs(7), fop.fields().vs, fop.fields().nn), (Ok(()), 7, 7));
     assert_eq!((fop.init_with_check(), fop.state(), fop.fields().ticks), (Ok(()), FopState::S4, 300));
-    assert_eq!((fop.report(2, &word(false, 7)), fop.state()), (reported(0, None), FopState::S1));
+    assert_eq!((fop.clcw(2, &word(false, 7)), fop.state()), (reported(0, None), FopState::S1));
     assert_eq!((fop.set_vs(8), fop.init_unlock()), (Err(CopFault::WrongState), Err(CopFault::WrongState)));
     assert_eq!((fop.terminate(), fop.state()), (Ok(()), FopState::S6));
     assert_eq!((fop.init_unlock(), fop.state()), (Ok(()), FopState::S5));
@@ -244,7 +255,7 @@ fn the_directives() {
     assert_eq!((control, vs, nn), (Control::Due(Command::SetVr(200)), 200, 200));
     assert_eq!(fop.next(), Some(Next::SetVr(200)));
     assert_eq!(fop.fields().control, Control::Sent(Command::SetVr(200)));
-    assert_eq!((fop.report(2, &word(false, 200)), fop.state()), (reported(0, None), FopState::S1));
+    assert_eq!((fop.clcw(2, &word(false, 200)), fop.state()), (reported(0, None), FopState::S1));
     assert_eq!(fop.fields().control, Control::Idle);
 }
 

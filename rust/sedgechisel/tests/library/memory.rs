@@ -203,7 +203,7 @@ impl Nodes {
             12 => {
                 if let Some(octets) = trial.arriving(down) {
                     trial.both(ground, |it| it.telemetry(&octets));
-                    trial.shown(ground, |it| it.report_in(&octets));
+                    trial.shown(ground, |it| it.clcw_in(&octets));
                 }
             }
             13 => {
@@ -264,7 +264,7 @@ fn sent(ground: &mut Twins<Ground>, trial: &mut Trial) -> Option<Vec<u8>> {
 fn reported(spacecraft: &mut Twins<Spacecraft>, trial: &mut Trial) -> Vec<u8> {
     let (count, room) = trial.shown(spacecraft, |it| {
         let mut room = [0; TmFrame::LONGEST];
-        (it.report(&mut room).len(), room)
+        (it.telemetry_frame(&mut room).len(), room)
     });
     room[..count].to_vec()
 }
@@ -395,7 +395,7 @@ fn iterators_that_are_refused() {
     ground.init_without_check().unwrap();
     ground.submit(4, &packet).unwrap();
     spacecraft.telemetry(&packet).unwrap();
-    ground.telemetry(spacecraft.report(&mut [0; TmFrame::LONGEST])).unwrap();
+    ground.telemetry(spacecraft.telemetry_frame(&mut [0; TmFrame::LONGEST])).unwrap();
     let frame = ground.peek(&mut [0; TcFrame::LONGEST]).unwrap().to_vec();
     spacecraft.receive(&frame).unwrap();
     refused(&mut ground, |it| next_two(it.frames()), frame);
@@ -450,12 +450,12 @@ fn long_queues() {
             taken += 1;
             assert_eq!(packet, Some((4, numbered(PacketKind::Telecommand, taken))));
         }
-        ground.telemetry(spacecraft.report(&mut down)).unwrap();
+        ground.telemetry(spacecraft.telemetry_frame(&mut down)).unwrap();
     }
     assert_eq!(ground.outstanding(), 0);
     (1..=3000).for_each(|it| spacecraft.telemetry(&numbered(PacketKind::Telemetry, it)).unwrap());
     for _ in 0..300 {
-        ground.telemetry(spacecraft.report(&mut down)).unwrap();
+        ground.telemetry(spacecraft.telemetry_frame(&mut down)).unwrap();
     }
     for number in 1..=3000 {
         assert_eq!(ground.take_telemetry(), Ok(Some(numbered(PacketKind::Telemetry, number))));

@@ -18,7 +18,7 @@ fn sent(ground: &mut Ground) -> Option<Vec<u8>> {
 
 fn reported(spacecraft: &mut Spacecraft) -> Vec<u8> {
     let mut room = [0; TmFrame::LONGEST];
-    spacecraft.report(&mut room).to_vec()
+    spacecraft.telemetry_frame(&mut room).to_vec()
 }
 
 fn word_of(spacecraft: &Spacecraft) -> [u8; 4] {
@@ -225,11 +225,11 @@ fn what_a_ground_hears() {
     ground.init_without_check().unwrap();
     let rows = [
         (5, good, None, HeardReport::Used, None),
-        (6, [0x81, 0x08, 0x00, 0x00], Some(0), HeardReport::None(ClcwFault::Kind), None),
-        (8, [0x21, 0x08, 0x00, 0x00], Some(1), HeardReport::None(ClcwFault::Version), None),
-        (9, [0x02, 0x08, 0x00, 0x00], Some(0), HeardReport::None(ClcwFault::Cop), None),
-        (8, [0x01, 0x09, 0x00, 0x00], Some(254), HeardReport::None(ClcwFault::Spare), None),
-        (9, [0x01, 0x0c, 0x20, 0x00], Some(0), HeardReport::Other, None),
+        (6, [0x81, 0x08, 0x00, 0x00], Some(0), HeardReport::Refused(ClcwFault::Kind), None),
+        (8, [0x21, 0x08, 0x00, 0x00], Some(1), HeardReport::Refused(ClcwFault::Version), None),
+        (9, [0x02, 0x08, 0x00, 0x00], Some(0), HeardReport::Refused(ClcwFault::Cop), None),
+        (8, [0x01, 0x09, 0x00, 0x00], Some(254), HeardReport::Refused(ClcwFault::Spare), None),
+        (9, [0x01, 0x0c, 0x20, 0x00], Some(0), HeardReport::OtherChannel, None),
         (10, [0x01, 0x08, 0x20, 0x00], Some(0), HeardReport::Used, Some(Alert::Lockout)),
     ];
     for (vc_count, ocf, gap, report, alert) in rows {
@@ -485,7 +485,7 @@ fn a_session_that_goes_on() {
     assert_eq!(known, [None, Some(0), Some(1), Some(1), Some(2), Some(2), None]);
     does_not_resume(&mut ground, 0); // not from NN(R) = 1
     does_not_resume(&mut ground, 6); // to V(S) = 5
-    let value = ground.report_in(&reported(&mut spacecraft)).unwrap().value;
+    let value = ground.clcw_in(&reported(&mut spacecraft)).unwrap().value;
     assert_eq!((value, ground.resume(value)), (3, Ok(1)));
     assert_eq!(
         (ground.state(), ground.vs(), ground.nn(), has_come(&ground)),
@@ -541,8 +541,8 @@ fn submissions_and_reports() {
     assert!(link.submissions().eq([Ok((4, octets_of(P0))), Ok((63, octets_of(P1)))]));
     let (ground, mut spacecraft) = pair(&Config::default());
     let frame = reported(&mut spacecraft);
-    assert_eq!(ground.report_in(&frame), Some(spacecraft.control_word()));
-    assert_eq!(ground.report_in(&frame[1..]), None);
+    assert_eq!(ground.clcw_in(&frame), Some(spacecraft.control_word()));
+    assert_eq!(ground.clcw_in(&frame[1..]), None);
 }
 
 /// A frame that is peeked at counts as sent where the ground is told so, and then the next one goes.
@@ -597,6 +597,18 @@ fn one_by_one() {
     assert_eq!(spacecraft.take_bypass(), Ok(Some((5, octets_of(P2)))));
 }
 
+/// The names of calls and of what becomes of a report, before 0.3.
+#[test]
+#[allow(deprecated)]
+fn nodes_by_older_names() {
+    let (ground, mut spacecraft) = pair(&Config::default());
+    let word = spacecraft.control_word();
+    let mut room = [0; TmFrame::LONGEST];
+    assert_eq!(ground.report_in(spacecraft.report(&mut room)), Some(word));
+    assert_eq!(HeardReport::None(ClcwFault::Cop), HeardReport::Refused(ClcwFault::Cop));
+    assert!(matches!(HeardReport::OtherChannel, HeardReport::Other));
+}
+
 /// A report by itself goes to the sender as that of a telemetry frame, and telemetry begins anew where it is asked to.
 #[test]
 fn a_report_by_itself() {
@@ -604,8 +616,8 @@ fn a_report_by_itself() {
     ground.init_with_check().unwrap();
     let word = spacecraft.control_word().encode().unwrap();
     let is = |report| HeardClcw { report, alert: None };
-    assert_eq!(ground.clcw(&[0x81, word[1], 0, 0]), is(HeardReport::None(ClcwFault::Kind)));
-    assert_eq!(ground.clcw(&[word[0], word[1] ^ 4, 0, 0]), is(HeardReport::Other));
+    assert_eq!(ground.clcw(&[0x81, word[1], 0, 0]), is(HeardReport::Refused(ClcwFault::Kind)));
+    assert_eq!(ground.clcw(&[word[0], word[1] ^ 4, 0, 0]), is(HeardReport::OtherChannel));
     assert_eq!(ground.state(), FopState::S4);
     assert_eq!(ground.clcw(&word), is(HeardReport::Used));
     assert_eq!(ground.state(), FopState::S1);

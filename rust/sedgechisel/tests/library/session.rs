@@ -33,10 +33,10 @@ fn a_thousand_units() {
                 handed_on += arrived(&mut farm, number, &sent[usize::from(number)], handed_on);
             }
         }
-        let report = farm.report(CHANNEL).and_then(|it| it.encode()).unwrap();
+        let report = farm.control_word(CHANNEL).and_then(|it| it.encode()).unwrap();
         if !chance.once_in(3) {
             let word = Clcw::decode(&report).unwrap();
-            let Reported { released, alert } = fop.report(CHANNEL, &word).unwrap();
+            let Reported { released, alert } = fop.clcw(CHANNEL, &word).unwrap();
             assert_eq!(alert, None);
             acknowledged += u16::from(released);
         }
@@ -80,7 +80,7 @@ fn random_calls_of_a_sender() {
         assert_ne!(done, Err(CopFault::Damaged));
         sent += u32::from(fop.next().is_some());
         let word = Clcw { vcid: CHANNEL, value: number, ..any_word(&mut chance) };
-        alerts += u32::from(fop.report(CHANNEL, &word).unwrap().alert.is_some());
+        alerts += u32::from(fop.clcw(CHANNEL, &word).unwrap().alert.is_some());
         alerts += u32::from(chance.once_in(4) && fop.tick().is_some());
         assert_eq!(Fop::restore(fop.fields()), Ok(fop.clone()));
     }
@@ -102,7 +102,7 @@ fn random_calls_of_a_receiver() {
             3 => farm.set_vr(number),
             _ => accepted += u32::from(farm.ad(number, !chance.once_in(4)) == Verdict::Accepted),
         }
-        assert_eq!(farm.mode() == FarmMode::Lockout, farm.report(CHANNEL).unwrap().lockout);
+        assert_eq!(farm.mode() == FarmMode::Lockout, farm.control_word(CHANNEL).unwrap().lockout);
         assert_eq!(Farm::restore(farm.fields()), Ok(farm.clone()));
     }
     assert!(accepted > 1000);
