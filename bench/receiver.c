@@ -38,9 +38,8 @@ static struct run run_of(ad_call *volatile ad, unlock_call *volatile unlock)
 {
     struct sedge_farm farm;
     struct run run = {0, 0};
-    uint64_t sum = 0;
+    uint64_t sum = sedge_farm_open(&farm, 254, 0);
     ad_call *call = ad;
-    sedge_farm_open(&farm, 254, 0);
     double start = seconds_now();
     for (int i = 0; i < CALLS; i++) {
         uint8_t verdict = call(&farm, numbers[i], true);

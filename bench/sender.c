@@ -56,13 +56,12 @@ static struct run run_of(const struct calls *volatile which)
     const struct calls *calls = which;
     struct sedge_fop fop;
     struct run run = {0, 0};
-    uint64_t sum = 0;
-    sedge_fop_open(&fop, 254, 127, 10, 100);
+    uint64_t sum = sedge_fop_open(&fop, 254, 127, 10, 100);
     double start = seconds_now();
     for (int i = 0; i < ROUNDS; i++) {
         uint8_t number, released = 0, alert;
         if (fop.state == SEDGE_FOP_S6)
-            sedge_fop_init_without_check(&fop);
+            sum += sedge_fop_init_without_check(&fop);
         sum = sum * 31 + calls->submit(&fop);
         sum = sum * 31 + calls->next(&fop, &number) + number;
         if (i % 4 == 3) {

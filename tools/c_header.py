@@ -31,7 +31,7 @@ class Header:
     def __init__(self, path, address=8):
         self.sizes = {**SIZES, "size_t": address, POINTER: address}
         with open(path, encoding="utf-8") as file:
-            text = re.sub(r"/\*.*?\*/", "", file.read(), flags=re.S)
+            text = re.sub(r"/\*.*?\*/|^SEDGE_CHECK ", "", file.read(), flags=re.S | re.M)
         self.version = ".".join(re.findall(r"#define SEDGE_VERSION_\w+ (\d+)", text))
         self.structs, self.calls = {}, []
         for it in re.findall(r'^#include "(.*)"$', text, re.M):

@@ -34,12 +34,14 @@ class Parameter(typing.NamedTuple):
 
 
 class Export(typing.NamedTuple):
-    """A call: its name, the lines of its doc comment, its parameters, and the type of what it returns, if anything."""
+    """A call: its name, the lines of its doc comment, its parameters, the type of what it returns, if anything, and
+    whether that has to be used."""
 
     name: str
     docs: list
     parameters: list
     answer: str
+    is_checked: bool
 
     def flat(self):
         return [it for one in self.parameters for it in one.flat()]
@@ -90,12 +92,17 @@ def snake(name):
     return re.sub(r"(?<=[a-z])(?=[A-Z])", "_", name).lower()
 
 
-def docs_before(lines, at):
-    """The lines of the doc comment before an item, without their marks."""
+def lines_before(lines, at):
+    """The lines of the doc comment and of the attributes before an item."""
     begin = at
     while lines[begin - 1].startswith(("///", "#[")):
         begin -= 1
-    return [it[3:].removeprefix(" ") for it in lines[begin:at] if it.startswith("///")]
+    return lines[begin:at]
+
+
+def docs_before(lines, at):
+    """The lines of the doc comment before an item, without their marks."""
+    return [it[3:].removeprefix(" ") for it in lines_before(lines, at) if it.startswith("///")]
 
 
 @functools.cache
@@ -148,5 +155,7 @@ def exports_of(crate):
             parameters = [parameter_of(it) for it in given if it and it != "alloc: Global"]
             answer = signature[end + 1 :].replace("->", "").strip()
             name = EXPORT.match(lines[at])[1].removeprefix("sedge_")
-            found[name] = Export(name, docs_before(lines, at), parameters, struct_names().get(answer, answer))
+            is_checked = "#[must_use]" in lines_before(lines, at)
+            answer = struct_names().get(answer, answer)
+            found[name] = Export(name, docs_before(lines, at), parameters, answer, is_checked)
     return found

@@ -1,5 +1,5 @@
-"""What the numbers of the headers' enumerations mean, as the crate for Rust and the package for Python say it too: for
-tools/bindings."""
+"""What the numbers of the headers' enumerations mean, as the crate for Rust and the package for Python say it too, and
+that each answer is of one enumeration: for tools/bindings."""
 import re
 import textwrap
 
@@ -9,6 +9,78 @@ COLUMNS = 120
 # An enumeration that has another name in Rust and Python, and the first of the numbers that all kinds of calls share.
 RENAMED = {"link_fault": "node_status"}
 SHARED = 252
+
+
+ENUMERATION = re.compile(r"^enum sedge_(\w+) \{(.*?)^\};", re.M | re.S)
+CONSTANTS = re.compile(r"(?<=\n#ifndef __cplusplus\n)(?:#define SEDGE_\w+ \(\(uint\d+_t\)\w+\)\n)*(?=#endif\n)")
+
+
+def enumerations(headers):
+    """Each enumeration, with its numbers by their names."""
+    text = re.sub(r"/\*.*?\*/", "", headers, flags=re.S)
+    return {name: dict(re.findall(r"(SEDGE_\w+) = (\w+)", body)) for name, body in ENUMERATION.findall(text)}
+
+
+def with_constants(header):
+    """A header with each number of its enumerations as a constant anew, of the least type that has them all."""
+    lines = ""
+    for numbers in enumerations(header).values():
+        bits = 8 if max(int(it, 0) for it in numbers.values()) < 256 else 16
+        lines += "".join(f"#define {name} ((uint{bits}_t){number})\n" for name, number in numbers.items())
+    return CONSTANTS.sub(lines, header)
+
+
+def returned_words(call):
+    """The words of what a comment says of the answer."""
+    said = re.search(r"\b[Rr]eturns (.*)", " ".join(call.docs))
+    return re.findall(r"\w+", said[1]) if said else []
+
+
+def answers_astray(headers, calls):
+    """What is wrong with the numbers that the comments of calls name: each is of an enumeration, and those that a call
+    returns are of one, besides those that all calls share."""
+    known = enumerations(headers)
+    of = {name: own for own, numbers in known.items() for name in numbers}
+    shared = {"SEDGE_NODE_NONE", *known["status"]}
+    wrong = []
+    for call in calls:
+        named, words = set(re.findall(r"SEDGE_\w+", " ".join(call.docs))), returned_words(call)
+        wrong += [f"sedge_{call.name}: there is no {it}" for it in sorted(named - {*of})]
+        found = {of[it] for it in words if it in of and it not in shared}
+        found |= {it[6:] for it in words if it[:6] == "sedge_" and it[6:] in known}
+        if call.answer == "u8" and not (words and len(found) < 2):
+            wrong.append(f"sedge_{call.name} returns numbers of {sorted(found)}")
+    return wrong
+
+
+def answers_of(headers, calls):
+    """Of each call that returns a number of an enumeration the numbers that its comment names, and 0."""
+    known = {own: {int(it, 0) for it in numbers.values()} for own, numbers in enumerations(headers).items()}
+    known |= {name[6:]: {int(it, 0)} for numbers in enumerations(headers).values() for name, it in numbers.items()}
+    by_name = {it.name: it for it in calls}
+
+    def numbers(call):
+        said, found = " ".join(returned_words(call)), {0}
+        for first, last, own in re.findall(r"(\d+) to (\d+) of sedge_(\w+)", said):
+            found |= {it for it in known[own] if int(first) <= it <= int(last)}
+        for own in re.findall(r"(?<!\d of )\b(?:sedge|SEDGE)_(\w+)", said):
+            found |= known.get(own, set())
+        for own in re.findall(r"what sedge_(\w+) does", said):
+            found |= numbers(by_name[own])
+        return found
+
+    return {it.name: numbers(it) for it in calls if it.answer == "u8"}
+
+
+def fields_of_enumerations(headers, structs):
+    """Of each struct the fields that hold a number of an enumeration, with its numbers, and 0 where there is none."""
+    known = enumerations(headers)
+    for struct in structs:
+        for field in struct.fields():
+            it = re.search(r"(?:^|[:,] )[Oo]f `sedge_(\w+)`", field.note)
+            if it and it[1] in known:
+                none = set() if field.name in ("kind", "state") else {0}
+                yield struct.own, field.name, none | {int(number, 0) for number in known[it[1]].values()}
 
 
 def meanings(headers):

@@ -133,19 +133,19 @@ export class Link {
 
     receivedLine(it) {
         const calls = this.calls;
-        if (it.kind === 1) return `invalid ${it.fault} ${calls.sedge_tc_fault_name(it.fault)}`;
-        if (it.kind === 3) {
+        if (it.kind === n.SEDGE_RECEIVED_INVALID) return `invalid ${it.fault} ${calls.sedge_tc_fault_name(it.fault)}`;
+        if (it.kind === n.SEDGE_RECEIVED_AD) {
             const ready = it.ready === 0 ? '' : it.ready === 1 ? ' ready' : ` ready ${it.ready}`;
             const dropped = it.dropped === 0 ? '' : ` dropped ${calls.sedge_dropped_name(it.dropped)}`;
             return `AD ${it.n} ${calls.sedge_verdict_name(it.verdict)}${ready}${dropped}`;
         }
-        if (it.kind === 4) return it.kept ? 'BD kept' : 'BD dropped';
-        return it.kind === 2 ? 'foreign' : it.command === n.SEDGE_SET_VR ? `BC set ${it.vr}` : 'BC unlock';
+        if (it.kind === n.SEDGE_RECEIVED_BD) return it.kept ? 'BD kept' : 'BD dropped';
+        return it.kind === n.SEDGE_RECEIVED_FOREIGN ? 'foreign' : it.command === n.SEDGE_SET_VR ? `BC set ${it.vr}` : 'BC unlock';
     }
 
     heardLine(it) {
-        if (it.kind === 1) return `invalid ${it.fault} ${this.calls.sedge_tm_fault_name(it.fault)}`;
-        if (it.kind === 2) return 'foreign';
+        if (it.kind === n.SEDGE_HEARD_INVALID) return `invalid ${it.fault} ${this.calls.sedge_tm_fault_name(it.fault)}`;
+        if (it.kind === n.SEDGE_HEARD_FOREIGN) return 'foreign';
         const alert = it.alert === 0 ? '' : ` alert ${this.calls.sedge_alert_name(it.alert)}`;
         return `gap=${it.first !== 0 ? '-' : it.missing} packets=${it.packets}${alert}`;
     }

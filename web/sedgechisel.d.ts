@@ -291,7 +291,7 @@ export interface Calls {
     sedge_ground_telemetry(ground: Partial<sedge_ground>, octets: Uint8Array, heard: Partial<sedge_heard>): number;
     sedge_ground_clcw(ground: Partial<sedge_ground>, octets: Uint8Array, heard: Partial<sedge_heard>): number;
     sedge_ground_forget_telemetry(ground: Partial<sedge_ground>): number;
-    sedge_ground_clcw_in(ground: Partial<sedge_ground>, octets: Uint8Array, report: Partial<sedge_clcw>): number;
+    sedge_ground_clcw_in(ground: Partial<sedge_ground>, octets: Uint8Array, word: Partial<sedge_clcw>): number;
     sedge_ground_next_telemetry(ground: Partial<sedge_ground>, count: Partial<Box>): number;
     sedge_ground_take_telemetry(ground: Partial<sedge_ground>, out: Uint8Array, count: Partial<Box>): number;
     sedge_ground_tick(ground: Partial<sedge_ground>): number;

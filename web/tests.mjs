@@ -45,12 +45,12 @@ function nodes() {
     assert.equal(sedge.sedge_ground_pull(ground, out.subarray(0, 3), count), n.SEDGE_NODE_ROOM);
     assert.equal(sedge.sedge_ground_pull(ground, out, count), n.SEDGE_NODE_OK);
     assert.equal(sedge.sedge_spacecraft_receive(spacecraft, out.subarray(0, count.value), received), n.SEDGE_NODE_OK);
-    assert.deepEqual([received.kind, received.verdict, received.ready], [3, n.SEDGE_ACCEPTED, 1]);
+    assert.deepEqual([received.kind, received.verdict, received.ready], [n.SEDGE_RECEIVED_AD, n.SEDGE_ACCEPTED, 1]);
     assert.equal(sedge.sedge_spacecraft_take(spacecraft, map, out, count), n.SEDGE_NODE_OK);
     assert.deepEqual([map.value, digitsOf(out.subarray(0, count.value))], [4, digitsOf(packet)]);
     assert.equal(sedge.sedge_spacecraft_telemetry_frame(spacecraft, out, count), n.SEDGE_NODE_OK);
     assert.equal(sedge.sedge_ground_telemetry(ground, out.subarray(0, count.value), heard), n.SEDGE_NODE_OK);
-    assert.deepEqual([heard.kind, heard.report, heard.alert], [3, 0, 0]);
+    assert.deepEqual([heard.kind, heard.report, heard.alert], [n.SEDGE_HEARD_FRAME, n.SEDGE_REPORT_USED, n.SEDGE_NO_ALERT]);
     const read = {}, board = {};
     sedge.sedge_ground_read(ground, read);
     assert.deepEqual([read.outstanding, read.vs, read.nn, ...waits(read)], [0, 1, 1, 0, 0, 0, 0, 1]);

@@ -31,8 +31,8 @@ static int receive(struct sedge_spacecraft *spacecraft, const uint8_t *octets, s
     struct sedge_received received;
     struct sedge_spacecraft_reading read;
     if (sedge_spacecraft_receive(spacecraft, octets, count, &received) != SEDGE_NODE_OK) return 1;
-    if (received.kind == 1) tell("no frame", sedge_tc_fault_name(received.fault));
-    if (received.kind == 3) tell("frame", sedge_verdict_name(received.verdict));
+    if (received.kind == SEDGE_RECEIVED_INVALID) tell("no frame", sedge_tc_fault_name(received.fault));
+    if (received.kind == SEDGE_RECEIVED_AD) tell("frame", sedge_verdict_name(received.verdict));
     if (received.dropped != SEDGE_NOT_DROPPED) tell("dropped", sedge_dropped_name(received.dropped));
     if (sedge_spacecraft_read(spacecraft, &read) != SEDGE_NODE_OK) return 1;
     printf("report: V(R) %d, flags %02X, FARM-B %d\n", read.value, read.flags, read.farm_b);

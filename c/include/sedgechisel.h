@@ -16,11 +16,19 @@
  * - What is written overlaps nothing else that the call is given.
  * - A bool is false or true, as it is wherever C or C++ makes it of another value.
  *
- * Most functions return 0, SEDGE_OK, or the number of the first fault that applies, by the enum before them. Such a
- * call that returns anything but 0 has written nothing, except where the number is not a fault: a verdict
- * (sedge_farm_ad), what goes on the link next (sedge_fop_next), or an alert (sedge_fop_clcw, sedge_fop_tick). A call
- * that returns a bool and writes (sedge_check_append, sedge_map_packet, sedge_tm_packet) has written if it returns
- * true, and nothing if it returns false. */
+ * What is returned:
+ * - A uint8_t is a number of the one enumeration that the call's comment names, or of sedge_status, which all calls
+ *   share. It is SEDGE_OK or the first fault that applies, and a call that returns a fault has written nothing. Five
+ *   calls return what is no fault: a verdict (sedge_farm_ad), a state (sedge_farm_state), what goes on the link next
+ *   (sedge_fop_next), and an alert (sedge_fop_clcw, sedge_fop_tick). Those of them that write have written unless it is
+ *   SEDGE_ABSENT or SEDGE_DAMAGED.
+ * - A bool says whether something holds (sedge_check_holds), or whether the call has written (sedge_check_append,
+ *   sedge_tm_packet, sedge_map_packet). Where it is false nothing is written.
+ * - A uint16_t is the check of octets (sedge_check), and a struct sedge_text a word.
+ *
+ * SEDGE_CHECK marks each call whose answer says more than that a struct is damaged: a compiler warns where a program
+ * does not use it. In C each number of an enumeration is a constant of an unsigned type too, at the end of this file,
+ * so that it is compared with an answer or a field without a conversion (docs/C.md, "MISRA C"). */
 #ifndef SEDGECHISEL_H
 #define SEDGECHISEL_H
 
@@ -34,10 +42,26 @@
 extern "C" {
 #endif
 
+/* Before a call whose answer is not to be left unused: gcc and clang warn of it. A program may define it itself. */
+#ifndef SEDGE_CHECK
+#ifdef __GNUC__
+#define SEDGE_CHECK __attribute__((warn_unused_result))
+#else
+#define SEDGE_CHECK
+#endif
+#endif
+
 /* The version of this header; sedge_version() gives that of the library, as "0.3.0". */
 #define SEDGE_VERSION_MAJOR 0
 #define SEDGE_VERSION_MINOR 3
 #define SEDGE_VERSION_PATCH 0
+
+/* The most octets: of a space packet (133.0-B-2, 4.1), of a telecommand frame (232.0-B-4, 4.1.2.7), of the data
+ * of a segment in one with its FECF, and of a telemetry frame (132.0-B-3, 4.1). */
+#define SEDGE_PACKET_LONGEST 65542U
+#define SEDGE_TC_LONGEST 1024U
+#define SEDGE_SEGMENT_LONGEST 1016U
+#define SEDGE_TM_LONGEST 2048U
 
 /* A word of at most 19 characters, with zeros after it. To print one, keep it in a variable of your own first:
  *     struct sedge_text name = sedge_verdict_name(verdict);
@@ -71,11 +95,11 @@ uint16_t sedge_check(const uint8_t *octets, size_t count);
 
 /* Sets the last two octets to the check of those before them, and returns true; for fewer than two octets it returns
  * false and writes nothing. */
-bool sedge_check_append(uint8_t *octets, size_t count);
+SEDGE_CHECK bool sedge_check_append(uint8_t *octets, size_t count);
 
 /* Whether the last two octets are the check of those before them; false for fewer than two octets (232.0-B-4,
  * 4.1.4.3). */
-bool sedge_check_holds(const uint8_t *octets, size_t count);
+SEDGE_CHECK bool sedge_check_holds(const uint8_t *octets, size_t count);
 
 /* ---- The communications link control word, of four octets (232.0-B-4, 4.2). ---- */
 
@@ -108,11 +132,11 @@ struct sedge_clcw {
 /* Reads four octets as a control word, of whichever virtual channel: compare vcid with your own before you use its
  * value or its flags (sedge_fop_clcw does so itself). Returns 0, or the first of 1 to 4 of sedge_clcw_fault, or
  * SEDGE_WRONG_COUNT if the octets are not four. */
-uint8_t sedge_clcw_decode(const uint8_t *octets, size_t count, struct sedge_clcw *word);
+SEDGE_CHECK uint8_t sedge_clcw_decode(const uint8_t *octets, size_t count, struct sedge_clcw *word);
 
 /* Writes a control word as four octets. Returns 0, or SEDGE_CLCW_RANGE, or SEDGE_WRONG_COUNT if the room is not four
  * octets. */
-uint8_t sedge_clcw_encode(const struct sedge_clcw *word, uint8_t *out, size_t room);
+SEDGE_CHECK uint8_t sedge_clcw_encode(const struct sedge_clcw *word, uint8_t *out, size_t room);
 
 /* ---- The receiver FARM-1 of one virtual channel (232.1-B-2, section 6). Give it the frames of its own spacecraft and
  * channel alone: compare scid and vcid of each frame with your own first, since no call here sees them. ---- */
@@ -159,11 +183,11 @@ struct sedge_farm {
 
 /* Begins a receiver in its state Open, with all flags 0 and FARM-B 0, which expects the number vr. Returns 0, or
  * SEDGE_COP_WIDTH. */
-uint8_t sedge_farm_open(struct sedge_farm *farm, uint8_t width, uint8_t vr);
+SEDGE_CHECK uint8_t sedge_farm_open(struct sedge_farm *farm, uint8_t width, uint8_t vr);
 
 /* A Type-AD frame with the number n has arrived; buffer_free says whether there is room for its data. Returns its
  * verdict, of sedge_verdict: if it is SEDGE_ACCEPTED, hand the data on. Or returns SEDGE_DAMAGED. */
-uint8_t sedge_farm_ad(struct sedge_farm *farm, uint8_t n, bool buffer_free);
+SEDGE_CHECK uint8_t sedge_farm_ad(struct sedge_farm *farm, uint8_t n, bool buffer_free);
 
 /* A Type-BD frame has arrived; hand its data on in every state. Returns 0, or SEDGE_DAMAGED. */
 uint8_t sedge_farm_bd(struct sedge_farm *farm);
@@ -180,7 +204,7 @@ uint8_t sedge_farm_released(struct sedge_farm *farm);
 /* Makes the control word (232.0-B-4, 4.2) that reports on the receiver as it is, for the virtual channel vcid; the
  * flags for the radio channel and bit lock are 0. Returns 0, or SEDGE_DAMAGED, or SEDGE_CLCW_RANGE if vcid is not below
  * 64. */
-uint8_t sedge_farm_control_word(const struct sedge_farm *farm, uint8_t vcid, struct sedge_clcw *word);
+SEDGE_CHECK uint8_t sedge_farm_control_word(const struct sedge_farm *farm, uint8_t vcid, struct sedge_clcw *word);
 
 /* Returns the state, of sedge_farm_mode, or SEDGE_DAMAGED. */
 uint8_t sedge_farm_state(const struct sedge_farm *farm);
@@ -278,7 +302,7 @@ struct sedge_fop {
 /* Begins a sender in its state S6 with V(S) and NN(R) 0, to a receiver of this window width, with the window K, the
  * transmission limit and the timer's value in ticks. Returns 0, or the first of SEDGE_COP_WIDTH (not even, 2 to 254),
  * SEDGE_COP_WINDOW (not 1 to half the width), SEDGE_COP_LIMIT (0) and SEDGE_COP_TIMER (0). */
-uint8_t sedge_fop_open(struct sedge_fop *fop, uint8_t width, uint8_t window, uint8_t limit, uint16_t timer);
+SEDGE_CHECK uint8_t sedge_fop_open(struct sedge_fop *fop, uint8_t width, uint8_t window, uint8_t limit, uint16_t timer);
 
 /* The directives (5.2.4). The four initiations and Set V(S) are allowed in S6 alone, Terminate in S1 to S5, and the
  * last three in all states. Terminate is the alert SEDGE_ALERT_TERMINATED: all units are discarded. */
@@ -297,64 +321,65 @@ enum sedge_directive {
 /* Gives the sender a directive, of sedge_directive, with its value; one that has none ignores it. Returns 0; or
  * SEDGE_COP_WRONG_STATE; or for a value out of its range SEDGE_COP_WINDOW, SEDGE_COP_LIMIT or SEDGE_COP_TIMER; or
  * SEDGE_DAMAGED, also for a directive that is none, and for a number V(R) or V(S) above 255. */
-uint8_t sedge_fop_directive(struct sedge_fop *fop, uint8_t directive, uint16_t value);
+SEDGE_CHECK uint8_t sedge_fop_directive(struct sedge_fop *fop, uint8_t directive, uint16_t value);
 
 /* Each directive by its name. Up to 0.2 these were calls of the library; they are sedge_fop_directive now. */
-static inline uint8_t sedge_fop_init_without_check(struct sedge_fop *fop) {
+static inline SEDGE_CHECK uint8_t sedge_fop_init_without_check(struct sedge_fop *fop) {
     return sedge_fop_directive(fop, SEDGE_INIT_WITHOUT_CHECK, 0);
 }
-static inline uint8_t sedge_fop_init_with_check(struct sedge_fop *fop) {
+static inline SEDGE_CHECK uint8_t sedge_fop_init_with_check(struct sedge_fop *fop) {
     return sedge_fop_directive(fop, SEDGE_INIT_WITH_CHECK, 0);
 }
-static inline uint8_t sedge_fop_init_unlock(struct sedge_fop *fop) {
+static inline SEDGE_CHECK uint8_t sedge_fop_init_unlock(struct sedge_fop *fop) {
     return sedge_fop_directive(fop, SEDGE_INIT_UNLOCK, 0);
 }
-static inline uint8_t sedge_fop_init_set_vr(struct sedge_fop *fop, uint8_t vr) {
+static inline SEDGE_CHECK uint8_t sedge_fop_init_set_vr(struct sedge_fop *fop, uint8_t vr) {
     return sedge_fop_directive(fop, SEDGE_INIT_SET_VR, vr);
 }
-static inline uint8_t sedge_fop_terminate(struct sedge_fop *fop) {
+static inline SEDGE_CHECK uint8_t sedge_fop_terminate(struct sedge_fop *fop) {
     return sedge_fop_directive(fop, SEDGE_TERMINATE, 0);
 }
-static inline uint8_t sedge_fop_set_vs(struct sedge_fop *fop, uint8_t vs) {
+static inline SEDGE_CHECK uint8_t sedge_fop_set_vs(struct sedge_fop *fop, uint8_t vs) {
     return sedge_fop_directive(fop, SEDGE_SET_VS, vs);
 }
-static inline uint8_t sedge_fop_set_window(struct sedge_fop *fop, uint8_t window) {
+static inline SEDGE_CHECK uint8_t sedge_fop_set_window(struct sedge_fop *fop, uint8_t window) {
     return sedge_fop_directive(fop, SEDGE_SET_WINDOW, window);
 }
-static inline uint8_t sedge_fop_set_limit(struct sedge_fop *fop, uint8_t limit) {
+static inline SEDGE_CHECK uint8_t sedge_fop_set_limit(struct sedge_fop *fop, uint8_t limit) {
     return sedge_fop_directive(fop, SEDGE_SET_LIMIT, limit);
 }
-static inline uint8_t sedge_fop_set_timer(struct sedge_fop *fop, uint16_t timer) {
+static inline SEDGE_CHECK uint8_t sedge_fop_set_timer(struct sedge_fop *fop, uint16_t timer) {
     return sedge_fop_directive(fop, SEDGE_SET_TIMER, timer);
 }
 
 /* Submits a unit, to be sent under sequence control: it waits, and the caller keeps it. Returns 0, or SEDGE_DAMAGED, or
  * SEDGE_COP_NOT_OPEN in S6, or SEDGE_COP_BUSY while another one waits. */
-uint8_t sedge_fop_submit(struct sedge_fop *fop);
+SEDGE_CHECK uint8_t sedge_fop_submit(struct sedge_fop *fop);
 
 /* Takes what goes on the link next. Returns one of sedge_next, and writes its number, or 0 if it has none; or returns
  * SEDGE_DAMAGED, with nothing written. */
-uint8_t sedge_fop_next(struct sedge_fop *fop, uint8_t *number);
+SEDGE_CHECK uint8_t sedge_fop_next(struct sedge_fop *fop, uint8_t *number);
 
 /* A control word has arrived, and the sender is that of the virtual channel vcid. The call compares this with the
  * vcid of the word; the caller has compared the scid of the telemetry frame that carried it. Returns the alert, of
  * sedge_alert, and writes the number of units that are acknowledged, the oldest of those sent; or with nothing
  * written and nothing changed it returns the first of SEDGE_ABSENT, if the word reports on another channel, and
  * SEDGE_DAMAGED. */
-uint8_t sedge_fop_clcw(struct sedge_fop *fop, uint8_t vcid, const struct sedge_clcw *word, uint8_t *released);
+SEDGE_CHECK uint8_t sedge_fop_clcw(struct sedge_fop *fop, uint8_t vcid, const struct sedge_clcw *word,
+                                   uint8_t *released);
 
 /* A tick of the clock has passed. Returns the alert, of sedge_alert, or SEDGE_DAMAGED. */
-uint8_t sedge_fop_tick(struct sedge_fop *fop);
+SEDGE_CHECK uint8_t sedge_fop_tick(struct sedge_fop *fop);
 
 /* Writes how many of the units that were sent and not acknowledged were accepted on board when a report of this value
  * was made: the oldest ones, those with the numbers from NN(R) to value - 1 (5.1). It does so after an alert too, until
  * V(S) is set or an initiation begins. If V(S) is NN(R) there are no such units, and it writes 0 whatever the value.
  * Returns 0, or SEDGE_DAMAGED, or SEDGE_ABSENT if there are such units and the value does not lie from NN(R) to V(S),
  * so that nothing is known of them; nothing is written then. */
-uint8_t sedge_fop_accepted_beyond(const struct sedge_fop *fop, uint8_t value, uint8_t *accepted);
+SEDGE_CHECK uint8_t sedge_fop_accepted_beyond(const struct sedge_fop *fop, uint8_t value, uint8_t *accepted);
 
 /* The same of a sender with these numbers for NN(R) and V(S). Returns 0, or SEDGE_ABSENT if nothing is known. */
-uint8_t sedge_accepted_beyond(uint8_t nn, uint8_t vs, uint8_t value, uint8_t *accepted);
+SEDGE_CHECK uint8_t sedge_accepted_beyond(uint8_t nn, uint8_t vs, uint8_t value, uint8_t *accepted);
 
 /* ---- Telecommand transfer frames of at most 1,024 octets (232.0-B-4, 4.1), with or without their FECF. ---- */
 
@@ -410,19 +435,19 @@ struct sedge_tc_frame {
  * the segment header are; a control frame has none, and the part is {0, 0}. The frame may be of any spacecraft and
  * virtual channel: compare scid and vcid with your own before a receiver is given it. Returns 0, or the first of 1 to 9
  * of sedge_tc_fault. */
-uint8_t sedge_tc_decode(const uint8_t *octets, size_t count, bool checked, struct sedge_tc_frame *frame,
-                        struct sedge_part *data);
+SEDGE_CHECK uint8_t sedge_tc_decode(const uint8_t *octets, size_t count, bool checked, struct sedge_tc_frame *frame,
+                                    struct sedge_part *data);
 
 /* Writes the frame with these data (ignored for a control frame) to the beginning of out, with its FECF if checked is
  * true, and its length in octets, 6 to 1,024, to total. Returns 0, or the first of SEDGE_DAMAGED (the kind, the segment
  * flags or the command is out of its enum), SEDGE_TC_FIELD_RANGE and SEDGE_TC_ROOM. */
-uint8_t sedge_tc_encode(const struct sedge_tc_frame *frame, const uint8_t *data, size_t data_count, bool checked,
-                        uint8_t *out, size_t room, size_t *total);
+SEDGE_CHECK uint8_t sedge_tc_encode(const struct sedge_tc_frame *frame, const uint8_t *data, size_t data_count,
+                                    bool checked, uint8_t *out, size_t room, size_t *total);
 
 /* Writes the length of the frame that begins with these octets, by its first 5 octets alone; for cutting a stream
  * (4.1.2.7). Returns 0, or SEDGE_TC_SHORT for fewer than 5 octets, or SEDGE_TC_LENGTH if it declares fewer than 5, or
  * with the FECF fewer than 7. */
-uint8_t sedge_tc_declared(const uint8_t *octets, size_t count, bool checked, size_t *total);
+SEDGE_CHECK uint8_t sedge_tc_declared(const uint8_t *octets, size_t count, bool checked, size_t *total);
 
 /* ---- Space packets of 7 to 65,542 octets (133.0-B-2, 4.1). ---- */
 
@@ -441,30 +466,39 @@ enum sedge_packet_kind {
     SEDGE_PACKET_TELECOMMAND = 1
 };
 
+/* Where a packet's data stand in what the user sends (4.1.3.4.2). */
+enum sedge_sequence_flags {
+    SEDGE_SEQUENCE_CONTINUATION = 0,
+    SEDGE_SEQUENCE_FIRST = 1,
+    SEDGE_SEQUENCE_LAST = 2,
+    SEDGE_SEQUENCE_UNSEGMENTED = 3
+};
+
 /* A packet without its data field. */
 struct sedge_packet {
     uint16_t apid;     /* the application process identifier, below 2,048; 2,047 is that of idle packets (4.1.3.3.4) */
     uint16_t count;    /* the sequence count or the packet's name, below 16,384 (4.1.3.4.3) */
     uint8_t kind;      /* of sedge_packet_kind */
     uint8_t secondary; /* whether the data field begins with a secondary header, 0 or 1 (4.1.3.3.3) */
-    uint8_t flags;     /* the sequence flags: 0 continuation, 1 first, 2 last, 3 unsegmented (4.1.3.4.2) */
+    uint8_t flags;     /* the sequence flags, of sedge_sequence_flags (4.1.3.4.2) */
 };
 
 /* Reads the packet at the beginning of the octets, and writes where its data field is; the packet ends where that ends,
  * and octets after it are ignored. Returns 0, or the first of 1 to 3 of sedge_packet_fault (SEDGE_PACKET_TRUNCATED for
  * fewer octets than declared comes last). */
-uint8_t sedge_packet_decode(const uint8_t *octets, size_t count, struct sedge_packet *packet, struct sedge_part *data);
+SEDGE_CHECK uint8_t sedge_packet_decode(const uint8_t *octets, size_t count, struct sedge_packet *packet,
+                                        struct sedge_part *data);
 
 /* Writes the packet with this data field to the beginning of out, and its length in octets, 6 more than its data, to
  * total. Returns 0, or the first of SEDGE_DAMAGED (the kind is out of its enum, or the secondary header flag above 1),
  * SEDGE_PACKET_FIELD_RANGE and SEDGE_PACKET_ROOM. */
-uint8_t sedge_packet_encode(const struct sedge_packet *packet, const uint8_t *data, size_t data_count, uint8_t *out,
-                            size_t room, size_t *total);
+SEDGE_CHECK uint8_t sedge_packet_encode(const struct sedge_packet *packet, const uint8_t *data, size_t data_count,
+                                        uint8_t *out, size_t room, size_t *total);
 
 /* Writes the length of the packet that begins with these octets, by its first 6 octets alone; for cutting a stream
  * (4.1.3.5). Returns 0, or SEDGE_PACKET_TRUNCATED for fewer than 6 octets, or SEDGE_PACKET_VERSION, or
  * SEDGE_PACKET_IDLE_WITH_SECONDARY. */
-uint8_t sedge_packet_declared(const uint8_t *octets, size_t count, size_t *total);
+SEDGE_CHECK uint8_t sedge_packet_declared(const uint8_t *octets, size_t count, size_t *total);
 
 /* ---- Telemetry transfer frames of 16 to 2,048 octets, with an operational control field and an FECF (132.0-B-3,
  * 4.1). ---- */
@@ -502,13 +536,13 @@ struct sedge_tm_frame {
 /* Reads all of the octets as one frame of this length, and writes where its data are. The frame may be of any
  * spacecraft and virtual channel: compare scid and vcid with your own before an extractor is given it, and scid before
  * its control word is used. Returns 0, or the first of 1 to 6 of sedge_tm_fault. */
-uint8_t sedge_tm_decode(const uint8_t *octets, size_t count, size_t length, struct sedge_tm_frame *frame,
-                        struct sedge_part *data);
+SEDGE_CHECK uint8_t sedge_tm_decode(const uint8_t *octets, size_t count, size_t length, struct sedge_tm_frame *frame,
+                                    struct sedge_part *data);
 
 /* Writes the frame with these data and its FECF to the beginning of out, and its length in octets, 12 more than its
  * data, to total. Returns 0, or the first of SEDGE_TM_FIELD_RANGE and SEDGE_TM_ROOM. */
-uint8_t sedge_tm_encode(const struct sedge_tm_frame *frame, const uint8_t *data, size_t data_count, uint8_t *out,
-                        size_t room, size_t *total);
+SEDGE_CHECK uint8_t sedge_tm_encode(const struct sedge_tm_frame *frame, const uint8_t *data, size_t data_count,
+                                    uint8_t *out, size_t room, size_t *total);
 
 /* ---- Packets in telemetry frames, for one virtual channel (132.0-B-3, 4.2 and 4.3): built into frames and extracted
  * from them. The caller keeps a struct and its memory, which no other struct uses. ---- */
@@ -531,20 +565,21 @@ struct sedge_tm_builder {
 
 /* Begins a builder whose frame counts begin at 0, with nothing to be sent. Returns 0, or SEDGE_TM_FIELD_RANGE if scid
  * is not below 1,024, vcid not below 8, or length not from 16 to 2,048. */
-uint8_t sedge_tm_builder_open(struct sedge_tm_builder *builder, uint16_t scid, uint8_t vcid, size_t length);
+SEDGE_CHECK uint8_t sedge_tm_builder_open(struct sedge_tm_builder *builder, uint16_t scid, uint8_t vcid, size_t length);
 
 /* Queues a packet, all of its octets, after those that are to be sent. Returns 0, or the first of SEDGE_DAMAGED,
  * SEDGE_TM_NOT_A_PACKET (not exactly one packet, or an idle one) and SEDGE_TM_MEMORY (the octets to be sent and the
  * packet are more than the memory has). */
-uint8_t sedge_tm_builder_queue(struct sedge_tm_builder *builder, const uint8_t *packet, size_t count, uint8_t *memory,
-                               size_t room);
+SEDGE_CHECK uint8_t sedge_tm_builder_queue(struct sedge_tm_builder *builder, const uint8_t *packet, size_t count,
+                                           uint8_t *memory, size_t room);
 
 /* Writes the next frame to the beginning of out, with this operational control field, of four octets as
  * sedge_clcw_encode writes them, and its length, that of all the builder's frames, to total. Where packets run out
  * within the frame, an idle packet fills it; where nothing is to be sent, the frame has only idle data. Returns 0, or
  * the first of SEDGE_DAMAGED, SEDGE_WRONG_COUNT (the field is not four octets) and SEDGE_TM_ROOM. */
-uint8_t sedge_tm_builder_build(struct sedge_tm_builder *builder, const uint8_t *ocf, size_t ocf_count,
-                               const uint8_t *memory, size_t memory_count, uint8_t *out, size_t room, size_t *total);
+SEDGE_CHECK uint8_t sedge_tm_builder_build(struct sedge_tm_builder *builder, const uint8_t *ocf, size_t ocf_count,
+                                           const uint8_t *memory, size_t memory_count, uint8_t *out, size_t room,
+                                           size_t *total);
 
 /* An extractor of the packets of one virtual channel. Begin it as {0, 0, 0, 0}; its fields may be read at any time.
  * The memory holds the part of a packet whose end is to come, and after a frame also the packet that it ended. As many
@@ -577,13 +612,13 @@ struct sedge_tm_extracted {
  * Where frames are missing, the part before them is dropped. Returns 0, or the first of SEDGE_DAMAGED,
  * SEDGE_TM_FIELD_RANGE (the pointer is after the data) and SEDGE_TM_MEMORY (the packet that the frame ends and the part
  * that it leaves are more than the memory has). The frame after a refused one shows that one as missing. */
-uint8_t sedge_tm_extractor_frame(struct sedge_tm_extractor *extractor, const struct sedge_tm_frame *frame,
-                                 const uint8_t *data, size_t data_count, uint8_t *memory, size_t room,
-                                 struct sedge_tm_extracted *extracted);
+SEDGE_CHECK uint8_t sedge_tm_extractor_frame(struct sedge_tm_extractor *extractor, const struct sedge_tm_frame *frame,
+                                             const uint8_t *data, size_t data_count, uint8_t *memory, size_t room,
+                                             struct sedge_tm_extracted *extracted);
 
 /* Goes on to the packet after this part of a frame's data that is not idle. Returns true, and the part is that packet;
  * or false, with nothing written, if there is none. */
-bool sedge_tm_packet(const uint8_t *data, size_t data_count, struct sedge_part *packet);
+SEDGE_CHECK bool sedge_tm_packet(const uint8_t *data, size_t data_count, struct sedge_part *packet);
 
 /* ---- Packets in segments, for one MAP (232.0-B-4, 4.1.3.2.2), with blocking or without it. ---- */
 
@@ -626,12 +661,12 @@ struct sedge_taken {
 
 /* Takes the next segment of the MAP, its flags of sedge_segment_flags and its data. Hand the packets that are whole now
  * on before the next call. Returns 0, or SEDGE_DAMAGED, also for flags above 3. */
-uint8_t sedge_map_take(struct sedge_map *map, uint8_t flags, const uint8_t *data, size_t data_count, uint8_t *memory,
-                       size_t room, struct sedge_taken *taken);
+SEDGE_CHECK uint8_t sedge_map_take(struct sedge_map *map, uint8_t flags, const uint8_t *data, size_t data_count,
+                                   uint8_t *memory, size_t room, struct sedge_taken *taken);
 
 /* Goes on to the packet after this part of the octets; begin with {0, 0}. Returns true, and the part is that packet; or
  * false, with nothing written, if there is none. */
-bool sedge_map_packet(const uint8_t *octets, size_t count, struct sedge_part *packet);
+SEDGE_CHECK bool sedge_map_packet(const uint8_t *octets, size_t count, struct sedge_part *packet);
 
 /* Why octets are not cut into segments. */
 enum sedge_map_fault {
@@ -648,12 +683,13 @@ struct sedge_limits {
 
 /* Writes the number of segments that a packet is cut into, or with blocking one or more packets, one after another.
  * Returns 0, or SEDGE_DAMAGED, or the first of sedge_map_fault. */
-uint8_t sedge_map_count(const uint8_t *octets, size_t count, const struct sedge_limits *limits, size_t *segments);
+SEDGE_CHECK uint8_t sedge_map_count(const uint8_t *octets, size_t count, const struct sedge_limits *limits,
+                                    size_t *segments);
 
 /* Writes segment k of these, counted from 0: its flags of sedge_segment_flags, and where its data are in the octets.
  * Returns what sedge_map_count does, or SEDGE_ABSENT if there are not that many. */
-uint8_t sedge_map_segment(const uint8_t *octets, size_t count, const struct sedge_limits *limits, size_t k,
-                          uint8_t *flags, struct sedge_part *data);
+SEDGE_CHECK uint8_t sedge_map_segment(const uint8_t *octets, size_t count, const struct sedge_limits *limits,
+                                      size_t k, uint8_t *flags, struct sedge_part *data);
 
 /* ---- Names, as tctool writes them; "?" for a number out of the enum. ---- */
 
@@ -666,6 +702,133 @@ struct sedge_text sedge_packet_fault_name(uint8_t fault); /* the name of a sedge
 struct sedge_text sedge_tm_fault_name(uint8_t fault);     /* the name of a sedge_tm_fault */
 struct sedge_text sedge_map_fault_name(uint8_t fault);    /* the name of a sedge_map_fault */
 struct sedge_text sedge_dropped_name(uint8_t cause);      /* the name of a sedge_dropped */
+
+/* ---- The numbers of the enumerations, as constants of an unsigned type. ---- */
+
+#ifndef __cplusplus
+#define SEDGE_OK ((uint8_t)0)
+#define SEDGE_ABSENT ((uint8_t)253)
+#define SEDGE_WRONG_COUNT ((uint8_t)254)
+#define SEDGE_DAMAGED ((uint8_t)255)
+#define SEDGE_CLCW_KIND ((uint8_t)1)
+#define SEDGE_CLCW_VERSION ((uint8_t)2)
+#define SEDGE_CLCW_COP ((uint8_t)3)
+#define SEDGE_CLCW_SPARE ((uint8_t)4)
+#define SEDGE_CLCW_RANGE ((uint8_t)5)
+#define SEDGE_CLCW_RETRANSMIT ((uint8_t)0x08)
+#define SEDGE_CLCW_WAIT ((uint8_t)0x10)
+#define SEDGE_CLCW_LOCKOUT ((uint8_t)0x20)
+#define SEDGE_CLCW_NO_BIT_LOCK ((uint8_t)0x40)
+#define SEDGE_CLCW_NO_RF ((uint8_t)0x80)
+#define SEDGE_COP_WIDTH ((uint8_t)1)
+#define SEDGE_COP_WINDOW ((uint8_t)2)
+#define SEDGE_COP_LIMIT ((uint8_t)3)
+#define SEDGE_COP_TIMER ((uint8_t)4)
+#define SEDGE_COP_NOT_OPEN ((uint8_t)6)
+#define SEDGE_COP_BUSY ((uint8_t)7)
+#define SEDGE_COP_WRONG_STATE ((uint8_t)8)
+#define SEDGE_ACCEPTED ((uint8_t)0)
+#define SEDGE_AHEAD ((uint8_t)1)
+#define SEDGE_NO_BUFFER ((uint8_t)2)
+#define SEDGE_BEHIND ((uint8_t)3)
+#define SEDGE_OUTSIDE ((uint8_t)4)
+#define SEDGE_DISCARDED ((uint8_t)5)
+#define SEDGE_FARM_OPEN ((uint8_t)0)
+#define SEDGE_FARM_WAIT ((uint8_t)1)
+#define SEDGE_FARM_LOCKOUT ((uint8_t)2)
+#define SEDGE_FOP_S1 ((uint8_t)1)
+#define SEDGE_FOP_S2 ((uint8_t)2)
+#define SEDGE_FOP_S3 ((uint8_t)3)
+#define SEDGE_FOP_S4 ((uint8_t)4)
+#define SEDGE_FOP_S5 ((uint8_t)5)
+#define SEDGE_FOP_S6 ((uint8_t)6)
+#define SEDGE_CONTROL_IDLE ((uint8_t)0)
+#define SEDGE_CONTROL_UNLOCK_DUE ((uint8_t)1)
+#define SEDGE_CONTROL_UNLOCK_SENT ((uint8_t)2)
+#define SEDGE_CONTROL_SET_VR_DUE ((uint8_t)3)
+#define SEDGE_CONTROL_SET_VR_SENT ((uint8_t)4)
+#define SEDGE_NO_ALERT ((uint8_t)0)
+#define SEDGE_ALERT_LOCKOUT ((uint8_t)1)
+#define SEDGE_ALERT_NNR ((uint8_t)2)
+#define SEDGE_ALERT_CLCW ((uint8_t)3)
+#define SEDGE_ALERT_SYNCH ((uint8_t)4)
+#define SEDGE_ALERT_LIMIT ((uint8_t)5)
+#define SEDGE_ALERT_TIMER ((uint8_t)6)
+#define SEDGE_ALERT_TERMINATED ((uint8_t)7)
+#define SEDGE_NEXT_NOTHING ((uint8_t)0)
+#define SEDGE_NEXT_UNLOCK ((uint8_t)1)
+#define SEDGE_NEXT_SET_VR ((uint8_t)2)
+#define SEDGE_NEXT_FIRST ((uint8_t)3)
+#define SEDGE_NEXT_AGAIN ((uint8_t)4)
+#define SEDGE_INIT_WITHOUT_CHECK ((uint8_t)1)
+#define SEDGE_INIT_WITH_CHECK ((uint8_t)2)
+#define SEDGE_INIT_UNLOCK ((uint8_t)3)
+#define SEDGE_INIT_SET_VR ((uint8_t)4)
+#define SEDGE_TERMINATE ((uint8_t)5)
+#define SEDGE_SET_VS ((uint8_t)6)
+#define SEDGE_SET_WINDOW ((uint8_t)7)
+#define SEDGE_SET_LIMIT ((uint8_t)8)
+#define SEDGE_SET_TIMER ((uint8_t)9)
+#define SEDGE_TC_SHORT ((uint8_t)1)
+#define SEDGE_TC_VERSION ((uint8_t)2)
+#define SEDGE_TC_RESERVED_TYPE ((uint8_t)3)
+#define SEDGE_TC_SPARE ((uint8_t)4)
+#define SEDGE_TC_LENGTH ((uint8_t)5)
+#define SEDGE_TC_CHECK ((uint8_t)6)
+#define SEDGE_TC_BYPASS_NUMBER ((uint8_t)7)
+#define SEDGE_TC_EMPTY_DATA ((uint8_t)8)
+#define SEDGE_TC_COMMAND ((uint8_t)9)
+#define SEDGE_TC_ROOM ((uint8_t)10)
+#define SEDGE_TC_FIELD_RANGE ((uint8_t)11)
+#define SEDGE_TC_AD ((uint8_t)0)
+#define SEDGE_TC_BD ((uint8_t)1)
+#define SEDGE_TC_BC ((uint8_t)2)
+#define SEDGE_SEGMENT_CONTINUING ((uint8_t)0)
+#define SEDGE_SEGMENT_FIRST ((uint8_t)1)
+#define SEDGE_SEGMENT_LAST ((uint8_t)2)
+#define SEDGE_SEGMENT_ALONE ((uint8_t)3)
+#define SEDGE_UNLOCK ((uint8_t)0)
+#define SEDGE_SET_VR ((uint8_t)1)
+#define SEDGE_PACKET_TRUNCATED ((uint8_t)1)
+#define SEDGE_PACKET_VERSION ((uint8_t)2)
+#define SEDGE_PACKET_IDLE_WITH_SECONDARY ((uint8_t)3)
+#define SEDGE_PACKET_ROOM ((uint8_t)4)
+#define SEDGE_PACKET_FIELD_RANGE ((uint8_t)5)
+#define SEDGE_PACKET_TELEMETRY ((uint8_t)0)
+#define SEDGE_PACKET_TELECOMMAND ((uint8_t)1)
+#define SEDGE_SEQUENCE_CONTINUATION ((uint8_t)0)
+#define SEDGE_SEQUENCE_FIRST ((uint8_t)1)
+#define SEDGE_SEQUENCE_LAST ((uint8_t)2)
+#define SEDGE_SEQUENCE_UNSEGMENTED ((uint8_t)3)
+#define SEDGE_TM_LENGTH ((uint8_t)1)
+#define SEDGE_TM_VERSION ((uint8_t)2)
+#define SEDGE_TM_CHECK ((uint8_t)3)
+#define SEDGE_TM_STATUS ((uint8_t)4)
+#define SEDGE_TM_POINTER ((uint8_t)5)
+#define SEDGE_TM_NO_OCF ((uint8_t)6)
+#define SEDGE_TM_MEMORY ((uint8_t)7)
+#define SEDGE_TM_NOT_A_PACKET ((uint8_t)8)
+#define SEDGE_TM_ROOM ((uint8_t)9)
+#define SEDGE_TM_FIELD_RANGE ((uint8_t)10)
+#define SEDGE_POINTER_ONLY_IDLE ((uint16_t)2046)
+#define SEDGE_POINTER_NO_START ((uint16_t)2047)
+#define SEDGE_NOT_DROPPED ((uint8_t)0)
+#define SEDGE_DROPPED_CLOSED_MAP ((uint8_t)1)
+#define SEDGE_DROPPED_INTERRUPTED ((uint8_t)2)
+#define SEDGE_DROPPED_NO_BEGINNING ((uint8_t)3)
+#define SEDGE_DROPPED_NOT_A_PACKET ((uint8_t)4)
+#define SEDGE_DROPPED_TOO_LONG ((uint8_t)5)
+#define SEDGE_NO_PACKET ((uint8_t)0)
+#define SEDGE_IN_MEMORY ((uint8_t)1)
+#define SEDGE_IN_DATA ((uint8_t)2)
+#define SEDGE_MAP_NOT_A_PACKET ((uint8_t)1)
+#define SEDGE_MAP_TOO_LONG ((uint8_t)2)
+#endif
+
+/* ---- Names that go after 0.3: each call has another name now. ---- */
+
+#define sedge_farm_report sedge_farm_control_word
+#define sedge_fop_report sedge_fop_clcw
 
 #ifdef __cplusplus
 }

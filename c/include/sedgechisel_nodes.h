@@ -13,15 +13,19 @@
  * as many as the number after it says may be read, and written where the pointer is not to const; what is written
  * overlaps nothing else that the call is given; and no handle is used by two threads at once.
  *
- * Every call but sedge_ground_tick returns 0, SEDGE_NODE_OK, or a number of the enum that it names. Where the number
- * is not 0, nothing is written and the node is as it was. SEDGE_NODE_NONE is the answer of every call to a handle
- * that holds none. Memory comes from the functions rattle_alloc, rattle_realloc and rattle_dealloc, which malloc.c
- * and static.c have (docs/C.md); sedgechisel_memory.h says what each does.
+ * What is returned: a uint8_t is SEDGE_NODE_OK, or a number of the one enumeration that the call's comment names, or
+ * SEDGE_NODE_NONE, which is the answer of every call to a handle that holds none. Two calls return what is no fault:
+ * sedge_ground_tick an alert, and sedge_config_fault a parameter. Where any other call returns anything but 0, nothing
+ * is written and the node is as it was. SEDGE_CHECK (sedgechisel.h) marks each call whose answer says more than that
+ * the handle holds none.
+ *
+ * Memory comes from the functions rattle_alloc, rattle_realloc and rattle_dealloc, which malloc.c and static.c have
+ * (docs/C.md); sedgechisel_memory.h says what each does.
  *
  * What is taken out is written at the beginning of the caller's room, out, which has room octets. Where it does not
  * fit, the answer is SEDGE_NODE_ROOM, and nothing is taken out. How many octets are next is asked before, by a call
- * that changes nothing. 65,542 octets are enough for every packet, 1,024 for every frame up, 2,048 for every frame
- * down. */
+ * that changes nothing. SEDGE_PACKET_LONGEST octets are enough for every packet, SEDGE_TC_LONGEST for every frame up,
+ * SEDGE_TM_LONGEST for every frame down. */
 #ifndef SEDGECHISEL_NODES_H
 #define SEDGECHISEL_NODES_H
 
@@ -68,15 +72,36 @@ struct sedge_config {
     uint32_t blocking;     /* 1 where a segment may hold several packets, 0 to 1; default 0 */
 };
 
+/* The managed parameters, in the order of their fields. */
+enum sedge_parameter {
+    SEDGE_NO_PARAMETER = 0,
+    SEDGE_PARAMETER_SCID = 1,
+    SEDGE_PARAMETER_VCID = 2,
+    SEDGE_PARAMETER_TM_VCID = 3,
+    SEDGE_PARAMETER_WIDTH = 4,
+    SEDGE_PARAMETER_WINDOW = 5,
+    SEDGE_PARAMETER_LIMIT = 6,
+    SEDGE_PARAMETER_TIMER = 7,
+    SEDGE_PARAMETER_PART = 8,
+    SEDGE_PARAMETER_MAX_PACKET = 9,
+    SEDGE_PARAMETER_MAPS = 10,
+    SEDGE_PARAMETER_READY_SLOTS = 11,
+    SEDGE_PARAMETER_BYPASS_SLOTS = 12,
+    SEDGE_PARAMETER_QUEUE_SLOTS = 13,
+    SEDGE_PARAMETER_FRAME_LENGTH = 14,
+    SEDGE_PARAMETER_BLOCKING = 15
+};
+
 /* Writes the default of each parameter. A program begins with these, and sets what its mission has otherwise. */
 void sedge_config_default(struct sedge_config *config);
 
-/* The number of the first parameter that is out of its range, 1 for scid to 15 for blocking in the order of the fields;
- * 0 for none. A width is also out of its range where it is odd, and a window where it is more than half of that. */
+/* Returns the first parameter that is out of its range, of sedge_parameter; SEDGE_NO_PARAMETER for none. A width is
+ * also out of its range where it is odd, and a window where it is more than half of that. */
 uint8_t sedge_config_fault(const struct sedge_config *config);
 
 /* Names, as tctool writes them; "?" for a number out of the enum. */
-struct sedge_text sedge_parameter_name(uint8_t number);  /* the name of a managed parameter, by its number, 1 to 15 */
+struct sedge_text sedge_parameter_name(uint8_t number);
+    /* the name of a sedge_parameter, which is that of its field in sedge_config */
 struct sedge_text sedge_link_fault_name(uint8_t number); /* the name of a sedge_node_status, 1 to 7 */
 
 /* ---- The ground. ---- */
@@ -88,7 +113,7 @@ struct sedge_ground {
 /* Opens a ground, in place of one that the handle holds. This one is let go of once the new one is made: a refusal
  * leaves it, and until then both have memory. Where there is memory for one alone, close the handle first. Returns 0,
  * SEDGE_NODE_OUT_OF_RANGE or SEDGE_NODE_MEMORY. */
-uint8_t sedge_ground_open(const struct sedge_config *config, struct sedge_ground *ground);
+SEDGE_CHECK uint8_t sedge_ground_open(const struct sedge_config *config, struct sedge_ground *ground);
 
 /* Closes the ground, where there is one; the handle holds none then. */
 void sedge_ground_close(struct sedge_ground *ground);
@@ -96,44 +121,44 @@ void sedge_ground_close(struct sedge_ground *ground);
 /* Gives the ground's sender a directive, of sedge_directive (sedgechisel.h), with its value; one that has none ignores
  * it. Returns 0; or SEDGE_COP_WRONG_STATE; or for a value out of its range SEDGE_COP_WINDOW, SEDGE_COP_LIMIT or
  * SEDGE_COP_TIMER; or SEDGE_NODE_NONE, also for a directive that is none, and for a number V(R) or V(S) above 255. */
-uint8_t sedge_ground_directive(struct sedge_ground *ground, uint8_t directive, uint16_t value);
+SEDGE_CHECK uint8_t sedge_ground_directive(struct sedge_ground *ground, uint8_t directive, uint16_t value);
 
 /* Each directive by its name. Up to 0.2 these were calls of the library; they are sedge_ground_directive now. */
-static inline uint8_t sedge_ground_init_without_check(struct sedge_ground *ground) {
+static inline SEDGE_CHECK uint8_t sedge_ground_init_without_check(struct sedge_ground *ground) {
     return sedge_ground_directive(ground, SEDGE_INIT_WITHOUT_CHECK, 0);
 }
-static inline uint8_t sedge_ground_init_with_check(struct sedge_ground *ground) {
+static inline SEDGE_CHECK uint8_t sedge_ground_init_with_check(struct sedge_ground *ground) {
     return sedge_ground_directive(ground, SEDGE_INIT_WITH_CHECK, 0);
 }
-static inline uint8_t sedge_ground_init_unlock(struct sedge_ground *ground) {
+static inline SEDGE_CHECK uint8_t sedge_ground_init_unlock(struct sedge_ground *ground) {
     return sedge_ground_directive(ground, SEDGE_INIT_UNLOCK, 0);
 }
-static inline uint8_t sedge_ground_init_set_vr(struct sedge_ground *ground, uint8_t vr) {
+static inline SEDGE_CHECK uint8_t sedge_ground_init_set_vr(struct sedge_ground *ground, uint8_t vr) {
     return sedge_ground_directive(ground, SEDGE_INIT_SET_VR, vr);
 }
-static inline uint8_t sedge_ground_terminate(struct sedge_ground *ground) {
+static inline SEDGE_CHECK uint8_t sedge_ground_terminate(struct sedge_ground *ground) {
     return sedge_ground_directive(ground, SEDGE_TERMINATE, 0);
 }
-static inline uint8_t sedge_ground_set_vs(struct sedge_ground *ground, uint8_t vs) {
+static inline SEDGE_CHECK uint8_t sedge_ground_set_vs(struct sedge_ground *ground, uint8_t vs) {
     return sedge_ground_directive(ground, SEDGE_SET_VS, vs);
 }
-static inline uint8_t sedge_ground_set_window(struct sedge_ground *ground, uint8_t window) {
+static inline SEDGE_CHECK uint8_t sedge_ground_set_window(struct sedge_ground *ground, uint8_t window) {
     return sedge_ground_directive(ground, SEDGE_SET_WINDOW, window);
 }
-static inline uint8_t sedge_ground_set_limit(struct sedge_ground *ground, uint8_t limit) {
+static inline SEDGE_CHECK uint8_t sedge_ground_set_limit(struct sedge_ground *ground, uint8_t limit) {
     return sedge_ground_directive(ground, SEDGE_SET_LIMIT, limit);
 }
-static inline uint8_t sedge_ground_set_timer(struct sedge_ground *ground, uint16_t timer) {
+static inline SEDGE_CHECK uint8_t sedge_ground_set_timer(struct sedge_ground *ground, uint16_t timer) {
     return sedge_ground_directive(ground, SEDGE_SET_TIMER, timer);
 }
 
 /* Submits packets on a MAP, to be sent under sequence control: one, or several where blocking is on. Returns 0, or the
  * first of 1 to 5 of sedge_node_status that applies, or SEDGE_NODE_MEMORY. */
-uint8_t sedge_ground_submit(struct sedge_ground *ground, uint8_t map, const uint8_t *octets, size_t count);
+SEDGE_CHECK uint8_t sedge_ground_submit(struct sedge_ground *ground, uint8_t map, const uint8_t *octets, size_t count);
 
 /* Submits one packet on a MAP past the sequence control. Returns 0, or the first of 2 to 5 of sedge_node_status that
  * applies, or SEDGE_NODE_MEMORY. */
-uint8_t sedge_ground_bypass(struct sedge_ground *ground, uint8_t map, const uint8_t *octets, size_t count);
+SEDGE_CHECK uint8_t sedge_ground_bypass(struct sedge_ground *ground, uint8_t map, const uint8_t *octets, size_t count);
 
 /* Writes how many octets the frame that goes on the link next has, 8 to 1,024; 0 where nothing is to be sent. Returns
  * 0. */
@@ -141,39 +166,56 @@ uint8_t sedge_ground_next(struct sedge_ground *ground, size_t *count);
 
 /* Takes the frame that goes on the link next, with its FECF (232.0-B-4, 4.1): writes it, and the number of its octets;
  * or 0 octets where nothing is to be sent. Returns 0 or SEDGE_NODE_ROOM. */
-uint8_t sedge_ground_pull(struct sedge_ground *ground, uint8_t *out, size_t room, size_t *count);
+SEDGE_CHECK uint8_t sedge_ground_pull(struct sedge_ground *ground, uint8_t *out, size_t room, size_t *count);
 
 /* Writes the frame that goes on the link next as sedge_ground_pull does; the ground stays as it was. With
  * sedge_ground_advance the frame counts as sent once a radio that may refuse it has taken it. Returns 0 or
  * SEDGE_NODE_ROOM. */
-uint8_t sedge_ground_peek(struct sedge_ground *ground, uint8_t *out, size_t room, size_t *count);
+SEDGE_CHECK uint8_t sedge_ground_peek(struct sedge_ground *ground, uint8_t *out, size_t room, size_t *count);
 
 /* Counts the frame that goes on the link next as sent, as sedge_ground_pull does; nothing changes where nothing is to
  * be sent. Returns 0. */
 uint8_t sedge_ground_advance(struct sedge_ground *ground);
 
-/* What the ground makes of octets that it received: their kind, then what that kind has; the rest is 0. */
+/* What octets are that the ground received. */
+enum sedge_heard_kind {
+    SEDGE_HEARD_INVALID = 1, /* no frame */
+    SEDGE_HEARD_FOREIGN = 2, /* a frame of another spacecraft or virtual channel */
+    SEDGE_HEARD_FRAME = 3,   /* a frame of this one */
+    SEDGE_HEARD_CLCW = 4     /* a report by itself */
+};
+
+/* What becomes of a report. */
+enum sedge_heard_report {
+    SEDGE_REPORT_USED = 0,         /* it is given to the sender */
+    SEDGE_REPORT_REFUSED = 1,      /* it is none */
+    SEDGE_REPORT_OTHER_CHANNEL = 2 /* it is about another virtual channel */
+};
+
+/* What the ground makes of octets that it received: their kind, then what that kind or that fate of the report has, by
+ * the end of its name; the rest is 0. */
 struct sedge_heard {
-    size_t packets;     /* 3: the number of packets that came to wait to be taken */
-    uint8_t kind;       /* 1: no frame; 2: a frame of another channel; 3: a frame of this one; 4: a report by itself */
-    uint8_t fault;      /* 1: why they are no frame, of sedge_tm_fault */
-    uint8_t first;      /* 3: whether no frame came before it, 0 or 1 */
-    uint8_t missing;    /* 3: the number of frames that are missing before it */
-    uint8_t report;     /* 3, 4: its report is used (0), none (1), or of another virtual channel (2) */
-    uint8_t word_fault; /* 3 and 4, 1: why it is none, of sedge_clcw_fault */
-    uint8_t alert;      /* 3 and 4, 0: of sedge_alert; 0 for none */
+    size_t packets;     /* FRAME: the number of packets that came to wait to be taken */
+    uint8_t kind;       /* of sedge_heard_kind */
+    uint8_t fault;      /* INVALID: why they are no frame, of sedge_tm_fault */
+    uint8_t first;      /* FRAME: whether no frame came before it, 0 or 1 */
+    uint8_t missing;    /* FRAME: the number of frames that are missing before it */
+    uint8_t report;     /* FRAME, CLCW: what becomes of the report, of sedge_heard_report */
+    uint8_t word_fault; /* REFUSED: why it is none, of sedge_clcw_fault */
+    uint8_t alert;      /* USED: of sedge_alert, SEDGE_NO_ALERT for none */
 };
 
 /* Takes octets that came from the spacecraft, and writes what they are. Returns 0, or SEDGE_NODE_MEMORY where they
  * finish a packet. */
-uint8_t sedge_ground_telemetry(struct sedge_ground *ground, const uint8_t *octets, size_t count,
-                               struct sedge_heard *heard);
+SEDGE_CHECK uint8_t sedge_ground_telemetry(struct sedge_ground *ground, const uint8_t *octets, size_t count,
+                                           struct sedge_heard *heard);
 
 /* Takes a report that came by itself, a CLCW as a front end hands it on (232.0-B-4, 4.2), and writes what becomes of
  * it, as sedge_ground_telemetry does of the report in a telemetry frame; telemetry is not touched. The last one may be
  * handed on again before the next, which changes nothing; an older one may not come again as if it were new. Returns 0,
  * or SEDGE_NODE_ABSENT if the octets are not four. */
-uint8_t sedge_ground_clcw(struct sedge_ground *ground, const uint8_t *octets, size_t count, struct sedge_heard *heard);
+SEDGE_CHECK uint8_t sedge_ground_clcw(struct sedge_ground *ground, const uint8_t *octets, size_t count,
+                                      struct sedge_heard *heard);
 
 /* Begins to take packets out of telemetry anew, as after a restart of the spacecraft, whose counts go on elsewhere: a
  * packet that is not finished is dropped, and the next frame is the first (132.0-B-3, 4.3.2). Packets that wait to be
@@ -182,18 +224,18 @@ uint8_t sedge_ground_forget_telemetry(struct sedge_ground *ground);
 
 /* Writes the report that a telemetry frame carries, of whichever spacecraft and virtual channel (232.0-B-4, 4.2); the
  * ground stays as it was. Returns 0, or SEDGE_NODE_ABSENT if the octets are no frame or the frame carries no report. */
-uint8_t sedge_ground_clcw_in(struct sedge_ground *ground, const uint8_t *octets, size_t count,
-                             struct sedge_clcw *report);
+SEDGE_CHECK uint8_t sedge_ground_clcw_in(struct sedge_ground *ground, const uint8_t *octets, size_t count,
+                                         struct sedge_clcw *word);
 
 /* Writes how many octets the oldest packet of telemetry has, 7 to 65,542; 0 where none waits. Returns 0. */
 uint8_t sedge_ground_next_telemetry(struct sedge_ground *ground, size_t *count);
 
 /* Takes the oldest packet of telemetry (132.0-B-3, 4.3.2): writes it, and the number of its octets; or 0 octets where
  * none waits. Returns 0 or SEDGE_NODE_ROOM. */
-uint8_t sedge_ground_take_telemetry(struct sedge_ground *ground, uint8_t *out, size_t room, size_t *count);
+SEDGE_CHECK uint8_t sedge_ground_take_telemetry(struct sedge_ground *ground, uint8_t *out, size_t room, size_t *count);
 
-/* A tick of the clock has passed. Returns the alert, of sedge_alert, 0 for none; or SEDGE_NODE_NONE. */
-uint8_t sedge_ground_tick(struct sedge_ground *ground);
+/* A tick of the clock has passed. Returns the alert, of sedge_alert, SEDGE_NO_ALERT for none. */
+SEDGE_CHECK uint8_t sedge_ground_tick(struct sedge_ground *ground);
 
 struct sedge_ground_reading {
     uint64_t submitted;          /* the number of submissions of the session; they count from 0. This and the two
@@ -206,7 +248,7 @@ struct sedge_ground_reading {
     size_t bypassed;             /* how many bypass packets wait to be sent */
     size_t frame_length;         /* of telemetry, in octets */
     uint16_t ticks;              /* the ticks that are left of the timer, or 0 where it does not run */
-    uint8_t state;               /* of the sender, 1 to 6 (232.1-B-2, 5.1) */
+    uint8_t state;               /* of the sender, of sedge_fop_state (232.1-B-2, 5.1) */
     uint8_t vs;                  /* V(S), the number of the next segment that is sent for the first time */
     uint8_t nn;                  /* NN(R), the number that the spacecraft was last known to expect */
     uint8_t count;               /* the transmission count, at least 1 */
@@ -220,20 +262,20 @@ uint8_t sedge_ground_read(struct sedge_ground *ground, struct sedge_ground_readi
  * value was made: the oldest ones (232.1-B-2, 5.1). It does so after an alert too, until V(S) is set or an initiation
  * begins. If V(S) is NN(R) there are no such segments, and it writes 0 whatever the value. Returns 0, or
  * SEDGE_NODE_ABSENT if there are and the value does not lie from NN(R) to V(S), so that nothing is known of them. */
-uint8_t sedge_ground_accepted_beyond(struct sedge_ground *ground, uint8_t value, uint8_t *accepted);
+SEDGE_CHECK uint8_t sedge_ground_accepted_beyond(struct sedge_ground *ground, uint8_t value, uint8_t *accepted);
 
 /* Writes how many first ones of the session's submissions are known to be on board whole by a report of this value:
  * those that are acknowledged, and those all of whose segments it says were accepted (232.1-B-2, 5.1). It does so after
  * an alert too. Returns 0, or SEDGE_NODE_ABSENT where nothing is known: no session has begun, V(S) was set since, or
  * the value does not lie from NN(R) to V(S), which are not equal. */
-uint8_t sedge_ground_known_on_board(struct sedge_ground *ground, uint8_t value, uint64_t *whole);
+SEDGE_CHECK uint8_t sedge_ground_known_on_board(struct sedge_ground *ground, uint8_t value, uint64_t *whole);
 
 /* Begins the next session after an alert, where the last one has got to: sets V(S) to the value of a report that was
  * made when nothing was on its way up, begins by Unlock (232.1-B-2, 5.2.4), and writes how many first ones of the
  * submissions of the session that ended are on board whole; those after them are to be submitted again. Returns 0, or
  * SEDGE_NODE_NOT_KNOWN, and nothing has changed, where nothing is known: the sender is not in S6, no session has begun,
  * V(S) was set since, or the value does not lie from NN(R) to V(S). */
-uint8_t sedge_ground_resume(struct sedge_ground *ground, uint8_t value, uint64_t *whole);
+SEDGE_CHECK uint8_t sedge_ground_resume(struct sedge_ground *ground, uint8_t value, uint64_t *whole);
 
 /* ---- The spacecraft. ---- */
 
@@ -243,28 +285,38 @@ struct sedge_spacecraft {
 
 /* Opens a spacecraft, in place of one that the handle holds, as sedge_ground_open does. Returns 0,
  * SEDGE_NODE_OUT_OF_RANGE or SEDGE_NODE_MEMORY. */
-uint8_t sedge_spacecraft_open(const struct sedge_config *config, struct sedge_spacecraft *spacecraft);
+SEDGE_CHECK uint8_t sedge_spacecraft_open(const struct sedge_config *config, struct sedge_spacecraft *spacecraft);
 
 /* Closes the spacecraft, where there is one; the handle holds none then. */
 void sedge_spacecraft_close(struct sedge_spacecraft *spacecraft);
 
-/* What the spacecraft makes of octets that it received: their kind, then what that kind has; the rest is 0. */
+/* What octets are that the spacecraft received. */
+enum sedge_received_kind {
+    SEDGE_RECEIVED_INVALID = 1, /* no frame */
+    SEDGE_RECEIVED_FOREIGN = 2, /* a frame of another spacecraft or virtual channel */
+    SEDGE_RECEIVED_AD = 3,      /* a Type-AD frame of this one */
+    SEDGE_RECEIVED_BD = 4,      /* a Type-BD frame */
+    SEDGE_RECEIVED_BC = 5       /* a Type-BC frame */
+};
+
+/* What the spacecraft makes of octets that it received: their kind, then what that kind has, by the end of its name;
+ * the rest is 0. */
 struct sedge_received {
-    size_t ready;    /* 3: the number of packets that came to wait to be taken */
-    uint8_t kind;    /* 1: no frame; 2: of another channel; 3: Type-AD; 4: Type-BD; 5: Type-BC */
-    uint8_t fault;   /* 1: why they are no frame, of sedge_tc_fault */
-    uint8_t n;       /* 3: its number, N(S) */
-    uint8_t verdict; /* 3: of sedge_verdict */
-    uint8_t dropped; /* 3: why octets on its MAP were dropped, of sedge_dropped; 0 for none */
-    bool kept;       /* 4: whether it carried a packet, which is kept */
-    uint8_t command; /* 5: Unlock (0) or Set V(R) (1) */
-    uint8_t vr;      /* 5: the number of Set V(R) */
+    size_t ready;    /* AD: the number of packets that came to wait to be taken */
+    uint8_t kind;    /* of sedge_received_kind */
+    uint8_t fault;   /* INVALID: why they are no frame, of sedge_tc_fault */
+    uint8_t n;       /* AD: its number, N(S) */
+    uint8_t verdict; /* AD: of sedge_verdict */
+    uint8_t dropped; /* AD: why octets on its MAP were dropped, of sedge_dropped; SEDGE_NOT_DROPPED for none */
+    bool kept;       /* BD: whether it carried a packet, which is kept */
+    uint8_t command; /* BC: of sedge_command */
+    uint8_t vr;      /* BC: the number of Set V(R) */
 };
 
 /* Takes octets that came from the ground, and writes what they are. Returns 0, or SEDGE_NODE_MEMORY where a frame's
  * data are handed on. */
-uint8_t sedge_spacecraft_receive(struct sedge_spacecraft *spacecraft, const uint8_t *octets, size_t count,
-                                 struct sedge_received *received);
+SEDGE_CHECK uint8_t sedge_spacecraft_receive(struct sedge_spacecraft *spacecraft, const uint8_t *octets, size_t count,
+                                             struct sedge_received *received);
 
 /* Writes the MAP of the oldest packet of sequence-controlled frames, and the number of its octets, 7 to 65,542; or 0
  * octets alone where none waits. Returns 0. */
@@ -272,25 +324,26 @@ uint8_t sedge_spacecraft_next(struct sedge_spacecraft *spacecraft, uint8_t *map,
 
 /* Takes the oldest packet of sequence-controlled frames (232.0-B-4, 4.4): writes its MAP, the packet, and the number of
  * its octets; or 0 octets alone where none waits. Returns 0 or SEDGE_NODE_ROOM. */
-uint8_t sedge_spacecraft_take(struct sedge_spacecraft *spacecraft, uint8_t *map, uint8_t *out, size_t room,
-                              size_t *count);
+SEDGE_CHECK uint8_t sedge_spacecraft_take(struct sedge_spacecraft *spacecraft, uint8_t *map, uint8_t *out,
+                                          size_t room, size_t *count);
 
 /* Writes the same of the oldest packet that came past the sequence control. Returns 0. */
 uint8_t sedge_spacecraft_next_bypass(struct sedge_spacecraft *spacecraft, uint8_t *map, size_t *count);
 
 /* Takes the oldest packet that came past the sequence control (232.0-B-4, 4.4), as sedge_spacecraft_take does. Returns
  * 0 or SEDGE_NODE_ROOM. */
-uint8_t sedge_spacecraft_take_bypass(struct sedge_spacecraft *spacecraft, uint8_t *map, uint8_t *out, size_t room,
-                                     size_t *count);
+SEDGE_CHECK uint8_t sedge_spacecraft_take_bypass(struct sedge_spacecraft *spacecraft, uint8_t *map, uint8_t *out,
+                                                 size_t room, size_t *count);
 
-/* Queues a packet to be sent as telemetry (132.0-B-3, 4.2.2). Returns 0, or 8 for octets that are not exactly one
- * packet, or an idle packet, or 7 where there was no memory (these numbers are of the telemetry's faults,
- * sedge_tm_fault_name). */
-uint8_t sedge_spacecraft_telemetry(struct sedge_spacecraft *spacecraft, const uint8_t *packet, size_t count);
+/* Queues a packet to be sent as telemetry (132.0-B-3, 4.2.2). Returns 0, or the first of SEDGE_TM_NOT_A_PACKET (the
+ * octets are not exactly one packet, or an idle one) and SEDGE_TM_MEMORY. */
+SEDGE_CHECK uint8_t sedge_spacecraft_telemetry(struct sedge_spacecraft *spacecraft, const uint8_t *packet,
+                                               size_t count);
 
 /* Writes the next telemetry frame (132.0-B-3, 4.1), which reports on the receiver, and the number of its octets, which
  * is frame_length. Returns 0 or SEDGE_NODE_ROOM. */
-uint8_t sedge_spacecraft_telemetry_frame(struct sedge_spacecraft *spacecraft, uint8_t *out, size_t room, size_t *count);
+SEDGE_CHECK uint8_t sedge_spacecraft_telemetry_frame(struct sedge_spacecraft *spacecraft, uint8_t *out, size_t room,
+                                                     size_t *count);
 
 struct sedge_spacecraft_reading {
     size_t frame_length; /* of telemetry, in octets */
@@ -317,7 +370,7 @@ struct sedge_sim {
 
 /* Opens a link with two new nodes, in place of one that the handle holds, as sedge_ground_open does. Returns 0,
  * SEDGE_NODE_OUT_OF_RANGE or SEDGE_NODE_MEMORY. */
-uint8_t sedge_sim_open(const struct sedge_config *config, struct sedge_sim *sim);
+SEDGE_CHECK uint8_t sedge_sim_open(const struct sedge_config *config, struct sedge_sim *sim);
 
 /* Closes the link, where there is one; the handle holds none then. */
 void sedge_sim_close(struct sedge_sim *sim);
@@ -410,103 +463,106 @@ typedef char sedge_event_is_laid_out[offsetof(struct sedge_event, map) == 1 &&
  * SEDGE_NODE_NONE, also for a kind that is none, and where sedge_ground_directive answers it to the directive and the
  * value. No directive, loss, damage, tick or take answers SEDGE_SIM_MEMORY. What a node refuses is a reply. The octets
  * of a frame that was sent, and of a packet that was taken, stay to be read until the next event (sedge_sim_octets). */
-uint8_t sedge_sim_step(struct sedge_sim *sim, const struct sedge_event *event, struct sedge_reply *reply);
+SEDGE_CHECK uint8_t sedge_sim_step(struct sedge_sim *sim, const struct sedge_event *event, struct sedge_reply *reply);
 
 /* An event with octets, with none, and that of a directive. */
-static inline uint8_t sedge_sim_octets_event(struct sedge_sim *sim, uint8_t kind, uint8_t map, const uint8_t *octets,
-                                             size_t count, struct sedge_reply *reply) {
+static inline SEDGE_CHECK uint8_t sedge_sim_octets_event(struct sedge_sim *sim, uint8_t kind, uint8_t map,
+                                                         const uint8_t *octets, size_t count,
+                                                         struct sedge_reply *reply) {
     struct sedge_event event = {kind, map, 0, 0, octets, count};
     return sedge_sim_step(sim, &event, reply);
 }
-static inline uint8_t sedge_sim_event(struct sedge_sim *sim, uint8_t kind, struct sedge_reply *reply) {
+static inline SEDGE_CHECK uint8_t sedge_sim_event(struct sedge_sim *sim, uint8_t kind, struct sedge_reply *reply) {
     struct sedge_event event = {kind, 0, 0, 0, &kind, 0};
     return sedge_sim_step(sim, &event, reply);
 }
-static inline uint8_t sedge_sim_directive(struct sedge_sim *sim, uint8_t directive, uint16_t value,
-                                          struct sedge_reply *reply) {
+static inline SEDGE_CHECK uint8_t sedge_sim_directive(struct sedge_sim *sim, uint8_t directive, uint16_t value,
+                                                      struct sedge_reply *reply) {
     struct sedge_event event = {SEDGE_EVENT_DIRECTIVE, 0, directive, value, &directive, 0};
     return sedge_sim_step(sim, &event, reply);
 }
 
 /* Each event by its name. Up to 0.2 these were calls of the library; they are sedge_sim_step now. */
-static inline uint8_t sedge_sim_init_without_check(struct sedge_sim *sim, struct sedge_reply *reply) {
+static inline SEDGE_CHECK uint8_t sedge_sim_init_without_check(struct sedge_sim *sim, struct sedge_reply *reply) {
     return sedge_sim_directive(sim, SEDGE_INIT_WITHOUT_CHECK, 0, reply);
 }
-static inline uint8_t sedge_sim_init_with_check(struct sedge_sim *sim, struct sedge_reply *reply) {
+static inline SEDGE_CHECK uint8_t sedge_sim_init_with_check(struct sedge_sim *sim, struct sedge_reply *reply) {
     return sedge_sim_directive(sim, SEDGE_INIT_WITH_CHECK, 0, reply);
 }
-static inline uint8_t sedge_sim_init_unlock(struct sedge_sim *sim, struct sedge_reply *reply) {
+static inline SEDGE_CHECK uint8_t sedge_sim_init_unlock(struct sedge_sim *sim, struct sedge_reply *reply) {
     return sedge_sim_directive(sim, SEDGE_INIT_UNLOCK, 0, reply);
 }
-static inline uint8_t sedge_sim_init_set_vr(struct sedge_sim *sim, uint8_t vr, struct sedge_reply *reply) {
+static inline SEDGE_CHECK uint8_t sedge_sim_init_set_vr(struct sedge_sim *sim, uint8_t vr, struct sedge_reply *reply) {
     return sedge_sim_directive(sim, SEDGE_INIT_SET_VR, vr, reply);
 }
-static inline uint8_t sedge_sim_terminate(struct sedge_sim *sim, struct sedge_reply *reply) {
+static inline SEDGE_CHECK uint8_t sedge_sim_terminate(struct sedge_sim *sim, struct sedge_reply *reply) {
     return sedge_sim_directive(sim, SEDGE_TERMINATE, 0, reply);
 }
-static inline uint8_t sedge_sim_set_vs(struct sedge_sim *sim, uint8_t vs, struct sedge_reply *reply) {
+static inline SEDGE_CHECK uint8_t sedge_sim_set_vs(struct sedge_sim *sim, uint8_t vs, struct sedge_reply *reply) {
     return sedge_sim_directive(sim, SEDGE_SET_VS, vs, reply);
 }
-static inline uint8_t sedge_sim_set_window(struct sedge_sim *sim, uint8_t window, struct sedge_reply *reply) {
+static inline SEDGE_CHECK uint8_t sedge_sim_set_window(struct sedge_sim *sim, uint8_t window,
+                                                       struct sedge_reply *reply) {
     return sedge_sim_directive(sim, SEDGE_SET_WINDOW, window, reply);
 }
-static inline uint8_t sedge_sim_set_limit(struct sedge_sim *sim, uint8_t limit, struct sedge_reply *reply) {
+static inline SEDGE_CHECK uint8_t sedge_sim_set_limit(struct sedge_sim *sim, uint8_t limit, struct sedge_reply *reply) {
     return sedge_sim_directive(sim, SEDGE_SET_LIMIT, limit, reply);
 }
-static inline uint8_t sedge_sim_set_timer(struct sedge_sim *sim, uint16_t timer, struct sedge_reply *reply) {
+static inline SEDGE_CHECK uint8_t sedge_sim_set_timer(struct sedge_sim *sim, uint16_t timer,
+                                                      struct sedge_reply *reply) {
     return sedge_sim_directive(sim, SEDGE_SET_TIMER, timer, reply);
 }
-static inline uint8_t sedge_sim_submit(struct sedge_sim *sim, uint8_t map, const uint8_t *octets, size_t count,
-                                       struct sedge_reply *reply) {
+static inline SEDGE_CHECK uint8_t sedge_sim_submit(struct sedge_sim *sim, uint8_t map, const uint8_t *octets,
+                                                   size_t count, struct sedge_reply *reply) {
     return sedge_sim_octets_event(sim, SEDGE_EVENT_SUBMIT, map, octets, count, reply);
 }
-static inline uint8_t sedge_sim_bypass(struct sedge_sim *sim, uint8_t map, const uint8_t *octets, size_t count,
-                                       struct sedge_reply *reply) {
+static inline SEDGE_CHECK uint8_t sedge_sim_bypass(struct sedge_sim *sim, uint8_t map, const uint8_t *octets,
+                                                   size_t count, struct sedge_reply *reply) {
     return sedge_sim_octets_event(sim, SEDGE_EVENT_BYPASS, map, octets, count, reply);
 }
-static inline uint8_t sedge_sim_up_damage(struct sedge_sim *sim, const uint8_t *octets, size_t count,
-                                          struct sedge_reply *reply) {
+static inline SEDGE_CHECK uint8_t sedge_sim_up_damage(struct sedge_sim *sim, const uint8_t *octets, size_t count,
+                                                      struct sedge_reply *reply) {
     return sedge_sim_octets_event(sim, SEDGE_EVENT_UP_DAMAGE, 0, octets, count, reply);
 }
-static inline uint8_t sedge_sim_down_damage(struct sedge_sim *sim, const uint8_t *octets, size_t count,
-                                            struct sedge_reply *reply) {
+static inline SEDGE_CHECK uint8_t sedge_sim_down_damage(struct sedge_sim *sim, const uint8_t *octets, size_t count,
+                                                        struct sedge_reply *reply) {
     return sedge_sim_octets_event(sim, SEDGE_EVENT_DOWN_DAMAGE, 0, octets, count, reply);
 }
-static inline uint8_t sedge_sim_telemetry(struct sedge_sim *sim, const uint8_t *octets, size_t count,
-                                          struct sedge_reply *reply) {
+static inline SEDGE_CHECK uint8_t sedge_sim_telemetry(struct sedge_sim *sim, const uint8_t *octets, size_t count,
+                                                      struct sedge_reply *reply) {
     return sedge_sim_octets_event(sim, SEDGE_EVENT_TELEMETRY, 0, octets, count, reply);
 }
-static inline uint8_t sedge_sim_send(struct sedge_sim *sim, struct sedge_reply *reply) {
+static inline SEDGE_CHECK uint8_t sedge_sim_send(struct sedge_sim *sim, struct sedge_reply *reply) {
     return sedge_sim_event(sim, SEDGE_EVENT_SEND, reply);
 }
-static inline uint8_t sedge_sim_up_deliver(struct sedge_sim *sim, struct sedge_reply *reply) {
+static inline SEDGE_CHECK uint8_t sedge_sim_up_deliver(struct sedge_sim *sim, struct sedge_reply *reply) {
     return sedge_sim_event(sim, SEDGE_EVENT_UP_DELIVER, reply);
 }
-static inline uint8_t sedge_sim_up_lose(struct sedge_sim *sim, struct sedge_reply *reply) {
+static inline SEDGE_CHECK uint8_t sedge_sim_up_lose(struct sedge_sim *sim, struct sedge_reply *reply) {
     return sedge_sim_event(sim, SEDGE_EVENT_UP_LOSE, reply);
 }
-static inline uint8_t sedge_sim_report(struct sedge_sim *sim, struct sedge_reply *reply) {
+static inline SEDGE_CHECK uint8_t sedge_sim_report(struct sedge_sim *sim, struct sedge_reply *reply) {
     return sedge_sim_event(sim, SEDGE_EVENT_REPORT, reply);
 }
-static inline uint8_t sedge_sim_down_deliver(struct sedge_sim *sim, struct sedge_reply *reply) {
+static inline SEDGE_CHECK uint8_t sedge_sim_down_deliver(struct sedge_sim *sim, struct sedge_reply *reply) {
     return sedge_sim_event(sim, SEDGE_EVENT_DOWN_DELIVER, reply);
 }
-static inline uint8_t sedge_sim_down_lose(struct sedge_sim *sim, struct sedge_reply *reply) {
+static inline SEDGE_CHECK uint8_t sedge_sim_down_lose(struct sedge_sim *sim, struct sedge_reply *reply) {
     return sedge_sim_event(sim, SEDGE_EVENT_DOWN_LOSE, reply);
 }
-static inline uint8_t sedge_sim_tick(struct sedge_sim *sim, struct sedge_reply *reply) {
+static inline SEDGE_CHECK uint8_t sedge_sim_tick(struct sedge_sim *sim, struct sedge_reply *reply) {
     return sedge_sim_event(sim, SEDGE_EVENT_TICK, reply);
 }
-static inline uint8_t sedge_sim_take(struct sedge_sim *sim, struct sedge_reply *reply) {
+static inline SEDGE_CHECK uint8_t sedge_sim_take(struct sedge_sim *sim, struct sedge_reply *reply) {
     return sedge_sim_event(sim, SEDGE_EVENT_TAKE, reply);
 }
-static inline uint8_t sedge_sim_take_bypass(struct sedge_sim *sim, struct sedge_reply *reply) {
+static inline SEDGE_CHECK uint8_t sedge_sim_take_bypass(struct sedge_sim *sim, struct sedge_reply *reply) {
     return sedge_sim_event(sim, SEDGE_EVENT_TAKE_BYPASS, reply);
 }
 
 /* Writes the octets of the last event's frame or packet, of which the reply has the count, and their number; 0 octets
  * where the reply had none. They stay. Returns 0 or SEDGE_NODE_ROOM. */
-uint8_t sedge_sim_octets(struct sedge_sim *sim, uint8_t *out, size_t room, size_t *count);
+SEDGE_CHECK uint8_t sedge_sim_octets(struct sedge_sim *sim, uint8_t *out, size_t room, size_t *count);
 
 /* How a session began. */
 enum sedge_begun {
@@ -543,11 +599,12 @@ uint8_t sedge_sim_submissions(struct sedge_sim *sim, size_t *count);
 
 /* Writes the MAP of submission k, in order from 0, and the number of its octets. Returns 0, or SEDGE_NODE_ABSENT if
  * there are not that many. */
-uint8_t sedge_sim_submission_length(struct sedge_sim *sim, size_t k, uint8_t *map, size_t *count);
+SEDGE_CHECK uint8_t sedge_sim_submission_length(struct sedge_sim *sim, size_t k, uint8_t *map, size_t *count);
 
 /* Writes the MAP and the octets of submission k, and their number. Returns 0, or the first of SEDGE_NODE_ABSENT and
  * SEDGE_NODE_ROOM. */
-uint8_t sedge_sim_submission(struct sedge_sim *sim, size_t k, uint8_t *map, uint8_t *out, size_t room, size_t *count);
+SEDGE_CHECK uint8_t sedge_sim_submission(struct sedge_sim *sim, size_t k, uint8_t *map, uint8_t *out, size_t room,
+                                         size_t *count);
 
 /* The records of the session, each a list of octets. */
 enum sedge_record {
@@ -557,16 +614,106 @@ enum sedge_record {
     SEDGE_RECEIVED = 4   /* the data fields of Type-AD frames that were accepted on board */
 };
 
-/* Writes how many entries a record has; the MAP counts for the first two alone. For another number there are none.
- * Returns 0. */
+/* Writes how many entries a record has, of sedge_record; the MAP counts for SEDGE_SUBMITTED and SEDGE_DELIVERED alone.
+ * For another number there are none. Returns 0. */
 uint8_t sedge_sim_count(struct sedge_sim *sim, uint8_t record, uint8_t map, size_t *entries);
 
 /* Writes how many octets entry k has, counted from 0. Returns 0, or SEDGE_NODE_ABSENT if there are not that many. */
-uint8_t sedge_sim_entry_length(struct sedge_sim *sim, uint8_t record, uint8_t map, size_t k, size_t *count);
+SEDGE_CHECK uint8_t sedge_sim_entry_length(struct sedge_sim *sim, uint8_t record, uint8_t map, size_t k, size_t *count);
 
 /* Writes the octets of entry k, and their number. Returns 0, or the first of SEDGE_NODE_ABSENT and SEDGE_NODE_ROOM. */
-uint8_t sedge_sim_entry(struct sedge_sim *sim, uint8_t record, uint8_t map, size_t k, uint8_t *out, size_t room,
-                        size_t *count);
+SEDGE_CHECK uint8_t sedge_sim_entry(struct sedge_sim *sim, uint8_t record, uint8_t map, size_t k, uint8_t *out,
+                                    size_t room, size_t *count);
+
+/* ---- The numbers of the enumerations, as constants of an unsigned type. ---- */
+
+#ifndef __cplusplus
+#define SEDGE_NODE_OK ((uint8_t)0)
+#define SEDGE_NODE_NOT_OPEN ((uint8_t)1)
+#define SEDGE_NODE_CLOSED_MAP ((uint8_t)2)
+#define SEDGE_NODE_NOT_COMMAND ((uint8_t)3)
+#define SEDGE_NODE_TOO_LONG ((uint8_t)4)
+#define SEDGE_NODE_QUEUE_FULL ((uint8_t)5)
+#define SEDGE_NODE_MEMORY ((uint8_t)6)
+#define SEDGE_NODE_NOT_KNOWN ((uint8_t)7)
+#define SEDGE_NODE_ROOM ((uint8_t)252)
+#define SEDGE_NODE_ABSENT ((uint8_t)253)
+#define SEDGE_NODE_OUT_OF_RANGE ((uint8_t)254)
+#define SEDGE_NODE_NONE ((uint8_t)255)
+#define SEDGE_NO_PARAMETER ((uint8_t)0)
+#define SEDGE_PARAMETER_SCID ((uint8_t)1)
+#define SEDGE_PARAMETER_VCID ((uint8_t)2)
+#define SEDGE_PARAMETER_TM_VCID ((uint8_t)3)
+#define SEDGE_PARAMETER_WIDTH ((uint8_t)4)
+#define SEDGE_PARAMETER_WINDOW ((uint8_t)5)
+#define SEDGE_PARAMETER_LIMIT ((uint8_t)6)
+#define SEDGE_PARAMETER_TIMER ((uint8_t)7)
+#define SEDGE_PARAMETER_PART ((uint8_t)8)
+#define SEDGE_PARAMETER_MAX_PACKET ((uint8_t)9)
+#define SEDGE_PARAMETER_MAPS ((uint8_t)10)
+#define SEDGE_PARAMETER_READY_SLOTS ((uint8_t)11)
+#define SEDGE_PARAMETER_BYPASS_SLOTS ((uint8_t)12)
+#define SEDGE_PARAMETER_QUEUE_SLOTS ((uint8_t)13)
+#define SEDGE_PARAMETER_FRAME_LENGTH ((uint8_t)14)
+#define SEDGE_PARAMETER_BLOCKING ((uint8_t)15)
+#define SEDGE_HEARD_INVALID ((uint8_t)1)
+#define SEDGE_HEARD_FOREIGN ((uint8_t)2)
+#define SEDGE_HEARD_FRAME ((uint8_t)3)
+#define SEDGE_HEARD_CLCW ((uint8_t)4)
+#define SEDGE_REPORT_USED ((uint8_t)0)
+#define SEDGE_REPORT_REFUSED ((uint8_t)1)
+#define SEDGE_REPORT_OTHER_CHANNEL ((uint8_t)2)
+#define SEDGE_RECEIVED_INVALID ((uint8_t)1)
+#define SEDGE_RECEIVED_FOREIGN ((uint8_t)2)
+#define SEDGE_RECEIVED_AD ((uint8_t)3)
+#define SEDGE_RECEIVED_BD ((uint8_t)4)
+#define SEDGE_RECEIVED_BC ((uint8_t)5)
+#define SEDGE_SIM_MEMORY ((uint8_t)6)
+#define SEDGE_SIM_NOTHING_IN_TRANSIT ((uint8_t)7)
+#define SEDGE_SIM_NOT_DETECTABLE ((uint8_t)8)
+#define SEDGE_REPLY_DONE ((uint8_t)0)
+#define SEDGE_REPLY_NOTHING ((uint8_t)1)
+#define SEDGE_REPLY_LOST ((uint8_t)2)
+#define SEDGE_REPLY_REFUSED ((uint8_t)3)
+#define SEDGE_REPLY_ALERT ((uint8_t)4)
+#define SEDGE_REPLY_SENT ((uint8_t)5)
+#define SEDGE_REPLY_REPORTED ((uint8_t)6)
+#define SEDGE_REPLY_UP ((uint8_t)7)
+#define SEDGE_REPLY_DOWN ((uint8_t)8)
+#define SEDGE_REPLY_PACKET ((uint8_t)9)
+#define SEDGE_BY_NODE ((uint8_t)1)
+#define SEDGE_BY_SENDER ((uint8_t)2)
+#define SEDGE_BY_TELEMETRY ((uint8_t)3)
+#define SEDGE_EVENT_SUBMIT ((uint8_t)1)
+#define SEDGE_EVENT_BYPASS ((uint8_t)2)
+#define SEDGE_EVENT_DIRECTIVE ((uint8_t)3)
+#define SEDGE_EVENT_SEND ((uint8_t)4)
+#define SEDGE_EVENT_UP_DELIVER ((uint8_t)5)
+#define SEDGE_EVENT_UP_LOSE ((uint8_t)6)
+#define SEDGE_EVENT_UP_DAMAGE ((uint8_t)7)
+#define SEDGE_EVENT_REPORT ((uint8_t)8)
+#define SEDGE_EVENT_DOWN_DELIVER ((uint8_t)9)
+#define SEDGE_EVENT_DOWN_LOSE ((uint8_t)10)
+#define SEDGE_EVENT_DOWN_DAMAGE ((uint8_t)11)
+#define SEDGE_EVENT_TICK ((uint8_t)12)
+#define SEDGE_EVENT_TAKE ((uint8_t)13)
+#define SEDGE_EVENT_TAKE_BYPASS ((uint8_t)14)
+#define SEDGE_EVENT_TELEMETRY ((uint8_t)15)
+#define SEDGE_BEGUN_NOT ((uint8_t)0)
+#define SEDGE_BEGUN_WITHOUT_CHECK ((uint8_t)1)
+#define SEDGE_BEGUN_WITH_CHECK ((uint8_t)2)
+#define SEDGE_BEGUN_UNLOCK ((uint8_t)3)
+#define SEDGE_BEGUN_SET_VR ((uint8_t)4)
+#define SEDGE_SUBMITTED ((uint8_t)1)
+#define SEDGE_DELIVERED ((uint8_t)2)
+#define SEDGE_SENT ((uint8_t)3)
+#define SEDGE_RECEIVED ((uint8_t)4)
+#endif
+
+/* ---- Names that go after 0.3: each call has another name now. ---- */
+
+#define sedge_ground_report sedge_ground_clcw_in
+#define sedge_spacecraft_report sedge_spacecraft_telemetry_frame
 
 #ifdef __cplusplus
 }

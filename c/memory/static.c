@@ -13,19 +13,20 @@
  * the size before N. */
 enum {
     none_before,
-#define PLACES(octets, count) above_##octets, size_##octets = octets,
+#define PLACES(octets, count) above_##octets, size_##octets = (octets),
     SEDGE_PLACES
 #undef PLACES
 };
 #define PLACES(octets, count) \
-    typedef char sizes_ascend_in_multiples_of_16_##octets[octets % 16 == 0 && octets >= above_##octets ? 1 : -1];
+    typedef char sizes_ascend_in_multiples_of_16_##octets \
+        [((((octets) % 16) == 0) && ((octets) >= above_##octets)) ? 1 : -1];
 SEDGE_PLACES
 #undef PLACES
 
 /* The places, each size a member of its own. */
 static union {
     struct {
-#define PLACES(octets, count) unsigned char of_##octets[count][octets];
+#define PLACES(octets, count) unsigned char of_##octets[(count)][(octets)];
         SEDGE_PLACES
 #undef PLACES
     } all;
@@ -36,57 +37,71 @@ static union {
  * begins with the address of the next. */
 static struct size {
     unsigned char *at;
-    size_t octets, count, used;
+    size_t octets;
+    size_t count;
+    size_t used;
     void *free;
 } sizes[] = {
-#define PLACES(octets, count) {memory.all.of_##octets[0], octets, count, 0, NULL},
+#define PLACES(octets, count) {memory.all.of_##octets[0], (octets), (count), 0, NULL},
     SEDGE_PLACES
 #undef PLACES
 };
 
-#define END (sizes + sizeof sizes / sizeof *sizes)
+#define SIZES (sizeof(sizes) / sizeof(sizes[0]))
 
-static struct sedge_place place_of(struct size *size)
+/* A place of a size that has one. */
+static void *place_of(struct size *size)
 {
-    struct sedge_place place = {true, size->free};
-    if (size->free != NULL)
-        memcpy(&size->free, size->free, sizeof size->free);
-    else
-        place.at = size->at + size->used++ * size->octets;
-    return place;
+    void *at = size->free;
+    if (at != NULL) {
+        (void)memcpy(&size->free, at, sizeof(size->free));
+    } else {
+        at = &size->at[size->used * size->octets];
+        size->used++;
+    }
+    return at;
 }
 
 struct sedge_place rattle_alloc(size_t count, size_t align)
 {
-    struct sedge_place none = {false, &memory};
+    struct sedge_place place = {false, &memory};
     (void)align; /* at most 16 */
-    for (struct size *size = sizes; size < END; size++)
-        if (count <= size->octets && (size->free != NULL || size->used < size->count)) return place_of(size);
-    return none;
+    for (size_t k = 0; (k < SIZES) && (!place.found); k++) {
+        struct size *size = &sizes[k];
+        if ((count <= size->octets) && ((size->free != NULL) || (size->used < size->count))) {
+            place.found = true;
+            place.at = place_of(size);
+        }
+    }
+    return place;
 }
 
 /* The size of a place that is used. */
 static struct size *size_at(const void *at)
 {
-    struct size *size = sizes;
-    while ((uintptr_t)at - (uintptr_t)size->at >= size->count * size->octets) size++;
-    return size;
+    size_t k = 0;
+    while (((uintptr_t)at - (uintptr_t)sizes[k].at) >= (sizes[k].count * sizes[k].octets)) {
+        k++;
+    }
+    return &sizes[k];
 }
 
 void rattle_dealloc(void *at)
 {
     struct size *size = size_at(at);
-    memcpy(at, &size->free, sizeof size->free);
+    (void)memcpy(at, &size->free, sizeof(size->free));
     size->free = at;
 }
 
 struct sedge_place rattle_realloc(void *at, size_t kept, size_t count, size_t align)
 {
     struct sedge_place place = {true, at};
-    if (count <= size_at(at)->octets) return place;
-    place = rattle_alloc(count, align);
-    if (!place.found) return place;
-    memcpy(place.at, at, kept);
-    rattle_dealloc(at);
+    if (count > size_at(at)->octets) {
+        place = rattle_alloc(count, align);
+        if (place.found) {
+            (void)memcpy(place.at, at, kept);
+            rattle_dealloc(at);
+        }
+    }
     return place;
 }

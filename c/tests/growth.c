@@ -43,7 +43,7 @@ static void comes_down(void) {
     struct sedge_heard heard;
     DONE(sedge_spacecraft_telemetry_frame(&spacecraft, octets, sizeof octets, &count));
     DONE(sedge_ground_telemetry(&ground, octets, count, &heard));
-    DONE(heard.kind != 3 || heard.alert != 0);
+    DONE(heard.kind != SEDGE_HEARD_FRAME || heard.alert != 0);
 }
 
 static void waits_on_ground(size_t length) {

@@ -76,7 +76,7 @@ static void set_places(void) {
 
 static void count_places(void) {
     const struct size *size;
-    for (size = sizes; size < END; size++) used += size->used, listed += size->count;
+    for (size = sizes; size < sizes + SIZES; size++) used += size->used, listed += size->count;
 }
 
 static void make_packet(uint8_t *at, int type, size_t count) {

@@ -141,17 +141,22 @@ static void session(void) {
     WANT(board.state == SEDGE_FARM_OPEN);
     wait_on_board(&board, 0, 0);
     count = 77, down[0] = 77;
-    WANT(sedge_spacecraft_telemetry_frame(&spacecraft, down, 63, &count) == SEDGE_NODE_ROOM && count == 77 && down[0] == 77);
+    WANT(sedge_spacecraft_telemetry_frame(&spacecraft, down, 63, &count) == SEDGE_NODE_ROOM && count == 77 &&
+         down[0] == 77);
     WANT(sedge_spacecraft_telemetry_frame(&spacecraft, down, 64, &count) == 0 && count == 64);
     while (again(sedge_ground_telemetry(&ground, down, count, &heard)))
         ;
-    WANT(heard.kind == 3 && heard.first == 1 && heard.report == 0 && heard.alert == 0 && heard.packets == 1);
+    WANT(heard.kind == SEDGE_HEARD_FRAME && heard.first == 1 && heard.report == SEDGE_REPORT_USED &&
+         heard.alert == 0 && heard.packets == 1);
     WANT(sedge_ground_clcw_in(&ground, down, 64, &word) == 0 && word.vcid == 2 && word.value == 3 && word.flags == 0);
     word.value = 77;
     WANT(sedge_ground_clcw_in(&ground, down, 63, &word) == SEDGE_NODE_ABSENT && word.value == 77);
+    /* By the names of before 0.3. */
+    WANT(sedge_ground_report(&ground, down, 63, &word) == SEDGE_NODE_ABSENT && word.value == 77);
+    WANT(sedge_spacecraft_report(&spacecraft, down, 63, &count) == SEDGE_NODE_ROOM && count == 64);
     static const uint8_t control_word[4] = {0x01, 0x08, 0x00, 0x03};
-    WANT(sedge_ground_clcw(&ground, control_word, 4, &heard) == 0 && heard.kind == 4);
-    WANT(heard.report == 0 && heard.word_fault == 0 && heard.alert == 0 && heard.packets == 0);
+    WANT(sedge_ground_clcw(&ground, control_word, 4, &heard) == 0 && heard.kind == SEDGE_HEARD_CLCW);
+    WANT(heard.report == SEDGE_REPORT_USED && heard.word_fault == 0 && heard.alert == 0 && heard.packets == 0);
     heard.kind = 77;
     WANT(sedge_ground_clcw(&ground, control_word, 3, &heard) == SEDGE_NODE_ABSENT && heard.kind == 77);
     WANT(sedge_ground_forget_telemetry(&ground) == 0);
@@ -259,7 +264,8 @@ static void sends(struct sedge_ground *ground, struct sedge_spacecraft *spacecra
         if (k >= come) continue;
         while (again(sedge_spacecraft_receive(spacecraft, up, count, &received)))
             ;
-        WANT(received.kind == 3 && received.verdict == SEDGE_ACCEPTED && received.dropped == (k == 0 ? dropped : 0));
+        WANT(received.kind == SEDGE_RECEIVED_AD && received.verdict == SEDGE_ACCEPTED &&
+             received.dropped == (k == 0 ? dropped : 0));
     }
 }
 
@@ -269,7 +275,7 @@ static void hears_of(struct sedge_ground *ground, struct sedge_spacecraft *space
     WANT(sedge_spacecraft_telemetry_frame(spacecraft, down, 64, &count) == 0 && count == 64);
     while (again(sedge_ground_telemetry(ground, down, count, &heard)))
         ;
-    WANT(heard.kind == 3 && heard.report == 0 && heard.alert == 0);
+    WANT(heard.kind == SEDGE_HEARD_FRAME && heard.report == SEDGE_REPORT_USED && heard.alert == 0);
 }
 
 /* Packets 0, 1 and so on are taken on board, each once. */
@@ -357,7 +363,8 @@ static void on_a_closed_map(void) {
         ;
     WANT(sedge_ground_pull(&ground, up, sizeof up, &count) == 0 && count == 15);
     WANT(sedge_spacecraft_receive(&spacecraft, up, count, &received) == 0);
-    WANT(received.kind == 3 && received.n == 0 && received.verdict == SEDGE_ACCEPTED && received.ready == 0);
+    WANT(received.kind == SEDGE_RECEIVED_AD && received.n == 0 && received.verdict == SEDGE_ACCEPTED &&
+         received.ready == 0);
     WANT(received.dropped == SEDGE_DROPPED_CLOSED_MAP);
     WANT(sedge_spacecraft_next(&spacecraft, &map, &count) == 0 && map == 99 && count == 0);
     WANT(sedge_spacecraft_read(&spacecraft, &read) == 0 && read.value == 1 && read.flags == 0);
@@ -401,7 +408,8 @@ static void handles_that_hold_none(void) {
     WANT(sedge_ground_init_unlock(&ground) == SEDGE_NODE_NONE && sedge_ground_tick(&ground) == SEDGE_NODE_NONE);
     WANT(sedge_ground_submit(&ground, 0, packet, 7) == 255 && sedge_ground_bypass(&ground, 0, packet, 7) == 255);
     WANT(sedge_ground_next(&ground, &count) == 255 && sedge_ground_pull(&ground, up, 1024, &count) == 255);
-    WANT(sedge_ground_clcw_in(&ground, packet, 7, &word) == 255 && sedge_ground_clcw(&ground, packet, 4, &heard) == 255);
+    WANT(sedge_ground_clcw_in(&ground, packet, 7, &word) == 255 &&
+         sedge_ground_clcw(&ground, packet, 4, &heard) == 255);
     WANT(sedge_ground_forget_telemetry(&ground) == 255 && sedge_ground_advance(&ground) == 255);
     WANT(sedge_ground_peek(&ground, up, 1024, &count) == 255 && count == 77);
     WANT(count == 77 && word.value == 77);
@@ -507,23 +515,26 @@ static void link(void) {
     WANT(reply.count == 10 && sedge_sim_octets(&sim, out, 9, &count) == SEDGE_NODE_ROOM);
     WANT(sedge_sim_octets(&sim, out, sizeof out, &count) == 0 && count == 10 && out[0] == 0x30 && out[5] == 0x82);
     HAPPENS(sedge_sim_up_deliver(&sim, &reply), SEDGE_REPLY_UP);
-    WANT(reply.up.kind == 5 && reply.up.command == SEDGE_SET_VR && reply.up.vr == 7 && reply.count == 0);
+    WANT(reply.up.kind == SEDGE_RECEIVED_BC && reply.up.command == SEDGE_SET_VR && reply.up.vr == 7 &&
+         reply.count == 0);
     WANT(sedge_sim_octets(&sim, out, 0, &count) == 0 && count == 0);
     HAPPENS(sedge_sim_report(&sim, &reply), SEDGE_REPLY_REPORTED);
     WANT(reply.report.vcid == 2 && reply.report.value == 7 && reply.report.farm_b == 1);
     HAPPENS(sedge_sim_down_deliver(&sim, &reply), SEDGE_REPLY_DOWN);
-    WANT(reply.down.kind == 3 && reply.down.first == 1 && reply.down.report == 0 && reply.down.packets == 0);
+    WANT(reply.down.kind == SEDGE_HEARD_FRAME && reply.down.first == 1 && reply.down.report == SEDGE_REPORT_USED &&
+         reply.down.packets == 0);
     is_read(&sim, 1, 0, SEDGE_FOP_S1);
     HAPPENS(sedge_sim_send(&sim, &reply), SEDGE_REPLY_SENT);
     HAPPENS(sedge_sim_send(&sim, &reply), SEDGE_REPLY_SENT);
     HAPPENS(sedge_sim_send(&sim, &reply), SEDGE_REPLY_NOTHING);
     HAPPENS(sedge_sim_up_deliver(&sim, &reply), SEDGE_REPLY_UP);
-    WANT(reply.up.kind == 4 && reply.up.kept);
+    WANT(reply.up.kind == SEDGE_RECEIVED_BD && reply.up.kept);
     has_ground(&sim, 8, 7, 0, 0, 0, 10, 1);
     has_spacecraft(&sim, 7, 2, 0, 1);
     HAPPENS(sedge_sim_take_bypass(&sim, &reply), SEDGE_REPLY_PACKET);
     WANT(reply.map == 5 && reply.count == 7);
-    WANT(sedge_sim_up_damage(&sim, packet, 7, &reply) == 0 && reply.kind == SEDGE_REPLY_UP && reply.up.kind == 1);
+    WANT(sedge_sim_up_damage(&sim, packet, 7, &reply) == 0 && reply.kind == SEDGE_REPLY_UP &&
+         reply.up.kind == SEDGE_RECEIVED_INVALID);
     WANT(sedge_sim_up_lose(&sim, &reply) == SEDGE_SIM_NOTHING_IN_TRANSIT);
     for (int i = 0; i < 9; i++) HAPPENS(sedge_sim_tick(&sim, &reply), SEDGE_REPLY_DONE);
     has_ground(&sim, 8, 7, 0, 0, 0, 1, 1);
@@ -534,14 +545,16 @@ static void link(void) {
     WANT(sedge_sim_octets(&sim, out, sizeof out, &count) == 0);
     WANT(sedge_sim_up_damage(&sim, out, count, &reply) == SEDGE_SIM_NOT_DETECTABLE);
     HAPPENS(sedge_sim_up_deliver(&sim, &reply), SEDGE_REPLY_UP);
-    WANT(reply.up.kind == 3 && reply.up.n == 7 && reply.up.verdict == SEDGE_ACCEPTED && reply.up.ready == 1);
+    WANT(reply.up.kind == SEDGE_RECEIVED_AD && reply.up.n == 7 && reply.up.verdict == SEDGE_ACCEPTED &&
+         reply.up.ready == 1);
     has_spacecraft(&sim, 8, 2, 1, 0);
     HAPPENS(sedge_sim_telemetry(&sim, packet, 6, &reply), SEDGE_REPLY_REFUSED);
     WANT(reply.by == SEDGE_BY_TELEMETRY && reply.fault == 8);
     HAPPENS(sedge_sim_telemetry(&sim, packet, 7, &reply), SEDGE_REPLY_DONE);
     HAPPENS(sedge_sim_report(&sim, &reply), SEDGE_REPLY_REPORTED);
     HAPPENS(sedge_sim_report(&sim, &reply), SEDGE_REPLY_REPORTED);
-    WANT(sedge_sim_down_damage(&sim, packet, 7, &reply) == 0 && reply.kind == SEDGE_REPLY_DOWN && reply.down.kind == 1);
+    WANT(sedge_sim_down_damage(&sim, packet, 7, &reply) == 0 && reply.kind == SEDGE_REPLY_DOWN &&
+         reply.down.kind == SEDGE_HEARD_INVALID);
     HAPPENS(sedge_sim_down_deliver(&sim, &reply), SEDGE_REPLY_DOWN);
     is_read(&sim, 0, 1, SEDGE_FOP_S1);
     has_ground(&sim, 8, 8, 0, 0, 0, 0, 1);

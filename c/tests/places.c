@@ -95,9 +95,9 @@ static void set(void) {
 int main(void) {
     set();
     fill();
-    for (const struct size *size = sizes; size < END; size++)
+    for (const struct size *size = sizes; size < sizes + SIZES; size++)
         if (size->used != size->count) printf("%zu of %zu of %zu octets\n", size->used, size->count, size->octets);
-    for (const struct size *size = sizes; size < END; size++)
+    for (const struct size *size = sizes; size < sizes + SIZES; size++)
         if (size->used != size->count) return 3;
     return 0;
 }

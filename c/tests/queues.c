@@ -62,7 +62,8 @@ static void comes_down(void) {
     struct sedge_heard heard = {0};
     size_t count;
     WANT(sedge_spacecraft_telemetry_frame(&spacecraft, down, sizeof down, &count) == 0);
-    WANT(sedge_ground_telemetry(&ground, down, count, &heard) == 0 && heard.report == 0 && heard.alert == 0);
+    WANT(sedge_ground_telemetry(&ground, down, count, &heard) == 0 && heard.report == SEDGE_REPORT_USED &&
+         heard.alert == 0);
 }
 
 /* Packets of telemetry wait on board, and then on the ground. */

@@ -238,7 +238,7 @@ static void telecommand_frames(void) {
         octets[0] &= 0x23;
         octets[2] = (uint8_t)((octets[2] & 0xfc) | (count - 1) >> 8);
         octets[3] = (uint8_t)(count - 1);
-        if (checked) sedge_check_append(octets, count);
+        WANT(!checked || sedge_check_append(octets, count));
     }
     if (below(4) != 0) {
         frame->scid = (uint16_t)below(1024);
@@ -299,7 +299,7 @@ static void telemetry_frames(void) {
         octets[0] &= 0x3f;
         octets[1] |= below(8) != 0;
         octets[4] = (uint8_t)(0x18 | (octets[4] & 7));
-        sedge_check_append(octets, count);
+        WANT(sedge_check_append(octets, count));
     }
     if (below(2)) frame->scid = (uint16_t)below(1024), frame->pointer = SEDGE_POINTER_ONLY_IDLE, frame->vcid &= 7;
     answer = sedge_tm_encode(frame, octets, count, out, room, &total);

@@ -369,7 +369,7 @@ static void hears_words(void) {
     size_t count = 3 + below(3);
     uint8_t nn = nn_of_ground(), answer = sedge_ground_clcw(&ground, any_octets(count), count, &heard);
     WANT(ground.node == NULL ? answer == SEDGE_NODE_NONE : answer == (count == 4 ? SEDGE_NODE_OK : SEDGE_NODE_ABSENT));
-    WANT(answer == SEDGE_NODE_OK ? heard.kind == 4 && heard.alert <= 7 : heard.kind == 77);
+    WANT(answer == SEDGE_NODE_OK ? heard.kind == SEDGE_HEARD_CLCW && heard.alert <= 7 : heard.kind == 77);
     fates.acknowledged += (uint8_t)(nn_of_ground() - nn);
     if (below(64) == 0) WANT(sedge_ground_forget_telemetry(&ground) == (ground.node == NULL ? SEDGE_NODE_NONE : 0));
 }

@@ -331,6 +331,8 @@ static void refusals_of_a_receiver(void) {
     WANT(sedge_farm_open(&farm, 254, 3) == SEDGE_OK);
     WANT(sedge_farm_control_word(&farm, 64, &word) == SEDGE_CLCW_RANGE && is_word(&word, 1, 2, 8, 3, 4));
     WANT(sedge_farm_control_word(&farm, 63, &word) == SEDGE_OK && is_word(&word, 0, 63, 0, 0, 3));
+    /* By the name of before 0.3. */
+    WANT(sedge_farm_report(&farm, 62, &word) == SEDGE_OK && is_word(&word, 0, 62, 0, 0, 3));
 }
 
 /* ---- The sender. ---- */
@@ -368,10 +370,12 @@ static void a_sender_sends_again(void) {
     WANT(sedge_fop_next(&fop, &number) == SEDGE_NEXT_AGAIN && number == 2 && fop.due == 0);
     word.flags = 0;
     word.value = 3;
-    WANT(sedge_fop_clcw(&fop, word.vcid, &word, &released) == SEDGE_NO_ALERT && released == 2);
+    WANT(sedge_fop_report(&fop, word.vcid, &word, &released) == SEDGE_NO_ALERT &&
+         released == 2); /* the name of before 0.3 */
     WANT(fop.state == SEDGE_FOP_S1 && fop.sent == 0 && fop.ticks == 0);
     word.value = 4;
-    WANT(sedge_fop_clcw(&fop, word.vcid, &word, &released) == SEDGE_ALERT_NNR && released == 0 && fop.state == SEDGE_FOP_S6);
+    WANT(sedge_fop_clcw(&fop, word.vcid, &word, &released) == SEDGE_ALERT_NNR && released == 0 &&
+         fop.state == SEDGE_FOP_S6);
 }
 
 /* The timer ends three times, and then the sender gives up. */
@@ -433,7 +437,8 @@ static void the_directives(void) {
     WANT(fop.control == SEDGE_CONTROL_SET_VR_DUE && fop.vr == 200 && fop.vs == 200 && fop.nn == 200);
     WANT(sedge_fop_next(&fop, &number) == SEDGE_NEXT_SET_VR && number == 200);
     word.value = 200;
-    WANT(sedge_fop_clcw(&fop, word.vcid, &word, &released) == SEDGE_NO_ALERT && fop.state == SEDGE_FOP_S1 && fop.vr == 0);
+    WANT(sedge_fop_clcw(&fop, word.vcid, &word, &released) == SEDGE_NO_ALERT && fop.state == SEDGE_FOP_S1 &&
+         fop.vr == 0);
 }
 
 /* By number and value: what names no directive, and a value out of its range, is refused, and changes nothing. */

@@ -156,8 +156,9 @@ static void try_invalid(const struct sedge_fop *before) {
     struct sedge_clcw word = {0, 2, SEDGE_CLCW_LOCKOUT, 0, 0};
     struct sedge_fop after = *before;
     uint8_t released;
-    if (sedge_clcw_decode(octets, sizeof octets, &word) != SEDGE_CLCW_KIND)
-        sedge_fop_clcw(&after, 2, &word, &released);
+    if (sedge_clcw_decode(octets, sizeof octets, &word) != SEDGE_CLCW_KIND &&
+        sedge_fop_clcw(&after, 2, &word, &released) == SEDGE_DAMAGED)
+        after = *before;
     keep(E15, before, &after, 256, before->nn, NOT_ASKED);
 }
 

@@ -107,7 +107,8 @@ export class Ladder {
             const cross = shape('path', { class: 'lost cross', d: `M ${x - 5} ${at - 5} l 10 10 m 0 -10 l -10 10` });
             return [shape('line', { class: 'lost', x1: start, y1: begun, x2: x, y2: at }), cross];
         }
-        const isDamaged = reply.up.kind === 1 || reply.down.kind === 1, kind = isDamaged ? 'lost' : 'arrow';
+        const isDamaged = reply.up.kind === n.SEDGE_RECEIVED_INVALID || reply.down.kind === n.SEDGE_HEARD_INVALID;
+        const kind = isDamaged ? 'lost' : 'arrow';
         const words = fit([isDamaged ? `${label} damaged` : label], this.most(this.craft - this.ground));
         const line = { class: kind, x1: start, y1: begun, x2: end, y2: y, 'marker-end': `url(#${kind}-tip)` };
         return [shape('line', line), text(x, at - 4, words)];

@@ -124,14 +124,14 @@ export class Machines {
 
     receive(up) {
         const { calls, farm } = this;
-        if (up.kind === 3) {
+        if (up.kind === n.SEDGE_RECEIVED_AD) {
             const isFree = this.ready < this.config.ready_slots, event = frameEvent(farm, up.n, isFree);
             this.same(calls.sedge_farm_ad(farm, up.n, isFree), up.verdict, `the verdict on AD ${up.n}`);
             this.ready += up.ready;
             return event;
         }
-        if (up.kind === 4) calls.sedge_farm_bd(farm);
-        if (up.kind < 5) return up.kind === 4 ? 'E6' : 'E9';
+        if (up.kind === n.SEDGE_RECEIVED_BD) calls.sedge_farm_bd(farm);
+        if (up.kind !== n.SEDGE_RECEIVED_BC) return up.kind === n.SEDGE_RECEIVED_BD ? 'E6' : 'E9';
         const isSet = up.command === n.SEDGE_SET_VR;
         if (isSet) calls.sedge_farm_set_vr(farm, up.vr);
         else calls.sedge_farm_unlock(farm);

@@ -68,7 +68,7 @@ function checkFop({ line, event, before: { fop: was }, after: { fop: is }, rows:
 function checkRows({ line, event, reply, rows, before, after }) {
     const alert = reply.kind === n.SEDGE_REPLY_DOWN ? reply.down.alert : reply.alert;
     if (alert) assert.ok(ALERTS[alert].includes(rows.fop.event), `${line}: ${rows.fop.event}`);
-    if (event.kind === n.SEDGE_EVENT_UP_DELIVER && reply.up?.kind === 3) {
+    if (event.kind === n.SEDGE_EVENT_UP_DELIVER && reply.up?.kind === n.SEDGE_RECEIVED_AD) {
         assert.ok(VERDICTS[reply.up.verdict].includes(rows.farm.event), `${line}: ${rows.farm.event}`);
     }
     const isFop = JSON.stringify(before.fop) !== JSON.stringify(after.fop);
@@ -86,7 +86,7 @@ function checkTransit({ line, reply, sent, gone, up, down }, was) {
     assert.deepEqual({ up, down }, wanted, line);
     assert.equal(sent !== undefined, [n.SEDGE_REPLY_SENT, n.SEDGE_REPLY_REPORTED].includes(reply.kind));
     assert.equal(gone !== undefined, [n.SEDGE_REPLY_LOST, n.SEDGE_REPLY_UP, n.SEDGE_REPLY_DOWN].includes(reply.kind));
-    if (reply.kind === n.SEDGE_REPLY_UP && reply.up.kind === 3) assert.equal(gone.frame.n, reply.up.n);
+    if (reply.kind === n.SEDGE_REPLY_UP && reply.up.kind === n.SEDGE_RECEIVED_AD) assert.equal(gone.frame.n, reply.up.n);
 }
 
 // What is promised is so.

@@ -40,6 +40,7 @@ pub struct TakenSegment {
 /// Takes the next segment of the MAP, its flags of `sedge_segment_flags` and its data. Hand the packets that are whole
 /// now on before the next call. Returns 0, or `SEDGE_DAMAGED`, also for flags above 3.
 #[unsafe(no_mangle)]
+#[must_use]
 pub extern "C" fn sedge_map_take(
     map: &mut KeptMap,
     flags: u8,
@@ -207,6 +208,7 @@ pub(crate) fn add(count: usize, octets: &[u8], memory: &mut [u8]) -> usize
 /// or false, with nothing written, if there is none.
 #[tactic(auto, using(crate::proofs::PacketsInOrder::stands_at, crate::proofs::PacketsInOrder::none_at, crate::proofs::PacketsInOrder::none_past))]
 #[unsafe(no_mangle)]
+#[must_use]
 pub extern "C" fn sedge_map_packet(octets: &[u8], packet: &mut Part) -> bool
     ensures found { result ≡ is_some (next_packet octets.now packet.old) }
     ensures packet { packet.new ≡ part_or (next_packet octets.now packet.old) packet.old }

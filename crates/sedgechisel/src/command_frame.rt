@@ -44,6 +44,7 @@ pub struct CommandFrame {
 /// virtual channel: compare scid and vcid with your own before a receiver is given it. Returns 0, or the first of 1 to
 /// 9 of `sedge_tc_fault`.
 #[unsafe(no_mangle)]
+#[must_use]
 pub extern "C" fn sedge_tc_decode(
     octets: &[u8],
     checked: bool,
@@ -66,6 +67,7 @@ pub extern "C" fn sedge_tc_decode(
 /// is true, and its length in octets, 6 to 1,024, to `total`. Returns 0, or the first of `SEDGE_DAMAGED` (the kind, the
 /// segment flags or the command is out of its enum), `SEDGE_TC_FIELD_RANGE` and `SEDGE_TC_ROOM`.
 #[unsafe(no_mangle)]
+#[must_use]
 pub extern "C" fn sedge_tc_encode(
     frame: &CommandFrame,
     payload: &[u8],
@@ -90,6 +92,7 @@ pub extern "C" fn sedge_tc_encode(
 /// (4.1.2.7). Returns 0, or `SEDGE_TC_SHORT` for fewer than 5 octets, or `SEDGE_TC_LENGTH` if it declares fewer than 5,
 /// or with the FECF fewer than 7.
 #[unsafe(no_mangle)]
+#[must_use]
 pub extern "C" fn sedge_tc_declared(octets: &[u8], checked: bool, total: &mut usize) -> u8
     ensures { IsWritten (λ n. n) (total_declared checked octets.now) total.old total.new result }
 {

@@ -11,6 +11,7 @@ use clcw::Clcw;
 /// value or its flags (`sedge_fop_clcw` does so itself). Returns 0, or the first of 1 to 4 of `sedge_clcw_fault`, or
 /// `SEDGE_WRONG_COUNT` if the octets are not four.
 #[unsafe(no_mangle)]
+#[must_use]
 pub extern "C" fn sedge_clcw_decode(octets: &[u8], word: &mut Clcw) -> u8
     ensures { IsWritten (λ found. found) (word_read octets.now) word.old word.new result }
 {
@@ -24,6 +25,7 @@ pub extern "C" fn sedge_clcw_decode(octets: &[u8], word: &mut Clcw) -> u8
 /// Writes a control word as four octets. Returns 0, or `SEDGE_CLCW_RANGE`, or `SEDGE_WRONG_COUNT` if the room is not
 /// four octets.
 #[unsafe(no_mangle)]
+#[must_use]
 pub extern "C" fn sedge_clcw_encode(word: &Clcw, out: &mut [u8]) -> u8
     ensures { IsWritten (λ octets. octets) (word_written word.now (length out.old)) out.old out.new result }
 {

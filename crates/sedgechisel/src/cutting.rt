@@ -36,6 +36,7 @@ struct Place {
 /// Writes the number of segments that a packet is cut into, or with blocking one or more packets, one after another.
 /// Returns 0, or `SEDGE_DAMAGED`, or the first of `sedge_map_fault`.
 #[unsafe(no_mangle)]
+#[must_use]
 pub extern "C" fn sedge_map_count(octets: &[u8], limits: &CutLimits, segments: &mut usize) -> u8
     ensures { IsWritten length (segments_described limits.now octets.now) segments.old segments.new result }
 {
@@ -48,6 +49,7 @@ pub extern "C" fn sedge_map_count(octets: &[u8], limits: &CutLimits, segments: &
 /// Writes segment `k` of these, counted from 0: its flags of `sedge_segment_flags`, and where its data are in the
 /// octets. Returns what `sedge_map_count` does, or `SEDGE_ABSENT` if there are not that many.
 #[unsafe(no_mangle)]
+#[must_use]
 pub extern "C" fn sedge_map_segment(
     octets: &[u8],
     limits: &CutLimits,

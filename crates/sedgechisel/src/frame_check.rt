@@ -15,6 +15,7 @@ pub extern "C" fn sedge_check(octets: &[u8]) -> u16
 /// Sets the last two octets to the check of those before them, and returns true; for fewer than two octets it returns
 /// false and writes nothing.
 #[unsafe(no_mangle)]
+#[must_use]
 pub extern "C" fn sedge_check_append(octets: &mut [u8]) -> bool
     ensures done { IsTrue result ↔ (2 ≤ length octets.old) }
     ensures octets { let front = take (length octets.old - 2) octets.old in
@@ -31,6 +32,7 @@ pub extern "C" fn sedge_check_append(octets: &mut [u8]) -> bool
 /// Whether the last two octets are the check of those before them; false for fewer than two octets (232.0-B-4,
 /// 4.1.4.3).
 #[unsafe(no_mangle)]
+#[must_use]
 pub extern "C" fn sedge_check_holds(octets: &[u8]) -> bool
     ensures { IsTrue result ↔ HoldsCheck octets.now }
 {

@@ -25,7 +25,7 @@ pub struct PacketFields {
     pub kind: u8,
     /// Whether the data field begins with a secondary header, 0 or 1 (4.1.3.3.3).
     pub secondary: u8,
-    /// The sequence flags: 0 continuation, 1 first, 2 last, 3 unsegmented (4.1.3.4.2).
+    /// The sequence flags, of `sedge_sequence_flags` (4.1.3.4.2).
     pub flags: u8,
 }
 
@@ -33,6 +33,7 @@ pub struct PacketFields {
 /// ends, and octets after it are ignored. Returns 0, or the first of 1 to 3 of `sedge_packet_fault`
 /// (`SEDGE_PACKET_TRUNCATED` for fewer octets than declared comes last).
 #[unsafe(no_mangle)]
+#[must_use]
 pub extern "C" fn sedge_packet_decode(
     octets: &[u8],
     packet: &mut PacketFields,
@@ -57,6 +58,7 @@ pub extern "C" fn sedge_packet_decode(
 /// `total`. Returns 0, or the first of `SEDGE_DAMAGED` (the kind is out of its enum, or the secondary header flag
 /// above 1), `SEDGE_PACKET_FIELD_RANGE` and `SEDGE_PACKET_ROOM`.
 #[unsafe(no_mangle)]
+#[must_use]
 pub extern "C" fn sedge_packet_encode(
     packet: &PacketFields,
     payload: &[u8],
@@ -79,6 +81,7 @@ pub extern "C" fn sedge_packet_encode(
 /// (4.1.3.5). Returns 0, or `SEDGE_PACKET_TRUNCATED` for fewer than 6 octets, or `SEDGE_PACKET_VERSION`, or
 /// `SEDGE_PACKET_IDLE_WITH_SECONDARY`.
 #[unsafe(no_mangle)]
+#[must_use]
 pub extern "C" fn sedge_packet_declared(octets: &[u8], total: &mut usize) -> u8
     ensures { IsWritten (λ n. n) (total_declared octets.now) total.old total.new result }
 {

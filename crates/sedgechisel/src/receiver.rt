@@ -30,6 +30,7 @@ pub struct Receiver {
 /// Begins a receiver in its state Open, with all flags 0 and FARM-B 0, which expects the number `vr`. Returns 0, or
 /// `SEDGE_COP_WIDTH`.
 #[unsafe(no_mangle)]
+#[must_use]
 pub extern "C" fn sedge_farm_open(receiver: &mut Receiver, width: u8, vr: u8) -> u8
     ensures { IsWritten receiver_of (farm_opened width vr) receiver.old receiver.new result }
 {
@@ -39,6 +40,7 @@ pub extern "C" fn sedge_farm_open(receiver: &mut Receiver, width: u8, vr: u8) ->
 /// A Type-AD frame with the number `n` has arrived; `buffer_free` says whether there is room for its data. Returns its
 /// verdict, of `sedge_verdict`: if it is `SEDGE_ACCEPTED`, hand the data on. Or returns `SEDGE_DAMAGED`.
 #[unsafe(no_mangle)]
+#[must_use]
 pub extern "C" fn sedge_farm_ad(receiver: &mut Receiver, n: u8, buffer_free: bool) -> u8
     ensures answer { result ≡ answer_of verdict_number
         (map_ok (λ s. verdict_of s n buffer_free) (farm_described receiver.old)) }
@@ -103,6 +105,7 @@ pub extern "C" fn sedge_farm_released(receiver: &mut Receiver) -> u8
 /// flags for the radio channel and bit lock are 0. Returns 0, or `SEDGE_DAMAGED`, or `SEDGE_CLCW_RANGE` if `vcid` is
 /// not below 64.
 #[unsafe(no_mangle)]
+#[must_use]
 pub extern "C" fn sedge_farm_control_word(receiver: &Receiver, vcid: u8, word: &mut Clcw) -> u8
     ensures { IsWritten (λ found. found) (farm_report receiver.now vcid) word.old word.new result }
 {

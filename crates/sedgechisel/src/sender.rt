@@ -56,6 +56,7 @@ pub struct KeptSender {
 /// transmission limit and the timer's value in ticks. Returns 0, or the first of `SEDGE_COP_WIDTH` (not even, 2 to
 /// 254), `SEDGE_COP_WINDOW` (not 1 to half the width), `SEDGE_COP_LIMIT` (0) and `SEDGE_COP_TIMER` (0).
 #[unsafe(no_mangle)]
+#[must_use]
 pub extern "C" fn sedge_fop_open(
     sender: &mut KeptSender,
     width: u8,
@@ -74,6 +75,7 @@ pub extern "C" fn sedge_fop_open(
 /// Submits a unit, to be sent under sequence control: it waits, and the caller keeps it. Returns 0, or `SEDGE_DAMAGED`,
 /// or `SEDGE_COP_NOT_OPEN` in S6, or `SEDGE_COP_BUSY` while another one waits.
 #[unsafe(no_mangle)]
+#[must_use]
 pub extern "C" fn sedge_fop_submit(sender: &mut KeptSender) -> u8
     ensures { IsAnswered (submitted sender.old) sender.old sender.new result }
 {
@@ -86,6 +88,7 @@ pub extern "C" fn sedge_fop_submit(sender: &mut KeptSender) -> u8
 /// Takes what goes on the link next. Returns one of `sedge_next`, and writes its number, or 0 if it has none; or
 /// returns `SEDGE_DAMAGED`, with nothing written.
 #[unsafe(no_mangle)]
+#[must_use]
 pub extern "C" fn sedge_fop_next(sender: &mut KeptSender, number: &mut u8) -> u8
     ensures answer { result ≡ answer_of (λ o. next_answer o.answer) (stepped sender.old Next) }
     ensures number { number.new
@@ -106,6 +109,7 @@ pub extern "C" fn sedge_fop_next(sender: &mut KeptSender, number: &mut u8) -> u8
 /// written and nothing changed it returns the first of `SEDGE_ABSENT`, if the word reports on another channel, and
 /// `SEDGE_DAMAGED`.
 #[unsafe(no_mangle)]
+#[must_use]
 pub extern "C" fn sedge_fop_clcw(
     sender: &mut KeptSender,
     vcid: u8,
@@ -132,6 +136,7 @@ pub extern "C" fn sedge_fop_clcw(
 
 /// A tick of the clock has passed. Returns the alert, of `sedge_alert`, or `SEDGE_DAMAGED`.
 #[unsafe(no_mangle)]
+#[must_use]
 pub extern "C" fn sedge_fop_tick(sender: &mut KeptSender) -> u8
     ensures answer { result ≡ answer_of (λ o. alert_answer o.answer) (stepped sender.old Tick) }
     ensures sender { sender.new ≡ left_by kept_of (after_step sender.old Tick) sender.old }

@@ -40,6 +40,7 @@ pub struct KeptBuilder {
 /// Begins a builder whose frame counts begin at 0, with nothing to be sent. Returns 0, or `SEDGE_TM_FIELD_RANGE` if
 /// `scid` is not below 1,024, `vcid` not below 8, or length not from 16 to 2,048.
 #[unsafe(no_mangle)]
+#[must_use]
 pub extern "C" fn sedge_tm_builder_open(
     builder: &mut KeptBuilder,
     scid: u16,
@@ -73,6 +74,7 @@ pub extern "C" fn sedge_tm_builder_open(
 /// `SEDGE_TM_NOT_A_PACKET` (not exactly one packet, or an idle one) and `SEDGE_TM_MEMORY` (the octets to be sent and
 /// the packet are more than the memory has).
 #[unsafe(no_mangle)]
+#[must_use]
 pub extern "C" fn sedge_tm_builder_queue(
     builder: &mut KeptBuilder,
     packet: &[u8],
@@ -102,6 +104,7 @@ pub extern "C" fn sedge_tm_builder_queue(
 /// out within the frame, an idle packet fills it; where nothing is to be sent, the frame has only idle data. Returns
 /// 0, or the first of `SEDGE_DAMAGED`, `SEDGE_WRONG_COUNT` (the field is not four octets) and `SEDGE_TM_ROOM`.
 #[unsafe(no_mangle)]
+#[must_use]
 pub extern "C" fn sedge_tm_builder_build(
     builder: &mut KeptBuilder,
     ocf: &[u8],

@@ -60,6 +60,7 @@ pub struct TakenFrame {
 /// `SEDGE_TM_FIELD_RANGE` (the pointer is after the data) and `SEDGE_TM_MEMORY` (the packet that the frame ends and the
 /// part that it leaves are more than the memory has). The frame after a refused one shows that one as missing.
 #[unsafe(no_mangle)]
+#[must_use]
 pub extern "C" fn sedge_tm_extractor_frame(
     extractor: &mut KeptExtractor,
     frame: &ReportFrame,
@@ -105,6 +106,7 @@ pub extern "C" fn sedge_tm_extractor_frame(
 /// Goes on to the packet after this part of a frame's data that is not idle. Returns true, and the part is that packet;
 /// or false, with nothing written, if there is none.
 #[unsafe(no_mangle)]
+#[must_use]
 pub extern "C" fn sedge_tm_packet(payload: &[u8], packet: &mut Part) -> bool
     ensures { GoesOn payload.now packet.old packet.new result }
 {

@@ -33,6 +33,7 @@ pub struct ReportFrame {
 /// spacecraft and virtual channel: compare scid and vcid with your own before an extractor is given it, and scid before
 /// its control word is used. Returns 0, or the first of 1 to 6 of `sedge_tm_fault`.
 #[unsafe(no_mangle)]
+#[must_use]
 pub extern "C" fn sedge_tm_decode(
     octets: &[u8],
     length: usize,
@@ -57,6 +58,7 @@ pub extern "C" fn sedge_tm_decode(
 /// Writes the frame with these data and its FECF to the beginning of `out`, and its length in octets, 12 more than its
 /// data, to `total`. Returns 0, or the first of `SEDGE_TM_FIELD_RANGE` and `SEDGE_TM_ROOM`.
 #[unsafe(no_mangle)]
+#[must_use]
 pub extern "C" fn sedge_tm_encode(
     frame: &ReportFrame,
     payload: &[u8],

@@ -13,6 +13,7 @@ use std::alloc::Global;
 /// `SEDGE_COP_LIMIT` or `SEDGE_COP_TIMER`; or `SEDGE_NODE_NONE`, also for a directive that is none, and for a number
 /// V(R) or V(S) above 255.
 #[unsafe(no_mangle)]
+#[must_use]
 pub extern "C" fn sedge_ground_directive(
     alloc: Global,
     ground: &mut GroundHandle,

@@ -27,6 +27,7 @@ fn resumed(node: &mut Ground, value: u8, whole: &mut u64) -> u8
 /// `SEDGE_NODE_NOT_KNOWN`, and nothing has changed, where nothing is known: the sender is not in S6, no session has
 /// begun, V(S) was set since, or the value does not lie from NN(R) to V(S).
 #[unsafe(no_mangle)]
+#[must_use]
 pub extern "C" fn sedge_ground_resume(
     alloc: Global,
     ground: &mut GroundHandle,

@@ -78,6 +78,7 @@ fn write_next(node: &Ground, out: &mut [u8], count: &mut usize) -> u8
 /// Takes the frame that goes on the link next, with its FECF (232.0-B-4, 4.1): writes it, and the number of its octets;
 /// or 0 octets where nothing is to be sent. Returns 0 or `SEDGE_NODE_ROOM`.
 #[unsafe(no_mangle)]
+#[must_use]
 pub extern "C" fn sedge_ground_pull(
     alloc: Global,
     ground: &mut GroundHandle,
@@ -101,6 +102,7 @@ pub extern "C" fn sedge_ground_pull(
 /// `sedge_ground_advance` the frame counts as sent once a radio that may refuse it has taken it. Returns 0 or
 /// `SEDGE_NODE_ROOM`.
 #[unsafe(no_mangle)]
+#[must_use]
 pub extern "C" fn sedge_ground_peek(
     alloc: Global,
     ground: &mut GroundHandle,
@@ -144,6 +146,7 @@ pub extern "C" fn sedge_ground_next_telemetry(
 /// Takes the oldest packet of telemetry (132.0-B-3, 4.3.2): writes it, and the number of its octets; or 0 octets where
 /// none waits. Returns 0 or `SEDGE_NODE_ROOM`.
 #[unsafe(no_mangle)]
+#[must_use]
 pub extern "C" fn sedge_ground_take_telemetry(
     alloc: Global,
     ground: &mut GroundHandle,

@@ -23,21 +23,21 @@ use tm_link::{Gap, decode};
 #[repr(C)]
 #[derive(Clone, Copy, Default)]
 pub struct KeptHeard {
-    /// 3: the number of packets that came to wait to be taken.
+    /// FRAME: the number of packets that came to wait to be taken.
     pub packets: usize,
-    /// 1: no frame; 2: a frame of another channel; 3: a frame of this one; 4: a report by itself.
+    /// Of `sedge_heard_kind`.
     pub kind: u8,
-    /// 1: why they are no frame, of `sedge_tm_fault`.
+    /// INVALID: why they are no frame, of `sedge_tm_fault`.
     pub fault: u8,
-    /// 3: whether no frame came before it, 0 or 1.
+    /// FRAME: whether no frame came before it, 0 or 1.
     pub first: u8,
-    /// 3: the number of frames that are missing before it.
+    /// FRAME: the number of frames that are missing before it.
     pub missing: u8,
-    /// 3, 4: its report is used (0), none (1), or of another virtual channel (2).
+    /// FRAME, CLCW: what becomes of the report, of `sedge_heard_report`.
     pub report: u8,
-    /// 3 and 4, 1: why it is none, of `sedge_clcw_fault`.
+    /// REFUSED: why it is none, of `sedge_clcw_fault`.
     pub word_fault: u8,
-    /// 3 and 4, 0: of `sedge_alert`; 0 for none.
+    /// USED: of `sedge_alert`, `SEDGE_NO_ALERT` for none.
     pub alert: u8,
 }
 
@@ -105,6 +105,7 @@ pub(crate) fn kept_heard(heard: Heard) -> KeptHeard
 /// Takes octets that came from the spacecraft, and writes what they are. Returns 0, or `SEDGE_NODE_MEMORY` where they
 /// finish a packet.
 #[unsafe(no_mangle)]
+#[must_use]
 pub extern "C" fn sedge_ground_telemetry(
     alloc: Global,
     ground: &mut GroundHandle,
@@ -157,6 +158,7 @@ fn kept_word(word: HeardClcw) -> KeptHeard
 /// be handed on again before the next, which changes nothing; an older one may not come again as if it were new.
 /// Returns 0, or `SEDGE_NODE_ABSENT` if the octets are not four.
 #[unsafe(no_mangle)]
+#[must_use]
 pub extern "C" fn sedge_ground_clcw(
     alloc: Global,
     ground: &mut GroundHandle,
@@ -193,24 +195,26 @@ pub extern "C" fn sedge_ground_forget_telemetry(alloc: Global, ground: &mut Grou
 /// Writes the report that a telemetry frame carries, of whichever spacecraft and virtual channel (232.0-B-4, 4.2); the
 /// ground stays as it was. Returns 0, or `SEDGE_NODE_ABSENT` if the octets are no frame or the frame carries no report.
 #[unsafe(no_mangle)]
+#[must_use]
 pub extern "C" fn sedge_ground_clcw_in(
     alloc: Global,
     ground: &mut GroundHandle,
     octets: &[u8],
-    report: &mut Clcw,
+    word: &mut Clcw,
 ) -> u8
     ensures { IsRead (λ s. report_in (frame_at s.config.frame_length octets.now))
-        ground.old.value ground.new.value result report.old report.new }
+        ground.old.value ground.new.value result word.old word.new }
 {
     held!(
         alloc,
         ground,
-        |node| write(report_in(octets, node.frame_length()), report)
+        |node| write(report_in(octets, node.frame_length()), word)
     )
 }
 
-/// A tick of the clock has passed. Returns the alert, of `sedge_alert`, 0 for none; or `SEDGE_NODE_NONE`.
+/// A tick of the clock has passed. Returns the alert, of `sedge_alert`, `SEDGE_NO_ALERT` for none.
 #[unsafe(no_mangle)]
+#[must_use]
 pub extern "C" fn sedge_ground_tick(alloc: Global, ground: &mut GroundHandle) -> u8
     ensures none { ground.old.value ≡ None → result ≡ closed }
     ensures alert { IfSome ground.old.value (λ s. result ≡ alert_number (ground_step s Tick).answer) }
@@ -231,6 +235,7 @@ fn bypassed(node: &mut Ground, map: u8, octets: &[u8]) -> u8
 /// Submits one packet on a MAP past the sequence control. Returns 0, or the first of 2 to 5 of `sedge_node_status` that
 /// applies, or `SEDGE_NODE_MEMORY`.
 #[unsafe(no_mangle)]
+#[must_use]
 pub extern "C" fn sedge_ground_bypass(
     alloc: Global,
     ground: &mut GroundHandle,

@@ -69,6 +69,7 @@ impl Holds for GroundHandle {
 /// leaves it, and until then both have memory. Where there is memory for one alone, close the handle first. Returns 0,
 /// `SEDGE_NODE_OUT_OF_RANGE` or `SEDGE_NODE_MEMORY`.
 #[unsafe(no_mangle)]
+#[must_use]
 pub extern "C" fn sedge_ground_open(alloc: Global, config: &Config, ground: &mut GroundHandle) -> u8
     ensures { IsOpened config.now new_ground ground.old.value ground.new.value result }
 {
@@ -118,6 +119,7 @@ impl Holds for SpacecraftHandle {
 /// Opens a spacecraft, in place of one that the handle holds, as `sedge_ground_open` does. Returns 0,
 /// `SEDGE_NODE_OUT_OF_RANGE` or `SEDGE_NODE_MEMORY`.
 #[unsafe(no_mangle)]
+#[must_use]
 pub extern "C" fn sedge_spacecraft_open(
     alloc: Global,
     config: &Config,
@@ -171,6 +173,7 @@ impl Holds for SimHandle {
 /// Opens a link with two new nodes, in place of one that the handle holds, as `sedge_ground_open` does. Returns 0,
 /// `SEDGE_NODE_OUT_OF_RANGE` or `SEDGE_NODE_MEMORY`.
 #[unsafe(no_mangle)]
+#[must_use]
 pub extern "C" fn sedge_sim_open(alloc: Global, config: &Config, sim: &mut SimHandle) -> u8
     ensures { IsOpened config.now new_link sim.old.value sim.new.value result }
 {

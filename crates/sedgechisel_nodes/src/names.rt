@@ -8,7 +8,7 @@ use c_words::{Text, named};
 use nodes::{LinkFault, Parameter};
 use tc_link::SimFault;
 
-/// The name of a managed parameter, by its number, 1 to 15.
+/// The name of a `sedge_parameter`, which is that of its field in `sedge_config`.
 #[unsafe(no_mangle)]
 pub extern "C" fn sedge_parameter_name(number: u8) -> Text
     ensures { result.text ≡ text_of (parameter_word number) }

@@ -22,9 +22,8 @@ fn first_out_of_range(config: &Config) -> Option<Parameter>
     }
 }
 
-/// The number of the first parameter that is out of its range, 1 for `scid` to 15 for `blocking` in the order of the
-/// fields; 0 for none. A `width` is also out of its range where it is odd, and a `window` where it is more than half of
-/// that.
+/// Returns the first parameter that is out of its range, of `sedge_parameter`; `SEDGE_NO_PARAMETER` for none. A `width`
+/// is also out of its range where it is odd, and a `window` where it is more than half of that.
 #[unsafe(no_mangle)]
 pub extern "C" fn sedge_config_fault(config: &Config) -> u8
     ensures { result ≡ first_number (out_of_range config.now) }

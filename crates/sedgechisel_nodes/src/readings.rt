@@ -37,7 +37,7 @@ pub struct GroundReading {
     pub frame_length: usize,
     /// The ticks that are left of the timer, or 0 where it does not run.
     pub ticks: u16,
-    /// Of the sender, 1 to 6 (232.1-B-2, 5.1).
+    /// Of the sender, of `sedge_fop_state` (232.1-B-2, 5.1).
     pub state: u8,
     /// V(S), the number of the next segment that is sent for the first time.
     pub vs: u8,
@@ -150,6 +150,7 @@ pub extern "C" fn sedge_spacecraft_read(
 /// begins. If V(S) is NN(R) there are no such segments, and it writes 0 whatever the value. Returns 0, or
 /// `SEDGE_NODE_ABSENT` if there are and the value does not lie from NN(R) to V(S), so that nothing is known of them.
 #[unsafe(no_mangle)]
+#[must_use]
 pub extern "C" fn sedge_ground_accepted_beyond(
     alloc: Global,
     ground: &mut GroundHandle,
@@ -171,6 +172,7 @@ pub extern "C" fn sedge_ground_accepted_beyond(
 /// after an alert too. Returns 0, or `SEDGE_NODE_ABSENT` where nothing is known: no session has begun, V(S) was set
 /// since, or the value does not lie from NN(R) to V(S), which are not equal.
 #[unsafe(no_mangle)]
+#[must_use]
 pub extern "C" fn sedge_ground_known_on_board(
     alloc: Global,
     ground: &mut GroundHandle,

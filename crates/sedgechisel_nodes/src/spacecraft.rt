@@ -22,23 +22,23 @@ use tc_frame::Command;
 #[repr(C)]
 #[derive(Clone, Copy, Default)]
 pub struct KeptReceived {
-    /// 3: the number of packets that came to wait to be taken.
+    /// AD: the number of packets that came to wait to be taken.
     pub ready: usize,
-    /// 1: no frame; 2: of another channel; 3: Type-AD; 4: Type-BD; 5: Type-BC.
+    /// Of `sedge_received_kind`.
     pub kind: u8,
-    /// 1: why they are no frame, of `sedge_tc_fault`.
+    /// INVALID: why they are no frame, of `sedge_tc_fault`.
     pub fault: u8,
-    /// 3: its number, N(S).
+    /// AD: its number, N(S).
     pub n: u8,
-    /// 3: of `sedge_verdict`.
+    /// AD: of `sedge_verdict`.
     pub verdict: u8,
-    /// 3: why octets on its MAP were dropped, of `sedge_dropped`; 0 for none.
+    /// AD: why octets on its MAP were dropped, of `sedge_dropped`; `SEDGE_NOT_DROPPED` for none.
     pub dropped: u8,
-    /// 4: whether it carried a packet, which is kept.
+    /// BD: whether it carried a packet, which is kept.
     pub kept: bool,
-    /// 5: Unlock (0) or Set V(R) (1).
+    /// BC: of `sedge_command`.
     pub command: u8,
-    /// 5: the number of Set V(R).
+    /// BC: the number of Set V(R).
     pub vr: u8,
 }
 
@@ -99,6 +99,7 @@ pub(crate) fn kept_received(received: Received) -> KeptReceived
 /// Takes octets that came from the ground, and writes what they are. Returns 0, or `SEDGE_NODE_MEMORY` where a frame's
 /// data are handed on.
 #[unsafe(no_mangle)]
+#[must_use]
 pub extern "C" fn sedge_spacecraft_receive(
     alloc: Global,
     spacecraft: &mut SpacecraftHandle,
@@ -119,10 +120,10 @@ pub extern "C" fn sedge_spacecraft_receive(
     })
 }
 
-/// Queues a packet to be sent as telemetry (132.0-B-3, 4.2.2). Returns 0, or 8 for octets that are not exactly one
-/// packet, or an idle packet, or 7 where there was no memory (these numbers are of the telemetry's faults,
-/// `sedge_tm_fault_name`).
+/// Queues a packet to be sent as telemetry (132.0-B-3, 4.2.2). Returns 0, or the first of `SEDGE_TM_NOT_A_PACKET` (the
+/// octets are not exactly one packet, or an idle one) and `SEDGE_TM_MEMORY`.
 #[unsafe(no_mangle)]
+#[must_use]
 pub extern "C" fn sedge_spacecraft_telemetry(
     alloc: Global,
     spacecraft: &mut SpacecraftHandle,

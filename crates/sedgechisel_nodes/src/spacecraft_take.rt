@@ -99,6 +99,7 @@ fn taken(
 /// Takes the oldest packet of sequence-controlled frames (232.0-B-4, 4.4): writes its MAP, the packet, and the number
 /// of its octets; or 0 octets alone where none waits. Returns 0 or `SEDGE_NODE_ROOM`.
 #[unsafe(no_mangle)]
+#[must_use]
 pub extern "C" fn sedge_spacecraft_take(
     alloc: Global,
     spacecraft: &mut SpacecraftHandle,
@@ -115,6 +116,7 @@ pub extern "C" fn sedge_spacecraft_take(
 /// Takes the oldest packet that came past the sequence control (232.0-B-4, 4.4), as `sedge_spacecraft_take` does.
 /// Returns 0 or `SEDGE_NODE_ROOM`.
 #[unsafe(no_mangle)]
+#[must_use]
 pub extern "C" fn sedge_spacecraft_take_bypass(
     alloc: Global,
     spacecraft: &mut SpacecraftHandle,
@@ -151,6 +153,7 @@ fn reported(node: &mut Spacecraft, out: &mut [u8], count: &mut usize) -> u8
 /// Writes the next telemetry frame (132.0-B-3, 4.1), which reports on the receiver, and the number of its octets, which
 /// is frame_length. Returns 0 or `SEDGE_NODE_ROOM`.
 #[unsafe(no_mangle)]
+#[must_use]
 pub extern "C" fn sedge_spacecraft_telemetry_frame(
     alloc: Global,
     spacecraft: &mut SpacecraftHandle,

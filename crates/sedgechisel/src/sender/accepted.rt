@@ -15,6 +15,7 @@ use cop1::accepted_beyond;
 /// value. Returns 0, or `SEDGE_DAMAGED`, or `SEDGE_ABSENT` if there are such units and the value does not lie from
 /// NN(R) to V(S), so that nothing is known of them; nothing is written then.
 #[unsafe(no_mangle)]
+#[must_use]
 pub extern "C" fn sedge_fop_accepted_beyond(sender: &KeptSender, value: u8, accepted: &mut u8) -> u8
     ensures { IsWritten (λ n. n) (accepted_by sender.now value) accepted.old accepted.new result }
 {
@@ -29,6 +30,7 @@ pub extern "C" fn sedge_fop_accepted_beyond(sender: &KeptSender, value: u8, acce
 
 /// The same of a sender with these numbers for NN(R) and V(S). Returns 0, or `SEDGE_ABSENT` if nothing is known.
 #[unsafe(no_mangle)]
+#[must_use]
 pub extern "C" fn sedge_accepted_beyond(nn: u8, vs: u8, value: u8, accepted: &mut u8) -> u8
     ensures { IsWritten (λ n. n) (if_there (accepted_beyond nn vs value)) accepted.old accepted.new result }
 {

@@ -12,6 +12,7 @@ use c_words::directive_named;
 /// `SEDGE_COP_WRONG_STATE`; or for a value out of its range `SEDGE_COP_WINDOW`, `SEDGE_COP_LIMIT` or `SEDGE_COP_TIMER`;
 /// or `SEDGE_DAMAGED`, also for a directive that is none, and for a number V(R) or V(S) above 255.
 #[unsafe(no_mangle)]
+#[must_use]
 pub extern "C" fn sedge_fop_directive(sender: &mut KeptSender, directive: u8, value: u16) -> u8
     ensures { IsAnswered (directed sender.old (directive_named directive value)) sender.old sender.new result }
 {

@@ -57,6 +57,7 @@ fn event_named<'a>(event: &KeptEvent<'a>) -> Option<Event<'a>>
 /// octets of a frame that was sent, and of a packet that was taken, stay to be read until the next event
 /// (`sedge_sim_octets`).
 #[unsafe(no_mangle)]
+#[must_use]
 pub extern "C" fn sedge_sim_step(
     alloc: Global,
     sim: &mut SimHandle,

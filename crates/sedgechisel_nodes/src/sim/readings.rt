@@ -106,6 +106,7 @@ pub extern "C" fn sedge_sim_spacecraft_read(
 /// Writes the octets of the last event's frame or packet, of which the reply has the `count`, and their number; 0
 /// octets where the reply had none. They stay. Returns 0 or `SEDGE_NODE_ROOM`.
 #[unsafe(no_mangle)]
+#[must_use]
 pub extern "C" fn sedge_sim_octets(
     alloc: Global,
     sim: &mut SimHandle,

@@ -49,8 +49,8 @@ fn entry_of(sim: &Sim, number: u8, map: u8, k: usize) -> Option<&[u8]>
     }
 }
 
-/// Writes how many entries a record has; the MAP counts for the first two alone. For another number there are none.
-/// Returns 0.
+/// Writes how many entries a record has, of `sedge_record`; the MAP counts for `SEDGE_SUBMITTED` and `SEDGE_DELIVERED`
+/// alone. For another number there are none. Returns 0.
 #[unsafe(no_mangle)]
 pub extern "C" fn sedge_sim_count(
     alloc: Global,
@@ -81,6 +81,7 @@ fn length_of_entry(sim: &Sim, number: u8, map: u8, k: usize) -> Option<usize>
 
 /// Writes how many octets entry `k` has, counted from 0. Returns 0, or `SEDGE_NODE_ABSENT` if there are not that many.
 #[unsafe(no_mangle)]
+#[must_use]
 pub extern "C" fn sedge_sim_entry_length(
     alloc: Global,
     sim: &mut SimHandle,
@@ -102,6 +103,7 @@ pub extern "C" fn sedge_sim_entry_length(
 /// Writes the octets of entry `k`, and their number. Returns 0, or the first of `SEDGE_NODE_ABSENT` and
 /// `SEDGE_NODE_ROOM`.
 #[unsafe(no_mangle)]
+#[must_use]
 pub extern "C" fn sedge_sim_entry(
     alloc: Global,
     sim: &mut SimHandle,

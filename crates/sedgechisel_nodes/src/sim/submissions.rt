@@ -34,6 +34,7 @@ fn submission_of(sim: &Sim, k: usize) -> Option<(u8, &[u8])>
 /// Writes the MAP of submission `k`, in order from 0, and the number of its octets. Returns 0, or `SEDGE_NODE_ABSENT`
 /// if there are not that many.
 #[unsafe(no_mangle)]
+#[must_use]
 pub extern "C" fn sedge_sim_submission_length(
     alloc: Global,
     sim: &mut SimHandle,
@@ -59,6 +60,7 @@ pub extern "C" fn sedge_sim_submission_length(
 /// Writes the MAP and the octets of submission `k`, and their number. Returns 0, or the first of `SEDGE_NODE_ABSENT`
 /// and `SEDGE_NODE_ROOM`.
 #[unsafe(no_mangle)]
+#[must_use]
 pub extern "C" fn sedge_sim_submission(
     alloc: Global,
     sim: &mut SimHandle,
