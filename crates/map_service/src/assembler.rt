@@ -5,9 +5,10 @@ ghost use Rattle.std.specs.Prelude.{IfSome, IsOk, IfOk, IfErr, OnOk, OnErr, if�
 ghost use Rattle.std.specs.Vec.{vec_capacity};
 ghost use Rattle.tc_frame.specs.Layout.{segment_view};
 ghost use Rattle.map_service.specs.Assembly.{is_too_long};
+ghost use Rattle.map_service.specs.AssemblerFields.{HasLongest};
 ghost use Rattle.map_service.specs.Prepared.{outcome_of, part_after, HasRoom};
 ghost use Rattle.map_service.specs.AssemblerTable.{packets_outcome, one_fault, cell_at, lone_packet_cell, IsSureAtOnce};
-ghost use Rattle.map_service.specs.Views.{part_view, packets_view, ready_view};
+ghost use Rattle.map_service.specs.Views.{part_view, ready_view};
 
 use crate::decision::{Action, Decision, decide};
 use crate::dropped::Dropped;
@@ -25,8 +26,9 @@ use tc_frame::{Segment, SegmentFlags};
 pub struct Taken {
     /// What was dropped, where anything was: the later of two.
     pub dropped: Option<Dropped>,
-    /// The packets that are whole now, in order, each as its octets.
-    pub packets: Vec<Vec<u8>>,
+    /// The packets that are whole now, in order, each as its octets. A list of one takes no memory
+    /// of its own.
+    pub packets: SmallVec<Vec<u8>, 1>,
 }
 
 // What becomes of the part that is open on the segment's MAP.
@@ -62,6 +64,8 @@ pub struct Assembler {
     alloc: Global,
     limits: Limits,
     parts: [Option<Vec<u8>>; 64],
+    // the room of a part that was closed, for the next one that is opened
+    spare: Option<Vec<u8>>,
 }
 
 impl Model for Assembler {
@@ -96,12 +100,13 @@ impl Assembler {
             alloc,
             limits,
             parts: array::from_fn(|_| None),
+            spare: None,
         }
     }
 
     /// Takes the next segment: says what was dropped, and hands out the packets that are whole now. It
-    /// is `prepare` and then `commit`, with the packets in a vector. At a fault the assembler is as it
-    /// was.
+    /// is `prepare` and then `commit`, but a first segment opens its part in the room of one that was
+    /// closed, where there is any. At a fault the assembler is as it was.
     /// Faults: 3 Memory. Memory: yes; none where the segment is dropped at once. Cost: n*, and the
     /// packets handed out.
     pub fn take(&mut self, segment: &Segment) -> Result<Taken, MapFault>
@@ -109,7 +114,7 @@ impl Assembler {
         ensures dropped { IfOk result
             (λ t. t.dropped ≡ (step_at self.old (segment_view segment.now)).dropped) }
         ensures packets { IfOk result
-            (λ t. packets_view t.packets ≡ (step_at self.old (segment_view segment.now)).packets) }
+            (λ t. ready_view t.packets ≡ (step_at self.old (segment_view segment.now)).packets) }
         ensures state { OnOk result (self.new ≡ after_step self.old (segment_view segment.now)) }
         ensures memory { OnErr result (self.new ≡ self.old) }
         ensures fault { IfErr result (λ e. e ≡ MapFault.Memory) }
@@ -121,15 +126,15 @@ impl Assembler {
         ensures exact { IfOk result (λ t. (segments : List SegmentView)
             → HasPartsOf self.old segments
             → IsTakenExactly
-            self.new segments (segment_view segment.now) (packets_view t.packets)) }
+            self.new segments (segment_view segment.now) (ready_view t.packets)) }
     {
         let Prepared {
             dropped,
             packets,
             change,
-        } = self.prepare(segment)?;
-        let packets = in_vec(self.alloc, packets)?;
-        self.put(segment, change);
+        } = self.prepare_with_spare(segment)?;
+        let closed = self.put(segment, change);
+        self.keep(closed);
         Ok(Taken { dropped, packets })
     }
 
@@ -150,15 +155,43 @@ impl Assembler {
         ensures fault { IfErr result (λ e. e ≡ MapFault.Memory) }
         ensures none { IsSureAtOnce (step_at self.now (segment_view segment.now)) result }
     {
+        self.prepared(&mut None, segment)
+    }
+
+    // The same. A part is opened in the spare room, where there is any.
+    fn prepared(
+        &self,
+        spare: &mut Option<Vec<u8>>,
+        segment: &Segment,
+    ) -> Result<Prepared, MapFault>
+        requires { HasLongest self.now.limits.max_packet spare.old }
+        ensures spare { HasLongest self.now.limits.max_packet spare.new }
+        ensures prepared { IfOk result (IsPrepared self.now (segment_view segment.now)) }
+        ensures fault { IfErr result (λ e. e ≡ MapFault.Memory) }
+        ensures none { IsSureAtOnce (step_at self.now (segment_view segment.now)) result }
+    {
         let map = segment.header.map;
         if !self.limits.is_open(map) {
             return Ok(no_packets(self.alloc, Some(Dropped::ClosedMap), Change::Same));
         }
         let part = &self.parts[usize::from(map)];
-        match prepared_cell(self.alloc, &self.limits, part, segment) {
+        match prepared_cell(self.alloc, &self.limits, part, spare, segment) {
             Ok(prepared) => Ok(prepared),
             Err(_) => Err(MapFault::Memory),
         }
+    }
+
+    // The same, with the room that is kept.
+    fn prepare_with_spare(&mut self, segment: &Segment) -> Result<Prepared, MapFault>
+        ensures state { self.new ≡ self.old }
+        ensures prepared { IfOk result (IsPrepared self.old (segment_view segment.now)) }
+        ensures fault { IfErr result (λ e. e ≡ MapFault.Memory) }
+        ensures none { IsSureAtOnce (step_at self.old (segment_view segment.now)) result }
+    {
+        let mut spare = self.spare.take();
+        let prepared = self.prepared(&mut spare, segment);
+        self.spare = spare;
+        prepared
     }
 
     /// Takes the segment of which this was prepared, since when nothing has changed, and hands out the
@@ -202,8 +235,19 @@ impl Assembler {
         Some(segment.payload)
     }
 
-    // Changes the part that is open on the segment's MAP, where this MAP is open.
-    fn put(&mut self, segment: &Segment, change: Change)
+    // Keeps the room of a part that was closed, where there is any.
+    fn keep(&mut self, closed: Option<Vec<u8>>)
+        requires { HasLongest self.old.limits.max_packet closed }
+        ensures { self.new ≡ self.old }
+    {
+        if closed.is_some() {
+            self.spare = closed;
+        }
+    }
+
+    // Changes the part that is open on the segment's MAP, where this MAP is open, and hands out the
+    // room of one that is closed.
+    fn put(&mut self, segment: &Segment, change: Change) -> Option<Vec<u8>>
         requires part { part_after
             change (part_on_map self.old segment.now.header.map) segment.now.payload.now
             ≡ (step_at self.old (segment_view segment.now)).part }
@@ -211,31 +255,39 @@ impl Assembler {
             change (part_on_map self.old segment.now.header.map) segment.now.payload.now }
         ensures state { self.new ≡ after_step self.old (segment_view segment.now) }
         ensures maps { length self.old.parts ≡ 64 }
+        ensures closed { HasLongest self.old.limits.max_packet result }
     {
         let map = segment.header.map;
         if !self.limits.is_open(map) {
-            return;
+            return None;
         }
         let part = &mut self.parts[usize::from(map)];
-        put(&self.limits, part, change, segment.payload);
+        put(&self.limits, part, change, segment.payload)
     }
 }
 
-// Changes the part.
-fn put(limits: &Limits, part: &mut Option<Vec<u8>>, change: Change, octets: &[u8])
-    requires room { IfSome part.old (λ begun. limits.now.max_packet ≤ vec_capacity begun) }
+// Changes the part, and hands out the room of one that is closed.
+fn put(
+    limits: &Limits,
+    part: &mut Option<Vec<u8>>,
+    change: Change,
+    octets: &[u8],
+) -> Option<Vec<u8>>
+    requires room { HasLongest limits.now.max_packet part.old }
     requires fits { HasRoom limits.now.max_packet change (part_view part.old) octets.now }
     ensures part { part_view part.new ≡ part_after change (part_view part.old) octets.now }
-    ensures room { IfSome part.new (λ begun. limits.now.max_packet ≤ vec_capacity begun) }
+    ensures room { HasLongest limits.now.max_packet part.new }
+    ensures closed { HasLongest limits.now.max_packet result }
 {
     match change {
-        Change::Same => {}
-        Change::Closed => *part = None,
-        Change::Opened(new) => *part = Some(new),
+        Change::Same => None,
+        Change::Closed => part.take(),
+        Change::Opened(new) => part.replace(new),
         Change::Grown => {
             if let Some(begun) = part {
                 let _ = begun.extend_from_slice(octets);
             }
+            None
         }
     }
 }
@@ -253,13 +305,37 @@ fn no_packets(alloc: Global, dropped: Option<Dropped>, change: Change) -> Prepar
     }
 }
 
+// Room for the longest packet: the spare one, where there is any.
+fn longest(
+    alloc: Global,
+    limits: &Limits,
+    spare: &mut Option<Vec<u8>>,
+) -> Result<Vec<u8>, AllocError>
+    requires { HasLongest limits.now.max_packet spare.old }
+    ensures octets { IfOk result (λ part. part.items ≡ []) }
+    ensures room { IfOk result (λ part. limits.now.max_packet ≤ vec_capacity part) }
+    ensures spare { HasLongest limits.now.max_packet spare.new }
+{
+    if let Some(mut room) = spare.take() {
+        room.clear();
+        return Ok(room);
+    }
+    Vec::with_capacity(alloc, limits.max_packet as usize)
+}
+
 // The part that a first segment opens, with room for the longest packet.
-fn begun(alloc: Global, limits: &Limits, octets: &[u8]) -> Result<Vec<u8>, AllocError>
-    requires { is_too_long limits.now octets.now ≡ false }
+fn begun(
+    alloc: Global,
+    limits: &Limits,
+    spare: &mut Option<Vec<u8>>,
+    octets: &[u8],
+) -> Result<Vec<u8>, AllocError>
+    requires { HasLongest limits.now.max_packet spare.old }
     ensures octets { IfOk result (λ part. part.items ≡ octets.now) }
     ensures room { IfOk result (λ part. limits.now.max_packet ≤ vec_capacity part) }
+    ensures spare { HasLongest limits.now.max_packet spare.new }
 {
-    let mut part = Vec::with_capacity(alloc, limits.max_packet as usize)?;
+    let mut part = longest(alloc, limits, spare)?;
     part.extend_from_slice(octets)?;
     Ok(part)
 }
@@ -291,8 +367,11 @@ fn prepared_cell(
     alloc: Global,
     limits: &Limits,
     part: &Option<Vec<u8>>,
+    spare: &mut Option<Vec<u8>>,
     segment: &Segment,
 ) -> Result<Prepared, AllocError>
+    requires { HasLongest limits.now.max_packet spare.old }
+    ensures spare { HasLongest limits.now.max_packet spare.new }
     ensures outcome { IfOk result (λ p. outcome_of p (part_view part.now) segment.now.payload.now
         ≡ cell_at limits.now (part_view part.now) (segment_view segment.now)) }
     ensures room { IfOk result (λ p. HasRoom
@@ -315,7 +394,7 @@ fn prepared_cell(
             change: Change::Closed,
         }),
         Action::Begin => {
-            let part = begun(alloc, limits, octets)?;
+            let part = begun(alloc, limits, spare, octets)?;
             Ok(no_packets(alloc, dropped, Change::Opened(part)))
         }
         Action::Add => Ok(no_packets(alloc, dropped, Change::Grown)),
@@ -336,19 +415,4 @@ fn is_lone_packet(limits: &Limits, part: &Option<Vec<u8>>, segment: &Segment) ->
         (SegmentFlags::Alone, None) => fault_of_one(limits, segment.payload).is_none(),
         _ => false,
     }
-}
-
-// Packets that are handed out, in a vector.
-fn in_vec(alloc: Global, packets: SmallVec<Vec<u8>, 1>) -> Result<Vec<Vec<u8>>, MapFault>
-    ensures packets { IfOk result (λ v. packets_view v ≡ ready_view packets) }
-    ensures fault { IfErr result (λ e. e ≡ MapFault.Memory) }
-    ensures none { ready_view packets ≡ [] → IsOk result }
-{
-    if packets.is_empty() {
-        return Ok(Vec::new(alloc));
-    }
-    let Ok(packets) = packets.into_vec() else {
-        return Err(MapFault::Memory);
-    };
-    Ok(packets)
 }

@@ -15,10 +15,10 @@ pub enum Check {
 /// Where a segment stands in what it is a part of (CCSDS 232.0-B-4, 4.1.3.2.2.2).
 #[derive(Clone, Copy, Debug, PartialEq, Eq)]
 pub enum SegmentFlags {
-    /// The first of several.
-    First,
     /// Neither the first nor the last of them.
     Continuing,
+    /// The first of several.
+    First,
     /// The last of them.
     Last,
     /// The only one.

@@ -15,6 +15,7 @@ invariant_of-result c = record {
       let none : get_or c.from_fn.result i None ≡ None =
       let called = (c.from_fn.ensures.items.at i None within).2 in search (rules, called) in
       subst (λ part. IfSome part (λ v. c.args.limits.max_packet ≤ vec_capacity v)) (sym none) tt);
+  spare = tt;
 }
 
 pub returns-clause-parts : goal.returns-clause-parts
