@@ -1,5 +1,5 @@
 """Sessions over a link with a delay, which loses frames: each packet is delivered once. The steps after an alert are
-those of docs/TOUR.md, "A session with losses".
+those of docs/TOUR.md, "After an alert".
 Run it by PYTHONPATH=DIR/lib/python python3 python/examples/alert.py, or paste it into a notebook."""
 import collections
 import random

@@ -1,4 +1,4 @@
-"""Follows the steps after an alert (docs/TOUR.md, "A session with losses") over random links with delays and losses,
+"""Follows the steps after an alert (docs/TOUR.md, "After an alert") over random links with delays and losses,
 until that many sessions have begun: `recipe.py SESSIONS`. On board each packet has to be the next one that was wanted
 on its MAP: none twice, and none left out that was said to be on board. recipe.c and recipe.rs do the same, and write
 the same lines. With a second word, `early`, it believes the first report after an alert, whenever that was made, and
