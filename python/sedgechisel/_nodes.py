@@ -4,14 +4,13 @@ from __future__ import annotations
 import ctypes
 from ctypes import POINTER, c_bool, c_char_p, c_size_t, c_uint8, c_uint16, c_uint32, c_uint64, c_void_p
 from dataclasses import dataclass
-from enum import IntEnum
 from threading import RLock
 from types import TracebackType
 from typing import Any, Callable, Dict, Iterator, Optional, Tuple, Type, TypeVar
 
-from ._calls import Alert, Clcw, Command, Mode, Verdict, _directive, _dropped_word, _Struct
+from ._calls import Alert, Clcw, Command, Mode, State, Verdict, _directive, _dropped_word, _Struct
 from ._faults import ClcwFault, ConfigFault, CopFault, Fault, LinkFault, TcFault, TelemetryFault, TmFault
-from ._library import LONGEST, NODES, Single, call_of, octets_of as _octets_of, written as _written
+from ._library import LONGEST, NODES, Numbers, Single, call_of, octets_of as _octets_of, written as _written
 
 _ABSENT, _OUT_OF_RANGE, _NONE = 253, 254, 255
 _Own = TypeVar("_Own", bound="Handle")
@@ -151,25 +150,18 @@ class Handle(Single):
 # ---- What comes of octets ----
 
 
-class Arrived(IntEnum):
+class Arrived(Numbers):
     """What octets were that arrived: no frame, one of another spacecraft or channel, a telecommand frame of a type, a
     telemetry frame, or a report by itself."""
 
     INVALID, FOREIGN, AD, BD, BC, TM, CLCW = range(1, 8)
 
 
-class Report(IntEnum):
+class Report(Numbers):
     """What becomes of a report: it is given to the sender (USED), there is none, the octets being no control word
     (NONE), or it is about another virtual channel (OTHER)."""
 
     USED, NONE, OTHER = range(3)
-
-
-class State(IntEnum):
-    """The sender's state (232.1-B-2, 5.1): active, retransmitting without and with wait, initialising without and with
-    a control command, initial."""
-
-    S1, S2, S3, S4, S5, S6 = range(1, 7)
 
 
 # Members by their numbers, in a tenth of the time that a call of their enumeration takes.

@@ -20,7 +20,7 @@ HANDLES = ("ground", "spacecraft", "sim")
 # headers have the numbers in a note.
 ENUMS = {"Verdict": "verdict", "Mode": "farm_mode", "Alert": "alert", "Next": "next", "Kind": "tc_kind",
          "Segment": "segment_flags", "Command": "command", "PacketKind": "packet_kind", "Flags": "clcw_flags",
-         "State": "fop_state", "Begun": "begun"}
+         "State": "fop_state", "Control": "control", "Begun": "begun"}
 MEMBERS = {"SEDGE_NO_ALERT": "NONE"}
 NOTED = {"SequenceFlags": "CONTINUATION FIRST LAST UNSEGMENTED", "Report": "USED NONE OTHER",
          "Arrived": "- INVALID FOREIGN AD BD BC TM CLCW"}
