@@ -64,8 +64,8 @@ pub use clcw::{Clcw, ClcwFault};
 pub use farm::{CopFault, Farm, FarmFields, FarmMode, Verdict};
 pub use fop::{accepted_beyond, Alert, Control, Fop, FopFields, FopState, Next, Reported};
 pub use map::{packets, segments, Dropped, Limits, Map, MapFault, Packets, Segments, Taken};
-#[cfg(feature = "nodes")]
 #[cfg_attr(docsrs, doc(cfg(feature = "nodes")))]
+#[cfg(feature = "nodes")]
 pub use nodes::{
     Begun, Config, Ground, Heard, HeardClcw, HeardReport, Link, LinkFault, OpenFault, Parameter, Received,
     Record, SimFault, Spacecraft,
