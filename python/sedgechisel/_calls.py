@@ -4,18 +4,19 @@ from __future__ import annotations
 
 import ctypes
 from ctypes import POINTER, c_bool, c_char_p, c_size_t, c_uint8, c_uint16, c_uint32
-from enum import IntEnum, IntFlag
+from enum import IntEnum
 from threading import RLock
 from typing import Any, Callable, Dict, Iterator, List, Optional, Tuple, Type, TypeVar
 
 from ._faults import (
     CheckFault, ClcwFault, CopFault, Fault, MapFault, PacketFault, TcFault, Text, TmFault, word_of as _word_of)
 from ._library import (
-    FIRST, Single, call_of, number_of as _number_of, octets_of as _octets_of, renamed, room_of as _room_of,
-    struct_of as _struct_of, within as _within, written as _written)
+    FIRST, Bits as _Bits, Numbers as _Numbers, Single, call_of, number_of as _number_of, octets_of as _octets_of,
+    renamed, room_of as _room_of, struct_of as _struct_of, within as _within, written as _written)
 
 _ABSENT, _DAMAGED = 253, 255
 _Member = TypeVar("_Member", bound=IntEnum)
+_Own = TypeVar("_Own", bound="_Struct")
 
 
 def _call(name: str, answer: Any, *kinds: Any) -> Callable[..., Any]:
@@ -48,6 +49,26 @@ class _Struct(ctypes.Structure):
 
     def __repr__(self) -> str:
         return f"{type(self).__name__}({', '.join(f'{name}={it!r}' for name, it in self._values().items())})"
+
+
+def _typed(**fields: Dict[int, Any]) -> Callable[[Type[_Own]], Type[_Own]]:
+    """Makes fields of a struct answer members, by their numbers. A number that has none, as only a caller can set it,
+    stays a number."""
+    def made(struct: Type[_Own]) -> Type[_Own]:
+        for name, members in fields.items():
+            field = getattr(struct, name)
+            setattr(struct, name, property(_member_of(field.__get__, members), field.__set__))
+        return struct
+
+    return made
+
+
+def _member_of(number_in: Callable[[Any], int], members: Dict[int, Any]) -> Callable[[Any], Any]:
+    def member(struct: Any) -> Any:
+        number = number_in(struct)
+        return members.get(number, number)
+
+    return member
 
 
 class _Part(ctypes.Structure):
@@ -99,22 +120,23 @@ def check_holds(octets: bytes) -> bool:
 # ---- Control words ----
 
 
-class Flags(IntFlag):
-    """The flags of a control word, bits of `Clcw.flags` (4.2.1.8): `Flags(word.flags)` has them all."""
+class Flags(_Bits):
+    """The flags of a control word, bits of `Clcw.flags` (4.2.1.8), as in `Flags.WAIT in word.flags`."""
 
     RETRANSMIT, WAIT, LOCKOUT, NO_BIT_LOCK, NO_RF = 0x08, 0x10, 0x20, 0x40, 0x80
 
 
+@_typed(flags={bits: Flags(bits) for bits in range(0, 256, Flags.RETRANSMIT)})
 class Clcw(_Struct):
     """A communications link control word (232.0-B-4, 4.2).
 
     - `status`, 0 to 7, is carried and not interpreted; `vcid`, 0 to 63, is the channel that is reported on
-    - `flags` of Flags; `farm_b`, the FARM-B counter, 0 to 3; `value`, the report value, V(R) of the receiver"""
+    - `flags`, a Flags; `farm_b`, the FARM-B counter, 0 to 3; `value`, the report value, V(R) of the receiver"""
 
     _fields_ = [("status", c_uint8), ("vcid", c_uint8), ("flags", c_uint8), ("farm_b", c_uint8), ("value", c_uint8)]
     status: int
     vcid: int
-    flags: int
+    flags: Flags
     farm_b: int
     value: int
 
@@ -147,7 +169,7 @@ def _answered(kind: Type[_Member], answer: int) -> _Member:
     return kind(answer)
 
 
-class Verdict(IntEnum):
+class Verdict(_Numbers):
     """What a receiver does with a Type-AD frame. `word` is the word of tctool, such as "nobuffer" for NO_BUFFER."""
 
     ACCEPTED, AHEAD, NO_BUFFER, BEHIND, OUTSIDE, DISCARDED = range(6)
@@ -161,7 +183,7 @@ class Verdict(IntEnum):
 _verdict_word = _word_of("verdict")
 
 
-class Mode(IntEnum):
+class Mode(_Numbers):
     """A receiver's state (232.1-B-2, 6.1.2)."""
 
     OPEN, WAIT, LOCKOUT = range(3)
@@ -231,7 +253,7 @@ _farm_state = _call("farm_state", c_uint8, POINTER(Farm))
 # ---- The sender ----
 
 
-class Alert(IntEnum):
+class Alert(_Numbers):
     """Why a sender has given up (232.1-B-2, 5.2.5); NONE, which is false, where it has not. An alert lets go of all
     units.
 
@@ -256,7 +278,20 @@ class Alert(IntEnum):
 _alert_word = _word_of("alert")
 
 
-class Next(IntEnum):
+class State(_Numbers):
+    """The sender's state (232.1-B-2, 5.1): active, retransmitting without and with wait, initialising without and with
+    a control command, initial."""
+
+    S1, S2, S3, S4, S5, S6 = range(1, 7)
+
+
+class Control(_Numbers):
+    """The control command of S5, and whether it is due to be sent or sent; IDLE in all other states."""
+
+    IDLE, UNLOCK_DUE, UNLOCK_SENT, SET_VR_DUE, SET_VR_SENT = range(5)
+
+
+class Next(_Numbers):
     """What goes on the link next: a control command, the unit that waits, or the one kept under the number."""
 
     NOTHING, UNLOCK, SET_VR, FIRST, AGAIN = range(5)
@@ -273,9 +308,11 @@ def _directive(name: str, own: str, value: int) -> Tuple[int, int]:
     return _DIRECTIVES[name], value
 
 
+@_typed(state=dict(enumerate(State, 1)), control=dict(enumerate(Control)))
 class Fop(_Struct):
-    """A sender FOP-1 of one virtual channel (232.1-B-2, section 5). It keeps numbers, and its caller the units. With
-    fields that no sender has, each call is a CopFault, 255 Damaged, and changes nothing."""
+    """A sender FOP-1 of one virtual channel (232.1-B-2, section 5). It keeps numbers, and its caller the units. Its
+    `state` is a State, and its `control` a Control. With fields that no sender has, each call is a CopFault, 255
+    Damaged, and changes nothing."""
 
     _fields_ = [("timer", c_uint16), ("ticks", c_uint16), ("room", c_uint8), ("state", c_uint8), ("vs", c_uint8),
                 ("nn", c_uint8), ("waiting", c_uint8), ("sent", c_uint8), ("due", c_uint8), ("window", c_uint8),
@@ -283,7 +320,7 @@ class Fop(_Struct):
     timer: int
     ticks: int
     room: int
-    state: int
+    state: State
     vs: int
     nn: int
     waiting: int
@@ -292,7 +329,7 @@ class Fop(_Struct):
     window: int
     limit: int
     count: int
-    control: int
+    control: Control
     vr: int
 
     def __init__(self, width: int, window: int, limit: int, timer: int) -> None:
@@ -396,24 +433,25 @@ _accepted_beyond = _call("accepted_beyond", c_uint8, ("nn", c_uint8), ("vs", c_u
 # ---- Telecommand frames ----
 
 
-class Kind(IntEnum):
+class Kind(_Numbers):
     """The type of a telecommand frame (232.0-B-4, 4.1.2.3)."""
 
     AD, BD, BC = range(3)
 
 
-class Segment(IntEnum):
+class Segment(_Numbers):
     """The part of a packet that a segment is (4.1.3.2.2.2)."""
 
     CONTINUING, FIRST, LAST, ALONE = range(4)
 
 
-class Command(IntEnum):
+class Command(_Numbers):
     """The control commands (4.1.3.3)."""
 
     UNLOCK, SET_VR = range(2)
 
 
+@_typed(kind=dict(enumerate(Kind)), flags=dict(enumerate(Segment)), command=dict(enumerate(Command)))
 class TcFrame(_Struct):
     """A telecommand frame without its data (232.0-B-4, 4.1).
 
@@ -426,11 +464,11 @@ class TcFrame(_Struct):
                 ("map", c_uint8), ("command", c_uint8), ("vr", c_uint8)]
     scid: int
     vcid: int
-    kind: int
+    kind: Kind
     n: int
-    flags: int
+    flags: Segment
     map: int
-    command: int
+    command: Command
     vr: int
 
     def __init__(self, scid: int = 0, vcid: int = 0, kind: int = Kind.AD, n: int = 0, flags: int = 0, map: int = 0,
@@ -467,18 +505,19 @@ _tc_declared = _call("tc_declared", c_uint8, c_char_p, c_size_t, c_bool, POINTER
 # ---- Space packets ----
 
 
-class PacketKind(IntEnum):
+class PacketKind(_Numbers):
     """The type of a space packet (133.0-B-2, 4.1.3.3.2)."""
 
     TELEMETRY, TELECOMMAND = range(2)
 
 
-class SequenceFlags(IntEnum):
+class SequenceFlags(_Numbers):
     """The sequence flags of a space packet (133.0-B-2, 4.1.3.4.2)."""
 
     CONTINUATION, FIRST, LAST, UNSEGMENTED = range(4)
 
 
+@_typed(kind=dict(enumerate(PacketKind)), flags=dict(enumerate(SequenceFlags)))
 class Packet(_Struct):
     """A space packet without its data field (133.0-B-2, 4.1).
 
@@ -490,9 +529,9 @@ class Packet(_Struct):
     _fields_ = [("apid", c_uint16), ("count", c_uint16), ("kind", c_uint8), ("secondary", c_uint8), ("flags", c_uint8)]
     apid: int
     count: int
-    kind: int
+    kind: PacketKind
     secondary: int
-    flags: int
+    flags: SequenceFlags
 
     def __init__(self, apid: int = 0, count: int = 0, kind: int = PacketKind.TELEMETRY, secondary: int = 0,
                  flags: int = SequenceFlags.UNSEGMENTED) -> None:

@@ -4,6 +4,7 @@ from __future__ import annotations
 import ctypes
 import warnings
 from ctypes import c_size_t, c_uint8, c_uint16, c_uint32, c_uint64
+from enum import IntEnum, IntFlag
 from functools import wraps
 from os import path
 from typing import Any, Callable, Dict, List, Tuple, TypeVar, cast
@@ -113,6 +114,26 @@ def call_of(library: ctypes.PyDLL, name: str, answer: Any, *kinds: Any) -> Calla
 
     made: Callable[..., Any] = checked if numbers else call
     return made
+
+
+class Numbers(IntEnum):
+    """An enumeration whose members print as their numbers, in each version of Python."""
+
+    def __str__(self) -> str:
+        return int.__repr__(self)
+
+    def __format__(self, how: str) -> str:
+        return int.__format__(self, how)
+
+
+class Bits(IntFlag):
+    """The same of flags."""
+
+    def __str__(self) -> str:
+        return int.__repr__(self)
+
+    def __format__(self, how: str) -> str:
+        return int.__format__(self, how)
 
 
 class Single:

@@ -3,13 +3,12 @@ from __future__ import annotations
 
 import ctypes
 from ctypes import POINTER, c_bool, c_char_p, c_size_t, c_uint8, c_uint16
-from enum import IntEnum
 from typing import List, Optional, Tuple
 
-from ._calls import Alert, Clcw, Mode, _directive
+from ._calls import Alert, Clcw, Mode, State, _directive
 from ._faults import CopFault, LinkFault, SimFault, TelemetryFault
-from ._library import octets_of, within
-from ._nodes import (Config, Heard, Received, Sender, State, _call, _GroundReading, _Heard, _Raw, _Received,
+from ._library import Numbers, octets_of, within
+from ._nodes import (Config, Heard, Received, Sender, _call, _GroundReading, _Heard, _Raw, _Received,
                      _SpacecraftReading)
 
 _REFUSED = 3
@@ -17,7 +16,7 @@ _REFUSED_BY = {1: LinkFault, 2: CopFault, 3: TelemetryFault}
 _SUBMITTED, _DELIVERED, _SENT, _ACCEPTED = range(1, 5)
 
 
-class Begun(IntEnum):
+class Begun(Numbers):
     """How a session began; NOT where none has."""
 
     NOT, WITHOUT_CHECK, WITH_CHECK, UNLOCK, SET_VR = range(5)

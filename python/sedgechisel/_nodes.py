@@ -4,15 +4,16 @@ from __future__ import annotations
 import ctypes
 from ctypes import POINTER, c_bool, c_char_p, c_size_t, c_uint8, c_uint16, c_uint32, c_uint64, c_void_p
 from dataclasses import dataclass
-from enum import EnumMeta, IntEnum
+from enum import EnumMeta
 from threading import RLock
 from types import TracebackType
 from typing import Any, Callable, Dict, Iterator, Optional, Tuple, Type, TypeVar
 
-from ._calls import Alert, Clcw, Command, Mode, Verdict, _directive, _dropped_word, _Struct
+from ._calls import Alert, Clcw, Command, Mode, State, Verdict, _directive, _dropped_word, _Struct
 from ._faults import ClcwFault, ConfigFault, CopFault, Fault, LinkFault, TcFault, TelemetryFault, TmFault
 from ._library import (
-    LONGEST, NODES, Single, call_of, octets_of as _octets_of, renamed, warn_of as _warn_of, written as _written)
+    LONGEST, NODES, Numbers, Single, call_of, octets_of as _octets_of, renamed, warn_of as _warn_of,
+    written as _written)
 
 _ABSENT, _OUT_OF_RANGE, _NONE = 253, 254, 255
 _Own = TypeVar("_Own", bound="Handle")
@@ -152,7 +153,7 @@ class Handle(Single):
 # ---- What comes of octets ----
 
 
-class Arrived(IntEnum):
+class Arrived(Numbers):
     """What octets were that arrived: no frame, one of another spacecraft or channel, a telecommand frame of a type, a
     telemetry frame, or a report by itself."""
 
@@ -171,18 +172,11 @@ class _Renamed(EnumMeta):
         return cls._member_map_[new]
 
 
-class Report(IntEnum, metaclass=_Renamed):
+class Report(Numbers, metaclass=_Renamed):
     """What becomes of a report: it is given to the sender (USED), it is none, the octets being no control word
     (REFUSED), or it is about another virtual channel (OTHER_CHANNEL)."""
 
     USED, REFUSED, OTHER_CHANNEL = range(3)
-
-
-class State(IntEnum):
-    """The sender's state (232.1-B-2, 5.1): active, retransmitting without and with wait, initialising without and with
-    a control command, initial."""
-
-    S1, S2, S3, S4, S5, S6 = range(1, 7)
 
 
 # Members by their numbers, in a tenth of the time that a call of their enumeration takes.

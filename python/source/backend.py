@@ -1,5 +1,6 @@
-"""Builds the package for Python of its source distribution (PEP 517): the two shared libraries of the portable C, by
-the compiler CC, or cc, and the wheel by python/wheel. It needs nothing else, and no network."""
+"""Builds the package for Python of its source distribution, or of a clone of the repository (PEP 517): the two shared
+libraries of the portable C, by the compiler CC, or cc, and the wheel by python/wheel. It needs nothing else, and no
+network."""
 import os
 import shlex
 import subprocess

@@ -25,7 +25,7 @@ def decodes(it):
     return (
         (it.Clcw.decode, bytes.fromhex("01080a07"), it.Clcw(vcid=2, flags=8, farm_b=1, value=7), it.ClcwFault, (
             (1, "81080a07"), (2, "21080a07"), (3, "00080a07"), (4, "01090a07"), (254, "01080a"), (254, ""))),
-        (lambda octets: it.TcFrame.decode(octets, False), bytes.fromhex("0001080c03c4") + COMMAND,
+        (lambda octets: it.TcFrame.decode(octets, checked=False), bytes.fromhex("0001080c03c4") + COMMAND,
          (it.TcFrame(scid=1, vcid=2, n=3, flags=3, map=4), COMMAND), it.TcFault, (
              (1, "0001080c"), (2, "4001080603c4aa"), (3, "1001080603c4aa"), (4, "0401080603c4aa"),
              (5, "0001080703c4aa"), (7, "2001080603c4aa"), (8, "0001080503c4"), (8, "0001080403"),

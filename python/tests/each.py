@@ -70,12 +70,14 @@ def active_alert(it):
 def senders(it):
     """What is next, and the states of a sender by a ground, whose reports these are."""
     fop = it.Fop(width=10, window=5, limit=2, timer=2)
-    found = [fop.next()]
-    fop.init_unlock()
-    found += [fop.next()]
-    fop.terminate()
-    fop.init_set_vr(7)
-    found += [fop.next()]
+    found, controls = [fop.next()], [fop.control]
+    for initiate, number in ((fop.init_unlock, ()), (fop.init_set_vr, (7,))):
+        initiate(*number)
+        controls += [fop.control]
+        found += [fop.next()]
+        controls += [fop.control]
+        fop.terminate()
+    assert [one.name for one in controls] == ["IDLE", "UNLOCK_DUE", "UNLOCK_SENT", "SET_VR_DUE", "SET_VR_SENT"]
     again = active(it)
     again.clcw(0, it.Clcw(flags=it.Flags.RETRANSMIT))
     found += [again.next()]
@@ -99,30 +101,31 @@ def senders(it):
         hears(it.Clcw(vcid=2, flags=it.Flags.RETRANSMIT | it.Flags.WAIT))
         hears(it.Clcw(vcid=2, flags=it.Flags.RETRANSMIT))
     assert [one.name for one in states] == ["S6", "S5", "S4", "S1", "S3", "S2"]
-    return [*(one for one, _ in found), which.FIRST, *states]
+    return [*(one for one, _ in found), which.FIRST, *states, *controls]
 
 
 def read(it):
     """What names the fields of frames, packets and control words."""
-    segments = [it.TcFrame.decode(bytes.fromhex(f"0001080603{flags}aa"), False) for flags in ("04", "44", "84", "c4")]
+    segments = [it.TcFrame.decode(bytes.fromhex(f"0001080603{flags}aa"), checked=False)
+                for flags in ("04", "44", "84", "c4")]
     assert all(data == b"\xaa" and (frame.n, frame.map) == (3, 4) for frame, data in segments)
-    frames = [segments[0][0], *(it.TcFrame.decode(bytes.fromhex(octets), False)[0] for octets in (
+    frames = [segments[0][0], *(it.TcFrame.decode(bytes.fromhex(octets), checked=False)[0] for octets in (
         "20010806003faa", "300108050000", "3001080700820007"))]
-    kinds = [it.Kind(frame.kind) for frame in frames]
+    kinds = [frame.kind for frame in frames]
     assert kinds == [it.Kind.AD, it.Kind.BD, it.Kind.BC, it.Kind.BC] and frames[1].map == 63
-    commands = [it.Command(frame.command) for frame in frames[2:]]
+    commands = [frame.command for frame in frames[2:]]
     assert commands == [it.Command.UNLOCK, it.Command.SET_VR] and frames[3].vr == 7
-    flags = [it.Segment(frame.flags) for frame, _ in segments]
+    flags = [frame.flags for frame, _ in segments]
     assert flags == [it.Segment.CONTINUING, it.Segment.FIRST, it.Segment.LAST, it.Segment.ALONE]
     packets = [it.Packet.decode(bytes.fromhex(octets))[0] for octets in (
         "00050001000055", "10054001000055", "18058001000055", "1805c001000055")]
     assert [packet.secondary for packet in packets] == [0, 0, 1, 1] and {packet.apid for packet in packets} == {5}
-    types = [it.PacketKind(packet.kind) for packet in packets]
+    types = [packet.kind for packet in packets]
     assert types == [it.PacketKind.TELEMETRY, *[it.PacketKind.TELECOMMAND] * 3]
-    sequence = [it.SequenceFlags(packet.flags) for packet in packets]
+    sequence = [packet.flags for packet in packets]
     assert [one.name for one in sequence] == ["CONTINUATION", "FIRST", "LAST", "UNSEGMENTED"]
     words = [it.Clcw.decode(bytes.fromhex(f"0108{flag}07")) for flag in ("08", "10", "20", "40", "80")]
-    bits = [it.Flags(word.flags) for word in words]
+    bits = [word.flags for word in words]
     assert [one.name for one in bits] == ["RETRANSMIT", "WAIT", "LOCKOUT", "NO_BIT_LOCK", "NO_RF"]
     return [*kinds, *commands, *flags, *types, *sequence, *bits]
 
@@ -224,11 +227,11 @@ def longest_frames(it):
     assert it.Packet.declared(command[:6]) == len(command) == 65542 and command[:6].hex() == "1ffeffffffff"
     frame = it.TcFrame(scid=1023, vcid=63, kind=it.Kind.AD, n=255, flags=it.Segment.ALONE, map=63)
     for checked, most in ((True, 1016), (False, 1018)):
-        octets = frame.encode(DATA[:most], checked)
+        octets = frame.encode(DATA[:most], checked=checked)
         assert len(octets) == 1024 and octets[:6].hex() == "03ffffffffff" and octets[6:6 + most] == DATA[:most]
-        assert it.TcFrame.decode(octets, checked) == (frame, DATA[:most])
-        assert it.TcFrame.declared(octets[:5], checked) == 1024
-        says(it.TcFault, "11 FieldRange", frame.encode, DATA[:most + 1], checked)
+        assert it.TcFrame.decode(octets, checked=checked) == (frame, DATA[:most])
+        assert it.TcFrame.declared(octets[:5], checked=checked) == 1024
+        says(it.TcFault, "11 FieldRange", lambda: frame.encode(DATA[:most + 1], checked=checked))
     frame = it.TmFrame(scid=1023, vcid=7, mc_count=255, vc_count=255, pointer=2035, ocf=b"\xff\xfe\xfd\xfc")
     octets = frame.encode(DATA[:2036])
     assert len(octets) == 2048 and octets[:6].hex() == "3fffffff1ff3" and octets[2042:2046] == frame.ocf

@@ -20,7 +20,8 @@ HANDLES = ("ground", "spacecraft", "sim")
 # both, sedge_received_kind and sedge_heard_kind.)
 ENUMS = {"Verdict": "verdict", "Mode": "farm_mode", "Alert": "alert", "Next": "next", "Kind": "tc_kind",
          "Segment": "segment_flags", "Command": "command", "PacketKind": "packet_kind", "Flags": "clcw_flags",
-         "State": "fop_state", "Begun": "begun", "SequenceFlags": "sequence_flags", "Report": "heard_report"}
+         "State": "fop_state", "Control": "control", "Begun": "begun", "SequenceFlags": "sequence_flags",
+         "Report": "heard_report"}
 MEMBERS = {"SEDGE_NO_ALERT": "NONE"}
 
 

@@ -1,6 +1,6 @@
 //! Finds the library for C that `./install --prefix DIR` puts in place: below the folder `SEDGECHISEL_DIR`, or where
 //! the program pkg-config finds it. Where neither is so, a package of the crate, which carries the portable C, compiles
-//! that.
+//! that. Where `DOCS_RS` is set, as by docs.rs, it finds none: the documentation needs no library.
 
 use std::env;
 use std::path::{Path, PathBuf};
@@ -19,8 +19,13 @@ which proves, builds and installs it, and then set one of these to its whole pat
 With `--target TRIPLE`, ./install makes the library of another processor. For that one set SEDGECHISEL_DIR.";
 
 fn main() {
-    for name in ["SEDGECHISEL_DIR", "PKG_CONFIG", "PKG_CONFIG_PATH", "PKG_CONFIG_LIBDIR", "CC", "AR"] {
+    for name in
+        ["SEDGECHISEL_DIR", "PKG_CONFIG", "PKG_CONFIG_PATH", "PKG_CONFIG_LIBDIR", "CC", "AR", "DOCS_RS"]
+    {
         println!("cargo:rerun-if-env-changed={name}");
+    }
+    if env::var_os("DOCS_RS").is_some() {
+        return;
     }
     let folder = match env::var_os("SEDGECHISEL_DIR") {
         Some(prefix) => Some(PathBuf::from(prefix).join("lib")),

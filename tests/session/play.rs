@@ -119,6 +119,7 @@ fn received_text(received: Received) -> String {
         Received::Bypass { kept: false } => "BD dropped".into(),
         Received::Control(Command::Unlock) => "BC unlock".into(),
         Received::Control(Command::SetVr(vr)) => format!("BC set {vr}"),
+        other => panic!("{other:?} has no line"),
     }
 }
 
@@ -136,6 +137,7 @@ fn heard_text(heard: Heard) -> String {
             let alert = alert.map_or(String::new(), |it| format!(" alert {}", it.name()));
             format!("gap={gap} packets={packets}{alert}")
         }
+        other => panic!("{other:?} has no line"),
     }
 }
 
@@ -194,7 +196,7 @@ impl Ends for Nodes {
 
     fn up(&mut self, how: &[&str]) -> Answer {
         let arrived = arriving(&mut self.up, how, |octets| {
-            TcFrame::decode(octets, true).is_ok()
+            TcFrame::decode(octets, Fecf::Present).is_ok()
         })?;
         let Some(octets) = arrived else {
             return Ok("lost".into());

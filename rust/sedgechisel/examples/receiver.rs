@@ -3,7 +3,9 @@
 //! frame the control word for the ground. With the word `--check` each frame ends with its FECF, as on a link. The
 //! receiver takes no memory but what is set aside at the start.
 
-use sedgechisel::{packets, Body, Command, Farm, Map, Segment, SegmentFlags, TcFault, TcFrame, Verdict};
+use sedgechisel::{
+    packets, Body, Command, Farm, Fecf, Map, Segment, SegmentFlags, TcFault, TcFrame, Verdict,
+};
 use std::error::Error;
 use std::io::{stdin, Read};
 
@@ -14,7 +16,7 @@ const WIDTH: u8 = 10;
 const LONGEST_PACKET: usize = 4096;
 
 struct Board<'m> {
-    checked: bool,
+    fecf: Fecf,
     farm: Farm,
     maps: [Map<'m>; 2],
 }
@@ -22,7 +24,7 @@ struct Board<'m> {
 impl Board<'_> {
     /// Takes a frame from the link, and writes what becomes of it.
     fn take(&mut self, octets: &[u8]) -> Result<(), Box<dyn Error>> {
-        match TcFrame::decode(octets, self.checked) {
+        match TcFrame::decode(octets, self.fecf) {
             Err(fault) => println!("no frame: {fault}"),
             Ok(TcFrame { scid: SPACECRAFT, vcid: CHANNEL, body }) => self.receive(body),
             Ok(_) => {}
@@ -74,18 +76,18 @@ fn spelled(octets: &[u8]) -> String {
 }
 
 /// The length of the frame that the octets begin with, if they have all of it.
-fn next_frame(octets: &[u8], checked: bool) -> Result<Option<usize>, TcFault> {
-    match TcFrame::declared(octets, checked) {
+fn next_frame(octets: &[u8], fecf: Fecf) -> Result<Option<usize>, TcFault> {
+    match TcFrame::declared(octets, fecf) {
         Err(TcFault::Short) => Ok(None),
         total => total.map(|it| (it <= octets.len()).then_some(it)),
     }
 }
 
 fn main() -> Result<(), Box<dyn Error>> {
-    let checked = std::env::args().any(|it| it == "--check");
+    let fecf = if std::env::args().any(|it| it == "--check") { Fecf::Present } else { Fecf::Absent };
     let (mut first, mut second) = ([0; LONGEST_PACKET], [0; LONGEST_PACKET]);
     let maps = [Map::new(&mut first, false), Map::new(&mut second, true)];
-    let mut board = Board { checked, farm: Farm::new(WIDTH, 0)?, maps };
+    let mut board = Board { fecf, farm: Farm::new(WIDTH, 0)?, maps };
     let (mut room, mut held) = ([0; TcFrame::LONGEST], 0);
     loop {
         match stdin().read(&mut room[held..])? {
@@ -94,7 +96,7 @@ fn main() -> Result<(), Box<dyn Error>> {
             more => held += more,
         }
         let mut from = 0;
-        while let Some(total) = next_frame(&room[from..held], checked)? {
+        while let Some(total) = next_frame(&room[from..held], fecf)? {
             board.take(&room[from..][..total])?;
             from += total;
         }

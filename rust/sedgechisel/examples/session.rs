@@ -2,7 +2,7 @@
 //! one octet go up, and the program ends when all are acknowledged. It writes what it took, as c/examples/session.c
 //! does.
 
-use sedgechisel::{Body, Clcw, Farm, Fop, Next, Segment, SegmentFlags, TcFrame, Verdict};
+use sedgechisel::{Body, Clcw, Farm, Fecf, Fop, Next, Segment, SegmentFlags, TcFrame, Verdict};
 use std::error::Error;
 
 const UNITS: u8 = 100;
@@ -32,12 +32,12 @@ impl Link {
         let segment = Segment { flags: SegmentFlags::Alone, map: 4, data: &[unit] };
         let frame = TcFrame { scid: 1, vcid: CHANNEL, body: Body::Ad { n, segment } };
         let mut room = [0; 16];
-        let octets = frame.encode(true, &mut room)?;
+        let octets = frame.encode(Fecf::Present, &mut room)?;
         self.frames += 1;
         if self.is_lost() {
             return Ok(None);
         }
-        match TcFrame::decode(octets, true)?.body {
+        match TcFrame::decode(octets, Fecf::Present)?.body {
             Body::Ad { n, segment } if farm.ad(n, true) == Verdict::Accepted => Ok(Some(segment.data[0])),
             _ => Ok(None),
         }

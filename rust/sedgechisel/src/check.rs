@@ -20,8 +20,11 @@ pub fn check(octets: &[u8]) -> u16 {
     ffi::check(octets)
 }
 
-/// Sets the last two octets to the check of those before them (CCSDS 232.0-B-4, 4.1.4.2). Refused with
-/// 254 [`WrongCount`](CheckFault::WrongCount) for fewer than two octets, with nothing written.
+/// Sets the last two octets to the check of those before them (CCSDS 232.0-B-4, 4.1.4.2).
+///
+/// # Errors
+///
+/// Refused with 254 [`WrongCount`](CheckFault::WrongCount) for fewer than two octets, with nothing written.
 pub fn check_append(octets: &mut [u8]) -> Result<(), CheckFault> {
     ffi::check_append(octets).then_some(()).ok_or(CheckFault::WrongCount)
 }

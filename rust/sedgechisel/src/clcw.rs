@@ -37,14 +37,22 @@ pub struct Clcw {
 }
 
 impl Clcw {
-    /// Reads four octets as a control word. Refused with the first of [`ClcwFault`] 1 to 4.
+    /// Reads four octets as a control word.
+    ///
+    /// # Errors
+    ///
+    /// Refused with the first of [`ClcwFault`] 1 to 4.
     pub fn decode(octets: &[u8; 4]) -> Result<Self, ClcwFault> {
         let mut word = ffi::Clcw::default();
         ClcwFault::judge(ffi::clcw_decode(octets, &mut word))?;
         Ok(Self::from_raw(word))
     }
 
-    /// The four octets of the word. Refused with 5 [`Range`](ClcwFault::Range) where a field is too large for its bits.
+    /// The four octets of the word.
+    ///
+    /// # Errors
+    ///
+    /// Refused with 5 [`Range`](ClcwFault::Range) where a field is too large for its bits.
     pub fn encode(&self) -> Result<[u8; 4], ClcwFault> {
         let mut octets = [0; 4];
         ClcwFault::judge(ffi::clcw_encode(&self.raw(), &mut octets))?;

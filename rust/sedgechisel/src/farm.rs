@@ -93,16 +93,22 @@ pub struct FarmFields {
 pub struct Farm(ffi::Farm);
 
 impl Farm {
-    /// A receiver in its state Open, with all flags 0 and FARM-B 0, which expects the number `vr`. Refused with
-    /// 1 [`Width`](CopFault::Width) unless the width of its window is even, 2 to 254.
+    /// A receiver in its state Open, with all flags 0 and FARM-B 0, which expects the number `vr`.
+    ///
+    /// # Errors
+    ///
+    /// Refused with 1 [`Width`](CopFault::Width) unless the width of its window is even, 2 to 254.
     pub fn new(width: u8, vr: u8) -> Result<Self, CopFault> {
         let mut farm = ffi::Farm::default();
         CopFault::judge(ffi::sedge_farm_open(&mut farm, width, vr))?;
         Ok(Self(farm))
     }
 
-    /// A receiver of fields that [`fields`](Farm::fields) returned. Refused with 255 [`Damaged`](CopFault::Damaged)
-    /// where no receiver has them.
+    /// A receiver of fields that [`fields`](Farm::fields) returned.
+    ///
+    /// # Errors
+    ///
+    /// Refused with 255 [`Damaged`](CopFault::Damaged) where no receiver has them.
     pub fn restore(fields: FarmFields) -> Result<Self, CopFault> {
         let farm = ffi::Farm {
             width: fields.width,
@@ -165,7 +171,11 @@ impl Farm {
     }
 
     /// The control word that reports on the receiver as it is, for the virtual channel `vcid`; the flags for the radio
-    /// channel and bit lock are false. Refused with 5 [`Range`](ClcwFault::Range) if `vcid` is not below 64.
+    /// channel and bit lock are false.
+    ///
+    /// # Errors
+    ///
+    /// Refused with 5 [`Range`](ClcwFault::Range) if `vcid` is not below 64.
     pub fn control_word(&self, vcid: u8) -> Result<Clcw, ClcwFault> {
         let mut word = ffi::Clcw::default();
         ClcwFault::judge(ffi::sedge_farm_control_word(&self.0, vcid, &mut word))?;

@@ -135,17 +135,23 @@ pub struct Fop(ffi::Fop);
 
 impl Fop {
     /// A sender in its state S6 with V(S) and NN(R) 0, to a receiver of this window width, with the window K, the
-    /// transmission limit and the timer's value in ticks. Refused with the first of
-    /// 1 [`Width`](CopFault::Width) (not even, 2 to 254), 2 [`Window`](CopFault::Window) (not 1 to half the width),
-    /// 3 [`Limit`](CopFault::Limit) (0) and 4 [`Timer`](CopFault::Timer) (0).
+    /// transmission limit and the timer's value in ticks.
+    ///
+    /// # Errors
+    ///
+    /// Refused with the first of 1 [`Width`](CopFault::Width) (not even, 2 to 254), 2 [`Window`](CopFault::Window) (not
+    /// 1 to half the width), 3 [`Limit`](CopFault::Limit) (0) and 4 [`Timer`](CopFault::Timer) (0).
     pub fn new(width: u8, window: u8, limit: u8, timer: u16) -> Result<Self, CopFault> {
         let mut fop = ffi::Fop::default();
         CopFault::judge(ffi::sedge_fop_open(&mut fop, width, window, limit, timer))?;
         Ok(Self(fop))
     }
 
-    /// A sender of fields that [`fields`](Fop::fields) returned. Refused with 255 [`Damaged`](CopFault::Damaged) where
-    /// no sender has them.
+    /// A sender of fields that [`fields`](Fop::fields) returned.
+    ///
+    /// # Errors
+    ///
+    /// Refused with 255 [`Damaged`](CopFault::Damaged) where no sender has them.
     pub fn restore(fields: FopFields) -> Result<Self, CopFault> {
         let (control, vr) = fields.control.raw();
         let mut fop = ffi::Fop {
@@ -201,8 +207,11 @@ impl Fop {
 
     directives!();
 
-    /// Submits a unit, to be sent under sequence control: it waits, and the caller keeps it. Refused with
-    /// 6 [`NotOpen`](CopFault::NotOpen) in S6, and 7 [`Busy`](CopFault::Busy) while another one waits.
+    /// Submits a unit, to be sent under sequence control: it waits, and the caller keeps it.
+    ///
+    /// # Errors
+    ///
+    /// Refused with 6 [`NotOpen`](CopFault::NotOpen) in S6, and 7 [`Busy`](CopFault::Busy) while another one waits.
     pub fn submit(&mut self) -> Result<(), CopFault> {
         CopFault::judge(ffi::sedge_fop_submit(&mut self.0))
     }

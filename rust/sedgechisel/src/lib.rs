@@ -1,10 +1,11 @@
 //! The CCSDS telecommand link with COP-1, both ends, for programs without heap: the frame check, telecommand
 //! frames, space packets, control words, telemetry frames, the receiver FARM-1, the sender FOP-1, packets in segments
-//! and packets in telemetry frames. The books are CCSDS 133.0-B-2 (space packets), 132.0-B-3 (telemetry), 232.0-B-4 (telecommand) and
-//! 232.1-B-2 (COP-1).
+//! and packets in telemetry frames. With the feature `nodes` it has both nodes with their queues, too, and the simulated
+//! link between two, which need an allocator. The books are CCSDS 133.0-B-2 (space packets), 132.0-B-3 (telemetry),
+//! 232.0-B-4 (telecommand) and 232.1-B-2 (COP-1).
 //!
 //! This crate gives safe types to the library for C, of which each call is proved to do what its contract says. The
-//! crate itself is tested, not proved. It allocates nothing, keeps no state of its own, and needs no `std`.
+//! crate itself is tested, not proved. Without `nodes` it allocates nothing, keeps no state of its own, and needs no `std`.
 //!
 //! - A codec is a type with `decode` and `encode`: [`TcFrame`], [`Packet`], [`Clcw`], [`TmFrame`]. What is decoded
 //!   borrows its data from the octets.
@@ -13,11 +14,11 @@
 //! - What is refused is an `Err` of a small enum of faults, with the number and the name that sedgechisel.h has.
 //!
 //! ```
-//! use sedgechisel::{Body, Farm, SegmentFlags, TcFrame, Verdict};
+//! use sedgechisel::{Body, Farm, Fecf, SegmentFlags, TcFrame, Verdict};
 //!
 //! let octets = [0x00, 0x01, 0x08, 0x0e, 0x00, 0xc4, 0x10, 0x05, 0xc0, 0x00, 0x00, 0x00, 0xaa, 0xe7, 0x5d];
 //! let mut farm = Farm::new(10, 0)?;
-//! let frame = TcFrame::decode(&octets, true)?;
+//! let frame = TcFrame::decode(&octets, Fecf::Present)?;
 //! if let TcFrame { scid: 1, vcid: 2, body: Body::Ad { n, segment } } = frame {
 //!     assert_eq!(farm.ad(n, true), Verdict::Accepted);
 //!     assert_eq!((segment.flags, segment.map, segment.data.len()), (SegmentFlags::Alone, 4, 7));
@@ -26,8 +27,11 @@
 //! # Ok::<(), Box<dyn std::error::Error>>(())
 //! ```
 //!
+//! Enums of faults, alerts and what comes of octets are `#[non_exhaustive]`: there may be more of them later.
+//!
 //! No call panics, unless the library that is linked is not the one that this crate was made for.
 #![no_std]
+#![cfg_attr(docsrs, feature(doc_cfg))]
 #![deny(unsafe_code, missing_docs)]
 
 #[cfg(feature = "nodes")]
@@ -60,13 +64,14 @@ pub use clcw::{Clcw, ClcwFault};
 pub use farm::{CopFault, Farm, FarmFields, FarmMode, Verdict};
 pub use fop::{accepted_beyond, Alert, Control, Fop, FopFields, FopState, Next, Reported};
 pub use map::{packets, segments, Dropped, Limits, Map, MapFault, Packets, Segments, Taken};
+#[cfg_attr(docsrs, doc(cfg(feature = "nodes")))]
 #[cfg(feature = "nodes")]
 pub use nodes::{
     Begun, Config, Ground, Heard, HeardClcw, HeardReport, Link, LinkFault, OpenFault, Parameter, Received,
     Record, SimFault, Spacecraft,
 };
 pub use packet::{Packet, PacketFault, PacketKind, SequenceFlags};
-pub use tc::{Body, Command, Segment, SegmentFlags, TcFault, TcFrame};
+pub use tc::{Body, Command, Fecf, Segment, SegmentFlags, TcFault, TcFrame};
 pub use tm::{Pointer, TmFault, TmFrame};
 pub use tm_packets::{Extracted, TmBuilder, TmExtractor, TmPackets};
 pub use version::{version, Version};

@@ -130,8 +130,7 @@ pub struct Limits {
 }
 
 /// The segments that a packet is cut into, or with blocking one or more packets, one after another (CCSDS 232.0-B-4,
-/// 4.1.3.2.2). Nothing is copied. Refused with 255 [`Damaged`](MapFault::Damaged) for a part of 0, and then with the
-/// first of 1 [`NotAPacket`](MapFault::NotAPacket) and 2 [`TooLong`](MapFault::TooLong).
+/// 4.1.3.2.2). Nothing is copied.
 ///
 /// ```
 /// use sedgechisel::{segments, Limits};
@@ -144,6 +143,11 @@ pub struct Limits {
 /// }
 /// # Ok::<(), sedgechisel::MapFault>(())
 /// ```
+///
+/// # Errors
+///
+/// Refused with 255 [`Damaged`](MapFault::Damaged) for a part of 0, and then with the first of 1
+/// [`NotAPacket`](MapFault::NotAPacket) and 2 [`TooLong`](MapFault::TooLong).
 pub fn segments<'a>(octets: &'a [u8], limits: &Limits) -> Result<Segments<'a>, MapFault> {
     let limits =
         ffi::Limits { part: limits.part, max_packet: limits.max_packet, blocking: limits.blocking.into() };

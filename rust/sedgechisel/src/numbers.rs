@@ -37,10 +37,11 @@ macro_rules! numbers {
     };
 }
 
-/// An enum of reasons, which are errors: each has a number, a name, and a text that says what it means.
+/// An enum of reasons, which are errors: each has a number, a name, and a text that says what it means. There may be more
+/// of them later.
 macro_rules! reasons {
     ($(#[$notes:meta])* $name:ident { $($case:ident = $number:literal, $text:literal;)* }) => {
-        numbers! { $(#[$notes])* $name { $(#[doc = $text] $case = $number,)* } }
+        numbers! { $(#[$notes])* #[non_exhaustive] $name { $(#[doc = $text] $case = $number,)* } }
 
         impl $name {
             /// The name, as `tctool` writes it.

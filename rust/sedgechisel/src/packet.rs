@@ -60,8 +60,12 @@ impl<'a> Packet<'a> {
     pub const LONGEST: usize = 65_542;
 
     /// Reads the packet at the beginning of the octets; the packet ends where its data end, and octets after it are
-    /// ignored. Refused with the first of [`PacketFault`] 1 to 3 (1 [`Truncated`](PacketFault::Truncated) for fewer
-    /// octets than declared comes last).
+    /// ignored.
+    ///
+    /// # Errors
+    ///
+    /// Refused with the first of [`PacketFault`] 1 to 3 (1 [`Truncated`](PacketFault::Truncated) for fewer octets than
+    /// declared comes last).
     pub fn decode(octets: &'a [u8]) -> Result<Self, PacketFault> {
         let (mut packet, mut part) = (ffi::Packet::default(), ffi::Part::default());
         PacketFault::judge(ffi::packet_decode(octets, &mut packet, &mut part))?;
@@ -75,8 +79,12 @@ impl<'a> Packet<'a> {
         })
     }
 
-    /// Writes the packet to the beginning of `out`, and returns its octets, 6 more than its data. Refused with the
-    /// first of 5 [`FieldRange`](PacketFault::FieldRange) and 4 [`Room`](PacketFault::Room), with nothing written.
+    /// Writes the packet to the beginning of `out`, and returns its octets, 6 more than its data.
+    ///
+    /// # Errors
+    ///
+    /// Refused with the first of 5 [`FieldRange`](PacketFault::FieldRange) and 4 [`Room`](PacketFault::Room), with
+    /// nothing written.
     pub fn encode<'o>(&self, out: &'o mut [u8]) -> Result<&'o mut [u8], PacketFault> {
         let packet = ffi::Packet {
             apid: self.apid,
@@ -91,8 +99,12 @@ impl<'a> Packet<'a> {
     }
 
     /// The length in octets of the packet that begins with these octets, by its first 6 octets alone; for cutting a
-    /// stream (CCSDS 133.0-B-2, 4.1.3.5). Refused with 1 [`Truncated`](PacketFault::Truncated) for fewer than 6 octets,
-    /// or 2 [`Version`](PacketFault::Version), or 3 [`IdleWithSecondary`](PacketFault::IdleWithSecondary).
+    /// stream (CCSDS 133.0-B-2, 4.1.3.5).
+    ///
+    /// # Errors
+    ///
+    /// Refused with 1 [`Truncated`](PacketFault::Truncated) for fewer than 6 octets, or 2
+    /// [`Version`](PacketFault::Version), or 3 [`IdleWithSecondary`](PacketFault::IdleWithSecondary).
     pub fn declared(octets: &[u8]) -> Result<usize, PacketFault> {
         let mut total = 0;
         PacketFault::judge(ffi::packet_declared(octets, &mut total))?;

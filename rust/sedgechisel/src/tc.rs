@@ -34,6 +34,26 @@ numbers! {
     }
 }
 
+/// Whether a telecommand frame ends with its FECF, the frame error control field (CCSDS 232.0-B-4, 4.1.4).
+#[derive(Clone, Copy, Debug, PartialEq, Eq, Hash)]
+pub enum Fecf {
+    /// It ends with the two octets.
+    Present,
+    /// It does not.
+    Absent,
+}
+
+/// `true` is [`Present`](Fecf::Present). For calls as they were before there was a [`Fecf`]; it will be taken away.
+impl From<bool> for Fecf {
+    fn from(is_present: bool) -> Self {
+        if is_present {
+            Self::Present
+        } else {
+            Self::Absent
+        }
+    }
+}
+
 /// A segment: its header, and the data after it (CCSDS 232.0-B-4, 4.1.3.2.2).
 #[derive(Clone, Copy, Debug, PartialEq, Eq, Hash)]
 pub struct Segment<'a> {
@@ -88,11 +108,14 @@ impl<'a> TcFrame<'a> {
     /// The most octets of a frame.
     pub const LONGEST: usize = 1024;
 
-    /// Reads all of the octets as one frame, which ends with its FECF if `checked` is true. Refused with the first of
-    /// [`TcFault`] 1 to 9.
-    pub fn decode(octets: &'a [u8], checked: bool) -> Result<Self, TcFault> {
+    /// Reads all of the octets as one frame, with or without its FECF: `decode(octets, Fecf::Present)`.
+    ///
+    /// # Errors
+    ///
+    /// Refused with the first of [`TcFault`] 1 to 9.
+    pub fn decode(octets: &'a [u8], fecf: impl Into<Fecf>) -> Result<Self, TcFault> {
         let (mut frame, mut part) = (ffi::TcFrame::default(), ffi::Part::default());
-        TcFault::judge(ffi::tc_decode(octets, checked, &mut frame, &mut part))?;
+        TcFault::judge(ffi::tc_decode(octets, fecf.into().is_present(), &mut frame, &mut part))?;
         let segment =
             || Segment { flags: SegmentFlags::of(frame.flags), map: frame.map, data: part.of(octets) };
         let body = match frame.kind {
@@ -104,10 +127,13 @@ impl<'a> TcFrame<'a> {
         Ok(Self { scid: frame.scid, vcid: frame.vcid, body })
     }
 
-    /// Writes the frame to the beginning of `out`, with its FECF if `checked` is true, and returns its octets, 6 to
-    /// 1,024. Refused with the first of 11 [`FieldRange`](TcFault::FieldRange) and 10 [`Room`](TcFault::Room), with
-    /// nothing written.
-    pub fn encode<'o>(&self, checked: bool, out: &'o mut [u8]) -> Result<&'o mut [u8], TcFault> {
+    /// Writes the frame to the beginning of `out`, with or without its FECF, and returns its octets, 6 to 1,024.
+    ///
+    /// # Errors
+    ///
+    /// Refused with the first of 11 [`FieldRange`](TcFault::FieldRange) and 10 [`Room`](TcFault::Room), with nothing
+    /// written.
+    pub fn encode<'o>(&self, fecf: impl Into<Fecf>, out: &'o mut [u8]) -> Result<&'o mut [u8], TcFault> {
         let mut frame = ffi::TcFrame { scid: self.scid, vcid: self.vcid, ..ffi::TcFrame::default() };
         let data = match self.body {
             Body::Ad { n, segment } => {
@@ -125,17 +151,27 @@ impl<'a> TcFrame<'a> {
             }
         };
         let mut total = 0;
-        TcFault::judge(ffi::tc_encode(&frame, data, checked, out, &mut total))?;
+        TcFault::judge(ffi::tc_encode(&frame, data, fecf.into().is_present(), out, &mut total))?;
         Ok(&mut out[..total])
     }
 
     /// The length in octets of the frame that begins with these octets, by its first 5 octets alone; for cutting a
-    /// stream (CCSDS 232.0-B-4, 4.1.2.7). Refused with 1 [`Short`](TcFault::Short) for fewer than 5 octets, and
-    /// 5 [`Length`](TcFault::Length) if it declares fewer than 5, or with the FECF fewer than 7.
-    pub fn declared(octets: &[u8], checked: bool) -> Result<usize, TcFault> {
+    /// stream (CCSDS 232.0-B-4, 4.1.2.7).
+    ///
+    /// # Errors
+    ///
+    /// Refused with 1 [`Short`](TcFault::Short) for fewer than 5 octets, and 5 [`Length`](TcFault::Length) if it
+    /// declares fewer than 5, or with the FECF fewer than 7.
+    pub fn declared(octets: &[u8], fecf: impl Into<Fecf>) -> Result<usize, TcFault> {
         let mut total = 0;
-        TcFault::judge(ffi::tc_declared(octets, checked, &mut total))?;
+        TcFault::judge(ffi::tc_declared(octets, fecf.into().is_present(), &mut total))?;
         Ok(total)
+    }
+}
+
+impl Fecf {
+    const fn is_present(self) -> bool {
+        matches!(self, Self::Present)
     }
 }
 

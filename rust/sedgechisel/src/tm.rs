@@ -54,7 +54,11 @@ impl<'a> TmFrame<'a> {
     /// The most octets of a frame.
     pub const LONGEST: usize = 2048;
 
-    /// Reads all of the octets as one frame of this length. Refused with the first of [`TmFault`] 1 to 6.
+    /// Reads all of the octets as one frame of this length.
+    ///
+    /// # Errors
+    ///
+    /// Refused with the first of [`TmFault`] 1 to 6.
     pub fn decode(octets: &'a [u8], length: usize) -> Result<Self, TmFault> {
         let (mut frame, mut part) = (ffi::TmFrame::default(), ffi::Part::default());
         TmFault::judge(ffi::tm_decode(octets, length, &mut frame, &mut part))?;
@@ -70,6 +74,9 @@ impl<'a> TmFrame<'a> {
     }
 
     /// Writes the frame and its FECF to the beginning of `out`, and returns its octets, 12 more than its data.
+    ///
+    /// # Errors
+    ///
     /// Refused with the first of 10 [`FieldRange`](TmFault::FieldRange) and 9 [`Room`](TmFault::Room), with nothing
     /// written.
     pub fn encode<'o>(&self, out: &'o mut [u8]) -> Result<&'o mut [u8], TmFault> {

@@ -27,7 +27,11 @@ pub struct TmBuilder<'m> {
 
 impl<'m> TmBuilder<'m> {
     /// A builder of frames of `length` octets, 16 to 2,048, whose counts begin at 0. The memory is as many octets of
-    /// packets as may wait. Refused with 10 [`FieldRange`](TmFault::FieldRange).
+    /// packets as may wait.
+    ///
+    /// # Errors
+    ///
+    /// Refused with 10 [`FieldRange`](TmFault::FieldRange).
     pub fn new(scid: u16, vcid: u8, length: usize, memory: &'m mut [u8]) -> Result<Self, TmFault> {
         Ok(Self { kept: ffi::TmBuilder::opened(scid, vcid, length)?, memory: Memory::Lent(memory) })
     }
@@ -38,15 +42,22 @@ impl<'m> TmBuilder<'m> {
         ffi::Part { from: self.kept.from, count: self.kept.count }.of(&self.memory)
     }
 
-    /// Queues a packet, all of its octets. Refused with the first of 8 [`NotAPacket`](TmFault::NotAPacket), for octets
-    /// that are not exactly one packet or an idle one, and 7 [`Memory`](TmFault::Memory).
+    /// Queues a packet, all of its octets.
+    ///
+    /// # Errors
+    ///
+    /// Refused with the first of 8 [`NotAPacket`](TmFault::NotAPacket), for octets that are not exactly one packet or
+    /// an idle one, and 7 [`Memory`](TmFault::Memory).
     pub fn queue(&mut self, packet: &[u8]) -> Result<(), TmFault> {
         TmFault::judge(ffi::tm_builder_queue(&mut self.kept, packet, &mut self.memory))
     }
 
     /// Writes the next frame, with this operational control field, to the beginning of `out`, and returns its octets.
-    /// Where packets run out it has an idle packet, and where none are left only idle data. Refused with 9
-    /// [`Room`](TmFault::Room), with nothing written.
+    /// Where packets run out it has an idle packet, and where none are left only idle data.
+    ///
+    /// # Errors
+    ///
+    /// Refused with 9 [`Room`](TmFault::Room), with nothing written.
     pub fn build<'o>(&mut self, ocf: [u8; 4], out: &'o mut [u8]) -> Result<&'o mut [u8], TmFault> {
         let mut total = 0;
         TmFault::judge(ffi::tm_builder_build(&mut self.kept, &ocf, &self.memory, out, &mut total))?;
@@ -55,10 +66,15 @@ impl<'m> TmBuilder<'m> {
 }
 
 #[cfg(feature = "nodes")]
+#[cfg_attr(docsrs, doc(cfg(feature = "nodes")))]
 impl TmBuilder<'static> {
     /// A builder as [`new`](TmBuilder::new) begins one, which owns its memory: `room` octets of packets may wait. It
-    /// may go to another thread, and gives its memory back when it is dropped. Refused with the first of 10
-    /// [`FieldRange`](TmFault::FieldRange) and 7 [`Memory`](TmFault::Memory), where there is none.
+    /// may go to another thread, and gives its memory back when it is dropped.
+    ///
+    /// # Errors
+    ///
+    /// Refused with the first of 10 [`FieldRange`](TmFault::FieldRange) and 7 [`Memory`](TmFault::Memory), where there
+    /// is none.
     pub fn owning(scid: u16, vcid: u8, length: usize, room: usize) -> Result<Self, TmFault> {
         let kept = ffi::TmBuilder::opened(scid, vcid, length)?;
         Ok(Self { kept, memory: Memory::own(room).ok_or(TmFault::Memory)? })
@@ -115,7 +131,11 @@ impl<'m> TmExtractor<'m> {
     }
 
     /// Takes the next frame of its spacecraft and channel that came. Where frames are missing before it, the part is
-    /// dropped. Refused with the first of 10 [`FieldRange`](TmFault::FieldRange), for a pointer after the data, and 7
+    /// dropped.
+    ///
+    /// # Errors
+    ///
+    /// Refused with the first of 10 [`FieldRange`](TmFault::FieldRange), for a pointer after the data, and 7
     /// [`Memory`](TmFault::Memory); then the frame counts as missing.
     pub fn take<'t>(&'t mut self, frame: &TmFrame<'t>) -> Result<Extracted<'t>, TmFault> {
         let (kept, memory, mut extracted) = (&mut self.kept, &mut self.memory, ffi::TmExtracted::default());
@@ -127,10 +147,14 @@ impl<'m> TmExtractor<'m> {
 }
 
 #[cfg(feature = "nodes")]
+#[cfg_attr(docsrs, doc(cfg(feature = "nodes")))]
 impl TmExtractor<'static> {
     /// An extractor as [`new`](TmExtractor::new) begins one, which owns its memory, of `room` octets. It may go to
-    /// another thread, and gives its memory back when it is dropped. Refused with 7 [`Memory`](TmFault::Memory) alone,
-    /// where there is none.
+    /// another thread, and gives its memory back when it is dropped.
+    ///
+    /// # Errors
+    ///
+    /// Refused with 7 [`Memory`](TmFault::Memory) alone, where there is none.
     pub fn owning(room: usize) -> Result<Self, TmFault> {
         Ok(Self { kept: ffi::TmExtractor::default(), memory: Memory::own(room).ok_or(TmFault::Memory)? })
     }

@@ -6,6 +6,7 @@ use core::fmt;
 
 numbers! {
     /// The managed parameters, in the order of [`Config`].
+    #[non_exhaustive]
     Parameter {
         /// `scid`.
         Scid = 1,
@@ -66,6 +67,7 @@ impl Parameter {
 }
 
 /// The managed parameters, with the ranges and the defaults of docs/PROFILE.md. Both ends of a link have the same ones.
+/// End a literal with `..Config::default()`, so that it stands where there is one more.
 ///
 /// ```
 /// use sedgechisel::{Config, Parameter};
@@ -171,6 +173,7 @@ impl Config {
 
 /// Why a node is not opened.
 #[derive(Clone, Copy, Debug, PartialEq, Eq, Hash)]
+#[non_exhaustive]
 pub enum OpenFault {
     /// The first parameter that is out of its range.
     OutOfRange(Parameter),

@@ -10,6 +10,7 @@ use core::iter::FusedIterator;
 
 /// What the ground makes of a report, which a telemetry frame carries, or which comes by itself.
 #[derive(Clone, Copy, Debug, PartialEq, Eq, Hash)]
+#[non_exhaustive]
 pub enum HeardReport {
     /// It is given to the sender.
     Used,
@@ -30,6 +31,7 @@ pub struct HeardClcw {
 
 /// What the ground makes of octets that it received.
 #[derive(Clone, Copy, Debug, PartialEq, Eq, Hash)]
+#[non_exhaustive]
 pub enum Heard {
     /// They are no telemetry frame.
     Invalid(TmFault),
@@ -122,8 +124,11 @@ impl fmt::Debug for Ground {
 }
 
 impl Ground {
-    /// A ground in the state S6 with V(S) and NN(R) 0. Refused with the first parameter that is out of its range, or
-    /// for want of memory.
+    /// A ground in the state S6 with V(S) and NN(R) 0.
+    ///
+    /// # Errors
+    ///
+    /// Refused with the first parameter that is out of its range, or for want of memory.
     pub fn new(config: &Config) -> Result<Self, OpenFault> {
         let mut ground = Self(raw::Own::default());
         config.judge(raw::sedge_ground_open(&config.raw(), ground.0.get()))?;
@@ -137,13 +142,19 @@ impl Ground {
     directives!();
 
     /// Submits packets on a MAP, to be sent under sequence control: one, or with blocking several, one after another.
+    ///
+    /// # Errors
+    ///
     /// Refused with the first [`LinkFault`] that applies.
     pub fn submit(&mut self, map: u8, packets: &[u8]) -> Result<(), LinkFault> {
         LinkFault::judge(raw::ground_submit(self.0.get(), map, packets))
     }
 
-    /// Submits one packet on a MAP past the sequence control, in any state. Refused with the first [`LinkFault`] of 2
-    /// to 6 that applies.
+    /// Submits one packet on a MAP past the sequence control, in any state.
+    ///
+    /// # Errors
+    ///
+    /// Refused with the first [`LinkFault`] of 2 to 6 that applies.
     pub fn bypass(&mut self, map: u8, packet: &[u8]) -> Result<(), LinkFault> {
         LinkFault::judge(raw::ground_bypass(self.0.get(), map, packet))
     }
@@ -181,8 +192,11 @@ impl Ground {
         done(raw::sedge_ground_advance(self.0.get()));
     }
 
-    /// Octets came from the spacecraft, which are one telemetry frame if all is well. Refused with 6
-    /// [`Memory`](LinkFault::Memory) alone.
+    /// Octets came from the spacecraft, which are one telemetry frame if all is well.
+    ///
+    /// # Errors
+    ///
+    /// Refused with 6 [`Memory`](LinkFault::Memory) alone.
     pub fn telemetry(&mut self, octets: &[u8]) -> Result<Heard, LinkFault> {
         let mut heard = raw::Heard::default();
         in_memory(raw::ground_telemetry(self.0.get(), octets, &mut heard))?;
@@ -220,8 +234,11 @@ impl Ground {
         self.clcw_in(octets)
     }
 
-    /// Takes the oldest packet that telemetry frames carried, if one waits. Refused with 6
-    /// [`Memory`](LinkFault::Memory) alone; the packet waits then.
+    /// Takes the oldest packet that telemetry frames carried, if one waits.
+    ///
+    /// # Errors
+    ///
+    /// Refused with 6 [`Memory`](LinkFault::Memory) alone; the packet waits then.
     pub fn take_telemetry(&mut self) -> Result<Option<Vec<u8>>, LinkFault> {
         let mut count = 0;
         done(raw::sedge_ground_next_telemetry(self.0.get(), &mut count));
@@ -267,8 +284,12 @@ impl Ground {
     /// Begins the next session after an alert, where the last one has got to: sets V(S) to the value of a report that
     /// was made when nothing was on its way up, begins by Unlock (CCSDS 232.1-B-2, 5.2.4), and returns the number of
     /// first ones of the submissions of the session that ended that are on board whole; those after them are to be
-    /// submitted again. Refused with 7 [`NotKnown`](LinkFault::NotKnown) alone: the sender is not in S6, no session has
-    /// begun, V(S) was set since, or the value does not lie from NN(R) to V(S). Nothing has changed then.
+    /// submitted again.
+    ///
+    /// # Errors
+    ///
+    /// Refused with 7 [`NotKnown`](LinkFault::NotKnown) alone: the sender is not in S6, no session has begun, V(S) was
+    /// set since, or the value does not lie from NN(R) to V(S). Nothing has changed then.
     pub fn resume(&mut self, value: u8) -> Result<u64, LinkFault> {
         let mut whole = 0;
         LinkFault::judge(raw::sedge_ground_resume(self.0.get(), value, &mut whole))?;

@@ -20,6 +20,7 @@ faults! {
 
 /// How a session began.
 #[derive(Clone, Copy, Debug, PartialEq, Eq, Hash)]
+#[non_exhaustive]
 pub enum Begun {
     /// Without CLCW check.
     WithoutCheck,
@@ -95,7 +96,11 @@ fn refusal<F>(reply: Result<raw::Reply, SimFault>, of: fn(u8) -> F, memory: F) -
 }
 
 impl Link {
-    /// A link with two new nodes. Refused with the first parameter that is out of its range, or for want of memory.
+    /// A link with two new nodes.
+    ///
+    /// # Errors
+    ///
+    /// Refused with the first parameter that is out of its range, or for want of memory.
     pub fn new(config: &Config) -> Result<Self, OpenFault> {
         let mut link = Self(raw::Own::default());
         config.judge(raw::sedge_sim_open(&config.raw(), link.0.get()))?;
@@ -136,69 +141,112 @@ impl Link {
     directives!();
 
     /// [`Ground::submit`](crate::Ground::submit).
+    ///
+    /// # Errors
+    ///
+    /// Refused with the first [`LinkFault`] that applies.
     pub fn submit(&mut self, map: u8, packets: &[u8]) -> Result<(), LinkFault> {
         let reply = self.event(raw::SEDGE_EVENT_SUBMIT, map, packets);
         refusal(reply, LinkFault::of, LinkFault::Memory)
     }
 
     /// [`Ground::bypass`](crate::Ground::bypass).
+    ///
+    /// # Errors
+    ///
+    /// Refused with the first [`LinkFault`] of 2 to 6 that applies.
     pub fn bypass(&mut self, map: u8, packet: &[u8]) -> Result<(), LinkFault> {
         let reply = self.event(raw::SEDGE_EVENT_BYPASS, map, packet);
         refusal(reply, LinkFault::of, LinkFault::Memory)
     }
 
     /// [`Spacecraft::telemetry`](crate::Spacecraft::telemetry).
+    ///
+    /// # Errors
+    ///
+    /// Refused with 8 [`NotAPacket`](TmFault::NotAPacket) or 7 [`Memory`](TmFault::Memory).
     pub fn telemetry(&mut self, packet: &[u8]) -> Result<(), TmFault> {
         let reply = self.event(raw::SEDGE_EVENT_TELEMETRY, 0, packet);
         refusal(reply, TmFault::of, TmFault::Memory)
     }
 
-    /// The ground sends a frame, which is on its way up then; or `None`, if nothing is to be sent now. Refused with 6
-    /// [`Memory`](SimFault::Memory) alone.
+    /// The ground sends a frame, which is on its way up then; or `None`, if nothing is to be sent now.
+    ///
+    /// # Errors
+    ///
+    /// Refused with 6 [`Memory`](SimFault::Memory) alone.
     pub fn send(&mut self) -> Result<Option<Vec<u8>>, SimFault> {
         let frame = self.given(TcFrame::LONGEST, raw::SEDGE_EVENT_SEND)?;
         Ok(frame.map(|(_, octets)| octets))
     }
 
-    /// The first frame on its way up arrives. Refused with 7 [`NothingInTransit`](SimFault::NothingInTransit) if there
-    /// is none, as are the five calls like it, or with 6 [`Memory`](SimFault::Memory).
+    /// The first frame on its way up arrives.
+    ///
+    /// # Errors
+    ///
+    /// Refused with 7 [`NothingInTransit`](SimFault::NothingInTransit) if there is none, or with 6
+    /// [`Memory`](SimFault::Memory).
     pub fn up_deliver(&mut self) -> Result<Received, SimFault> {
         let reply = self.event(raw::SEDGE_EVENT_UP_DELIVER, 0, &[])?;
         Ok(Received::from_raw(&reply.up))
     }
 
     /// The first frame on its way up is lost.
+    ///
+    /// # Errors
+    ///
+    /// Refused with 7 [`NothingInTransit`](SimFault::NothingInTransit) if there is none.
     pub fn up_lose(&mut self) -> Result<(), SimFault> {
         self.event(raw::SEDGE_EVENT_UP_LOSE, 0, &[]).map(drop)
     }
 
-    /// These octets arrive in its place, which are no frame. Refused with 8
-    /// [`NotDetectable`](SimFault::NotDetectable) if they are one.
+    /// These octets arrive in its place, which are no frame.
+    ///
+    /// # Errors
+    ///
+    /// Refused with 7 [`NothingInTransit`](SimFault::NothingInTransit) if there is no frame, or with 8
+    /// [`NotDetectable`](SimFault::NotDetectable) if the octets are one.
     pub fn up_damage(&mut self, octets: &[u8]) -> Result<Received, SimFault> {
         let reply = self.event(raw::SEDGE_EVENT_UP_DAMAGE, 0, octets)?;
         Ok(Received::from_raw(&reply.up))
     }
 
-    /// The spacecraft sends a telemetry frame, which is on its way down then: the report in it. Refused with 6
-    /// [`Memory`](SimFault::Memory) alone.
+    /// The spacecraft sends a telemetry frame, which is on its way down then: the report in it.
+    ///
+    /// # Errors
+    ///
+    /// Refused with 6 [`Memory`](SimFault::Memory) alone.
     pub fn report(&mut self) -> Result<Clcw, SimFault> {
         let reply = self.event(raw::SEDGE_EVENT_REPORT, 0, &[])?;
         Ok(Clcw::from_raw(reply.report))
     }
 
     /// The first frame on its way down arrives.
+    ///
+    /// # Errors
+    ///
+    /// Refused with 7 [`NothingInTransit`](SimFault::NothingInTransit) if there is none, or with 6
+    /// [`Memory`](SimFault::Memory).
     pub fn down_deliver(&mut self) -> Result<Heard, SimFault> {
         let reply = self.event(raw::SEDGE_EVENT_DOWN_DELIVER, 0, &[])?;
         Ok(Heard::from_raw(&reply.down))
     }
 
     /// The first frame on its way down is lost.
+    ///
+    /// # Errors
+    ///
+    /// Refused with 7 [`NothingInTransit`](SimFault::NothingInTransit) if there is none.
     pub fn down_lose(&mut self) -> Result<(), SimFault> {
         self.event(raw::SEDGE_EVENT_DOWN_LOSE, 0, &[]).map(drop)
     }
 
-    /// These octets arrive in its place, which are no frame. Refused with 8
-    /// [`NotDetectable`](SimFault::NotDetectable) if they are one.
+    /// These octets arrive in its place, which are no frame.
+    ///
+    /// # Errors
+    ///
+    /// Refused with 7 [`NothingInTransit`](SimFault::NothingInTransit) if there is no frame, or with 8
+    /// [`NotDetectable`](SimFault::NotDetectable) if the octets are one.
     pub fn down_damage(&mut self, octets: &[u8]) -> Result<Heard, SimFault> {
         let reply = self.event(raw::SEDGE_EVENT_DOWN_DAMAGE, 0, octets)?;
         Ok(Heard::from_raw(&reply.down))
@@ -213,13 +261,20 @@ impl Link {
         }
     }
 
-    /// A packet of sequence-controlled frames is taken on board, with its MAP, if one waits. Refused with 6
-    /// [`Memory`](SimFault::Memory) alone.
+    /// A packet of sequence-controlled frames is taken on board, with its MAP, if one waits.
+    ///
+    /// # Errors
+    ///
+    /// Refused with 6 [`Memory`](SimFault::Memory) alone.
     pub fn take(&mut self) -> Result<Option<(u8, Vec<u8>)>, SimFault> {
         self.given(Packet::LONGEST, raw::SEDGE_EVENT_TAKE)
     }
 
     /// The same of the packets that came past the sequence control.
+    ///
+    /// # Errors
+    ///
+    /// Refused with 6 [`Memory`](SimFault::Memory) alone.
     pub fn take_bypass(&mut self) -> Result<Option<(u8, Vec<u8>)>, SimFault> {
         self.given(Packet::LONGEST, raw::SEDGE_EVENT_TAKE_BYPASS)
     }

@@ -10,6 +10,7 @@ use core::iter::FusedIterator;
 
 /// What the spacecraft makes of octets that it received.
 #[derive(Clone, Copy, Debug, PartialEq, Eq, Hash)]
+#[non_exhaustive]
 pub enum Received {
     /// They are no telecommand frame.
     Invalid(TcFault),
@@ -90,24 +91,33 @@ impl fmt::Debug for Spacecraft {
 }
 
 impl Spacecraft {
-    /// A spacecraft that has received nothing. Refused with the first parameter that is out of its range, or for want
-    /// of memory.
+    /// A spacecraft that has received nothing.
+    ///
+    /// # Errors
+    ///
+    /// Refused with the first parameter that is out of its range, or for want of memory.
     pub fn new(config: &Config) -> Result<Self, OpenFault> {
         let mut spacecraft = Self(raw::Own::default());
         config.judge(raw::sedge_spacecraft_open(&config.raw(), spacecraft.0.get()))?;
         Ok(spacecraft)
     }
 
-    /// Octets came from the ground, which are one telecommand frame with its FECF if all is well. Refused with 6
-    /// [`Memory`](LinkFault::Memory) alone.
+    /// Octets came from the ground, which are one telecommand frame with its FECF if all is well.
+    ///
+    /// # Errors
+    ///
+    /// Refused with 6 [`Memory`](LinkFault::Memory) alone.
     pub fn receive(&mut self, octets: &[u8]) -> Result<Received, LinkFault> {
         let mut received = raw::Received::default();
         in_memory(raw::spacecraft_receive(self.0.get(), octets, &mut received))?;
         Ok(Received::from_raw(&received))
     }
 
-    /// Takes the oldest packet of sequence-controlled frames, with its MAP, if one waits. Refused with 6
-    /// [`Memory`](LinkFault::Memory) alone; the packet waits then.
+    /// Takes the oldest packet of sequence-controlled frames, with its MAP, if one waits.
+    ///
+    /// # Errors
+    ///
+    /// Refused with 6 [`Memory`](LinkFault::Memory) alone; the packet waits then.
     pub fn take(&mut self) -> Result<Option<(u8, Vec<u8>)>, LinkFault> {
         let (mut map, mut count) = (0, 0);
         done(raw::sedge_spacecraft_next(self.0.get(), &mut map, &mut count));
@@ -122,8 +132,11 @@ impl Spacecraft {
         one_by_one(|| self.take())
     }
 
-    /// Takes the oldest packet that came past the sequence control, with its MAP, if one is kept. Refused with 6
-    /// [`Memory`](LinkFault::Memory) alone; the packet is kept then.
+    /// Takes the oldest packet that came past the sequence control, with its MAP, if one is kept.
+    ///
+    /// # Errors
+    ///
+    /// Refused with 6 [`Memory`](LinkFault::Memory) alone; the packet is kept then.
     pub fn take_bypass(&mut self) -> Result<Option<(u8, Vec<u8>)>, LinkFault> {
         let (mut map, mut count) = (0, 0);
         done(raw::sedge_spacecraft_next_bypass(self.0.get(), &mut map, &mut count));
@@ -137,8 +150,12 @@ impl Spacecraft {
         one_by_one(|| self.take_bypass())
     }
 
-    /// Queues a packet to be sent as telemetry. Refused with 8 [`NotAPacket`](TmFault::NotAPacket) (the octets are not
-    /// exactly one packet, or an idle packet) or 7 [`Memory`](TmFault::Memory).
+    /// Queues a packet to be sent as telemetry.
+    ///
+    /// # Errors
+    ///
+    /// Refused with 8 [`NotAPacket`](TmFault::NotAPacket) (the octets are not exactly one packet, or an idle packet) or
+    /// 7 [`Memory`](TmFault::Memory).
     pub fn telemetry(&mut self, packet: &[u8]) -> Result<(), TmFault> {
         TmFault::judge(raw::spacecraft_telemetry(self.0.get(), packet))
     }

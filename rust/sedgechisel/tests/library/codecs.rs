@@ -94,13 +94,13 @@ fn bits_of_a_control_word() {
 }
 
 /// The frame has these octets, and is read again of them; octets after it stay.
-fn is_spelled(frame: TcFrame, digits: &str, checked: bool) {
+fn is_spelled(frame: TcFrame, digits: &str, fecf: Fecf) {
     let octets = octets_of(digits);
     let mut out = [0x55; 16];
-    assert_eq!(frame.encode(checked, &mut out).map(|it| &*it), Ok(&octets[..]));
+    assert_eq!(frame.encode(fecf, &mut out).map(|it| &*it), Ok(&octets[..]));
     assert!(out[octets.len()..].iter().all(|it| *it == 0x55));
-    assert_eq!(TcFrame::decode(&octets, checked), Ok(frame));
-    assert_eq!(TcFrame::declared(&octets[..5], checked), Ok(octets.len()));
+    assert_eq!(TcFrame::decode(&octets, fecf), Ok(frame));
+    assert_eq!(TcFrame::declared(&octets[..5], fecf), Ok(octets.len()));
 }
 
 #[test]
@@ -108,32 +108,35 @@ fn telecommand_frames() {
     let packet = octets_of("1005c0000000aa");
     let segment = Segment { flags: SegmentFlags::Alone, map: 4, data: &packet };
     let frame = |body| TcFrame { scid: 1, vcid: 2, body };
-    is_spelled(frame(Body::Ad { n: 3, segment }), "0001080c03c41005c0000000aa", false);
-    is_spelled(frame(Body::Ad { n: 0, segment }), "0001080e00c41005c0000000aae75d", true);
-    is_spelled(frame(Body::Bd { segment }), "2001080c00c41005c0000000aa", false);
-    is_spelled(frame(Body::Bc(Command::SetVr(7))), "3001080700820007", false);
-    is_spelled(frame(Body::Bc(Command::Unlock)), "300108050000", false);
-    is_spelled(frame(Body::Bc(Command::Unlock)), "3001080700008b9e", true);
+    is_spelled(frame(Body::Ad { n: 3, segment }), "0001080c03c41005c0000000aa", Fecf::Absent);
+    is_spelled(frame(Body::Ad { n: 0, segment }), "0001080e00c41005c0000000aae75d", Fecf::Present);
+    is_spelled(frame(Body::Bd { segment }), "2001080c00c41005c0000000aa", Fecf::Absent);
+    is_spelled(frame(Body::Bc(Command::SetVr(7))), "3001080700820007", Fecf::Absent);
+    is_spelled(frame(Body::Bc(Command::Unlock)), "300108050000", Fecf::Absent);
+    is_spelled(frame(Body::Bc(Command::Unlock)), "3001080700008b9e", Fecf::Present);
 }
 
 #[test]
 fn refused_telecommand_frames() {
-    let refused = |digits: &str, checked| TcFrame::decode(&octets_of(digits), checked).unwrap_err();
-    assert_eq!(refused("30010805", false), TcFault::Short);
-    assert_eq!(refused("", false), TcFault::Short);
-    assert_eq!(refused("4001080c03c41005c0000000aa", false), TcFault::Version);
-    assert_eq!(refused("1001080c03c41005c0000000aa", false), TcFault::ReservedType);
-    assert_eq!(refused("0401080c03c41005c0000000aa", false), TcFault::Spare);
-    assert_eq!(refused("30010805000000", false), TcFault::Length);
-    assert_eq!(refused("300108050000", true), TcFault::Length);
-    assert_eq!(refused("3001080700008b9f", true), TcFault::Check);
-    assert_eq!(refused("300108050100", false), TcFault::BypassNumber);
-    assert_eq!(refused("0001080503c4", false), TcFault::EmptyData);
-    assert_eq!(refused("0001080403", false), TcFault::EmptyData);
-    assert_eq!(refused("300108050001", false), TcFault::Command);
-    assert_eq!(TcFrame::declared(&octets_of("00010803"), false), Err(TcFault::Short));
-    assert_eq!(TcFrame::declared(&octets_of("0001080303"), false), Err(TcFault::Length));
-    assert_eq!(TcFrame::declared(&octets_of("300108050000"), true), Err(TcFault::Length));
+    let refused = |digits: &str, fecf: Fecf| TcFrame::decode(&octets_of(digits), fecf).unwrap_err();
+    // As before there was a Fecf.
+    assert_eq!((Fecf::from(true), Fecf::from(false)), (Fecf::Present, Fecf::Absent));
+    assert_eq!(TcFrame::declared(&octets_of("3001080700"), true), Ok(8));
+    assert_eq!(refused("30010805", Fecf::Absent), TcFault::Short);
+    assert_eq!(refused("", Fecf::Absent), TcFault::Short);
+    assert_eq!(refused("4001080c03c41005c0000000aa", Fecf::Absent), TcFault::Version);
+    assert_eq!(refused("1001080c03c41005c0000000aa", Fecf::Absent), TcFault::ReservedType);
+    assert_eq!(refused("0401080c03c41005c0000000aa", Fecf::Absent), TcFault::Spare);
+    assert_eq!(refused("30010805000000", Fecf::Absent), TcFault::Length);
+    assert_eq!(refused("300108050000", Fecf::Present), TcFault::Length);
+    assert_eq!(refused("3001080700008b9f", Fecf::Present), TcFault::Check);
+    assert_eq!(refused("300108050100", Fecf::Absent), TcFault::BypassNumber);
+    assert_eq!(refused("0001080503c4", Fecf::Absent), TcFault::EmptyData);
+    assert_eq!(refused("0001080403", Fecf::Absent), TcFault::EmptyData);
+    assert_eq!(refused("300108050001", Fecf::Absent), TcFault::Command);
+    assert_eq!(TcFrame::declared(&octets_of("00010803"), Fecf::Absent), Err(TcFault::Short));
+    assert_eq!(TcFrame::declared(&octets_of("0001080303"), Fecf::Absent), Err(TcFault::Length));
+    assert_eq!(TcFrame::declared(&octets_of("300108050000"), Fecf::Present), Err(TcFault::Length));
 }
 
 /// Each frame that differs from one in one octet is refused.
@@ -144,7 +147,7 @@ fn a_wrong_octet() {
         for value in 0..=255 {
             let mut octets = whole.clone();
             octets[place] = value;
-            assert_eq!(TcFrame::decode(&octets, true).is_ok(), octets == whole);
+            assert_eq!(TcFrame::decode(&octets, Fecf::Present).is_ok(), octets == whole);
         }
     }
 }
@@ -155,7 +158,7 @@ fn unwritten_telecommand_frames() {
         let (data, mut out) = ([0; 1017], [0x55; 1100]);
         let segment = Segment { flags: SegmentFlags::Last, map, data: &data[..count] };
         let frame = TcFrame { scid, vcid, body: Body::Ad { n: 255, segment } };
-        let total = frame.encode(true, &mut out[..room]).map(|it| it.len());
+        let total = frame.encode(Fecf::Present, &mut out[..room]).map(|it| it.len());
         assert!(total.is_ok() || out.iter().all(|it| *it == 0x55));
         total
     }
@@ -224,7 +227,7 @@ fn flags_of_segments() {
     ] {
         let segment = Segment { flags, map: 4, data: &[0xaa] };
         let frame = TcFrame { scid: 1, vcid: 2, body: Body::Ad { n: 3, segment } };
-        is_spelled(frame, &format!("0001080603{octet:02x}aa"), false);
+        is_spelled(frame, &format!("0001080603{octet:02x}aa"), Fecf::Absent);
     }
 }
 

@@ -12,7 +12,7 @@ fn a_link(config: &Config) -> Link {
 
 fn control_frame(command: Command) -> Vec<u8> {
     let frame = TcFrame { scid: 1, vcid: 2, body: Body::Bc(command) };
-    frame.encode(true, &mut [0; 16]).unwrap().to_vec()
+    frame.encode(Fecf::Present, &mut [0; 16]).unwrap().to_vec()
 }
 
 /// What a link knows of how its session began: clean, with an idle start, confirmed.

@@ -156,7 +156,7 @@ fn what_a_spacecraft_receives() {
     let mut given = |scid, vcid, body| {
         let mut room = [0; 64];
         let frame = TcFrame { scid, vcid, body };
-        spacecraft.receive(frame.encode(true, &mut room).unwrap()).unwrap()
+        spacecraft.receive(frame.encode(Fecf::Present, &mut room).unwrap()).unwrap()
     };
     for (scid, vcid) in [(2, 2), (1, 3)] {
         assert_eq!(given(scid, vcid, Body::Bc(Command::Unlock)), Received::Foreign);
@@ -248,7 +248,8 @@ fn the_directives_to_a_ground() {
     assert_eq!((ground.terminate(), ground.state()), (Ok(()), FopState::S6));
     assert_eq!((ground.init_unlock(), ground.state()), (Ok(()), FopState::S5));
     let control = |ground: &mut Ground| {
-        TcFrame::decode(&sent(ground).unwrap(), true).map(|it| it.body == Body::Bc(Command::SetVr(9)))
+        TcFrame::decode(&sent(ground).unwrap(), Fecf::Present)
+            .map(|it| it.body == Body::Bc(Command::SetVr(9)))
     };
     assert_eq!((control(&mut ground), ground.terminate()), (Ok(false), Ok(())));
     assert_eq!(
@@ -349,7 +350,7 @@ fn parameters_of_the_ground() {
     for ((n, octets), data) in (0..).zip(&frames).zip([&fifteen, &eight]) {
         let segment = Segment { flags: SegmentFlags::Alone, map: 63, data };
         assert_eq!(
-            TcFrame::decode(octets, true),
+            TcFrame::decode(octets, Fecf::Present),
             Ok(TcFrame { scid: 1023, vcid: 61, body: Body::Ad { n, segment } })
         );
     }
@@ -366,7 +367,7 @@ fn parameters_of_the_spacecraft() {
         let (segment, mut room) = (Segment { flags: SegmentFlags::Alone, map, data }, [0; 64]);
         let body = n.map_or(Body::Bd { segment }, |n| Body::Ad { n, segment });
         let frame = TcFrame { scid: 1023, vcid: 61, body };
-        spacecraft.receive(frame.encode(true, &mut room).unwrap()).unwrap()
+        spacecraft.receive(frame.encode(Fecf::Present, &mut room).unwrap()).unwrap()
     };
     for (map, data, kept) in
         [(63, &seven, true), (62, &seven, false), (63, &octets_of("1005C0000002AABBCC"), false)]
@@ -402,7 +403,10 @@ fn the_width_of_a_board() {
         let segment = Segment { flags: SegmentFlags::Alone, map: 63, data: &octets_of(P0) };
         let frame = TcFrame { scid: 1023, vcid: 61, body: Body::Ad { n, segment } };
         let mut room = [0; 64];
-        assert_eq!(spacecraft.receive(frame.encode(true, &mut room).unwrap()), Ok(sequence(n, verdict, 0)));
+        assert_eq!(
+            spacecraft.receive(frame.encode(Fecf::Present, &mut room).unwrap()),
+            Ok(sequence(n, verdict, 0))
+        );
     }
 }
 

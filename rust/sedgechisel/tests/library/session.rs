@@ -50,8 +50,8 @@ fn arrived(farm: &mut Farm, n: u8, unit: &[u8], expected: u16) -> u16 {
     let mut room = [0; 16];
     let segment = Segment { flags: SegmentFlags::Alone, map: 4, data: unit };
     let frame = TcFrame { scid: 1, vcid: CHANNEL, body: Body::Ad { n, segment } };
-    let octets = frame.encode(true, &mut room).unwrap();
-    assert_eq!(TcFrame::decode(octets, true), Ok(frame));
+    let octets = frame.encode(Fecf::Present, &mut room).unwrap();
+    assert_eq!(TcFrame::decode(octets, Fecf::Present), Ok(frame));
     let is_accepted = farm.ad(n, true) == Verdict::Accepted;
     assert!(!is_accepted || unit == expected.to_be_bytes());
     u16::from(is_accepted)

@@ -203,7 +203,7 @@ fn lines_of_map(blocking: bool) {
     let mut maps: Vec<Map> = memories.iter_mut().map(|it| Map::new(it, blocking)).collect();
     let mut lines = String::new();
     for (index, octets) in (1..).zip(&records) {
-        match TcFrame::decode(octets, false) {
+        match TcFrame::decode(octets, Fecf::Absent) {
             Err(fault) => lines += &format!("{index} {}\n", refused(fault.number(), fault.name())),
             Ok(frame) => lines += &map_lines(index, given(&mut farm, frame.body).0, frame.body, &mut maps),
         }
@@ -267,6 +267,7 @@ fn board_lines(index: usize, spacecraft: &mut Spacecraft, octets: &[u8]) -> Stri
             format!("bypass {map} {}\n", hex(&packet))
         }
         Received::Control(_) => String::new(),
+        other => panic!("{other:?} has no line"),
     }
 }
 
