@@ -500,6 +500,20 @@ SEDGE_CHECK uint8_t sedge_packet_encode(const struct sedge_packet *packet, const
  * SEDGE_PACKET_IDLE_WITH_SECONDARY. */
 SEDGE_CHECK uint8_t sedge_packet_declared(const uint8_t *octets, size_t count, size_t *total);
 
+/* A check of the sequence counts of all application processes: it shows packets that are missing (133.0-B-2,
+ * 4.1.3.4.3). Begin it with sedge_gap_check_open; its field may be read at any time. */
+struct sedge_gap_check {
+    uint16_t last[2048]; /* by APID; above 16,383 where no packet of it was seen */
+};
+
+/* Begins a check of sequence counts, which has seen no packet. */
+void sedge_gap_check_open(struct sedge_gap_check *check);
+
+/* Sees a packet of this APID with this count, as sedge_packet_decode gives them, and writes how many are missing before
+ * it to missing: (count - last - 1) modulo 16,384. Returns 0, or SEDGE_ABSENT for the first packet of the APID, which
+ * is seen; or SEDGE_PACKET_FIELD_RANGE if apid is not below 2,048 or count not below 16,384. */
+uint8_t sedge_gap_check_see(struct sedge_gap_check *check, uint16_t apid, uint16_t count, uint16_t *missing);
+
 /* ---- Telemetry transfer frames of 16 to 2,048 octets, with an operational control field and an FECF (132.0-B-3,
  * 4.1). ---- */
 

@@ -355,11 +355,20 @@ struct sedge_spacecraft_reading {
     uint8_t farm_b;
     uint8_t value;
     uint8_t state;       /* of the receiver, of sedge_farm_mode */
+    uint8_t mc_count;    /* the next frame's count on the master channel */
+    uint8_t vc_count;    /* the next frame's count on the virtual channel */
 };
 
 /* Reads the spacecraft: how many octets a telemetry frame has, how many packets wait, the report that the next frame
- * carries, and the receiver's state. It stays as it was. Returns 0. */
+ * carries, its counts, and the receiver's state. It stays as it was. Returns 0. */
 uint8_t sedge_spacecraft_read(struct sedge_spacecraft *spacecraft, struct sedge_spacecraft_reading *read);
+
+/* Opens a spacecraft that goes on with what sedge_spacecraft_read gave before a restart on purpose: V(R), which is
+ * value there, farm_b, and the counts of telemetry frames. Its receiver is Open with no flag, and no packet is on
+ * board; the other fields are not looked at. It is opened as sedge_spacecraft_open does. Returns 0,
+ * SEDGE_NODE_OUT_OF_RANGE (also if farm_b is not below 4) or SEDGE_NODE_MEMORY. */
+uint8_t sedge_spacecraft_open_at(const struct sedge_config *config, const struct sedge_spacecraft_reading *kept,
+                                 struct sedge_spacecraft *spacecraft);
 
 /* ---- A simulated link between two nodes, for tests: it keeps its order in each direction, and loses or damages
  * frames only so that the receiver sees it. ---- */

@@ -3,7 +3,7 @@
 - Codecs: the FECF of frames, telecommand frames (`TcFrame`), space packets (`Packet`), control words (`Clcw`) and
   telemetry frames (`TmFrame`).
 - Machines: the receiver FARM-1 (`Farm`), the sender FOP-1 (`Fop`), packets in segments (`Map`, `segments`), and packets
-  in telemetry frames (`TmBuilder`, `TmExtractor`).
+  in telemetry frames (`TmBuilder`, `TmExtractor`). `GapCheck` counts the packets that are missing.
 - Nodes: the ground (`Ground`) and the spacecraft (`Spacecraft`), with their queues, and the simulated link between them
   (`Link`).
 - Files: `read_frames` reads telemetry frames.
@@ -13,22 +13,21 @@ its meaning. The fields of structs are those of the headers too; a number that d
 OverflowError. The books are
 CCSDS 133.0-B-2 (space packets), 132.0-B-3 (telemetry), 232.0-B-4 (telecommand) and 232.1-B-2 (COP-1)."""
 from ._calls import (
-    NO_START, ONLY_IDLE, Alert, Clcw, Command, Control, Farm, Flags, Fop, Kind, Map, Mode, Next, Packet, PacketKind,
-    Segment, SequenceFlags, State, TcFrame, TmBuilder, TmExtractor, TmFrame, Verdict, accepted_beyond, check,
+    NO_START, ONLY_IDLE, Alert, Clcw, Command, Control, Farm, Flags, Fop, GapCheck, Kind, Map, Mode, Next, Packet,
+    PacketKind, Segment, SequenceFlags, State, TcFrame, TmBuilder, TmExtractor, TmFrame, Verdict, accepted_beyond, check,
     check_append, check_holds, segments, version)
 from ._faults import (
     CheckFault, ClcwFault, ConfigFault, CopFault, Fault, LinkFault, MapFault, PacketFault, SimFault, TcFault,
     TelemetryFault, TmFault)
 from ._files import read_frames
 from ._link import Begun, Link
-from ._nodes import Arrived, Config, Ground, Heard, Received, Report, Spacecraft
+from ._nodes import Arrived, Config, Ground, Heard, KeptNumbers, Received, Report, Spacecraft
 
 __version__ = version
 __all__ = [
     "NO_START", "ONLY_IDLE", "Alert", "Arrived", "Begun", "CheckFault", "Clcw", "ClcwFault", "Command", "Config",
-    "ConfigFault", "Control", "CopFault", "Farm", "Fault", "Flags", "Fop", "Ground", "Heard", "Kind", "Link",
-    "LinkFault", "Map",
-    "MapFault", "Mode", "Next", "Packet", "PacketFault", "PacketKind", "Received", "Report", "Segment", "SequenceFlags",
-    "SimFault", "Spacecraft", "State", "TcFault", "TcFrame", "TelemetryFault", "TmBuilder", "TmExtractor", "TmFault",
-    "TmFrame", "Verdict", "accepted_beyond", "check", "check_append", "check_holds", "read_frames", "segments",
-    "version"]
+    "ConfigFault", "Control", "CopFault", "Farm", "Fault", "Flags", "Fop", "GapCheck", "Ground", "Heard", "KeptNumbers",
+    "Kind", "Link", "LinkFault", "Map", "MapFault", "Mode", "Next", "Packet", "PacketFault", "PacketKind", "Received",
+    "Report", "Segment", "SequenceFlags", "SimFault", "Spacecraft", "State", "TcFault", "TcFrame", "TelemetryFault",
+    "TmBuilder", "TmExtractor", "TmFault", "TmFrame", "Verdict", "accepted_beyond", "check", "check_append",
+    "check_holds", "read_frames", "segments", "version"]

@@ -561,6 +561,34 @@ _packet_encode = _call("packet_encode", c_uint8, POINTER(Packet), c_char_p, c_si
                        POINTER(c_size_t))
 _packet_declared = _call("packet_declared", c_uint8, c_char_p, c_size_t, POINTER(c_size_t))
 
+
+class _GapCheck(ctypes.Structure):
+    _fields_ = [("_last", c_uint16 * 2048)]
+
+
+class GapCheck(Single):
+    """How many packets are missing, by the sequence counts of all application processes (133.0-B-2, 4.1.3.4.3)."""
+
+    def __init__(self) -> None:
+        self._check = _GapCheck()
+        _gap_check_open(self._check)
+
+    def see(self, apid: int, count: int) -> Optional[int]:
+        """Sees a packet with these numbers, as a Packet has them: how many are missing before it, (count - last - 1)
+        modulo 16,384, or None for the first of its APID. A PacketFault, 5 FieldRange, where `apid` is above 2,047 or
+        `count` above 16,383."""
+        missing = c_uint16()
+        answer = _gap_check_see(self._check, apid, count, missing)
+        if answer == _ABSENT:
+            return None
+        PacketFault._look_at(answer)
+        return missing.value
+
+
+_gap_check_open = _call("gap_check_open", None, POINTER(_GapCheck))
+_gap_check_see = _call("gap_check_see", c_uint8, POINTER(_GapCheck), ("apid", c_uint16), ("count", c_uint16),
+                       POINTER(c_uint16))
+
 # ---- Telemetry frames ----
 
 ONLY_IDLE, NO_START = 2046, 2047

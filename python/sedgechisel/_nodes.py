@@ -12,8 +12,8 @@ from typing import Any, Callable, Dict, Iterator, Optional, Tuple, Type, TypeVar
 from ._calls import Alert, Clcw, Command, Mode, State, Verdict, _directive, _dropped_word, _Struct
 from ._faults import ClcwFault, ConfigFault, CopFault, Fault, LinkFault, TcFault, TelemetryFault, TmFault
 from ._library import (
-    LONGEST, NODES, Numbers, Single, call_of, octets_of as _octets_of, renamed, warn_of as _warn_of,
-    written as _written)
+    LONGEST, NODES, Numbers, Single, call_of, octets_of as _octets_of, renamed, struct_of as _struct_of,
+    warn_of as _warn_of, within as _within, written as _written)
 
 _ABSENT, _OUT_OF_RANGE, _NONE = 253, 254, 255
 _Own = TypeVar("_Own", bound="Handle")
@@ -94,10 +94,13 @@ class Handle(Single):
             raise TypeError(f"config: {config!r} is not a Config; parameters are given by name, as in timer=3")
         if not hasattr(self, "_handle"):
             self._handle, self._lock = _Raw(), RLock()
-        answer = type(self)._opens(config, self._handle)
+        answer = self._open(config)
         if answer == _OUT_OF_RANGE:
             raise ConfigFault(_config_fault(config))
         LinkFault._look_at(answer)
+
+    def _open(self, config: Config) -> int:
+        return type(self)._opens(config, self._handle)
 
     def close(self) -> None:
         """Closes it, and gives its memory back; again does nothing."""
@@ -522,17 +525,53 @@ _ground_read = _call("ground_read", c_uint8, POINTER(_Raw), POINTER(_GroundReadi
 
 class _SpacecraftReading(ctypes.Structure):
     _fields_ = [("frame_length", c_size_t), ("ready", c_size_t), ("bypassed", c_size_t), ("status", c_uint8),
-                ("vcid", c_uint8), ("flags", c_uint8), ("farm_b", c_uint8), ("value", c_uint8), ("state", c_uint8)]
+                ("vcid", c_uint8), ("flags", c_uint8), ("farm_b", c_uint8), ("value", c_uint8), ("state", c_uint8),
+                ("mc_count", c_uint8), ("vc_count", c_uint8)]
 
 
 _spacecraft_open = _call("spacecraft_open", c_uint8, POINTER(Config), POINTER(_Raw))
+_spacecraft_open_at = _call("spacecraft_open_at", c_uint8, POINTER(Config), POINTER(_SpacecraftReading), POINTER(_Raw))
 _spacecraft_close = _call("spacecraft_close", None, POINTER(_Raw))
+
+
+@dataclass(frozen=True)
+class KeptNumbers:
+    """The numbers with which a spacecraft that is restarted on purpose goes on.
+
+    - `vr`, V(R), the number of the next frame to be accepted
+    - `farm_b`, FARM-B, the count of Type-B frames modulo 4
+    - `mc_count` and `vc_count`, the next telemetry frame's counts on the master and on the virtual channel"""
+
+    vr: int = 0
+    farm_b: int = 0
+    mc_count: int = 0
+    vc_count: int = 0
+
+    def _read(self) -> _SpacecraftReading:
+        for name in ("vr", "farm_b", "mc_count", "vc_count"):
+            _within(name, c_uint8, getattr(self, name))
+        return _SpacecraftReading(value=self.vr, farm_b=self.farm_b, mc_count=self.mc_count, vc_count=self.vc_count)
 
 
 class Spacecraft(Handle):
     """The spacecraft: it receives packets and reports, and sends telemetry."""
 
     _opens, _closes = _spacecraft_open, _spacecraft_close
+
+    def __init__(self, config: Optional[Config] = None, *, kept: Optional[KeptNumbers] = None, **fields: int) -> None:
+        """A spacecraft with these managed parameters, as any node is made. With `kept` it goes on with the numbers that
+        `kept_numbers` gave before a restart on purpose; its receiver is OPEN with no flag, and no packet is on board. A
+        number that `kept` cannot have is an OverflowError."""
+        self._kept = None if kept is None else _struct_of("kept", KeptNumbers, kept)._read()
+        super().__init__(config, **fields)
+
+    def _open(self, config: Config) -> int:
+        if self._kept is None:
+            return super()._open(config)
+        answer = int(_spacecraft_open_at(config, self._kept, self._handle))
+        if answer == _OUT_OF_RANGE and not _config_fault(config):
+            raise OverflowError(f"farm_b: {self._kept.farm_b} is not in 0 to 3")
+        return answer
 
     def receive(self, octets: bytes) -> Received:
         """Octets came from the ground, which are one telecommand frame with its FECF if all is well. A LinkFault, 6
@@ -583,6 +622,12 @@ class Spacecraft(Handle):
     def _shown(self) -> str:
         read = self._read()
         return f"{Mode(read.state).name}, V(R)={read.value}"
+
+    @property
+    def kept_numbers(self) -> KeptNumbers:
+        """The numbers with which a spacecraft goes on that is restarted: `Spacecraft(config, kept=..)`."""
+        it = self._read()
+        return KeptNumbers(it.value, it.farm_b, it.mc_count, it.vc_count)
 
     @property
     def control_word(self) -> Clcw:

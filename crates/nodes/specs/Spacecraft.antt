@@ -20,8 +20,10 @@ use Rattle.cop1.specs.Report.{report_of}
 use Rattle.tm_link.specs.declared.fault.TmFault.{TmFault}
 use Rattle.tm_link.specs.declared.fault.TmFault.TheVariants.{NotAPacket}
 use Rattle.tm_link.specs.Layout as telemetry
-use Rattle.tm_link.specs.Builder.{BuilderState, new_builder, is_to_send, after_queue, build_step}
+use Rattle.tm_link.specs.Builder.{BuilderState, new_builder, builder_with_counts, is_to_send}
+use Rattle.tm_link.specs.Builder.{after_queue, build_step}
 use Rattle.nodes.specs.declared.config.Config.{Config}
+use Rattle.nodes.specs.declared.spacecraft.KeptNumbers.{KeptNumbers}
 use Rattle.nodes.specs.declared.received.Received.{Received}
 use Rattle.nodes.specs.declared.received.Received.TheVariants.{Invalid, Foreign, Sequence, Bypass}
 use Rattle.nodes.specs.declared.received.Received.TheVariants.{Control}
@@ -55,6 +57,23 @@ new_spacecraft c = record {
   ready = [];
   bypass = [];
   builder = new_builder c.scid c.tm_vcid c.frame_length;
+}
+
+-- a new one that goes on with kept numbers, as after a restart on purpose: packets and parts of them
+-- that were on board are gone, and the receiver is open with no flag
+abbrev pub restarted_spacecraft : Config → KeptNumbers → SpacecraftState
+restarted_spacecraft c kept = record (new_spacecraft c) {
+  farm = record (new_farm c.width kept.vr) { farm_b = kept.farm_b };
+  builder = builder_with_counts c.scid c.tm_vcid c.frame_length kept.mc_count kept.vc_count;
+}
+
+-- the numbers that it goes on with, as they are now
+abbrev pub kept_numbers : SpacecraftState → KeptNumbers
+kept_numbers s = record {
+  vr = s.farm.vr;
+  farm_b = s.farm.farm_b;
+  mc_count = s.builder.mc_count;
+  vc_count = s.builder.vc_count;
 }
 
 -- the buffer is free where fewer packets than the ready slots wait

@@ -33,5 +33,5 @@ pub use heard::{Heard, HeardClcw, HeardReport};
 pub use laws::law_of_delivery;
 pub use parameter::{PARAMETERS, Parameter};
 pub use received::Received;
-pub use spacecraft::{Arrival, Spacecraft};
+pub use spacecraft::{Arrival, KeptNumbers, Spacecraft};
 pub use valid_config::ValidConfig;

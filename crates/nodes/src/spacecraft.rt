@@ -1,5 +1,8 @@
 // The node on board.
 
+ghost use Rattle.std.specs.Prelude.{◌≡◌, ◌<◌};
+ghost use Rattle.cop1.specs.Farm.{IsWidth, new_farm};
+
 mod accepted;
 mod arrival;
 mod receive;
@@ -12,7 +15,7 @@ use crate::valid_config::ValidConfig;
 pub use arrival::Arrival;
 use circular_buffer::HeapCircularBuffer;
 use clcw::{Clcw, encode};
-use cop1::{Farm, FarmMode};
+use cop1::{Farm, FarmFields, FarmMode};
 use map_service::Assembler;
 use std::alloc::Global;
 use std::collections::VecDeque;
@@ -21,6 +24,21 @@ use tm_link::{TmBuilder, TmFault};
 
 // More packets than one frame may make ready: its segment has at most 1,016 octets of data, and a packet more than 6.
 const MOST_PACKETS: usize = 170;
+
+/// The numbers with which a spacecraft that is restarted on purpose goes on, which the program keeps
+/// meanwhile: those of its receiver (CCSDS 232.1-B-2, 6.1) and of its telemetry frames (CCSDS
+/// 132.0-B-3, 4.1.2).
+#[derive(Clone, Copy, Debug, PartialEq, Eq)]
+pub struct KeptNumbers {
+    /// V(R), the number of the next frame to be accepted.
+    pub vr: u8,
+    /// FARM-B, the count of Type-B frames modulo 4, 0 to 3.
+    pub farm_b: u8,
+    /// The next telemetry frame's count on the master channel.
+    pub mc_count: u8,
+    /// The next telemetry frame's count on the virtual channel.
+    pub vc_count: u8,
+}
 
 /// The node on board: it receives telecommand frames, keeps the packets that they carry until they
 /// are taken, and sends telemetry frames that report on the receiver.
@@ -49,13 +67,13 @@ impl Model for Spacecraft {
 }
 
 impl Spacecraft {
-    ghost use Rattle.std.specs.Prelude.{◌≡◌, ◌++◌, drop, take, length, Ok, option_map, IfOk, IfSome, IfErr, OnOk, OnErr, IsOkUnless, IsTrue};
+    ghost use Rattle.std.specs.Prelude.{◌≡◌, ◌<◌, ◌++◌, drop, take, length, Ok, option_map, IfOk, IfSome, IfErr, OnOk, OnErr, IsOkUnless, IsTrue};
     ghost use Rattle.clcw.specs.Encoding.{fits};
     ghost use Rattle.cop1.specs.Report.{report_of};
     ghost use Rattle.tm_link.specs.Builder.{queue_fault};
     ghost use Rattle.tm_link.specs.Layout.{IsTmFrame};
     ghost use Rattle.tm_link.specs.Encoding.{spelling};
-    ghost use Rattle.nodes.specs.Spacecraft.{new_spacecraft, spacecraft_step, Take, TakeBypass, Telemetry, Report, IsOwnFrame};
+    ghost use Rattle.nodes.specs.Spacecraft.{new_spacecraft, restarted_spacecraft, kept_numbers, spacecraft_step, Take, TakeBypass, Telemetry, Report, IsOwnFrame};
     ghost use Rattle.nodes.specs.PacketFields.{IsPacketOn};
     ghost use Rattle.nodes.specs.Packets.{packet_view, lent_packet};
     ghost use Rattle.nodes.specs.Parameters.{IsConfig};
@@ -77,13 +95,42 @@ impl Spacecraft {
         ensures made { IfOk result (λ spacecraft. spacecraft ≡ new_spacecraft valid.now) }
         ensures fault { IsOkUnless result LinkFault.Memory }
     {
-        let config = valid.config();
-        let Ok(farm) = Farm::new(config.width as u8, 0) else {
-            unreachable!()
+        let first = KeptNumbers {
+            vr: 0,
+            farm_b: 0,
+            mc_count: 0,
+            vc_count: 0,
         };
+        Spacecraft::restarted(alloc, valid.config(), first)
+    }
+
+    /// A spacecraft that goes on with numbers that `kept_numbers` gave before a restart on purpose: V(R),
+    /// FARM-B and the counts of telemetry frames. Its receiver is open with no flag, and no packet and no
+    /// part of one is on board. Each field of the configuration has to be in its range, and FARM-B below 4.
+    /// Faults: 6 Memory. Memory: yes.
+    pub fn restarted(
+        alloc: Global,
+        config: &Config,
+        kept: KeptNumbers,
+    ) -> Result<Spacecraft, LinkFault>
+        requires config { IsConfig config.now }
+        requires farm_b { kept.farm_b < 4 }
+        ensures made { IfOk result
+            (λ spacecraft. spacecraft ≡ restarted_spacecraft config.now kept) }
+        ensures fault { IsOkUnless result LinkFault.Memory }
+    {
+        let farm = farm_with(config.width as u8, kept);
         let scid = config.scid as u16;
+        let vcid = config.tm_vcid as u8;
         let total = config.frame_length as usize;
-        let Ok(builder) = TmBuilder::new(alloc, scid, config.tm_vcid as u8, total) else {
+        let Ok(builder) = TmBuilder::with_counts(
+            alloc,
+            scid,
+            vcid,
+            total,
+            kept.mc_count,
+            kept.vc_count,
+        ) else {
             unreachable!()
         };
         let most = config.ready_slots as usize + MOST_PACKETS;
@@ -104,6 +151,22 @@ impl Spacecraft {
             bypass,
             builder,
         })
+    }
+
+    /// The numbers with which `restarted` goes on, as they are now.
+    pub fn kept_numbers(&self) -> KeptNumbers
+        ensures numbers { result ≡ kept_numbers self.now }
+
+        // So `restarted` takes them.
+        ensures farm_b { result.farm_b < 4 }
+    {
+        let farm = self.farm.fields();
+        KeptNumbers {
+            vr: farm.vr,
+            farm_b: farm.farm_b,
+            mc_count: self.builder.mc_count(),
+            vc_count: self.builder.vc_count(),
+        }
     }
 
     /// The packet that `take` takes next, lent, with its MAP; the spacecraft stays as it is.
@@ -230,4 +293,24 @@ impl Spacecraft {
         };
         self.builder.build(ocf, out)
     }
+}
+
+// A receiver that is open with no flag, and goes on with these numbers.
+fn farm_with(width: u8, kept: KeptNumbers) -> Farm
+    requires width { IsWidth width }
+    requires farm_b { kept.farm_b < 4 }
+    ensures { result ≡ record (new_farm width kept.vr) { farm_b = kept.farm_b } }
+{
+    let fields = FarmFields {
+        width,
+        vr: kept.vr,
+        lockout: false,
+        wait: false,
+        retransmit: false,
+        farm_b: kept.farm_b,
+    };
+    let Ok(farm) = Farm::restore(fields) else {
+        unreachable!()
+    };
+    farm
 }

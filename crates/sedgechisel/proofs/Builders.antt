@@ -308,7 +308,7 @@ send_described b memory room begun passed idle size is room-is passed-is begun-i
 
 counted_by : (b : KeptBuilder) (memory : List ℕ) (s : BuilderState) (is : Bool)
     → (if is then Ok (state_of b memory) else Err damaged) ≡ Ok s
-    → (if is then Ok (record (state_of b memory) { count = (b.next_count + 1) % 256 }) else Err damaged)
+    → (if is then Ok (with_next_count (state_of b memory)) else Err damaged)
     ≡ Ok (with_next_count s)
 counted_by b memory s true h =
     let same : state_of b memory ≡ s = cc in ap (λ (t : BuilderState). Ok (with_next_count t)) same

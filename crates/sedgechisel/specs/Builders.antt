@@ -37,7 +37,8 @@ abbrev pub turn_of : KeptBuilder → Turn
 turn_of b = record {
   scid = b.scid;
   vcid = b.vcid;
-  count = b.next_count;
+  mc_count = b.next_count;
+  vc_count = b.next_count;
   idle_left = b.idle_left;
   begun = b.begun;
 }

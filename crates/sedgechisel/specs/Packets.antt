@@ -1,14 +1,16 @@
 -- Space packets as C has them.
 use Rattle.std.specs.Prelude.{◌≡◌, ℕ, List, length, take, drop, ◌&&◌, ◌==◌, nat_lt, if◌then◌else◌}
-use Rattle.std.specs.Prelude.{Result, Ok, Err}
+use Rattle.std.specs.Prelude.{Bool, Option, Some, None, Result, Ok, Err, slice_index, slice_set}
 use Rattle.octets.specs.Outcome.{map_ok}
+use Rattle.space_packet.specs.declared.fault.PacketFault.TheVariants.{FieldRange}
+use Rattle.space_packet.specs.Counters.{gap_after}
 use Rattle.space_packet.specs.Faults.{fault_row}
 use Rattle.space_packet.specs.Layout.{PacketView, type_bit, secondary_bit}
 use Rattle.space_packet.specs.Decoding.{kind_at, extent_at, packet_at}
 use Rattle.space_packet.specs.Encoding.{encode_answer}
 use Rattle.sedgechisel.specs.declared.packet.PacketFields.{PacketFields}
 use Rattle.sedgechisel.specs.declared.part.Part.{Part}
-use Rattle.sedgechisel.specs.Answers.{damaged, numbered, and_then, if_ok}
+use Rattle.sedgechisel.specs.Answers.{damaged, if_there, numbered, and_then, if_ok}
 
 -- the packet that the fields and the data describe; kind 0 is telemetry, 1 telecommand
 abbrev pub packet_described : PacketFields → List ℕ → Result PacketView ℕ
@@ -54,6 +56,24 @@ abbrev pub total_declared : List ℕ → Result ℕ ℕ
 total_declared octets =
     if nat_lt (length octets) 6 then Err 1
     else numbered fault_row (extent_at (take 6 octets))
+
+-- the count that a place of the last ones has, if one was seen
+abbrev pub count_seen : ℕ → Option ℕ
+count_seen last = if nat_lt last 16384 then Some last else None
+
+-- an APID and a count of packets
+abbrev pub is_counted : ℕ → ℕ → Bool
+is_counted apid count = nat_lt apid 2048 && nat_lt count 16384
+
+-- how many packets are missing before one, where these counts were seen last
+abbrev pub gap_seen : List ℕ → ℕ → ℕ → Result ℕ ℕ
+gap_seen last apid count =
+    if is_counted apid count then if_there (gap_after (count_seen (slice_index last apid)) count)
+    else Err (fault_row FieldRange).0
+
+-- the counts that were seen last after it
+abbrev pub counts_after : List ℕ → ℕ → ℕ → List ℕ
+counts_after last apid count = if is_counted apid count then slice_set last apid count else last
 
 -- what the fields and the octets at the place describe is the packet that was read
 abbrev pub DescribesPacket : List ℕ → PacketFields → Part → Type 0

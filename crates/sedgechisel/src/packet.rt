@@ -1,16 +1,16 @@
 // Space packets.
 
-ghost use Rattle.std.specs.Prelude.{◌≡◌, length};
+ghost use Rattle.std.specs.Prelude.{◌≡◌, length, replicate};
 ghost use Rattle.octets.specs.Outcome.{map_ok};
 ghost use Rattle.space_packet.specs.Layout.{packet_view, type_bit, secondary_bit};
 ghost use Rattle.space_packet.specs.Encoding.{total_of, spelling};
 ghost use Rattle.sedgechisel.specs.Answers.{IsRead, IsSpelled, IsWritten};
-ghost use Rattle.sedgechisel.specs.Packets.{packet_described, fields_of, part_of, packet_read, packet_taken, total_declared, DescribesPacket};
+ghost use Rattle.sedgechisel.specs.Packets.{packet_described, fields_of, part_of, packet_read, packet_taken, total_declared, gap_seen, counts_after, DescribesPacket};
 
-use crate::numbers::DAMAGED;
+use crate::numbers::{ABSENT, DAMAGED};
 use crate::part::Part;
 use octets::Wire;
-use space_packet::{Packet, PacketFault, PacketKind, Packets};
+use space_packet::{Packet, PacketFault, PacketKind, Packets, gap_between};
 
 /// A space packet's fields (CCSDS 133.0-B-2, 4.1) without its data. The kind is 0 for telemetry and 1 for telecommand;
 /// the secondary header flag is 0 or 1. For C it is `struct sedge_packet`.
@@ -89,6 +89,50 @@ pub extern "C" fn sedge_packet_declared(octets: &[u8], total: &mut usize) -> u8
         return PacketFault::Truncated.number();
     }
     written!(Packets::extent(octets), |count| *total = count)
+}
+
+/// The last sequence count that was seen of each application process (CCSDS 133.0-B-2, 4.1.3.4.3). For C it is `struct
+/// sedge_gap_check`.
+#[repr(C)]
+#[derive(Clone, Copy)]
+pub struct KeptGaps {
+    /// By APID; above 16,383 where no packet of it was seen.
+    pub last: [u16; 2048],
+}
+
+/// Begins a check of sequence counts, which has seen no packet.
+#[unsafe(no_mangle)]
+pub extern "C" fn sedge_gap_check_open(check: &mut KeptGaps)
+    ensures { check.new.last ≡ replicate 2048 65535 }
+{
+    check.last = [65535; 2048];
+}
+
+/// Sees a packet of this APID with this count, as `sedge_packet_decode` gives them, and writes how many are missing
+/// before it to `missing`: (count - last - 1) modulo 16,384. Returns 0, or `SEDGE_ABSENT` for the first packet of the
+/// APID, which is seen; or `SEDGE_PACKET_FIELD_RANGE` if `apid` is not below 2,048 or `count` not below 16,384.
+#[unsafe(no_mangle)]
+pub extern "C" fn sedge_gap_check_see(
+    check: &mut KeptGaps,
+    apid: u16,
+    count: u16,
+    missing: &mut u16,
+) -> u8
+    ensures gap { IsWritten (λ n. n) (gap_seen check.old.last apid count)
+        missing.old missing.new result }
+    ensures after { check.new.last ≡ counts_after check.old.last apid count }
+{
+    if apid >= 2048 || count >= 16384 {
+        return PacketFault::FieldRange.number();
+    }
+    let place = apid as usize;
+    let last = check.last[place];
+    check.last[place] = count;
+    if last >= 16384 {
+        return ABSENT;
+    }
+    *missing = gap_between(last, count);
+    0
 }
 
 fn packet_from<'a>(fields: &PacketFields, payload: &'a [u8]) -> Result<Packet<'a>, u8>

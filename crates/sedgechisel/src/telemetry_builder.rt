@@ -186,7 +186,8 @@ fn turn_for(builder: &KeptBuilder) -> Turn
     Turn {
         scid: builder.scid,
         vcid: builder.vcid,
-        count: builder.next_count,
+        mc_count: builder.next_count,
+        vc_count: builder.next_count,
         idle_left: builder.idle_left as usize,
         begun: builder.begun,
     }

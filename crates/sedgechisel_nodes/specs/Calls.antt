@@ -7,14 +7,18 @@ use Rattle.nodes.specs.Parameters.{IsConfig}
 abbrev pub closed : ℕ
 closed = 255
 
--- what opening answers, and what the handle holds before and after it: 254 where a parameter is out
--- of its range, and else 0, or 6 where there was no memory
-pub record IsOpened {S : Type 0} (c : Config) (opened_by : Config → S) (old new : Option S)
-    (answer : ℕ) : Type 0 where
-  pub sound : IsConfig c → (answer ≡ 0) ⊎ (answer ≡ 6)
-  pub unsound : (IsConfig c → ⊥) → answer ≡ 254
-  pub opened : answer ≡ 0 → new ≡ Some (opened_by c)
+-- what opening answers, and what the handle holds before and after it: 254 where a number is out of
+-- its range, and else 0, or 6 where there was no memory
+pub record IsOpenedAs {S : Type 0} (InRange : Type 0) (made : S) (old new : Option S) (answer : ℕ)
+    : Type 0 where
+  pub sound : InRange → (answer ≡ 0) ⊎ (answer ≡ 6)
+  pub unsound : (InRange → ⊥) → answer ≡ 254
+  pub opened : answer ≡ 0 → new ≡ Some made
   pub unchanged : answer ≢ 0 → new ≡ old
+
+-- the same of what is made of parameters alone
+abbrev pub IsOpened : {S : Type 0} → Config → (Config → S) → Option S → Option S → ℕ → Type 0
+IsOpened c opened_by old new answer = IsOpenedAs (IsConfig c) (opened_by c) old new answer
 
 -- a value is written where there is one; the answer is 253 where there is none
 abbrev pub IsWritten : {V : Type 0} → Option V → ℕ → V → V → Type 0

@@ -1,5 +1,5 @@
 -- The spacecraft of a program in C: what a call answers, and what the program holds then.
-use Rattle.std.specs.Prelude.{◌≡◌, ◌≢◌, ℕ, List, Bool, true, false, Option, Some, None}
+use Rattle.std.specs.Prelude.{◌≡◌, ◌≢◌, ◌<◌, ℕ, List, Bool, true, false, Option, Some, None}
 use Rattle.std.specs.Prelude.{length, option_map, IfSome}
 use Rattle.tc_frame.specs.declared.frame.Command.TheVariants.{Unlock, SetVr}
 use Rattle.tc_frame.specs.Faults.{fault_row}
@@ -8,6 +8,9 @@ use Rattle.cop1.specs.declared.farm.FarmMode.TheVariants.{Open, Wait, Lockout}
 use Rattle.cop1.specs.Names.{verdict_row}
 use Rattle.map_service.specs.declared.dropped.Dropped.{Dropped}
 use Rattle.map_service.specs.Causes.{cause_row}
+use Rattle.nodes.specs.declared.config.Config.{Config}
+use Rattle.nodes.specs.declared.spacecraft.KeptNumbers.{KeptNumbers}
+use Rattle.nodes.specs.Parameters.{IsConfig}
 use Rattle.nodes.specs.declared.received.Received.{Received}
 use Rattle.nodes.specs.declared.received.Received.TheVariants.{Invalid, Foreign, Sequence, Bypass}
 use Rattle.nodes.specs.declared.received.Received.TheVariants.{Control}
@@ -71,7 +74,23 @@ board_reading_of s =
       farm_b = word.farm_b;
       value = word.value;
       state = farm_mode_number s.farm.state;
+      mc_count = s.builder.mc_count;
+      vc_count = s.builder.vc_count;
     }
+
+-- ---- a spacecraft that goes on with what was read of one
+
+abbrev pub numbers_read : BoardReading → KeptNumbers
+numbers_read read = record {
+  vr = read.value;
+  farm_b = read.farm_b;
+  mc_count = read.mc_count;
+  vc_count = read.vc_count;
+}
+
+-- a spacecraft can be opened so
+abbrev pub IsRestart : Config → BoardReading → Type 0
+IsRestart c read = IsConfig c × (read.farm_b < 4)
 
 -- ---- packets are taken: those that came past the sequence control, or the others
 

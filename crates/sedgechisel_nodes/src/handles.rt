@@ -3,19 +3,21 @@
 ghost use Rattle.std.specs.Prelude.{◌≡◌, Option, None};
 ghost use Rattle.kept.specs.Keeping.{kept_owns, heap_token};
 ghost use Rattle.nodes.specs.Ground.{GroundState, new_ground};
-ghost use Rattle.nodes.specs.Spacecraft.{SpacecraftState, new_spacecraft};
+ghost use Rattle.nodes.specs.Spacecraft.{SpacecraftState, new_spacecraft, restarted_spacecraft};
 ghost use Rattle.nodes.specs.contracts.ground_node.Ground as ground_node;
 ghost use Rattle.nodes.specs.contracts.spacecraft.Spacecraft as spacecraft_node;
-ghost use Rattle.sedgechisel_nodes.specs.Calls.{IsOpened};
+ghost use Rattle.sedgechisel_nodes.specs.Calls.{IsOpened, IsOpenedAs};
+ghost use Rattle.sedgechisel_nodes.specs.Spacecraft.{IsRestart, numbers_read};
 ghost use Rattle.sedgechisel_nodes.specs.Links.{LinkState};
 ghost use Rattle.sedgechisel_nodes.specs.Links.{new_link};
 ghost use Rattle.sedgechisel_nodes.specs.contracts.sim.link.Link as link;
 
 use crate::answers::{MEMORY, OUT_OF_RANGE};
 use crate::holds::{Holds, open, take};
+use crate::readings::BoardReading;
 use crate::sim::link::Link;
 use kept::Kept;
-use nodes::{Config, Ground, Spacecraft};
+use nodes::{Config, Ground, KeptNumbers, Spacecraft};
 use std::alloc::Global;
 use std::marker::Model;
 
@@ -128,6 +130,45 @@ pub extern "C" fn sedge_spacecraft_open(
     ensures { IsOpened config.now new_spacecraft spacecraft.old.value spacecraft.new.value result }
 {
     opened!(alloc, spacecraft, config, Spacecraft::of)
+}
+
+/// Opens a spacecraft that goes on with what `sedge_spacecraft_read` gave before a restart on purpose: V(R), which is
+/// `value` there, `farm_b`, and the counts of telemetry frames. Its receiver is Open with no flag, and no packet is on
+/// board; the other fields are not looked at. It is opened as `sedge_spacecraft_open` does. Returns 0,
+/// `SEDGE_NODE_OUT_OF_RANGE` (also if `farm_b` is not below 4) or `SEDGE_NODE_MEMORY`.
+#[unsafe(no_mangle)]
+pub extern "C" fn sedge_spacecraft_open_at(
+    alloc: Global,
+    config: &Config,
+    kept: &BoardReading,
+    spacecraft: &mut SpacecraftHandle,
+) -> u8
+    ensures { IsOpenedAs (IsRestart config.now kept.now)
+        (restarted_spacecraft config.now (numbers_read kept.now))
+        spacecraft.old.value spacecraft.new.value result }
+{
+    let Ok(valid) = config.valid() else {
+        return OUT_OF_RANGE;
+    };
+    if kept.farm_b >= 4 {
+        return OUT_OF_RANGE;
+    }
+    match Spacecraft::restarted(alloc, valid.config(), numbers_of(kept)) {
+        Ok(node) => open(spacecraft, alloc, node),
+        Err(_) => MEMORY,
+    }
+}
+
+// The numbers that are kept of a spacecraft, in what was read of it.
+fn numbers_of(read: &BoardReading) -> KeptNumbers
+    ensures { result ≡ numbers_read read.now }
+{
+    KeptNumbers {
+        vr: read.value,
+        farm_b: read.farm_b,
+        mc_count: read.mc_count,
+        vc_count: read.vc_count,
+    }
 }
 
 /// Closes the spacecraft, where there is one; the handle holds none then.

@@ -87,8 +87,8 @@ pub extern "C" fn sedge_ground_read(
 }
 
 /// What is read of a spacecraft: the octets of a telemetry frame, and the report that the next one carries, its flags
-/// as the bits of the third octet (CCSDS 232.0-B-4, 4.2.1); the packets that wait; and the receiver's state. For C it is
-/// `struct sedge_spacecraft_reading`.
+/// as the bits of the third octet (CCSDS 232.0-B-4, 4.2.1); the packets that wait; the receiver's state; and the next
+/// frame's counts (CCSDS 132.0-B-3, 4.1.2). For C it is `struct sedge_spacecraft_reading`.
 #[repr(C)]
 #[derive(Clone, Copy)]
 pub struct BoardReading {
@@ -106,6 +106,10 @@ pub struct BoardReading {
     pub value: u8,
     /// Of the receiver, of `sedge_farm_mode`.
     pub state: u8,
+    /// The next frame's count on the master channel.
+    pub mc_count: u8,
+    /// The next frame's count on the virtual channel.
+    pub vc_count: u8,
 }
 
 fn number_of_farm_mode(state: FarmMode) -> u8
@@ -118,6 +122,7 @@ pub(crate) fn board_reading(node: &Spacecraft) -> BoardReading
     ensures { result ≡ board_reading_of node.now }
 {
     let word = node.control_word();
+    let kept = node.kept_numbers();
     BoardReading {
         frame_length: node.frame_length(),
         ready: node.ready(),
@@ -128,11 +133,13 @@ pub(crate) fn board_reading(node: &Spacecraft) -> BoardReading
         farm_b: word.farm_b,
         value: word.value,
         state: number_of_farm_mode(node.state()),
+        mc_count: kept.mc_count,
+        vc_count: kept.vc_count,
     }
 }
 
 /// Reads the spacecraft: how many octets a telemetry frame has, how many packets wait, the report that the next frame
-/// carries, and the receiver's state. It stays as it was. Returns 0.
+/// carries, its counts, and the receiver's state. It stays as it was. Returns 0.
 #[unsafe(no_mangle)]
 pub extern "C" fn sedge_spacecraft_read(
     alloc: Global,

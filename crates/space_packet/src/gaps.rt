@@ -1,7 +1,7 @@
 // How many packets of an application process are missing.
 
 ghost use Rattle.std.specs.Prelude.{◌≡◌, ◌<◌, ℕ, List, Option, Some, None, length, get_or, replicate};
-ghost use Rattle.space_packet.specs.Counters.{gap_after, counts_seen};
+ghost use Rattle.space_packet.specs.Counters.{gap_between, gap_after, counts_seen};
 
 use std::marker::Model;
 
@@ -42,6 +42,15 @@ impl GapCheck {
         let last = self.last[place];
         self.last[place] = Some(count);
         let last = last?;
-        Some(count.wrapping_sub(last).wrapping_sub(1) % 16384)
+        Some(gap_between(last, count))
     }
+}
+
+/// How many packets of an application process are missing between one with the count `last` and the
+/// next that came, with this count: (count - last - 1) modulo 16,384 (CCSDS 133.0-B-2, 4.1.3.4.3). It
+/// is for callers that keep the last counts themselves.
+pub fn gap_between(last: u16, count: u16) -> u16
+    ensures { result ≡ gap_between last count }
+{
+    count.wrapping_sub(last).wrapping_sub(1) % 16384
 }

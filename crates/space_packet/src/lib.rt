@@ -19,7 +19,7 @@ pub use counters::SequenceCounters;
 pub use decoding::decode;
 pub use encoding::encode;
 pub use fault::PacketFault;
-pub use gaps::GapCheck;
+pub use gaps::{GapCheck, gap_between};
 pub use laws::{law_of_reading, law_of_records, law_of_spelling};
 pub use layout::Packets;
 pub use packet::{Packet, PacketKind, is_idle_apid};

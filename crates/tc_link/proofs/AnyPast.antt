@@ -21,14 +21,16 @@ use Rattle.nodes.specs.Ground.{ground_take_telemetry, after_moving_up, is_closed
 use Rattle.nodes.specs.declared.heard.HeardClcw.{HeardClcw}
 use Rattle.nodes.specs.declared.heard.Heard.{Heard}
 use Rattle.nodes.specs.declared.received.Received.{Received}
-use Rattle.nodes.specs.Spacecraft.{new_spacecraft}
+use Rattle.nodes.specs.declared.spacecraft.KeptNumbers.{KeptNumbers}
+use Rattle.nodes.specs.Spacecraft.{restarted_spacecraft}
 use Rattle.tc_frame.specs.Layout.{FrameView}
 use Rattle.tc_frame.specs.Decoding as command
 use Rattle.tm_link.specs.Extractor.{ExtractorState, new_extractor, extract_step}
 use Rattle.tm_link.specs.Layout as telemetry
 use Rattle.tm_link.specs.Decoding as telemetry_reading
 use Rattle.tc_link.specs.AnyPast.{LinkStep, Happens, TakeTelemetry, Receives, Hears, ReportArrives, HearsReport}
-use Rattle.tc_link.specs.AnyPast.{ForgetTelemetry, NewGround, NewSpacecraft, IsLinkStep, with_nodes, received, heard}
+use Rattle.tc_link.specs.AnyPast.{ForgetTelemetry, NewGround, NewSpacecraft, AreNumbers, IsLinkStep, with_nodes}
+use Rattle.tc_link.specs.AnyPast.{received, heard, EachGoesOnAsKept}
 use Rattle.tc_link.specs.AnyPast.{heard_word, arriving_word, with_word, after_word, link_step, link_run, SaysAs}
 use Rattle.tc_link.specs.AnyPast.{with_telemetry_of, DoesAsItsFrame, ReportsDoAsFrames}
 use Rattle.tc_link.specs.AnyPast.{HasAnyPast, HoldsAfterAnyPast, RunsAsEvents}
@@ -290,8 +292,14 @@ module _ (c : Config) (w : World) (h : Holding c w) where
   new_ground_steady : GroundNodeSteady c (new_ground w.ground_node.config)
   new_ground_steady = rw h.sound.ground_node.config (new_sound c h.sound.ranges).ground_node
 
-  new_spacecraft_steady : SpacecraftSteady c (new_spacecraft w.spacecraft.config)
-  new_spacecraft_steady = rw h.sound.spacecraft.config (new_sound c h.sound.ranges).spacecraft
+  restarted_steady : (kept : KeptNumbers) → AreNumbers kept
+      → SpacecraftSteady c (restarted_spacecraft w.spacecraft.config kept)
+  restarted_steady kept numbers = rw h.sound.spacecraft.config (record {
+    config = refl;
+    farm = record { width = refl; farm_b = numbers.farm_b; flags = record { asks = λ t. absurd cc; state = refl } };
+    builder = record { scid = refl; vcid = refl; total = refl };
+    idle_left = omega arith;
+  })
 
   pub link_step_holds : (s : LinkStep) → IsLinkStep s → Holding c (link_step w s)
   link_step_holds (Happens event) fits = step_holds c w h event fits
@@ -306,8 +314,8 @@ module _ (c : Config) (w : World) (h : Holding c w) where
   link_step_holds NewGround fits =
       nodes_hold (new_ground w.ground_node.config) w.spacecraft new_ground_steady
       (record { sent = λ running. tt; unsent = λ running. tt }) h.sound.spacecraft
-  link_step_holds NewSpacecraft fits =
-      board_holds (new_spacecraft w.spacecraft.config) new_spacecraft_steady
+  link_step_holds (NewSpacecraft kept) fits =
+      board_holds (restarted_spacecraft w.spacecraft.config kept) (restarted_steady kept fits)
 
 -- ---- a run
 
@@ -333,6 +341,9 @@ events_run w (e ∷ es) = events_run (world_step w e).after es
 
 pub runs_as_events : RunsAsEvents
 runs_as_events c events = events_run (new_world c) events
+
+pub each_goes_on_as_kept : EachGoesOnAsKept
+each_goes_on_as_kept s = record { mc_count = refl; vc_count = refl; value = refl; farm_b = refl }
 
 pub reports_do_as_frames : ReportsDoAsFrames
 reports_do_as_frames w past = does_as_its_frame past.config w (past_holds w past)

@@ -357,7 +357,7 @@ module _ (c : Config) (w : World) (h : Holding c w) where
   step_passes ForgetTelemetry own = on_ground _ refl refl refl
   step_passes NewGround own =
       fewer _ (some_all w.spacecraft.bypass) (some_all (bypass_up w)) (some_none (bypass_queued w))
-  step_passes NewSpacecraft own =
+  step_passes (NewSpacecraft kept) own =
       fewer _ (some_none w.spacecraft.bypass) (some_all (bypass_up w)) (some_all (bypass_queued w))
   step_passes (Receives octets) own = elim own [ ]
 

@@ -65,14 +65,14 @@ pub record Came (sent : List FrameView) (came : List Bool) (down : List (List �
 pub record Laid (c : Config) (d : Downlink) : Type 0 where
   pub sound : Sound c d.world
   pub laid : IsLaidOutBy d.world.spacecraft.builder d.queued d.sent
-  pub count : d.world.spacecraft.builder.count < 256
+  pub count : d.world.spacecraft.builder.vc_count < 256
   pub each : AllByRecursion (IsSentBy c) d.sent
   pub way : Came d.sent d.came d.world.down d.world.ground_node.extractor (packets_down d)
 
 pub new_downlink_laid : (c : Config) → IsConfig c → Laid c (new_downlink c)
 new_downlink_laid c ranges = record {
   sound = new_sound c ranges;
-  laid = new_laid c.scid c.tm_vcid c.frame_length;
+  laid = new_laid c.scid c.tm_vcid c.frame_length 0 0;
   count = omega arith;
   each = tt;
   way = record { gone = []; going = []; parts = refl; counted = refl; down_is = refl; state = refl; given = refl };

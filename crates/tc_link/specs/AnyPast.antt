@@ -1,8 +1,9 @@
 -- A run of the link in which more may happen than its events: octets from outside the link reach a
 -- node, and a new node takes the place of one.
-use Rattle.std.specs.Prelude.{◌≡◌, ℕ, List, [], ◌∷◌, length, map, Result, Ok, Err}
+use Rattle.std.specs.Prelude.{◌≡◌, ◌<◌, ℕ, List, [], ◌∷◌, length, map, Result, Ok, Err}
 use Rattle.std.specs.List.{AllByRecursion}
 use Rattle.cop1.specs.declared.farm.Verdict.TheVariants.{Behind, Discarded}
+use Rattle.cop1.specs.Report.{report_of}
 use Rattle.nodes.specs.declared.config.Config.{Config}
 use Rattle.nodes.specs.declared.heard.Heard.{Heard}
 use Rattle.nodes.specs.declared.heard.Heard.TheVariants as heard_cases
@@ -14,8 +15,9 @@ use Rattle.nodes.specs.declared.received.Received.TheVariants as received_cases
 use Rattle.nodes.specs.Ground.{GroundState, GroundOutcome, new_ground, ground_step}
 use Rattle.nodes.specs.Ground as ground_calls
 use Rattle.nodes.specs.Parameters.{IsConfig}
-use Rattle.nodes.specs.Spacecraft.{SpacecraftState, SpacecraftOutcome, new_spacecraft}
-use Rattle.nodes.specs.Spacecraft.{spacecraft_step}
+use Rattle.nodes.specs.declared.spacecraft.KeptNumbers.{KeptNumbers}
+use Rattle.nodes.specs.Spacecraft.{SpacecraftState, SpacecraftOutcome, restarted_spacecraft}
+use Rattle.nodes.specs.Spacecraft.{kept_numbers, spacecraft_step, spacecraft_report}
 use Rattle.nodes.specs.Spacecraft as spacecraft_calls
 use Rattle.nodes.specs.declared.event.Event.{Event}
 use Rattle.nodes.specs.declared.event.Event.TheVariants as events
@@ -46,12 +48,21 @@ pub data LinkStep : Type 0 where
   -- the ground begins anew to take packets out of telemetry
   ForgetTelemetry : LinkStep
   -- a new node takes the place of the ground, or of the spacecraft: it begins anew, or another is
-  -- handed the link
+  -- handed the link. The spacecraft goes on with any numbers: those that were kept of the one before,
+  -- as where it was restarted on purpose, or zeros, as a new one has
   NewGround : LinkStep
-  NewSpacecraft : LinkStep
+  NewSpacecraft : (kept : KeptNumbers) → LinkStep
+
+-- what a spacecraft's numbers may be
+pub record AreNumbers (kept : KeptNumbers) : Type 0 where
+  pub vr : kept.vr < 256
+  pub farm_b : kept.farm_b < 4
+  pub mc_count : kept.mc_count < 256
+  pub vc_count : kept.vc_count < 256
 
 abbrev pub IsLinkStep : LinkStep → Type 0
 IsLinkStep (Happens event) = IsEvent event
+IsLinkStep (NewSpacecraft kept) = AreNumbers kept
 IsLinkStep _ = Unit {0}
 
 -- these nodes are on the link, and no session goes on; what is on its way stays
@@ -129,7 +140,8 @@ link_step w (HearsReport octets) = heard_word w (word_step w octets)
 link_step w ForgetTelemetry =
     record w { ground_node = (ground_step w.ground_node ground_calls.ForgetTelemetry).after }
 link_step w NewGround = with_nodes w (new_ground w.ground_node.config) w.spacecraft
-link_step w NewSpacecraft = with_nodes w w.ground_node (new_spacecraft w.spacecraft.config)
+link_step w (NewSpacecraft kept) =
+    with_nodes w w.ground_node (restarted_spacecraft w.spacecraft.config kept)
 
 abbrev pub link_run : World → List LinkStep → World
 link_run w [] = w
@@ -155,6 +167,23 @@ abbrev pub RunsAsEvents : Type 0
 RunsAsEvents =
     (c : Config) (events : List Event)
     → link_run (new_world c) (map (λ event. Happens event) events) ≡ world_run (new_world c) events
+
+-- ---- a spacecraft that is restarted with its own numbers
+
+-- Whatever it held: the next telemetry frame has the counts that were next, so of the frames that
+-- follow one another none is missing, and it reports the number that was expected next, and FARM-B.
+pub record GoesOnAsKept (s : SpacecraftState) : Type 0 where
+  pub mc_count : (spacecraft_report (restarted_spacecraft s.config (kept_numbers s))).answer.mc_count
+      ≡ (spacecraft_report s).answer.mc_count
+  pub vc_count : (spacecraft_report (restarted_spacecraft s.config (kept_numbers s))).answer.vc_count
+      ≡ (spacecraft_report s).answer.vc_count
+  pub value : (report_of (restarted_spacecraft s.config (kept_numbers s)).farm s.config.vcid).value
+      ≡ (report_of s.farm s.config.vcid).value
+  pub farm_b : (report_of (restarted_spacecraft s.config (kept_numbers s)).farm s.config.vcid).farm_b
+      ≡ (report_of s.farm s.config.vcid).farm_b
+
+abbrev pub EachGoesOnAsKept : Type 0
+EachGoesOnAsKept = (s : SpacecraftState) → GoesOnAsKept s
 
 -- ---- a report by itself
 

@@ -14,7 +14,7 @@ abbrev pub IsSilent : World → LinkStep → Type 0
 IsSilent w (Happens events.Send) = ⊥
 IsSilent w (Happens events.Take) = w.spacecraft.farm.wait ≡ false
 IsSilent w (Receives octets) = ⊥
-IsSilent w NewSpacecraft = ⊥
+IsSilent w (NewSpacecraft kept) = ⊥
 IsSilent w _ = Unit {0}
 
 -- each of these steps does

@@ -1,6 +1,6 @@
 // What holds of each run, whatever a program keeps of it.
 
-ghost use Rattle.tc_link.specs.AnyPast.{HoldsAfterAnyPast, ReportsDoAsFrames, RunsAsEvents};
+ghost use Rattle.tc_link.specs.AnyPast.{HoldsAfterAnyPast, EachGoesOnAsKept, ReportsDoAsFrames, RunsAsEvents};
 ghost use Rattle.tc_link.specs.Bypass.{BypassKeepsOrder};
 ghost use Rattle.tc_link.specs.Configured.{AlikeIsAsOne};
 ghost use Rattle.tc_link.specs.CountsOn.{KeepsWhatIsKnown};
@@ -23,15 +23,18 @@ pub fn law_of_sessions()
 
 /// What `run` promises of each event holds whatever came before: a run of events and takes of
 /// telemetry, among which any octets from outside the link reach either node, and a new node takes the
-/// place of one, at any moment and with anything on its way (`promised`). A new node ends the session,
-/// and so do octets but for those that `after_receiving` and `after_hearing` name; a session that
-/// begins later by an idle start has every promise. A run of events alone is one of these (`runs`). A
-/// report that arrives by itself, as from a front end that hands on control words, does what its
-/// telemetry frame would but for telemetry, and is answered so (`reports`).
+/// place of one, a spacecraft with any kept numbers, at any moment and with anything on its way
+/// (`promised`). A new node ends the session, and so do octets but for those that `after_receiving` and
+/// `after_hearing` name; a session that begins later by an idle start has every promise. A run of
+/// events alone is one of these (`runs`). A report that arrives by itself, as from a front end that
+/// hands on control words, does what its telemetry frame would but for telemetry, and is answered so
+/// (`reports`). A spacecraft that is restarted with its own numbers goes on with the counts of telemetry
+/// frames, V(R) and FARM-B (`restarts`).
 pub fn law_of_any_past()
     ensures promised { HoldsAfterAnyPast }
     ensures reports { ReportsDoAsFrames }
     ensures runs { RunsAsEvents }
+    ensures restarts { EachGoesOnAsKept }
 {}
 
 /// Since a session began, on each MAP: the packets that `take` has handed out, followed by those

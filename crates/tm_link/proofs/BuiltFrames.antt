@@ -36,8 +36,8 @@ abbrev frame_when : Bool → BuilderState → List ℕ → FrameView
 frame_when rest s ocf = record {
   scid = s.scid;
   vcid = s.vcid;
-  mc_count = s.count;
-  vc_count = s.count;
+  mc_count = s.mc_count;
+  vc_count = s.vc_count;
   pointer = cond rest OnlyIdle (first_start (s.idle_left + s.begun) (data_size s));
   payload = cond rest (replicate (data_size s) 0x55) (data_from s.idle_left s.pending (data_size s));
   ocf = ocf;
@@ -78,7 +78,7 @@ filled_laid : (s : BuilderState) (ocf : List ℕ) (packets : List (List ℕ)) (f
     (h : IsLaidOut packets frames stream) (all : List (List ℕ)) → h.all ≡ all
     → data_size s ≤ length stream → data_from s.idle_left s.pending (data_size s) ≡ take (data_size s) stream
     → IsPointed all (length (carried_octets frames)) (first_start (s.idle_left + s.begun) (data_size s)) (data_size s)
-    → IsNext frames s.count
+    → IsNext frames s.vc_count
     → drop (data_size s) stream ≡ held_by (state_when false s)
     → IsCutAt all (length (carried_octets frames) + data_size s) (left_when false s) (state_when false s).sizes
     → IsKeptWhen false s ocf packets frames

@@ -6,7 +6,7 @@ use Rattle.octets.specs.Number.{number_of, IsOctets}
 use Rattle.space_packet.specs.Layout.{PacketView, type_bit, secondary_bit, is_idle_apid, IsPacket}
 use Rattle.space_packet.specs.Packets.{is_packet}
 use Rattle.space_packet.proofs.WholePackets.{packet_from, is_packet-again}
-use Rattle.tm_link.specs.Builder.{is_to_send, IsToSend, BuilderState, new_builder, after_queue, idle_tail, held_by}
+use Rattle.tm_link.specs.Builder.{is_to_send, IsToSend, BuilderState, builder_with_counts, after_queue, idle_tail, held_by}
 use Rattle.tm_link.specs.Builder.{IsCutAt, IsLaidOutBy}
 use Rattle.tm_link.specs.Extractor.{is_idle, without_idle}
 use Rattle.std.specs.List.{AllByRecursion, concat}
@@ -55,8 +55,9 @@ no_frame (b ∷ bs) after f e = cc
 no_two_frames : {X : Type 0} (before after : List X) (f g : X) → [] ≡ before ++ f ∷ g ∷ after → ⊥
 no_two_frames before after f g e = no_frame before (g ∷ after) f e
 
-pub new_laid : (scid vcid total : ℕ) → IsLaidOutBy (new_builder scid vcid total) [] []
-new_laid scid vcid total = record {
+pub new_laid : (scid vcid total mc_count vc_count : ℕ)
+    → IsLaidOutBy (builder_with_counts scid vcid total mc_count vc_count) [] []
+new_laid scid vcid total mc_count vc_count = record {
   laid = record {
     all = [];
     each = tt;
@@ -170,7 +171,7 @@ frame_after packets frames rest left g h parts here next = (
 
 -- what the frames lay out, as what a builder does
 pub laid_again : (s : BuilderState) (packets : List (List ℕ)) (frames : List FrameView) (rest : List ℕ)
-    (all : List (List ℕ)) (l : IsLaidOut packets frames rest) → l.all ≡ all → rest ≡ held_by s → IsNext frames s.count
+    (all : List (List ℕ)) (l : IsLaidOut packets frames rest) → l.all ≡ all → rest ≡ held_by s → IsNext frames s.vc_count
     → IsCutAt all (length (carried_octets frames)) (s.idle_left + s.begun) s.sizes → IsLaidOutBy s packets frames
 laid_again s packets frames rest all l e held next cut = record {
   laid = record {

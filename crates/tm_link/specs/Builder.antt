@@ -23,8 +23,9 @@ pub record BuilderState : Type 0 where
   pub vcid : ℕ
   -- octets of a frame
   pub total : ℕ
-  -- the next frame's count, on the master and on the virtual channel
-  pub count : ℕ
+  -- the next frame's counts, on the master and on the virtual channel
+  pub mc_count : ℕ
+  pub vc_count : ℕ
   -- octets left of an idle packet
   pub idle_left : ℕ
   pub pending : List ℕ
@@ -38,20 +39,25 @@ abbrev pub builder_fits : ℕ → ℕ → ℕ → Bool
 builder_fits scid vcid total =
     nat_lt scid 1024 && nat_lt vcid 8 && nat_le 16 total && nat_le total 2048
 
-abbrev pub new_builder : ℕ → ℕ → ℕ → BuilderState
-new_builder scid vcid total =
+-- a builder that has nothing to send, whose next frame has these counts
+abbrev pub builder_with_counts : ℕ → ℕ → ℕ → ℕ → ℕ → BuilderState
+builder_with_counts scid vcid total mc_count vc_count =
     record {
       scid =
           scid;
       vcid = vcid;
       total =
           total;
-      count = 0;
+      mc_count = mc_count;
+      vc_count = vc_count;
       idle_left = 0;
       pending = [];
       begun = 0;
       sizes = [];
     }
+
+abbrev pub new_builder : ℕ → ℕ → ℕ → BuilderState
+new_builder scid vcid total = builder_with_counts scid vcid total 0 0
 
 -- ---- queueing
 
@@ -127,7 +133,8 @@ state_with t total pending = record {
   scid = t.scid;
   vcid = t.vcid;
   total = total;
-  count = t.count;
+  mc_count = t.mc_count;
+  vc_count = t.vc_count;
   idle_left = t.idle_left;
   pending = pending;
   begun = t.begun;
@@ -142,8 +149,8 @@ frame_built s ocf =
       vcid =
           s.vcid;
       mc_count =
-          s.count;
-      vc_count = s.count;
+          s.mc_count;
+      vc_count = s.vc_count;
       pointer = pointer_built s;
       payload = data_built s;
       ocf = ocf;
@@ -177,7 +184,8 @@ abbrev pub after_fill : BuilderState → BuilderState
 after_fill s = if is_at_rest s then s else after_send s (data_size s)
 
 abbrev pub with_next_count : BuilderState → BuilderState
-with_next_count s = record s { count = (s.count + 1) % 256 }
+with_next_count s =
+    record s { mc_count = (s.mc_count + 1) % 256; vc_count = (s.vc_count + 1) % 256 }
 
 -- the next frame, with this operational control field, and what the builder holds then
 abbrev pub build_step : BuilderState → List ℕ → FrameView × BuilderState
@@ -206,6 +214,6 @@ pub record IsLaidOutBy (s : BuilderState) (packets : List (List ℕ)) (frames : 
   pub laid : IsLaidOut packets frames (held_by s)
   -- the next frame's count follows the last one's
   pub next : (before : List FrameView) (f : FrameView) → frames ≡ before ++ f ∷ []
-      → s.count ≡ (f.vc_count + 1) % 256
+      → s.vc_count ≡ (f.vc_count + 1) % 256
   -- where packets start in what is held
   pub cut : IsCutAt laid.all (length (carried_octets frames)) (s.idle_left + s.begun) s.sizes

@@ -11,8 +11,10 @@ state_of b = record {
       b.vcid;
   total =
       b.total;
-  count =
-      b.count;
+  mc_count =
+      b.mc_count;
+  vc_count =
+      b.vc_count;
   idle_left =
       b.idle_left;
   pending = drop b.start b.octets.items;

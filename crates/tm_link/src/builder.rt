@@ -1,7 +1,7 @@
 // Building frames of a stream of packets.
 
 ghost use Rattle.std.specs.Prelude.{◌≡◌, ◌≤◌, ◌<◌, ◌^◌, ◌++◌, ◌↔◌, ℕ, List, [], ◌∷◌, length, take, drop, IsTrue, IsOk, IfOk, IfErr, OnOk, OnErr};
-ghost use Rattle.tm_link.specs.Builder.{new_builder, builder_fits, after_queue, queue_fault, is_to_send, is_at_rest, first_start, idle_after, after_send, after_fill, with_next_count, build_step, state_with};
+ghost use Rattle.tm_link.specs.Builder.{new_builder, builder_with_counts, builder_fits, after_queue, queue_fault, is_to_send, is_at_rest, first_start, idle_after, after_send, after_fill, with_next_count, build_step, state_with};
 ghost use Rattle.tm_link.specs.Layout.{FrameView, IsTmFrame};
 ghost use Rattle.tm_link.specs.Builder.{IsLaidOutBy};
 ghost use Rattle.tm_link.specs.Encoding.{spelling};
@@ -26,7 +26,8 @@ pub struct TmBuilder {
     scid: u16,
     vcid: u8,
     total: usize,
-    count: u8,
+    mc_count: u8,
+    vc_count: u8,
     idle_left: usize,
     // octets of packets, of which those before `start` were sent
     octets: Vec<u8>,
@@ -59,6 +60,28 @@ impl TmBuilder {
         // Nothing is laid out yet, and nothing is held.
         ensures laid { IfOk result (λ b. IsLaidOutBy b [] []) }
     {
+        TmBuilder::with_counts(alloc, scid, vcid, length, 0, 0)
+    }
+
+    /// A builder as `new` makes it, whose next frame has these counts on the master and on the virtual
+    /// channel (CCSDS 132.0-B-3, 4.1.2.5 and 4.1.2.6): one that goes on with counts that were kept.
+    /// Faults: 10 FieldRange.
+    pub fn with_counts(
+        alloc: Global,
+        scid: u16,
+        vcid: u8,
+        length: usize,
+        mc_count: u8,
+        vc_count: u8,
+    ) -> Result<Self, TmFault>
+        ensures ok { IfOk result
+            (λ b. b ≡ builder_with_counts scid vcid length mc_count vc_count) }
+        ensures fits { IsOk result ↔ IsTrue (builder_fits scid vcid length) }
+        ensures fault { IfErr result (λ e. e ≡ TmFault.FieldRange) }
+
+        // Nothing is laid out yet, and nothing is held.
+        ensures laid { IfOk result (λ b. IsLaidOutBy b [] []) }
+    {
         if !can_build(scid, vcid, length) {
             return Err(TmFault::FieldRange);
         }
@@ -66,7 +89,8 @@ impl TmBuilder {
             scid,
             vcid,
             total: length,
-            count: 0,
+            mc_count,
+            vc_count,
             idle_left: 0,
             octets: Vec::new(alloc),
             start: 0,
@@ -131,6 +155,20 @@ impl TmBuilder {
         self.total
     }
 
+    /// The next frame's count on the master channel (CCSDS 132.0-B-3, 4.1.2.5).
+    pub fn mc_count(&self) -> u8
+        ensures { result ≡ self.now.mc_count }
+    {
+        self.mc_count
+    }
+
+    /// The next frame's count on the virtual channel (CCSDS 132.0-B-3, 4.1.2.6).
+    pub fn vc_count(&self) -> u8
+        ensures { result ≡ self.now.vc_count }
+    {
+        self.vc_count
+    }
+
     fn turn(&self) -> Turn
         ensures state { state_with result self.now.total self.now.pending
             ≡ record self.now { sizes = [] } }
@@ -139,7 +177,8 @@ impl TmBuilder {
         Turn {
             scid: self.scid,
             vcid: self.vcid,
-            count: self.count,
+            mc_count: self.mc_count,
+            vc_count: self.vc_count,
             idle_left: self.idle_left,
             begun: self.begun as usize,
         }
@@ -152,7 +191,8 @@ impl TmBuilder {
         if !self.is_at_rest() {
             self.send(self.total - 12);
         }
-        self.count = self.count.wrapping_add(1);
+        self.mc_count = self.mc_count.wrapping_add(1);
+        self.vc_count = self.vc_count.wrapping_add(1);
     }
 
     fn is_at_rest(&self) -> bool

@@ -19,8 +19,10 @@ pub struct Turn {
     pub scid: u16,
     /// The virtual channel identifier, below 8.
     pub vcid: u8,
-    /// The next frame's count, on the master and on the virtual channel.
-    pub count: u8,
+    /// The next frame's count on the master channel (CCSDS 132.0-B-3, 4.1.2.5).
+    pub mc_count: u8,
+    /// The next frame's count on the virtual channel (4.1.2.6).
+    pub vc_count: u8,
     /// The octets left of an idle packet, at most 6, which are sent first.
     pub idle_left: usize,
     /// The octets left of the packet that was begun, which are sent next.
@@ -62,8 +64,8 @@ fn put_front(turn: &Turn, pending: &[u8], ocf: [u8; 4], out: &mut [u8])
     let frame = TmFrame {
         scid: turn.scid,
         vcid: turn.vcid,
-        mc_count: turn.count,
-        vc_count: turn.count,
+        mc_count: turn.mc_count,
+        vc_count: turn.vc_count,
         pointer,
         payload: &field[..size],
         ocf,

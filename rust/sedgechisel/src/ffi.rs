@@ -196,6 +196,12 @@ pub struct TmExtractor {
 }
 
 #[repr(C)]
+#[derive(Clone)]
+pub struct GapCheck {
+    pub last: [u16; 2048],
+}
+
+#[repr(C)]
 #[derive(Clone, Copy, Debug, Default)]
 pub struct TmExtracted {
     pub joined: usize,
@@ -275,6 +281,8 @@ unsafe extern "C" {
         packet: &Packet, data: *const u8, data_count: usize, out: *mut u8, room: usize, total: &mut usize,
     ) -> u8;
     fn sedge_packet_declared(octets: *const u8, count: usize, total: &mut usize) -> u8;
+    pub safe fn sedge_gap_check_open(check: &mut GapCheck);
+    pub safe fn sedge_gap_check_see(check: &mut GapCheck, apid: u16, count: u16, missing: &mut u16) -> u8;
 
     fn sedge_tm_decode(
         octets: *const u8, count: usize, length: usize, frame: &mut TmFrame, data: &mut Part,

@@ -8,7 +8,7 @@ mod spacecraft;
 pub use config::{Config, OpenFault, Parameter};
 pub use ground::{Ground, Heard, HeardClcw, HeardReport};
 pub use link::{Begun, Link, Record, SimFault};
-pub use spacecraft::{Received, Spacecraft};
+pub use spacecraft::{KeptNumbers, Received, Spacecraft};
 
 use crate::ffi;
 use crate::numbers::{done, never};

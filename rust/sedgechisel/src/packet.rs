@@ -1,6 +1,7 @@
 //! Space packets of 7 to 65,542 octets (CCSDS 133.0-B-2, 4.1).
 
 use crate::ffi;
+use core::fmt;
 
 faults! {
     /// Why a space packet is refused (CCSDS 133.0-B-2).
@@ -109,5 +110,53 @@ impl<'a> Packet<'a> {
         let mut total = 0;
         PacketFault::judge(ffi::packet_declared(octets, &mut total))?;
         Ok(total)
+    }
+}
+
+/// A check of the sequence counts of all application processes, which shows packets that are missing (CCSDS 133.0-B-2,
+/// 4.1.3.4.3). It has 4,096 octets.
+///
+/// ```
+/// use sedgechisel::{GapCheck, PacketFault};
+///
+/// let mut gaps = GapCheck::new();
+/// assert_eq!([0, 1, 3, 3].map(|count| gaps.see(5, count)), [Ok(None), Ok(Some(0)), Ok(Some(1)), Ok(Some(16383))]);
+/// assert_eq!(gaps.see(2048, 0), Err(PacketFault::FieldRange));
+/// ```
+#[derive(Clone)]
+pub struct GapCheck(ffi::GapCheck);
+
+impl GapCheck {
+    /// A check that has seen no packet.
+    #[must_use]
+    pub fn new() -> Self {
+        let mut check = ffi::GapCheck { last: [0; 2048] };
+        ffi::sedge_gap_check_open(&mut check);
+        Self(check)
+    }
+
+    /// Sees a packet of this APID with this count: how many are missing before it, (count - last - 1) modulo 16,384, or
+    /// nothing for the first of its APID. Refused with 5 [`FieldRange`](PacketFault::FieldRange), for an APID above
+    /// 2,047 or a count above 16,383; nothing is seen then.
+    pub fn see(&mut self, apid: u16, count: u16) -> Result<Option<u16>, PacketFault> {
+        let mut missing = 0;
+        match ffi::sedge_gap_check_see(&mut self.0, apid, count, &mut missing) {
+            ffi::SEDGE_ABSENT => Ok(None),
+            answer => PacketFault::judge(answer).map(|()| Some(missing)),
+        }
+    }
+}
+
+impl Default for GapCheck {
+    fn default() -> Self {
+        Self::new()
+    }
+}
+
+/// The number of application processes of which a packet was seen.
+impl fmt::Debug for GapCheck {
+    fn fmt(&self, out: &mut fmt::Formatter<'_>) -> fmt::Result {
+        let seen = self.0.last.iter().filter(|last| **last < 16384).count();
+        out.debug_struct("GapCheck").field("seen", &seen).finish_non_exhaustive()
     }
 }

@@ -190,4 +190,5 @@ fn gaps(rt: HostRuntime) {
         equal(&rt, &check.see(apid, count), &gap);
     }
     equal(&rt, &gap_of_two(&mut check, 2047, 16383, 1), &Some(1));
+    equal(&rt, &[gap_between(0, 1), gap_between(1, 3)], &[0, 1]);
 }

@@ -214,6 +214,23 @@ fn idle_packets_in_frames(rt: HostRuntime) {
 }
 
 #[test]
+fn counts_that_were_kept(rt: HostRuntime) {
+    let mut builder =
+        TmBuilder::with_counts(rt.alloc(), 1, 0, 20, 7, 255).expect(&rt, "a builder");
+    for (mc_count, vc_count) in [(7, 255), (8, 0)] {
+        equal(&rt, &builder.mc_count(), &mc_count);
+        equal(&rt, &builder.vc_count(), &vc_count);
+        let frame = TmFrame {
+            mc_count,
+            vc_count,
+            payload: &[0x55; 8],
+            ..frame(Pointer::OnlyIdle)
+        };
+        builds_one(&rt, &mut builder, frame);
+    }
+}
+
+#[test]
 fn what_is_not_queued(rt: HostRuntime) {
     for (vcid, length) in [(8, 20), (0, 15)] {
         let fault = TmBuilder::new(rt.alloc(), 1, vcid, length).err();

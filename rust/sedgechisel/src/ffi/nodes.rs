@@ -159,6 +159,8 @@ pub struct SpacecraftReading {
     pub farm_b: u8,
     pub value: u8,
     pub state: u8,
+    pub mc_count: u8,
+    pub vc_count: u8,
 }
 
 #[repr(C)]
@@ -415,6 +417,9 @@ unsafe extern "C" {
         spacecraft: &mut Spacecraft, out: *mut u8, room: usize, count: &mut usize,
     ) -> u8;
     pub safe fn sedge_spacecraft_read(spacecraft: &mut Spacecraft, read: &mut SpacecraftReading) -> u8;
+    pub safe fn sedge_spacecraft_open_at(
+        config: &Config, kept: &SpacecraftReading, spacecraft: &mut Spacecraft,
+    ) -> u8;
 
     pub safe fn sedge_sim_open(config: &Config, sim: &mut Sim) -> u8;
     pub safe fn sedge_sim_close(sim: &mut Sim);

@@ -177,6 +177,8 @@ impl Config {
 pub enum OpenFault {
     /// The first parameter that is out of its range.
     OutOfRange(Parameter),
+    /// FARM-B, of the numbers that were kept, is above 3.
+    FarmB,
     /// There was no memory.
     Memory,
 }
@@ -191,6 +193,7 @@ impl fmt::Display for OpenFault {
     fn fmt(&self, out: &mut fmt::Formatter<'_>) -> fmt::Result {
         match self {
             Self::OutOfRange(it) => write!(out, "{} {} is out of its range", it.number(), it.name()),
+            Self::FarmB => out.write_str("FARM-B is not 0 to 3"),
             Self::Memory => fmt::Display::fmt(&LinkFault::Memory, out),
         }
     }

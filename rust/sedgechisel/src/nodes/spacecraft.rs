@@ -54,6 +54,19 @@ impl Received {
     }
 }
 
+/// The numbers with which a spacecraft that is restarted on purpose goes on, which the program keeps meanwhile.
+#[derive(Clone, Copy, Debug, Default, PartialEq, Eq, Hash)]
+pub struct KeptNumbers {
+    /// V(R), the number of the next frame to be accepted.
+    pub vr: u8,
+    /// FARM-B, the count of Type-B frames modulo 4, 0 to 3.
+    pub farm_b: u8,
+    /// The next telemetry frame's count on the master channel.
+    pub mc_count: u8,
+    /// The next telemetry frame's count on the virtual channel.
+    pub vc_count: u8,
+}
+
 /// The report in what is read of a spacecraft.
 pub(super) fn word_of(read: raw::SpacecraftReading) -> Clcw {
     Clcw::from_raw(crate::ffi::Clcw {
@@ -100,6 +113,46 @@ impl Spacecraft {
         let mut spacecraft = Self(raw::Own::default());
         config.judge(raw::sedge_spacecraft_open(&config.raw(), spacecraft.0.get()))?;
         Ok(spacecraft)
+    }
+
+    /// A spacecraft that goes on with numbers that [`kept_numbers`](Self::kept_numbers) gave before a restart on
+    /// purpose. Its receiver is Open with no flag, and no packet is on board.
+    ///
+    /// # Errors
+    ///
+    /// Refused as [`new`](Self::new) is, and then with [`FarmB`](OpenFault::FarmB).
+    ///
+    /// ```
+    /// use sedgechisel::{Config, KeptNumbers, Spacecraft, TmFrame};
+    ///
+    /// let kept = KeptNumbers { vr: 7, farm_b: 2, mc_count: 255, vc_count: 255 };
+    /// let mut spacecraft = Spacecraft::restarted(&Config::default(), kept)?;
+    /// let mut room = [0; TmFrame::LONGEST];
+    /// let frame = TmFrame::decode(spacecraft.telemetry_frame(&mut room), 64)?;
+    /// assert_eq!((frame.mc_count, frame.vc_count), (255, 255));
+    /// assert_eq!(spacecraft.kept_numbers(), KeptNumbers { mc_count: 0, vc_count: 0, ..kept });
+    /// # Ok::<(), Box<dyn std::error::Error>>(())
+    /// ```
+    pub fn restarted(config: &Config, kept: KeptNumbers) -> Result<Self, OpenFault> {
+        let mut spacecraft = Self(raw::Own::default());
+        let read = raw::SpacecraftReading {
+            value: kept.vr,
+            farm_b: kept.farm_b,
+            mc_count: kept.mc_count,
+            vc_count: kept.vc_count,
+            ..raw::SpacecraftReading::default()
+        };
+        match raw::sedge_spacecraft_open_at(&config.raw(), &read, spacecraft.0.get()) {
+            raw::SEDGE_NODE_OUT_OF_RANGE if config.fault().is_none() => Err(OpenFault::FarmB),
+            answer => config.judge(answer).map(|()| spacecraft),
+        }
+    }
+
+    /// The numbers with which [`restarted`](Self::restarted) goes on, as they are now.
+    #[must_use]
+    pub fn kept_numbers(&self) -> KeptNumbers {
+        let read = self.read();
+        KeptNumbers { vr: read.value, farm_b: read.farm_b, mc_count: read.mc_count, vc_count: read.vc_count }
     }
 
     /// Octets came from the ground, which are one telecommand frame with its FECF if all is well.

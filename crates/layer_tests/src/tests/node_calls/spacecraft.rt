@@ -8,7 +8,7 @@ use crate::tests::refusing::{answer_of, says_refused};
 use clcw::{Clcw, decode};
 use cop1::Verdict;
 use map_service::Dropped;
-use nodes::{Arrival, Parameter, ValidConfig};
+use nodes::{Arrival, KeptNumbers, Parameter, ValidConfig};
 use std::alloc::Global;
 use std::process::Abort;
 use tc_frame::{Check, Command, TcFault};
@@ -50,6 +50,33 @@ impl<'a> Node<Row<'a>> for Spacecraft {
                 equal(rt, &(self.ready(), self.bypassed()), &(*ready, *bypassed));
             }
         }
+    }
+}
+
+// A spacecraft that was restarted with V(R) 1, FARM-B 3 and the last counts before 0.
+#[derive(Drop)]
+struct Restarted {
+    spacecraft: Spacecraft,
+}
+
+impl<'a> Node<Row<'a>> for Restarted {
+    fn create(alloc: Global, config: &ValidConfig) -> Result<Restarted, LinkFault> {
+        let kept = KeptNumbers {
+            vr: 1,
+            farm_b: 3,
+            mc_count: 255,
+            vc_count: 255,
+        };
+        let spacecraft = Spacecraft::restarted(alloc, config.config(), kept)?;
+        Ok(Restarted { spacecraft })
+    }
+
+    fn length_of_frames(&self) -> usize {
+        self.spacecraft.frame_length()
+    }
+
+    fn answers(&mut self, rt: &(impl Abort + Eprint), call: &Row<'a>) {
+        self.spacecraft.answers(rt, call);
     }
 }
 
@@ -271,4 +298,17 @@ fn parts_that_arrive(rt: HostRuntime) {
         Row::Take(None),
     ];
     plays::<Spacecraft, _>(&rt, rt.alloc(), &with_parts(3, 0), &rows);
+}
+
+#[test]
+fn a_restart_on_purpose(rt: HostRuntime) {
+    let rows = [
+        Row::Waits(0, 0),
+        idle([0x01, 0x08, 0x06, 0x01], 255),
+        Row::Receive(&AD_0, sequence(0, Verdict::Behind, 0)),
+        Row::Receive(&AD_1, sequence(1, Verdict::Accepted, 1)),
+        Row::Receive(&BD_0, Received::Bypass { kept: true }),
+        idle([0x01, 0x08, 0x00, 0x02], 0),
+    ];
+    plays::<Restarted, _>(&rt, rt.alloc(), &Config::default(), &rows);
 }

@@ -1,9 +1,10 @@
-// Telemetry that comes down: two packets of two frames each, of which none, 255 and 256 in a row are lost.
+// Telemetry that comes down: two packets of two frames each, of which none, 255 and 256 in a row are lost; and a
+// spacecraft that is restarted between two frames.
 
 use super::ground::{heard, takes};
 use crate::tests::configs::with_value;
 use crate::tests::equal::equal;
-use nodes::Parameter;
+use nodes::{KeptNumbers, Parameter};
 use std::alloc::Global;
 use std::process::Abort;
 use tc_link::{Ground, Spacecraft};
@@ -113,5 +114,37 @@ fn packets_over_losses(rt: HostRuntime) {
     ];
     for rest in [whole_comes, half_comes] {
         happen(&rt, rt.alloc(), &[&half_lost, &rest]);
+    }
+}
+
+// The second half of A is gone with the spacecraft. The counts go on, so no frame is missing, and the half that came
+// is joined to nothing.
+#[test]
+fn a_restart_on_purpose(rt: HostRuntime) {
+    let config = with_value(Parameter::FrameLength, 20);
+    let valid = config.valid().expect(&rt, "a configuration");
+    let mut before = Spacecraft::of(rt.alloc(), &valid).expect(&rt, "a spacecraft");
+    let mut ground = Ground::of(rt.alloc(), &valid).expect(&rt, "a ground");
+    for event in [Event::Queue(&A), Event::Hear(Gap::First, 0)] {
+        happens(&rt, &mut before, &mut ground, &event);
+    }
+    let kept = before.kept_numbers();
+    let one_sent = KeptNumbers {
+        vr: 0,
+        farm_b: 0,
+        mc_count: 1,
+        vc_count: 1,
+    };
+    equal(&rt, &kept, &one_sent);
+    let mut after =
+        Spacecraft::restarted(rt.alloc(), valid.config(), kept).expect(&rt, "a spacecraft");
+    for event in [
+        Event::Queue(&B),
+        Event::Hear(Gap::Lost(0), 0),
+        Event::Hear(Gap::Lost(0), 1),
+        Event::Take(Some(&B)),
+        Event::Take(None),
+    ] {
+        happens(&rt, &mut after, &mut ground, &event);
     }
 }
