@@ -1,11 +1,11 @@
 -- A sender of units follows the rules over numbers: its outcomes are theirs, with the queues that their answers leave.
-use Rattle.std.proofs.Common.{◌≡◌, ◌≤◌, ◌<◌, ℕ, ◌+◌, ◌-◌, ◌%◌, Bool, true, false, List, [], ◌∷◌, length, drop}
-use Rattle.std.proofs.Common.{is_some, min, Option, Some, None, inl, inr, refl, sym, subst, ap, ◌∙◌, arith, length-drop}
-use Rattle.std.proofs.Common.{length-append}
-use Rattle.std.specs.Prelude.{◌==◌, nat_lt, slice_get}
+use Rattle.std.proofs.Common.{◌≡◌, ◌≤◌, ◌<◌, ℕ, ◌+◌, ◌-◌, ◌%◌, Bool, true, false, List, [], ◌∷◌}
+use Rattle.std.proofs.Common.{length, drop, is_some, min, Option, Some, None, inl, inr, refl, sym}
+use Rattle.std.proofs.Common.{subst, ap, ◌∙◌, arith, length-drop, length-append}
+use Rattle.std.specs.Prelude.{◌==◌, nat_lt, slice_get, ◌↔◌, IsSome}
 use Rattle.std.proofs.lemmas.Bool.{cases_lt, eq-eqb, ne_eqb}
 use Rattle.std.proofs.lemmas.List.{drop-drop, drop_all}
-use Rattle.circular_buffer.specs.Buffer.{keep_last}
+use Rattle.circular_buffer.specs.Buffer.{keep_last, Buffer, buffer}
 use Rattle.clcw.specs.declared.word.Clcw.{Clcw}
 use Rattle.cop1.specs.Modulo.{ahead_by}
 use Rattle.cop1.specs.declared.vocabulary.FopMode.{FopMode}
@@ -14,7 +14,7 @@ use Rattle.cop1.specs.declared.vocabulary.Control.{Control}
 use Rattle.cop1.specs.declared.vocabulary.Control.TheVariants.{Due}
 use Rattle.cop1.specs.declared.vocabulary.Directive.{Directive}
 use Rattle.cop1.specs.UnitsNext.{IsPlaced, seen_at}
-use Rattle.cop1.specs.Units.{SentUnit, units, is_none_sent, oldest_marked, FopOutcome}
+use Rattle.cop1.specs.Units.{SentUnit, units, is_none_sent, oldest_marked, FopOutcome, IsFop}
 use Rattle.cop1.specs.FopSubmit.{submit_in, waits_behind}
 use Rattle.cop1.specs.UnitsStep.{handing_back, FopInput, fop_step}
 use Rattle.cop1.specs.FopDirective.{directive_step}
@@ -23,16 +23,20 @@ use Rattle.cop1.specs.FopPull.{PulledUnit, NothingPulled, SequencePulled}
 use Rattle.cop1.specs.FopReport.{clcw_step}
 use Rattle.cop1.specs.FopTick.{tick_step}
 use Rattle.cop1.specs.UnitsStep as fop
-use Rattle.cop1.specs.Queues.{Queues, Fits, FollowsTheRules, with_queues, marked_last, still_waiting, trimmed, trims}
-use Rattle.cop1.specs.Queues.{submitted, first_bypass, taken_from, next_at, pulled, peeked_at, pulled_by, by_rules}
-use Rattle.cop1.specs.Numbers.{IsSender, SenderNumbers, SenderOutcome, Counted, numbers, Which, TheWaiting, OneSent}
-use Rattle.cop1.specs.Numbers.{waiting_which}
+use Rattle.cop1.specs.Queues.{Queues, Fits, FollowsTheRules, with_queues, marked_last}
+use Rattle.cop1.specs.Queues.{still_waiting, trimmed, trims, submitted, first_bypass, taken_from}
+use Rattle.cop1.specs.Queues.{next_at, pulled, peeked_at, pulled_by, by_rules}
+use Rattle.cop1.specs.Numbers.{IsSender, SenderNumbers, SenderOutcome, Counted, numbers, Which}
+use Rattle.cop1.specs.Numbers.{TheWaiting, OneSent, waiting_which}
 use Rattle.cop1.specs.NumbersStep.{is_due, next_of, next_outcome}
 use Rattle.cop1.proofs.Both.{when}
 use Rattle.cop1.proofs.Alike.{Keeps, Alike, reported, ticked, directed}
-use Rattle.cop1.proofs.Marks.{map-marked_unit-marked_last, marked_last-all, drop-marked_last, marked_last-push}
-use Rattle.cop1.proofs.Marks.{oldest_marked-none, oldest_marked-last, without_oldest_mark-last, slice_get-within}
-use Rattle.cop1.proofs.Marks.{slice_get-push}
+use Rattle.cop1.proofs.Marks.{map-marked_unit-marked_last, marked_last-all, drop-marked_last}
+use Rattle.cop1.proofs.Marks.{marked_last-push, oldest_marked-none, oldest_marked-last}
+use Rattle.cop1.proofs.Marks.{without_oldest_mark-last, slice_get-within, slice_get-push}
+use Rattle.cop1.proofs.Marks.{length-marked_last}
+use Rattle.cop1.specs.declared.fop.Fop.TheInside.{Inside}
+use Rattle.cop1.specs.FopFields.{queues_of, fop_state_of, IsSound}
 
 module _ {U : Type 0} where
   -- ---- reports, ticks and directives: the numbers stand for what is left of the queues
@@ -297,3 +301,48 @@ module _ {U : Type 0} where
 
 pub follows_the_rules : (U : Type 0) → FollowsTheRules U
 follows_the_rules U s q is fits input = follows s q input is fits
+
+-- How the fields of a sender of units change: as the rules over numbers say, and the queues with them.
+
+module _ {U : Type 0} where
+  pub IsFop-fop_state_of : (f : Inside U) → IsSound f → IsFop (fop_state_of f)
+  IsFop-fop_state_of f is =
+      let s = f.sender in
+      let sent = length-marked_last s.sent.due f.sent.items in
+      record {
+        numbered = λ h. is.sender.agrees.numbered h ∙ sym (sent ∙ is.fits.units);
+        within = omega (arith, sent, is.fits.units, is.sender.ranges.within);
+        window = is.sender.ranges.window;
+        repeating = λ h two. omega (arith, sent, is.fits.units, is.sender.agrees.repeating h two);
+        unsent = λ h. ap (marked_last s.sent.due)
+            (no_units f.sent.items s.sent.count is.fits.units (is.sender.agrees.unsent h));
+        unsubmitted = λ h. no_unit f.waiting s.waiting is.fits.waiting (is.sender.agrees.unsubmitted h);
+        timed = λ h. subst (λ n. IsSome s.ticks ↔ 1 ≤ n) (sym (sent ∙ is.fits.units)) (is.sender.agrees.timed h);
+        checking = is.sender.agrees.checking;
+        untimed = is.sender.agrees.untimed;
+        commanding = is.sender.agrees.commanding;
+        commanded = is.sender.agrees.commanded;
+        limit = is.sender.ranges.limit;
+        timer = is.sender.ranges.timer;
+        ticks = is.sender.ranges.ticks;
+      }
+
+  -- once the queues are trimmed
+  module _ {A : Type 0} (f : Inside U) {o : SenderOutcome A} {r : FopOutcome U A} {s : SenderNumbers} {w : Option U}
+      {b : Buffer U}
+      (follows : Follows f.sender.room (queues_of f) o r) (numbers : s ≡ o.after)
+      (waiting : w ≡ still_waiting s.waiting f.waiting)
+      (sent : b ≡ buffer (keep_last s.sent.count f.sent.items) f.sent.capacity) where
+    abbrev ending : Inside U
+    ending = record f { sender = s; waiting = w; sent = b }
+
+    pub trimmed-state : fop_state_of ending ≡ r.after
+    trimmed-state = rw (sent, waiting, numbers, follows.same) refl
+
+    pub trimmed-sound : IsSender s → IsSound f → IsSound ending
+    trimmed-sound is was =
+        rw (sent, waiting) (record {
+          sender = is;
+          fits = subst (λ (t : SenderNumbers). Fits t (trimmed t (queues_of f))) (sym numbers) follows.fits;
+          room = omega (arith, ap (λ (t : SenderNumbers). t.room) numbers, follows.same_room, was.room);
+        })

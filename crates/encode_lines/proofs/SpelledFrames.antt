@@ -13,8 +13,8 @@ use Rattle.tc_frame.specs.declared.frame.Command.TheVariants.{Unlock, SetVr}
 use Rattle.tc_frame.specs.Layout.{SegmentView, BodyView, Ad, Bd, Bc, FrameView, flags_code, body_fits, segment_fits}
 use Rattle.tc_frame.specs.Decoding.{flags_at, frame_with, frame_at}
 use Rattle.tc_frame.specs.Encoding.{frame_fits, spelling}
-use Rattle.tc_frame.proofs.Encoded.{spelling_is}
-use Rattle.tc_frame.proofs.Decoded.{frame_again}
+use Rattle.tc_frame.proofs.Spelled.{spelling_is}
+use Rattle.tc_frame.proofs.Spelled.{frame_again}
 use Rattle.script_lines.specs.Words.{words_in, number_in_word}
 use Rattle.script_lines.proofs.Numerals.{printed}
 use Rattle.script_lines.proofs.Spaces.{is_word, number_word}

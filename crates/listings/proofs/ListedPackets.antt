@@ -10,7 +10,7 @@ use Rattle.tc_frame.specs.Decoding.{frame_at}
 use Rattle.cop1.specs.Farm.{FarmState, new_farm}
 use Rattle.map_service.specs.Assembly.{assembled, is_open}
 use Rattle.map_service.specs.Exactness.{AssemblerState, step_at, after_step, HasPartsOf, IsTakenExactly}
-use Rattle.map_service.proofs.Places.{no_parts}
+use Rattle.map_service.proofs.AssemblerSteps.{no_parts}
 use Rattle.map_service.proofs.AssemblerSteps.{taken_exactly}
 use Rattle.listings.specs.FarmLines as farms
 use Rattle.listings.specs.MapLines.{MapState, map_limits, map_opened, segment_of, assembler_after, after_frame}

@@ -1,24 +1,193 @@
--- The assembler's step at a segment gives exactly what the segment adds.
-use Rattle.std.proofs.Common.{◌≡◌, ◌≢◌, ◌≤◌, ℕ, List, [], ◌∷◌, ◌++◌, length, Bool, true, false, not, cond, eqb, ◌&&◌}
-use Rattle.std.proofs.Common.{Option, Some, None, refl, sym, ap, ◌∙◌, set, length-append, arith, inl, inr}
-use Rattle.std.proofs.lemmas.Bool.{cond_both, ne_eqb, eq-eqb, le-ltb, cases_lt, cases_eq}
-use Rattle.std.proofs.lemmas.Bool.Decides.{nat_tests}
-use Rattle.std.proofs.lemmas.List.{append-nil, get_or-set_same, get_or-set_other, get_or_past, length-set}
-use Rattle.std.proofs.lemmas.List.Elements.{filter-append}
+-- What one more segment adds to what a list of segments of one MAP gives.
+use Rattle.std.proofs.Common.{◌≡◌, ℕ, List, [], ◌∷◌, ◌++◌, Option, Some, None, refl, sym, ap, ◌∙◌}
+use Rattle.std.proofs.Common.{append_assoc, arith, Bool, true, false, eqb, ◌≢◌, ◌≤◌, length, not}
+use Rattle.std.proofs.Common.{cond, ◌&&◌, set, length-append, inl, inr, ◌<◌, suc, get_or, map}
+use Rattle.std.proofs.Common.{replicate}
+use Rattle.std.proofs.lemmas.List.{append-nil, get_or-set_same, get_or-set_other, get_or_past}
+use Rattle.std.proofs.lemmas.List.{length-set, map-set, get_or-map, get_or-replicate}
+use Rattle.std.proofs.lemmas.List.{length-replicate}
 use Rattle.tc_frame.specs.declared.frame.SegmentFlags.{SegmentFlags}
 use Rattle.tc_frame.specs.declared.frame.SegmentFlags.TheVariants.{First, Continuing, Last, Alone}
 use Rattle.tc_frame.specs.Layout.{SegmentView}
 use Rattle.map_service.specs.declared.limits.Limits.{Limits}
+use Rattle.map_service.specs.Assembly.{one_packet, packets_of, up_to_last_from, up_to_last}
+use Rattle.map_service.specs.Assembly.{up_to_end_from, up_to_end, block_packets, blocks_packets}
+use Rattle.map_service.specs.Assembly.{part_from, ending_part, is_open, of_map, assembled}
+use Rattle.map_service.specs.Assembly.{is_too_long, unless_too_long, open_part}
+use Rattle.std.proofs.lemmas.List.Elements.{filter-append}
+use Rattle.std.proofs.lemmas.Bool.{cond_both, ne_eqb, eq-eqb, le-ltb, cases_lt, cases_eq}
+use Rattle.std.proofs.lemmas.Bool.Decides.{nat_tests}
 use Rattle.map_service.specs.declared.dropped.Dropped.{Dropped}
 use Rattle.map_service.specs.declared.dropped.Dropped.TheVariants.{NotAPacket, TooLong}
 use Rattle.map_service.specs.Packets.{packets_in, are_packets, is_packet, is_some_over}
-use Rattle.map_service.specs.Assembly.{is_open, of_map, is_too_long, one_packet, packets_of, ending_part}
-use Rattle.map_service.specs.Assembly.{blocks_packets, unless_too_long, assembled, open_part}
-use Rattle.map_service.specs.AssemblerTable.{TakeOutcome, one_fault, several_fault, alone_fault, alone_packets}
-use Rattle.map_service.specs.AssemblerTable.{drop_outcome}
-use Rattle.map_service.specs.AssemblerTable.{packets_outcome, part_outcome, cell, take_step}
-use Rattle.map_service.specs.Exactness.{AssemblerState, part_on_map, step_at, after_step, HasPartsOf, IsTakenExactly}
-use Rattle.map_service.proofs.OneMore.{part_behind, ending_part-push, packets_behind, blocks_packets-push}
+use Rattle.map_service.specs.AssemblerTable.{TakeOutcome, one_fault, several_fault, alone_fault}
+use Rattle.map_service.specs.AssemblerTable.{alone_packets, drop_outcome, packets_outcome}
+use Rattle.map_service.specs.AssemblerTable.{part_outcome, cell, take_step}
+use Rattle.map_service.specs.Exactness.{AssemblerState, part_on_map, step_at, after_step}
+use Rattle.map_service.specs.Exactness.{HasPartsOf, IsTakenExactly}
+use Rattle.std.specs.List.{AllByRecursion}
+use Rattle.std.specs.declared.vec.Vec.{Vec}
+use Rattle.map_service.specs.declared.assembler.Change.{Change}
+use Rattle.map_service.specs.Prepared.{part_after}
+use Rattle.map_service.specs.Views.{part_view}
+
+-- ---- segments that are all continuing end no block, give no packet and begin no part
+
+pub record AllGoOn (limits : Limits) (segments : List SegmentView) : Type 0 where
+  pub unended : up_to_last segments ≡ None
+  pub given : blocks_packets limits segments ≡ []
+  pub unbegun : ending_part segments ≡ None
+
+one_goes_on : (limits : Limits) (s : SegmentView) (segments : List SegmentView) (flags : SegmentFlags)
+    (more : Option (List ℕ)) (joined : List ℕ)
+    → s.header.flags ≡ flags → up_to_end_from flags s.payload more ≡ Some joined
+    → ((j : List ℕ) → more ≡ Some j → AllGoOn limits segments) → AllGoOn limits (s ∷ segments)
+one_goes_on limits s segments Continuing (Some more) joined e h rest =
+    let r = rest more refl in
+    record { unended = rw (e, r.unended) refl; given = rw (e, r.given) refl; unbegun = rw (e, r.unbegun) refl }
+one_goes_on limits s segments Continuing None joined e h rest = absurd cc
+one_goes_on limits s segments _ more joined e h rest = absurd cc
+
+pub all_go_on : (limits : Limits) (segments : List SegmentView) (joined : List ℕ) → up_to_end segments ≡ Some joined
+    → AllGoOn limits segments
+all_go_on limits [] joined h = record { unended = refl; given = refl; unbegun = refl }
+all_go_on limits (s ∷ segments) joined h =
+    one_goes_on limits s segments s.header.flags (up_to_end segments) joined refl h (all_go_on limits segments)
+
+-- ---- the joined data up to a last segment
+
+-- after it, where these are the data up to a last segment, and up to the end, before it
+abbrev pub ended : SegmentFlags → List ℕ → Option (List ℕ) → Option (List ℕ) → Option (List ℕ)
+ended flags octets (Some joined) all = Some joined
+ended Last octets None (Some joined) = Some (joined ++ octets)
+ended Last octets None None = None
+ended _ octets None all = None
+
+up_to_last_from-ended : (f flags : SegmentFlags) (octets o : List ℕ) (last all : Option (List ℕ))
+    → up_to_last_from f o (ended flags octets last all)
+    ≡ ended flags octets (up_to_last_from f o last) (up_to_end_from f o all)
+up_to_last_from-ended f flags octets o last all = grind (arith, append_assoc)
+
+pub up_to_last-push : (segments : List SegmentView) (s : SegmentView)
+    → up_to_last (segments ++ s ∷ []) ≡ ended s.header.flags s.payload (up_to_last segments) (up_to_end segments)
+up_to_last-push [] s = grind arith
+up_to_last-push (x ∷ segments) s =
+    ap (up_to_last_from x.header.flags x.payload) (up_to_last-push segments s)
+    ∙ up_to_last_from-ended x.header.flags s.header.flags s.payload x.payload (up_to_last segments) (up_to_end segments)
+
+-- ---- the joined data up to the end
+
+abbrev pub continued : SegmentFlags → List ℕ → Option (List ℕ) → Option (List ℕ)
+continued Continuing octets (Some joined) = Some (joined ++ octets)
+continued Continuing octets None = None
+continued _ octets all = None
+
+up_to_end_from-continued : (f flags : SegmentFlags) (octets o : List ℕ) (all : Option (List ℕ))
+    → up_to_end_from f o (continued flags octets all) ≡ continued flags octets (up_to_end_from f o all)
+up_to_end_from-continued f flags octets o all = grind (arith, append_assoc)
+
+pub up_to_end-push : (segments : List SegmentView) (s : SegmentView)
+    → up_to_end (segments ++ s ∷ []) ≡ continued s.header.flags s.payload (up_to_end segments)
+up_to_end-push [] s = grind (arith, append-nil)
+up_to_end-push (x ∷ segments) s =
+    ap (up_to_end_from x.header.flags x.payload) (up_to_end-push segments s)
+    ∙ up_to_end_from-continued x.header.flags s.header.flags s.payload x.payload (up_to_end segments)
+
+-- ---- the part at the end
+
+abbrev pub part_behind : SegmentFlags → List ℕ → Option (List ℕ) → Option (List ℕ)
+part_behind Alone octets part = None
+part_behind First octets part = Some octets
+part_behind Continuing octets (Some part) = Some (part ++ octets)
+part_behind Continuing octets None = None
+part_behind Last octets part = None
+
+part_from-behind : (f flags : SegmentFlags) (octets o : List ℕ) (all later : Option (List ℕ))
+    → part_from f o (continued flags octets all) (part_behind flags octets later)
+    ≡ part_behind flags octets (part_from f o all later)
+part_from-behind f flags octets o all later = grind (arith, append_assoc)
+
+pub ending_part-push : (segments : List SegmentView) (s : SegmentView)
+    → ending_part (segments ++ s ∷ []) ≡ part_behind s.header.flags s.payload (ending_part segments)
+ending_part-push [] s = grind (arith, append-nil)
+ending_part-push (x ∷ segments) s =
+    rw (up_to_end-push segments s, ending_part-push segments s)
+    (part_from-behind x.header.flags s.header.flags s.payload x.payload (up_to_end segments) (ending_part segments))
+
+-- ---- the packets
+
+-- those that the last segment adds, where this part stood open before it
+abbrev pub packets_behind : Limits → SegmentFlags → List ℕ → Option (List ℕ) → List (List ℕ)
+packets_behind limits Alone octets part = packets_of limits octets
+packets_behind limits First octets part = []
+packets_behind limits Continuing octets part = []
+packets_behind limits Last octets (Some part) = one_packet limits (part ++ octets)
+packets_behind limits Last octets None = []
+
+first_gives : (limits : Limits) (flags : SegmentFlags) (octets o : List ℕ) (last all later : Option (List ℕ))
+    (given : List (List ℕ))
+    → ((j : List ℕ) → all ≡ Some j → (last ≡ None) × (given ≡ []) × (later ≡ None))
+    → block_packets limits First o (ended flags octets last all) ++ (given ++ packets_behind limits flags octets later)
+    ≡ (block_packets limits First o last ++ given) ++ packets_behind limits flags octets (part_from First o all later)
+first_gives limits flags octets o (Some joined) None later given h =
+    sym (append_assoc (one_packet limits (o ++ joined)) given (packets_behind limits flags octets later))
+first_gives limits flags octets o (Some joined) (Some j) later given h = let impossible = (h j refl).0 in absurd cc
+first_gives limits Last octets o None None later given h = refl
+first_gives limits Last octets o None (Some j) later given h =
+    let known = h j refl in
+    rw (known.1, known.2, append-nil, append_assoc o j octets) refl
+first_gives limits _ octets o None all later given h = refl
+
+block_gives : (limits : Limits) (f flags : SegmentFlags) (octets o : List ℕ) (last all later : Option (List ℕ))
+    (given : List (List ℕ))
+    → ((j : List ℕ) → all ≡ Some j → (last ≡ None) × (given ≡ []) × (later ≡ None))
+    → block_packets limits f o (ended flags octets last all) ++ (given ++ packets_behind limits flags octets later)
+    ≡ (block_packets limits f o last ++ given) ++ packets_behind limits flags octets (part_from f o all later)
+block_gives limits Alone flags octets o last all later given h =
+    sym (append_assoc (packets_of limits o) given (packets_behind limits flags octets later))
+block_gives limits First flags octets o last all later given h =
+    first_gives limits flags octets o last all later given h
+block_gives limits _ flags octets o last all later given h = refl
+
+pub blocks_packets-push : (limits : Limits) (segments : List SegmentView) (s : SegmentView)
+    → blocks_packets limits (segments ++ s ∷ []) ≡ blocks_packets limits segments
+    ++ packets_behind limits s.header.flags s.payload (ending_part segments)
+blocks_packets-push limits [] s = grind (arith, append-nil)
+blocks_packets-push limits (x ∷ segments) s =
+    rw (up_to_last-push segments s, blocks_packets-push limits segments s)
+    (block_gives limits x.header.flags s.header.flags s.payload x.payload (up_to_last segments) (up_to_end segments)
+    (ending_part segments) (blocks_packets limits segments)
+    (λ j e. let known = all_go_on limits segments j e in (known.unended, known.given, known.unbegun)))
+
+-- ---- what a beginning of a list of segments gives
+
+blocks_begin : (limits : Limits) (xs ys : List SegmentView)
+    → (more : List (List ℕ)) × (blocks_packets limits (xs ++ ys) ≡ blocks_packets limits xs ++ more)
+blocks_begin limits xs [] =
+    ([], ap (blocks_packets limits) (append-nil xs) ∙ sym (append-nil (blocks_packets limits xs)))
+blocks_begin limits xs (y ∷ ys) =
+    let rest = blocks_begin limits (xs ++ y ∷ []) ys in
+    let one : List (List ℕ) = packets_behind limits y.header.flags y.payload (ending_part xs) in (
+      one ++ rest.0,
+      ap (blocks_packets limits) (sym (append_assoc xs (y ∷ []) ys))
+          ∙ rest.1
+          ∙ ap (λ (ps : List (List ℕ)). ps ++ rest.0) (blocks_packets-push limits xs y)
+          ∙ append_assoc (blocks_packets limits xs) one rest.0,
+    )
+
+begins_by : (limits : Limits) (m : ℕ) (xs ys : List SegmentView) (opened : Bool) → is_open limits m ≡ opened
+    → (more : List (List ℕ)) × (assembled limits m (xs ++ ys) ≡ assembled limits m xs ++ more)
+begins_by limits m xs ys true h =
+    let rest = blocks_begin limits (of_map m xs) (of_map m ys) in
+    (rest.0, rw (h, filter-append (λ (x : SegmentView). eqb x.header.map m) xs ys) rest.1)
+begins_by limits m xs ys false h = ([], rw h refl)
+
+-- the packets of a beginning are a beginning of the packets
+pub assembled_begins : (limits : Limits) (m : ℕ) (xs ys : List SegmentView)
+    → (more : List (List ℕ)) × (assembled limits m (xs ++ ys) ≡ assembled limits m xs ++ more)
+assembled_begins limits m xs ys = begins_by limits m xs ys _ refl
+
+-- The assembler's step at a segment gives exactly what the segment adds.
 
 -- ---- octets judged as a whole
 
@@ -242,3 +411,60 @@ taken_exactly a segments s count has = record {
   others = assembled-other a.limits segments s;
   kept = parts_kept a segments s count has;
 }
+
+-- One part among those of all MAPs, as the assembler holds them.
+
+pub all_by_places : {X : Type 0} (P : X → Type 0) (xs : List X) (d : X)
+    → ((i : ℕ) → i < length xs → P (get_or xs i d)) → AllByRecursion P xs
+all_by_places P [] d at = tt
+all_by_places P (y ∷ ys) d at =
+    (at 0 (omega arith), all_by_places P ys d (λ i lt. at (suc i) (omega arith)))
+
+-- ---- one part among those of all MAPs, as the assembler holds them
+
+nothing_open : (b : Bool) → (let part : Option (List ℕ) = cond b None None in part) ≡ None
+nothing_open true = refl
+nothing_open false = refl
+
+-- no part is open anywhere, as after no segments
+pub no_parts : (limits : Limits) (m : ℕ) → get_or (replicate 64 None) m None ≡ open_part limits m []
+no_parts limits m =
+    let none : Option (List ℕ) = None in
+    elim (cases_lt m 64) [
+      | inl lt ↦ get_or-replicate 64 m none None lt ∙ sym (nothing_open (is_open limits m))
+      | inr ge ↦ get_or_past (replicate 64 none) m None (omega (arith, length-replicate 64 none))
+          ∙ sym (nothing_open (is_open limits m))
+    ]
+
+module _ {Z : Type 0} (limits : Limits) (parts : List (Option (Vec ℕ Z))) (s : SegmentView) (place : ℕ)
+    (part old : Option (Vec ℕ Z)) where
+  abbrev pub state_with : List (Option (Vec ℕ Z)) → AssemblerState
+  state_with ps = record { limits = limits; parts = map part_view ps }
+
+  is_map : is_open limits s.header.map ≡ true → s.header.map < 64
+  is_map opened =
+      elim (cases_lt s.header.map 64) [
+        | inl lt ↦ lt
+        | inr ge ↦ absurd
+            (let closed = no_such_map limits s.header.map ge in cc)
+      ]
+
+  viewed_at : place ≡ s.header.map → length parts ≡ 64 → is_open limits s.header.map ≡ true
+      → get_or (map part_view parts) s.header.map None ≡ part_view (get_or parts place old)
+  viewed_at at count opened =
+      let lt = is_map opened in
+      ap (λ (m : ℕ). get_or (map part_view parts) m None) (sym at)
+      ∙ get_or-map part_view parts place old None (omega arith)
+
+  -- the part of the segment's MAP is that of the step, where the change that was put gives it
+  pub put_part : place ≡ s.header.map → length parts ≡ 64 → is_open limits s.header.map ≡ true → (change : Change)
+      → part_view part ≡ part_after change (part_view (get_or parts place old)) s.payload
+      → part_after change (part_on_map (state_with parts) s.header.map) s.payload
+      ≡ (step_at (state_with parts) s).part
+      → state_with (set parts place part) ≡ after_step (state_with parts) s
+  put_part at count opened change put prepared =
+      let new : part_view part ≡ (step_at (state_with parts) s).part =
+      put ∙ ap (λ (p : Option (List ℕ)). part_after change p s.payload) (sym (viewed_at at count opened)) ∙ prepared in
+      ap (λ (ps : List (Option (List ℕ))). let a : AssemblerState = record { limits = limits; parts = ps } in a)
+      (map-set part_view parts place part ∙ ap (λ (m : ℕ). set (map part_view parts) m (part_view part)) at
+      ∙ ap (set (map part_view parts) s.header.map) new)

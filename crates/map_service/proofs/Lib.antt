@@ -1,9 +1,7 @@
 pub mod Groups
 pub mod LongestGroups
 pub mod Handed
-pub mod OneMore
+pub mod AssemblerSteps
 pub mod Parts
 pub mod Passage
-pub mod Places
-pub mod AssemblerSteps
 pub mod Whole

@@ -26,7 +26,7 @@ use Rattle.map_service.proofs.Parts.{pieces-some, pieces-more, parts-fit}
 use Rattle.map_service.proofs.Parts.{pieces-joined, groups_joined, segments-joined, segments-parts}
 use Rattle.octets.specs.Beginning.{IsBeginning}
 use Rattle.map_service.specs.Cutting.{Submission, IsSubmitted, segments_of_all, packets_on}
-use Rattle.map_service.proofs.OneMore.{assembled_begins}
+use Rattle.map_service.proofs.AssemblerSteps.{assembled_begins}
 
 -- ---- lists of segments, one after another
 

@@ -13,7 +13,7 @@ use Rattle.octets.specs.Check.{bits_of, bit_sum, sum_without_carries, number_of_
 use Rattle.octets.specs.Check.{remainder, check_of, HoldsCheck}
 use Rattle.octets.specs.Check.{DiffersInTwoOctets, DiffersInBurst}
 use Rattle.octets.proofs.Bits.{sum-assoc, sum-comm, sum-zeros, sum-apart, number_of_bits-bits_of}
-use Rattle.octets.proofs.Cuts.{drop_fits}
+use Rattle.octets.proofs.Checked.{drop_fits}
 use Rattle.octets.proofs.Checked.{number_of_bits-below, length-sum, length-remainder, length-octet_bits}
 
 -- ---- the difference of two lists of bits

@@ -1,16 +1,79 @@
--- The check of a frame: it fits 16 bits, and octets end with it.
-use Rattle.std.proofs.Common.{◌≡◌, ℕ, zero, suc, ◌+◌, ◌*◌, ◌^◌, ◌<◌, ◌≤◌, Bool, true, false, List, [], ◌∷◌, ◌++◌}
-use Rattle.std.proofs.Common.{length, refl, ap, ◌∙◌, arith, length-append, ◌-◌, take, drop, sym, length-drop}
-use Rattle.std.specs.Prelude.{replicate}
+-- Octets cut out of others, and written among others.
+use Rattle.std.proofs.Common.{◌≡◌, ◌≤◌, ◌<◌, ℕ, suc, ◌+◌, ◌-◌, List, [], ◌∷◌, ◌++◌, length, get_or}
+use Rattle.std.proofs.Common.{take, drop, ap, ◌∙◌, arith, inl, inr, ◌/◌, ◌%◌, zero, ◌*◌, ◌^◌, Bool}
+use Rattle.std.proofs.Common.{true, false, refl, length-append, sym, length-drop}
+use Rattle.std.specs.Prelude.{slice_set, replicate}
+use Rattle.std.proofs.lemmas.Bool.{cases_lt}
+use Rattle.std.proofs.lemmas.List.{append-nil, drop_all, drop_more, get_or-take, get_or-drop}
+use Rattle.std.proofs.lemmas.List.{get_or_past, length-take, take_at, drop_at, take-append-drop}
+use Rattle.octets.specs.Number.{IsOctets, number_of}
+use borrow.Rule.Slice.PartMut.{put_mid}
+use Rattle.byteorder.specs.Endian.{big_bytes}
 use Rattle.std.proofs.lemmas.List.Concat.{flat_map-cons}
 use Rattle.std.proofs.Math.Nat.{pow-suc}
-use Rattle.octets.specs.Check.{bits_of, sum_without_carries, number_of_bits, octet_bits, generator_rest, remainder}
-use Rattle.octets.specs.Check.{check_of, HoldsCheck}
-use Rattle.std.proofs.lemmas.List.{take_at, drop_at, take-append-drop}
-use Rattle.byteorder.specs.Endian.{big_bytes}
-use Rattle.octets.specs.Number.{number_of, IsOctets}
-use Rattle.octets.proofs.Cuts.{drop_fits}
-use Rattle.octets.proofs.Numbers.{number_of_last, two_octets}
+use Rattle.octets.specs.Check.{bits_of, sum_without_carries, number_of_bits, octet_bits}
+use Rattle.octets.specs.Check.{generator_rest, remainder, check_of, HoldsCheck}
+
+-- octets of a front are octets
+pub take_fits : (octets : List ℕ) (n : ℕ) → IsOctets octets → IsOctets (take n octets)
+take_fits octets n fits i =
+    elim (cases_lt i n) [
+      | inl lt ↦ rw (get_or-take n octets i 0 lt) (fits i)
+      | inr le ↦ rw (get_or_past (take n octets) i 0 (omega (arith, length-take n octets))) (omega arith)
+    ]
+
+-- octets from a place on are octets
+pub drop_fits : (octets : List ℕ) (k : ℕ) → IsOctets octets → IsOctets (drop k octets)
+drop_fits octets k fits i = rw get_or-drop (fits (k + i))
+
+-- the first octet of a part is an octet
+pub cut_fits : (octets : List ℕ) (n k : ℕ) → IsOctets octets → get_or (drop k (take n octets)) 0 0 < 256
+cut_fits octets n k fits = drop_fits (take n octets) k (take_fits octets n fits) 0
+
+-- a part from place k on is the octet there and what follows it
+pub cut_next : (octets : List ℕ) (n k : ℕ) → k < n → n ≤ length octets
+    → drop k (take n octets) ≡ get_or octets k 0 ∷ drop (k + 1) (take n octets)
+cut_next octets n k lt long =
+    drop_more (take n octets) k 0 (omega (arith, length-take n octets))
+    ∙ ap (λ (x : ℕ). x ∷ drop (k + 1) (take n octets)) (get_or-take n octets k 0 lt)
+
+-- a first octet, and then a write to all others
+pub put_head : (out : List ℕ) (v : ℕ) (ys : List ℕ) → 0 < length out
+    → put_mid 1 (length (slice_set out 0 v) - 1) (slice_set out 0 v) ys ≡ v ∷ ys
+put_head [] v ys h = absurd (omega arith)
+put_head (x ∷ xs) v ys h =
+    ap (λ (t : List ℕ). v ∷ (ys ++ t)) (drop_all (suc (length xs) - 1) xs (omega arith))
+    ∙ ap (λ (t : List ℕ). v ∷ t) (append-nil ys)
+
+-- Numbers that octets spell, and the octets of a number.
+
+-- a number in two octets, read again from the front
+pub number_of_two : (n : ℕ) (rest : List ℕ) → n < 65536 → number_of (take 2 (big_bytes 2 n ++ rest)) ≡ n
+number_of_two n rest lt = omega arith
+
+-- a number in two octets, read again
+pub number_of_last : (n : ℕ) → n < 65536 → number_of (big_bytes 2 n) ≡ n
+number_of_last n lt = omega arith
+
+-- two octets spell a number of 16 bits
+pub two_below : (octets : List ℕ) → IsOctets octets → number_of (take 2 octets) < 65536
+two_below [] fits = omega arith
+two_below (x ∷ []) fits = omega (arith, fits 0)
+two_below (x ∷ y ∷ rest) fits = omega (arith, fits 0, fits 1)
+
+-- two octets are those of their number
+pub two_octets : (octets : List ℕ) → length octets ≡ 2 → IsOctets octets → octets ≡ big_bytes 2 (number_of octets)
+two_octets [] e fits = absurd (omega arith)
+two_octets (x ∷ []) e fits = absurd (omega arith)
+two_octets (x ∷ y ∷ []) e fits =
+    let low : y < 256 = fits 1 in
+    let high : x < 256 = fits 0 in
+    let first : x ≡ number_of (x ∷ y ∷ []) / 256 % 256 = omega arith in
+    let second : y ≡ number_of (x ∷ y ∷ []) % 256 = omega arith in
+    ap (λ (a : ℕ). a ∷ y ∷ []) first ∙ ap (λ (b : ℕ). number_of (x ∷ y ∷ []) / 256 % 256 ∷ b ∷ []) second
+two_octets (x ∷ y ∷ z ∷ rest) e fits = absurd (omega arith)
+
+-- The check of a frame: it fits 16 bits, and octets end with it.
 
 -- A check fits 16 bits.
 

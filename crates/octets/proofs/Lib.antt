@@ -1,11 +1,7 @@
-pub mod Outcomes
-pub mod Numbers
-pub mod Cuts
+pub mod Streams
+pub mod Checked
 pub mod Bits
-pub mod Register
 pub mod Division
 pub mod TableEntries
 pub mod Bursts
-pub mod Streams
 pub mod Walks
-pub mod Checked

@@ -7,7 +7,7 @@ use Rattle.std.proofs.lemmas.Nat.{shr_split, xor_comm, xor_lt}
 use Rattle.std.proofs.lemmas.List.{drop_more, get_or-drop, length-drop, length-take-le, take-append-drop}
 use Rattle.std.proofs.Math.ListN.{drop_of_length-le}
 use Rattle.octets.proofs.Division.{divided, takes_octet, takes_bit}
-use Rattle.octets.proofs.Register.{register_step, register_after, after-xor, step-fits}
+use Rattle.octets.proofs.Division.{register_step, register_after, after-xor, step-fits}
 use Rattle.std.proofs.lemmas.Bool.{eqb-true, cases_lt, and_parts}
 use Rattle.octets.specs.declared.table.TheConstants.{TABLES}
 use Rattle.octets.specs.Number.{IsOctets}

@@ -16,7 +16,7 @@ use Rattle.map_service.proofs.Groups.{all_of}
 use Rattle.map_service.proofs.Passage.{one-from}
 use Rattle.tm_link.specs.Builder.{BuilderState, builder_fits, new_builder, is_to_send, after_queue, left_after}
 use Rattle.tm_link.specs.Builder.{idle_after, after_send, with_next_count, build_step}
-use Rattle.tm_link.proofs.Fields.{passed_within, passed_beyond}
+use Rattle.tm_link.proofs.Spelled.{passed_within, passed_beyond}
 use Rattle.sedgechisel.specs.declared.telemetry_builder.KeptBuilder.{KeptBuilder}
 use Rattle.sedgechisel.specs.Answers.{damaged}
 use Rattle.sedgechisel.specs.Builders.{queued_at, built_at, pending_of, whole_of, has_numbers, is_builder, state_of}

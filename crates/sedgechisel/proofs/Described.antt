@@ -17,7 +17,7 @@ use Rattle.tc_frame.specs.Faults as tc_faults
 use Rattle.tc_frame.specs.declared.frame.Check.{Check}
 use Rattle.tc_frame.specs.declared.frame.TcFrame.{TcFrame}
 use Rattle.tc_frame.specs.declared.fault.TcFault.{TcFault}
-use Rattle.tc_frame.proofs.Decoded as tc_frames
+use Rattle.tc_frame.proofs.Spelled as tc_frames
 use Rattle.tm_link.specs.Layout as tm
 use Rattle.tm_link.specs.Layout.{pointer_number}
 use Rattle.tm_link.specs.Decoding.{pointer_at}
@@ -25,7 +25,7 @@ use Rattle.tm_link.specs.Decoding as tm_reading
 use Rattle.tm_link.specs.Faults as tm_faults
 use Rattle.tm_link.specs.declared.frame.TmFrame.{TmFrame}
 use Rattle.tm_link.specs.declared.fault.TmFault.{TmFault}
-use Rattle.tm_link.proofs.Decoded as tm_frames
+use Rattle.tm_link.proofs.Spelled as tm_frames
 use Rattle.sedgechisel.specs.declared.command_frame.CommandFrame.{CommandFrame}
 use Rattle.sedgechisel.specs.declared.telemetry_frame.ReportFrame.{ReportFrame}
 use Rattle.sedgechisel.specs.declared.part.Part.{Part}

@@ -14,7 +14,7 @@ pub use Rattle.clcw.specs.declared.word.Clcw.{Clcw}
 pub use Rattle.tc_frame.specs.Layout.{SegmentView, BodyView, Ad, Bd, Bc, segment_octets}
 pub use Rattle.tc_frame.specs.declared.fault.TcFault.{TcFault}
 pub use Rattle.tc_frame.specs.declared.frame.Check.TheVariants.{On}
-pub use Rattle.map_service.proofs.OneMore.{assembled_begins}
+pub use Rattle.map_service.proofs.AssemblerSteps.{assembled_begins}
 pub use Rattle.map_service.proofs.AssemblerSteps.{assembled-push, assembled-other}
 pub use Rattle.map_service.specs.Assembly.{assembled}
 pub use Rattle.map_service.specs.Views.{packets_view}

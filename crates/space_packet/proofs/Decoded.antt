@@ -8,9 +8,9 @@ use Rattle.std.proofs.lemmas.List.{length-take, length-drop, take-take, take_all
 use Rattle.octets.specs.Number.{number_of, IsOctets}
 use Rattle.octets.specs.Outcome.{map_ok}
 use Rattle.octets.specs.Records.{IsRecord}
-use Rattle.octets.proofs.Outcomes.{passed, ok_is}
-use Rattle.octets.proofs.Numbers.{two_below}
-use Rattle.octets.proofs.Cuts.{take_fits, drop_fits}
+use Rattle.octets.proofs.Streams.{passed, ok_is}
+use Rattle.octets.proofs.Checked.{two_below}
+use Rattle.octets.proofs.Checked.{take_fits, drop_fits}
 use Rattle.space_packet.specs.declared.packet.Packet.{Packet}
 use Rattle.space_packet.specs.declared.fault.PacketFault.{PacketFault}
 use Rattle.space_packet.specs.declared.fault.PacketFault.TheVariants as faults

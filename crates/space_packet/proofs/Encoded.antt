@@ -3,8 +3,8 @@ use Rattle.std.proofs.Common.{◌≡◌, ◌<◌, ◌≤◌, ℕ, true, List, []
 use Rattle.std.proofs.Common.{length-append}
 use Rattle.std.proofs.lemmas.Bool.{ltb-true, and_parts, not-true}
 use Rattle.std.proofs.lemmas.List.{take_at}
-use Rattle.octets.proofs.Numbers.{number_of_two}
-use Rattle.octets.proofs.Outcomes.{le_true}
+use Rattle.octets.proofs.Checked.{number_of_two}
+use Rattle.octets.proofs.Streams.{le_true}
 use Rattle.space_packet.specs.Laws.{kind_again, secondary_again}
 use Rattle.space_packet.specs.Layout.{PacketView, IsPacket, IsFirstPacket}
 use Rattle.space_packet.specs.Encoding.{first_number, second_number, third_number, spelling, packet_fits}

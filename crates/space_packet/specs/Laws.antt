@@ -8,9 +8,9 @@ use Rattle.std.proofs.Common.{false, not, cond, eqb, Result, Ok, Err, refl, sym,
 use Rattle.std.proofs.lemmas.List.{take-append-drop, take-take, drop-take, drop-drop, length-take}
 use Rattle.std.proofs.lemmas.List.{length-drop}
 use Rattle.byteorder.specs.Endian.{big_bytes}
-use Rattle.octets.proofs.Cuts.{drop_fits, take_fits}
-use Rattle.octets.proofs.Numbers.{two_octets}
-use Rattle.octets.proofs.Outcomes.{passed, ok_is, is_zero}
+use Rattle.octets.proofs.Checked.{drop_fits, take_fits}
+use Rattle.octets.proofs.Checked.{two_octets}
+use Rattle.octets.proofs.Streams.{passed, ok_is, is_zero}
 use Rattle.space_packet.specs.declared.packet.PacketKind.{PacketKind}
 use Rattle.space_packet.specs.declared.packet.PacketKind.TheVariants.{Telemetry, Telecommand}
 use Rattle.space_packet.specs.declared.fault.PacketFault.{PacketFault}

@@ -1,3 +1,1 @@
-pub mod DecodedBodies
-pub mod Decoded
-pub mod Encoded
+pub mod Spelled

@@ -8,9 +8,9 @@ use Rattle.std.proofs.lemmas.List.{length-drop, append_assoc}
 use Rattle.byteorder.specs.Endian.{big_bytes}
 use Rattle.octets.specs.Number.{number_of}
 use Rattle.octets.proofs.Checked.{checked_are}
-use Rattle.octets.proofs.Cuts.{drop_fits, take_fits}
-use Rattle.octets.proofs.Numbers.{two_octets}
-use Rattle.octets.proofs.Outcomes.{passed, ok_is}
+use Rattle.octets.proofs.Checked.{drop_fits, take_fits}
+use Rattle.octets.proofs.Checked.{two_octets}
+use Rattle.octets.proofs.Streams.{passed, ok_is}
 use Rattle.tc_frame.specs.declared.frame.Check.{Check}
 use Rattle.tc_frame.specs.declared.frame.Check.TheVariants.{On, Off}
 use Rattle.tc_frame.specs.declared.frame.Command.TheVariants.{Unlock, SetVr}

@@ -14,7 +14,7 @@ use octets::{check_holds, first_two};
 /// Faults: 1 Short, 2 Version, 3 ReservedType, 4 Spare, 5 Length, 6 Check, 7 BypassNumber, 8 EmptyData,
 /// 9 Command. Cost: n.
 #[inline(always)]
-#[tactic(auto, using(crate::proofs::Decoded::frame_again))]
+#[tactic(auto, using(crate::proofs::Spelled::frame_again))]
 pub fn decode(octets: &[u8], check: Check) -> Result<TcFrame<'_>, TcFault>
     ensures answer { map_ok frame_view result ≡ frame_at check octets.now }
 

@@ -122,7 +122,7 @@ fn flags_of(body: &Body) -> u16
     }
 }
 
-#[tactic(auto, using(octets::proofs::Cuts::put_head))]
+#[tactic(auto, using(octets::proofs::Checked::put_head))]
 fn put_body(body: &Body, out: &mut [u8])
     requires fits { body_fits (body_view body.now) ≡ true }
     requires room { length out.old ≡ length (body_octets (body_view body.now)) }
@@ -144,7 +144,7 @@ fn put_body(body: &Body, out: &mut [u8])
     }
 }
 
-#[tactic(auto, using(octets::proofs::Cuts::put_head))]
+#[tactic(auto, using(octets::proofs::Checked::put_head))]
 fn put_segment(segment: &Segment, out: &mut [u8])
     requires map { segment.now.header.map < 64 }
     requires room { length out.old ≡ 1 + length segment.now.payload.now }

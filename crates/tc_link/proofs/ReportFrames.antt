@@ -9,9 +9,9 @@ use Rattle.clcw.specs.Encoding.{spelling}
 use Rattle.cop1.specs.Report.{value_if}
 use Rattle.std.proofs.lemmas.List.{length-replicate}
 use Rattle.tm_link.specs.Builder.{idle_packet, data_from, data_built, frame_built}
-use Rattle.tm_link.proofs.Fields.{built_is}
-use Rattle.tm_link.proofs.Decoded.{frame_again}
-use Rattle.tm_link.proofs.IdlePackets.{length-idle, length-tail}
+use Rattle.tm_link.proofs.Spelled.{built_is}
+use Rattle.tm_link.proofs.Spelled.{frame_again}
+use Rattle.tm_link.proofs.BuiltFrames.{length-idle, length-tail}
 use Rattle.tc_link.proofs.Linked.{Tells, Reporting, reporting_push}
 use Rattle.tc_link.proofs.Sound.{Sound}
 use Rattle.tm_link.specs.Layout as telemetry

@@ -6,8 +6,8 @@ use Rattle.std.proofs.lemmas.Bool.{lt-ltb, le-leb}
 use Rattle.tc_frame.specs.Layout.{body_fits}
 use Rattle.tc_frame.specs.Decoding.{frame_at}
 use Rattle.tc_frame.specs.Encoding.{frame_fits, spelling, total_of}
-use Rattle.tc_frame.proofs.Decoded.{frame_again}
-use Rattle.tc_frame.proofs.Encoded.{spelling_is}
+use Rattle.tc_frame.proofs.Spelled.{frame_again}
+use Rattle.tc_frame.proofs.Spelled.{spelling_is}
 
 -- a body that fits a frame
 abbrev pub Goes : BodyView → Type 0

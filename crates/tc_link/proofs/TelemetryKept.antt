@@ -19,7 +19,7 @@ use Rattle.tm_link.specs.Layout.{FrameView}
 use Rattle.tm_link.specs.Decoding.{frame_at}
 use Rattle.tm_link.specs.Stream.{IsLaidOut, IsClose, marks_of, arrived_packets}
 use Rattle.tm_link.specs.Encoding.{spelling}
-use Rattle.tm_link.proofs.Arrivals.{all_handed_out}
+use Rattle.tm_link.proofs.Choices.{all_handed_out}
 use Rattle.tm_link.proofs.BuiltFrames.{build_laid}
 use Rattle.tm_link.proofs.Choices.{extraction_exact}
 use Rattle.tm_link.proofs.Laid.{new_laid}

@@ -1,21 +1,21 @@
 -- Frames some of which come: an extractor hands out the packets that arrive with them.
-use Rattle.std.proofs.Common.{◌≡◌, ◌<◌, ℕ, zero, suc, ◌+◌, ◌-◌, ◌%◌, Bool, true, false, eqb, List, [], ◌∷◌, ◌++◌}
-use Rattle.std.proofs.Common.{length, map, replicate, Option, Some, None, refl, sym, ap, subst, ◌∙◌, arith}
-use Rattle.std.proofs.Common.{append_assoc, length-append}
+use Rattle.std.proofs.Common.{◌≡◌, ◌<◌, ℕ, zero, suc, ◌+◌, ◌-◌, ◌%◌, Bool, true, false, eqb, List}
+use Rattle.std.proofs.Common.{[], ◌∷◌, ◌++◌, length, map, replicate, Option, Some, None, refl, sym}
+use Rattle.std.proofs.Common.{ap, subst, ◌∙◌, arith, append_assoc, length-append}
 use Rattle.std.specs.List.{AllByRecursion, concat}
 use Rattle.std.proofs.lemmas.Bool.{ne_eqb}
-use Rattle.std.proofs.lemmas.List.{append-nil, map-append}
+use Rattle.std.proofs.lemmas.List.{append-nil, map-append, replicate-append-replicate}
 use Rattle.std.proofs.lemmas.List.Folds.{concat-append}
 use Rattle.tm_link.specs.declared.gap.Gap.TheVariants.{Lost}
 use Rattle.tm_link.specs.Arrivals.{IsInRange, all_extracted}
-use Rattle.tm_link.specs.Extractor.{ExtractorState, new_extractor, gap_of, part_over_gap, finished_packets, part_after}
-use Rattle.tm_link.specs.Extractor.{without_idle, extract_step}
-use Rattle.tm_link.specs.Layout.{FrameView}
-use Rattle.tm_link.specs.Stream.{IsPointed, IsLaidOut, IsClose, slice_of, carried_octets, marks_of, complete_packets}
-use Rattle.tm_link.specs.Stream.{choice, arrived_packets}
-use Rattle.tm_link.proofs.Marks.{complete_packets-short}
+use Rattle.tm_link.specs.Extractor.{ExtractorState, new_extractor, gap_of, part_over_gap}
+use Rattle.tm_link.specs.Extractor.{finished_packets, part_after, without_idle, extract_step}
+use Rattle.tm_link.specs.Layout.{FrameView, IsSpelling}
+use Rattle.tm_link.specs.Stream.{IsPointed, IsLaidOut, IsClose, slice_of, carried_octets, marks_of}
+use Rattle.tm_link.specs.Stream.{complete_packets, choice, arrived_packets}
+use Rattle.tm_link.proofs.PlaceInStream.{complete_packets-short, Packets, Stood, none_opens}
+use Rattle.tm_link.proofs.PlaceInStream.{moved_on, complete_packets-alike, AreRecords}
 use Rattle.tm_link.proofs.Records.{without_idle-append}
-use Rattle.tm_link.proofs.PlaceInStream.{Packets, Stood, none_opens, moved_on}
 use Rattle.tm_link.proofs.FrameSteps.{kept, Stepped, step_of}
 
 -- ---- the frames from a place on
@@ -243,3 +243,57 @@ extraction_exact packets frames rest laid chosen each close =
     extracted frames chosen laid.all 0 [] laid.all rest [] new_extractor 0 (first_count frames) start refl
     (follow_of laid.all frames [] frames (first_count frames) laid.pointers laid.counts refl each (first_is frames))
     (begins_from chosen close) (refl, refl)
+
+-- Where all frames come, all packets are handed out.
+
+-- a frame that octets spell is in range
+pub spelled_in_range : (total : ℕ) (f : FrameView) (octets : List ℕ) → IsSpelling total f octets → IsInRange f
+spelled_in_range total f octets h =
+    record {
+      count =
+          omega (arith, h.octets 3, h.spells.vc_count);
+      some = omega (arith, h.spells.payload, h.spells.least);
+    }
+
+choice-all : (frames : List FrameView) → choice frames (replicate (length frames) true) ≡ frames
+choice-all [] = refl
+choice-all (f ∷ frames) = ap (λ (xs : List FrameView). f ∷ xs) (choice-all frames)
+
+marks_of-all : (frames : List FrameView)
+    → marks_of frames (replicate (length frames) true) ≡ replicate (length (carried_octets frames)) true
+marks_of-all [] = refl
+marks_of-all (f ∷ frames) =
+    ap (λ (ms : List Bool). replicate (length (slice_of f)) true ++ ms) (marks_of-all frames)
+    ∙ replicate-append-replicate (length (slice_of f)) (length (carried_octets frames)) true
+    ∙ ap (λ n. replicate n true) (sym (length-append (slice_of f) (carried_octets frames)))
+
+complete_packets-all : (all : Packets) → AreRecords all
+    → complete_packets all (replicate (length (concat all)) true) ≡ all
+complete_packets-all all each =
+    let marks : List Bool = replicate (length (concat all)) true in
+    ap (λ (ms : List Bool). complete_packets all ms) (sym (append-nil marks))
+    ∙ ap (λ (ps : Packets). complete_packets ps (marks ++ [])) (sym (append-nil all))
+    ∙ complete_packets-alike true all [] [] each ∙ append-nil all
+
+-- none is left out
+none_out : (k n : ℕ) (before after : List Bool)
+    → replicate k true ≡ before ++ true ∷ (replicate n false ++ true ∷ after) → n < 256
+none_out zero n [] after e = absurd cc
+none_out zero n (b ∷ before) after e = absurd cc
+none_out (suc k) n (b ∷ before) after e = none_out k n before after cc
+none_out (suc k) zero [] after e = omega arith
+none_out (suc zero) (suc n) [] after e = absurd cc
+none_out (suc (suc k)) (suc n) [] after e = absurd cc
+
+pub all_handed_out : (packets : Packets) (frames : List FrameView) → IsLaidOut packets frames []
+    → AllByRecursion IsInRange frames → all_extracted new_extractor frames ≡ packets
+all_handed_out packets frames laid each =
+    let chosen : List Bool = replicate (length frames) true in
+    let whole : carried_octets frames ≡ concat laid.all = sym (append-nil (carried_octets frames)) ∙ laid.stream in
+    ap (all_extracted new_extractor) (sym (choice-all frames))
+    ∙ extraction_exact packets frames [] laid chosen each
+    (λ before after n e. none_out (length frames) n before after e)
+    ∙ ap (λ (ms : List Bool). without_idle (complete_packets laid.all ms))
+    (marks_of-all frames ∙ ap (λ (xs : List ℕ). replicate (length xs) true) whole)
+    ∙ ap without_idle (complete_packets-all laid.all laid.each)
+    ∙ laid.sent

@@ -1,24 +1,233 @@
--- What one frame hands out is what comes with it.
-use Rattle.std.proofs.Common.{◌≡◌, ◌≤◌, ◌<◌, ◌⊎◌, ℕ, ◌+◌, Bool, true, false, cond, List, [], ◌∷◌, ◌++◌, length, take}
-use Rattle.std.proofs.Common.{drop, replicate, refl, sym, ap, subst, ◌∙◌, arith, inl, inr, append_assoc, length-append}
+-- How whole packets and beginnings of packets end.
+use Rattle.std.proofs.Common.{◌≡◌, ◌≤◌, ◌<◌, ◌⊎◌, ℕ, Bool, true, false, cond, eqb, ltb, List, []}
+use Rattle.std.proofs.Common.{◌∷◌, ◌++◌, length, take, drop, Result, Ok, refl, sym, ap, subst, ◌∙◌}
+use Rattle.std.proofs.Common.{arith, inl, inr, ◌+◌, ◌-◌, append_assoc, length-append, replicate}
 use Rattle.std.proofs.Common.{length-take}
-use Rattle.std.specs.Prelude.{◌&&◌}
 use Rattle.std.specs.List.{concat}
-use Rattle.std.proofs.lemmas.Bool.{cases_lt}
-use Rattle.std.proofs.lemmas.List.{append-nil, append_cancel_left, take-append-drop, take_at}
-use Rattle.std.proofs.lemmas.List.Folds.{concat-append}
-use Rattle.octets.specs.Records.{IsRecord, records_of, rest_of}
+use Rattle.std.proofs.lemmas.Bool.{cases_lt, eq-eqb, ne_eqb, lt-ltb, le-ltb}
+use Rattle.std.proofs.lemmas.List.{take_at, take-append-le, take-append-drop, append-nil}
+use Rattle.std.proofs.lemmas.List.{nil_from_length, append_cancel_left}
+use Rattle.octets.specs.Records.{IsRecord, IsCutShort, IsSplit, records_of, rest_of}
+use Rattle.octets.proofs.Streams.{only_split}
+use Rattle.space_packet.specs.declared.fault.PacketFault.{PacketFault}
+use Rattle.space_packet.specs.Laws.{extent_has_header}
 use Rattle.space_packet.specs.Decoding.{extent_at}
+use Rattle.tm_link.specs.declared.ending.Ending.{Ending}
+use Rattle.tm_link.specs.declared.ending.Ending.TheVariants.{Whole, Short}
+use Rattle.tm_link.specs.Extractor.{ending_of, finished_by, part_by, completed_packet}
+use Rattle.tm_link.specs.Extractor.{continued_part, opened_part, finished_packets, part_after}
+use Rattle.tm_link.proofs.PlaceInStream.{Packets, AreRecords, Opens, Stood, within, are_set}
+use Rattle.tm_link.proofs.PlaceInStream.{all_set, Moved, moved_within, moved_to_end, moved_from_end}
+use Rattle.tm_link.proofs.PlaceInStream.{moved_both, cut_of, both_set, records-before}
+use Rattle.tm_link.proofs.PlaceInStream.{records-behind}
+use Rattle.std.proofs.lemmas.List.Folds.{concat-append}
+use Rattle.tm_link.specs.Stream.{IsStart, IsEnd, HasNoStart, IsPointed, carried_by}
+use Rattle.std.specs.Prelude.{◌&&◌}
 use Rattle.tm_link.specs.declared.frame.Pointer.{Pointer}
 use Rattle.tm_link.specs.declared.frame.Pointer.TheVariants.{At, NoStart, OnlyIdle}
-use Rattle.tm_link.specs.Extractor.{opened_part, finished_packets, part_after}
-use Rattle.tm_link.specs.Stream.{HasNoStart, IsStart, IsPointed, carried_by}
-use Rattle.tm_link.proofs.Endings.{completed_packet-whole, continued_part-whole, completed_packet-short}
-use Rattle.tm_link.proofs.Endings.{continued_part-short, ending-short, begins, records-cut, opened_part-cut}
-use Rattle.tm_link.proofs.Marks.{are_set, all_set}
-use Rattle.tm_link.proofs.Pointers.{none_open, none_ahead, some_open, goes_on, ends_there, starts_first}
-use Rattle.tm_link.proofs.PlaceInStream.{Packets, AreRecords, Opens, Stood, Moved, moved_within, moved_to_end}
-use Rattle.tm_link.proofs.PlaceInStream.{moved_from_end, moved_both, cut_of, both_set, records-before, records-behind}
+
+pub ending-whole : (p : List ℕ) → IsRecord 6 extent_at p → ending_of p ≡ Whole
+ending-whole p is =
+    let long : ltb (length p) 6 ≡ false = le-ltb _ _ is.has_head in
+    let same : eqb (length p) (length p) ≡ true = eq-eqb _ _ refl in
+    rw (long, is.extent_is, same) refl
+
+extent_of_beginning : (x y p : List ℕ) → IsRecord 6 extent_at p → p ≡ x ++ y → 6 ≤ length x
+    → extent_at (take 6 x) ≡ Ok (length p)
+extent_of_beginning x y p is parts long =
+    ap extent_at (sym (take-append-le 6 x y long) ∙ ap (take 6) (sym parts)) ∙ is.extent_is
+
+ending_by_length : (x y p : List ℕ) → IsRecord 6 extent_at p → p ≡ x ++ y → length x < length p
+    → (length x < 6) ⊎ (6 ≤ length x) → ending_of x ≡ Short
+ending_by_length x y p is parts short (inl lt) = let t : ltb (length x) 6 ≡ true = lt-ltb _ _ lt in rw t refl
+ending_by_length x y p is parts short (inr le) =
+    let long : ltb (length x) 6 ≡ false = le-ltb _ _ le in
+    let extent : extent_at (take 6 x) ≡ Ok (length p) = extent_of_beginning x y p is parts le in
+    let other : eqb (length p) (length x) ≡ false = ne_eqb _ _ (λ (e : length p ≡ length x). omega arith) in
+    let less : ltb (length x) (length p) ≡ true = lt-ltb _ _ short in
+    rw (long, extent, other, less) refl
+
+pub ending-short : (x y p : List ℕ) → IsRecord 6 extent_at p → p ≡ x ++ y → length x < length p → ending_of x ≡ Short
+ending-short x y p is parts short = ending_by_length x y p is parts short (cases_lt (length x) 6)
+
+-- ---- the part, and octets after it
+
+closed_by : (part x : List ℕ) (e : Ending) → 0 < length part → ending_of (part ++ x) ≡ e
+    → completed_packet part x ≡ finished_by (part ++ x) e
+closed_by part x e some is =
+    let t : eqb (length part) 0 ≡ false = ne_eqb _ _ (λ (h : length part ≡ 0). omega arith) in rw (t, is) refl
+
+continued_by : (part x : List ℕ) (e : Ending) → 0 < length part → ending_of (part ++ x) ≡ e
+    → continued_part part x ≡ part_by (part ++ x) e
+continued_by part x e some is =
+    let t : eqb (length part) 0 ≡ false = ne_eqb _ _ (λ (h : length part ≡ 0). omega arith) in rw (t, is) refl
+
+pub completed_packet-whole : (b : Bool) (tail x p : List ℕ) → 0 < length tail → IsRecord 6 extent_at p → tail ++ x ≡ p
+    → completed_packet (cond b tail []) x ≡ cond b (p ∷ []) []
+completed_packet-whole true tail x p some is whole =
+    closed_by tail x Whole some (ap ending_of whole ∙ ending-whole p is) ∙ ap (λ (xs : List ℕ). xs ∷ []) whole
+completed_packet-whole false tail x p some is whole = refl
+
+pub continued_part-whole : (b : Bool) (tail x p : List ℕ) → 0 < length tail → IsRecord 6 extent_at p → tail ++ x ≡ p
+    → continued_part (cond b tail []) x ≡ []
+continued_part-whole true tail x p some is whole =
+    continued_by tail x Whole some (ap ending_of whole ∙ ending-whole p is)
+continued_part-whole false tail x p some is whole = refl
+
+pub completed_packet-short : (b : Bool) (tail x : List ℕ) → 0 < length tail → ending_of (tail ++ x) ≡ Short
+    → completed_packet (cond b tail []) x ≡ []
+completed_packet-short true tail x some is = closed_by tail x Short some is
+completed_packet-short false tail x some is = refl
+
+pub continued_part-short : (b : Bool) (tail x : List ℕ) → 0 < length tail → ending_of (tail ++ x) ≡ Short
+    → continued_part (cond b tail []) x ≡ cond b (tail ++ x) []
+continued_part-short true tail x some is = continued_by tail x Short some is
+continued_part-short false tail x some is = refl
+
+-- ---- whole packets and the beginning of the next
+
+-- what stands before a packet's end begins the packet
+pub begins : (x others p rest : List ℕ) → x ++ others ≡ p ++ rest → length x < length p → p ≡ x ++ drop (length x) p
+begins x others p rest e short =
+    let front : take (length x) p ≡ x =
+    sym (take-append-le (length x) p rest (omega arith)) ∙ ap (take (length x)) (sym e)
+    ∙ take_at x others (length x) refl in
+    sym (take-append-drop (length x) p) ∙ ap (λ (xs : List ℕ). xs ++ drop (length x) p) front
+
+left_by_length : (x y p : List ℕ) → IsRecord 6 extent_at p → p ≡ x ++ y → length x < length p
+    → (length x < 6) ⊎ (6 ≤ length x)
+    → (length x < 6) ⊎ IsCutShort 6 extent_at x (extent_at (take 6 x))
+left_by_length x y p is parts short (inl lt) = inl lt
+left_by_length x y p is parts short (inr le) =
+    inr (subst (λ (r : Result ℕ PacketFault). IsCutShort 6 extent_at x r) (sym (extent_of_beginning x y p is parts le))
+    short)
+
+left_in : (begun others : List ℕ) (left : Packets) → AreRecords left → Opens begun left → begun ++ others ≡ concat left
+    → (length begun < 6) ⊎ IsCutShort 6 extent_at begun (extent_at (take 6 begun))
+left_in begun others [] each opens e = inl (omega (arith, ap length opens))
+left_in begun others (p ∷ ps) each opens e =
+    left_by_length begun (drop (length begun) p) p each.0 (begins begun others p (concat ps) e opens) opens
+    (cases_lt (length begun) 6)
+
+split_in : (octets begun others : List ℕ) (whole left : Packets) → AreRecords whole → AreRecords left
+    → octets ≡ concat whole ++ begun → Opens begun left → begun ++ others ≡ concat left
+    → IsSplit 6 extent_at octets whole begun
+split_in octets begun others whole left each ahead cut opens e =
+    record { whole = cut; each = each; left = left_in begun others left ahead opens e }
+
+pub records-cut : (octets begun others : List ℕ) (whole left : Packets) → AreRecords whole → AreRecords left
+    → octets ≡ concat whole ++ begun → Opens begun left → begun ++ others ≡ concat left
+    → (records_of 6 extent_at octets ≡ whole) × (rest_of 6 extent_at octets ≡ begun)
+records-cut octets begun others whole left each ahead cut opens e =
+    let only = only_split 6 extent_at (omega arith) extent_has_header octets begun whole
+    (split_in octets begun others whole left each ahead cut opens e) in
+    (sym only.0, sym only.1)
+
+opened_by : (begun : List ℕ) → ending_of begun ≡ Short → opened_part begun ≡ begun
+opened_by begun is = ap (part_by begun) is
+
+pub opened_part-cut : (begun others : List ℕ) (left : Packets) → AreRecords left → Opens begun left
+    → begun ++ others ≡ concat left → opened_part begun ≡ begun
+opened_part-cut begun others [] each opens e = ap opened_part opens ∙ sym opens
+opened_part-cut begun others (p ∷ ps) each opens e =
+    opened_by begun (ending-short begun (drop (length begun) p) p each.0 (begins begun others p (concat ps) e opens)
+    opens)
+
+-- What a frame's pointer says of the place where its data begin.
+
+-- no packet is open at a packet's end
+pub none_open : (all : Packets) (place : ℕ) (tail : List ℕ) (ps : Packets) (others : List ℕ)
+    → Stood all place tail ps others → IsEnd all place → tail ≡ []
+none_open all place tail [] others s e = s.opens
+none_open all place tail (p ∷ ps) others s e =
+    let short : length tail < length p = s.opens in
+    nil_from_length tail (elim (within e.0 e.1 s.passed ps p (sym e.2 ∙ s.parts)) [
+      | inl le ↦ omega (arith, s.place_is, e.3)
+      | inr le ↦ absurd (omega (arith, s.place_is, e.3))
+    ])
+
+-- after the last packet there are no octets
+pub none_ahead : (all : Packets) (place : ℕ) (tail octets others : List ℕ) → Stood all place tail [] (octets ++ others)
+    → length octets ≡ 0
+none_ahead all place tail octets others s =
+    omega (arith, ap length s.ahead, length-append tail (octets ++ others), length-append octets others)
+
+-- where none is open, the next starts here
+starts_here : (all : Packets) (place : ℕ) (tail : List ℕ) (p : List ℕ) (ps : Packets) (others : List ℕ)
+    → Stood all place tail (p ∷ ps) others → length tail ≡ 0 → IsStart all (place + 0)
+starts_here all place tail p ps others s none = (s.passed, ps, p, s.parts, omega (arith, s.place_is))
+
+-- and otherwise after the open one
+starts_after : (all : Packets) (place : ℕ) (tail : List ℕ) (p r : List ℕ) (ps : Packets) (others : List ℕ) (k : ℕ)
+    → Stood all place tail (p ∷ r ∷ ps) others → length tail + k ≡ length p
+    → IsStart all (place + k)
+starts_after all place tail p r ps others k s is =
+    let size : length (concat (s.passed ++ p ∷ [])) ≡ length (concat s.passed) + length p =
+    ap length (concat-append s.passed (p ∷ [])) ∙ length-append (concat s.passed) (p ++ [])
+    ∙ ap (λ (xs : List ℕ). length (concat s.passed) + length xs) (append-nil p) in
+    (s.passed ++ p ∷ [], ps, r, s.parts ∙ sym (append_assoc s.passed (p ∷ []) (r ∷ ps)), omega (arith, s.place_is))
+
+-- where no packet starts, one is open
+pub some_open : (all : Packets) (place : ℕ) (tail : List ℕ) (p : List ℕ) (ps : Packets) (others : List ℕ) (n : ℕ)
+    → Stood all place tail (p ∷ ps) others → 0 < n → HasNoStart all place n
+    → 0 < length tail
+some_open all place tail p ps others n s some h =
+    elim (cases_lt 0 (length tail)) [
+      | inl lt ↦ lt
+      | inr le ↦ absurd (h 0 some (starts_here all place tail p ps others s (omega arith)))
+    ]
+
+-- and goes on up to there
+goes_on_by : (all : Packets) (place : ℕ) (tail octets others : List ℕ) (p : List ℕ) (ps : Packets) (n : ℕ)
+    → Stood all place tail (p ∷ ps) (octets ++ others) → n ≤ length octets
+    → HasNoStart all place n → length p < length tail + n → length tail + n ≤ length p
+goes_on_by all place tail octets others p [] n s le h lt =
+    omega (
+      arith,
+      ap length s.ahead,
+      length-append tail (octets ++ others),
+      length-append octets others,
+      length-append p
+          [],
+    )
+goes_on_by all place tail octets others p (r ∷ ps) n s le h lt =
+    let short : length tail < length p = s.opens in
+    absurd (h (length p - length tail) (omega arith)
+    (starts_after all place tail p r ps (octets ++ others) (length p - length tail) s (omega arith)))
+
+pub goes_on : (all : Packets) (place : ℕ) (tail octets others : List ℕ) (p : List ℕ) (ps : Packets) (n : ℕ)
+    → Stood all place tail (p ∷ ps) (octets ++ others) → n ≤ length octets
+    → HasNoStart all place n → length tail + n ≤ length p
+goes_on all place tail octets others p ps n s le h =
+    elim (cases_lt (length p) (length tail + n)) [
+      | inl lt ↦ goes_on_by all place tail octets others p ps n s le h lt
+      | inr ge ↦ ge
+    ]
+
+-- the first start after an open packet is its end
+pub ends_there : (all : Packets) (place : ℕ) (tail octets others : List ℕ) (p : List ℕ) (ps : Packets) (q : ℕ)
+    → Stood all place tail (p ∷ ps) (octets ++ others) → 0 < length tail → q < length octets
+    → IsStart all (place + q) → HasNoStart all place q → length tail + q ≡ length p
+ends_there all place tail octets others p ps q s some lt start h =
+    let most : length tail + q ≤ length p = goes_on all place tail octets others p ps q s (omega arith) h in
+    elim (within start.0 (start.2 ∷ start.1) s.passed ps p (sym start.3 ∙ s.parts)) [
+      | inl le ↦ absurd (omega (arith, s.place_is, start.4))
+      | inr le ↦ omega (arith, s.place_is, start.4)
+    ]
+
+-- and where none is open it is here
+pub starts_first : (all : Packets) (place : ℕ) (tail octets others : List ℕ) (ps : Packets) (q : ℕ)
+    → Stood all place tail ps (octets ++ others) → length tail ≡ 0 → q < length octets
+    → HasNoStart all place q → q ≡ 0
+starts_first all place tail octets others [] q s none lt h =
+    absurd (omega (arith, none_ahead all place tail octets others s))
+starts_first all place tail octets others (p ∷ ps) q s none lt h =
+    elim (cases_lt 0 q) [
+      | inl some ↦ absurd (h 0 some (starts_here all place tail p ps (octets ++ others) s none))
+      | inr le ↦ omega arith
+    ]
+
+-- What one frame hands out is what comes with it.
 
 -- what is kept of the octets of an open packet: all of them, or none where one has not come
 abbrev pub kept : List ℕ → List Bool → List ℕ

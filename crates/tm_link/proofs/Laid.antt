@@ -18,7 +18,7 @@ use Rattle.space_packet.specs.Decoding.{extent_at}
 use Rattle.tm_link.specs.Layout.{FrameView}
 use Rattle.tm_link.specs.Stream.{IsPointed, slice_of, carried_octets, IsLaidOut}
 use Rattle.tm_link.proofs.Passed.{cut_more}
-use Rattle.tm_link.proofs.Places.{last_or_before, pointed_more, carried_octets-append, length-carried}
+use Rattle.tm_link.proofs.Passed.{last_or_before, pointed_more, carried_octets-append, length-carried}
 use Rattle.tm_link.proofs.Records.{without_idle-append}
 
 -- What is queued is one packet, which isn't idle.

@@ -5,8 +5,8 @@ use Rattle.std.proofs.lemmas.List.{length-drop, take_all}
 use Rattle.std.proofs.lemmas.List.Elements.{filter-append}
 use Rattle.octets.specs.Number.{IsOctets}
 use Rattle.octets.specs.Records.{records_of, rest_of}
-use Rattle.octets.proofs.Cuts.{drop_fits}
-use Rattle.octets.proofs.Numbers.{two_below}
+use Rattle.octets.proofs.Checked.{drop_fits}
+use Rattle.octets.proofs.Checked.{two_below}
 use Rattle.space_packet.specs.Laws.{extent_is}
 use Rattle.space_packet.specs.Packets.{first_packet}
 use Rattle.space_packet.specs.Decoding.{extent_at}

@@ -60,7 +60,7 @@ fn put_whole_idle(out: &mut [u8])
 
 // Passes this many octets of the packet that was begun and of those after it, and says how many are
 // left of the one that is begun then.
-#[tactic(auto, using(crate::proofs::Fields::passed_within, crate::proofs::Fields::passed_beyond))]
+#[tactic(auto, using(crate::proofs::Spelled::passed_within, crate::proofs::Spelled::passed_beyond))]
 pub(crate) fn pass(begun: u32, sizes: &mut VecDeque<u32>, count: usize) -> u32
     ensures begun { result ≡ (left_after count begun sizes.old.items).0 }
     ensures sizes { sizes.new.items ≡ (left_after count begun sizes.old.items).1 }

@@ -13,7 +13,7 @@ use octets::{check_holds, first_two, low_eleven};
 /// 4.1), or says the first of the faults that applies. A length outside 16 to 2,048 is 1 `Length`. The
 /// frame borrows its data from the octets.
 /// Faults: 1 Length, 2 Version, 3 Check, 4 Status, 5 Pointer, 6 NoOcf. Cost: n.
-#[tactic(auto, using(crate::proofs::Decoded::frame_again))]
+#[tactic(auto, using(crate::proofs::Spelled::frame_again))]
 pub fn decode(octets: &[u8], length: usize) -> Result<TmFrame<'_>, TmFault>
     ensures answer { map_ok frame_view result ≡ frame_at length octets.now }
 

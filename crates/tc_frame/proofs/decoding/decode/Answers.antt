@@ -1,5 +1,5 @@
 use Rattle.std.proofs.Common.{arith}
-use Rattle.tc_frame.proofs.Decoded.{is_found}
+use Rattle.tc_frame.proofs.Spelled.{is_found}
 use Rattle.tc_frame.proofs.decoding.decode.Goals as goal
 
 pub returns-clause-found : goal.returns-clause-found

@@ -1,6 +1,6 @@
 use Rattle.std.proofs.Common.{◌∙◌, sym}
 use Rattle.tc_frame.specs.Layout.{frame_view}
-use Rattle.tc_frame.proofs.Encoded.{written_is}
+use Rattle.tc_frame.proofs.Spelled.{written_is}
 use Rattle.tc_frame.proofs.encoding.encode.Goals as goal
 
 pub returns-clause-spells : goal.returns-clause-spells

@@ -1,7 +1,7 @@
 use Rattle.octets.proofs.Streams.{is_first}
 use Rattle.tc_frame.specs.Laws.{own_total}
 use Rattle.tc_frame.specs.Splitter.{total_at}
-use Rattle.tc_frame.proofs.Decoded.{frame_again}
+use Rattle.tc_frame.proofs.Spelled.{frame_again}
 use Rattle.tc_frame.proofs.laws.law_of_reading.Goals as goal
 
 pub returns-clause-read : goal.returns-clause-read

@@ -1,5 +1,5 @@
 use Rattle.std.proofs.Common.{length, arith}
-use Rattle.tm_link.proofs.Fields.{data_parts}
+use Rattle.tm_link.proofs.Spelled.{data_parts}
 use Rattle.tm_link.proofs.data_field.put_data.Goals as goal
 
 pub returns : goal.returns

@@ -1,5 +1,5 @@
 use Rattle.std.proofs.Common.{arith}
-use Rattle.tm_link.proofs.Decoded.{is_found}
+use Rattle.tm_link.proofs.Spelled.{is_found}
 use Rattle.tm_link.proofs.decoding.decode.Goals as goal
 
 pub returns-clause-found : goal.returns-clause-found

@@ -1,6 +1,6 @@
 use Rattle.std.proofs.Common.{◌∙◌, sym, arith}
 use Rattle.tm_link.specs.Layout.{frame_view}
-use Rattle.tm_link.proofs.Encoded.{spelling_is, written_is}
+use Rattle.tm_link.proofs.Spelled.{spelling_is, written_is}
 use Rattle.tm_link.proofs.encoding.encode.Goals as goal
 
 pub returns-clause-spells : goal.returns-clause-spells

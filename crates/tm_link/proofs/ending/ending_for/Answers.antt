@@ -1,5 +1,5 @@
 use Rattle.std.proofs.Common.{◌∙◌, take, sym, arith}
-use Rattle.octets.proofs.Cuts.{take_fits}
+use Rattle.octets.proofs.Checked.{take_fits}
 use Rattle.tm_link.proofs.Records.{extent_most}
 use Rattle.tm_link.proofs.ending.ending_for.Goals as goal
 

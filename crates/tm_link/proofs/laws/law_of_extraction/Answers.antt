@@ -1,4 +1,4 @@
-use Rattle.tm_link.proofs.Arrivals.{spelled_in_range, all_handed_out}
+use Rattle.tm_link.proofs.Choices.{spelled_in_range, all_handed_out}
 use Rattle.tm_link.proofs.Choices.{extraction_exact}
 use Rattle.tm_link.proofs.laws.law_of_extraction.Goals as goal
 

@@ -1,4 +1,4 @@
-use Rattle.tm_link.proofs.Decoded.{frame_again}
+use Rattle.tm_link.proofs.Spelled.{frame_again}
 use Rattle.tm_link.proofs.laws.law_of_reading.Goals as goal
 
 pub returns : goal.returns

@@ -1,4 +1,4 @@
-use Rattle.tm_link.proofs.Encoded.{spelling_is, spelling_from}
+use Rattle.tm_link.proofs.Spelled.{spelling_is, spelling_from}
 use Rattle.tm_link.proofs.laws.law_of_spelling.Goals as goal
 
 pub returns-clause-spells : goal.returns-clause-spells

@@ -2,7 +2,7 @@ use Rattle.std.proofs.Common.{◌≡◌, ◌≤◌, ◌<◌, ◌+◌, ◌-◌, �
 use Rattle.std.proofs.lemmas.Grind.{common_steps}
 use Rattle.tm_link.specs.Builder.{BuilderState, data_built, data_size, field_with, frame_built, state_with}
 use Rattle.tm_link.specs.Layout.{IsTmFrame}
-use Rattle.tm_link.proofs.Fields.{built_is}
+use Rattle.tm_link.proofs.Spelled.{built_is}
 use Rattle.tm_link.proofs.turn.put_next.Goals as goal
 
 pub returns-clause-frame : goal.returns-clause-frame

@@ -1,6 +1,6 @@
 use Rattle.std.proofs.Common.{subst}
 use Rattle.cop1.specs.Units.{IsFop}
-use Rattle.cop1.proofs.Queued.{IsFop-fop_state_of}
+use Rattle.cop1.proofs.UnitsFollow.{IsFop-fop_state_of}
 use Rattle.cop1.proofs.fop.Fop.state.Goals as goal
 
 pub returns-clause-holds : goal.returns-clause-holds

@@ -3,7 +3,7 @@ use Rattle.std.proofs.Common.{arith}
 use Rattle.std.proofs.lemmas.List.{ext_get_or, get_or-map, get_or-replicate, length-map, length-replicate}
 use Rattle.std.specs.Vec.{vec_capacity}
 use Rattle.map_service.specs.Views.{part_view}
-use Rattle.map_service.proofs.Places.{no_parts, all_by_places}
+use Rattle.map_service.proofs.AssemblerSteps.{no_parts, all_by_places}
 use Rattle.map_service.proofs.assembler.Assembler.new.Goals as goal
 
 pub invariant_of-result : goal.invariant_of-result

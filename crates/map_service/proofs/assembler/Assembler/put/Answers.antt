@@ -2,7 +2,7 @@ use Rattle.std.proofs.Common.{◌≡◌, ◌∙◌, ap, sym, subst}
 use Rattle.tc_frame.specs.Layout.{segment_view}
 use Rattle.map_service.specs.Exactness.{AssemblerState, part_on_map, step_at, after_step}
 use Rattle.map_service.specs.Prepared.{part_after}
-use Rattle.map_service.proofs.Places.{put_part}
+use Rattle.map_service.proofs.AssemblerSteps.{put_part}
 use Rattle.map_service.proofs.assembler.Assembler.put.Goals as goal
 
 pub returns-clause-state : goal.returns-clause-state
