@@ -1,13 +1,13 @@
 //! Finds the library for C that `./install --prefix DIR` puts in place: below the folder `SEDGECHISEL_DIR`, or where
-//! the program pkg-config finds it. Where neither is so, a package of the crate, which carries the portable C, compiles
-//! that. Where `DOCS_RS` is set, as by docs.rs, it finds none: the documentation needs no library.
+//! the program pkg-config finds it. Where neither is so it compiles the portable C, which a package of the crate carries,
+//! and which stands beside it in the repository. Where `DOCS_RS` is set, as by docs.rs, it finds none: the documentation needs no library.
 
 use std::env;
 use std::path::{Path, PathBuf};
 use std::process::{exit, Command};
 
 const LOST: &str = "\
-the library sedgechisel is not found. In the repository of Sedgechisel run
+the library sedgechisel is not found, and no portable C beside the crate. In the repository of Sedgechisel run
 
     ./install --prefix DIR
 
@@ -60,14 +60,14 @@ fn asked() -> Option<PathBuf> {
     found.then(|| PathBuf::from(prefix.trim()).join("lib"))
 }
 
-/// The folder with both libraries, made of the portable C that the crate carries, if it does, by the programs that `CC`
-/// and `AR` name, or `cc` and `ar`. For another processor than this one `CC` has to be set.
+/// The folder with both libraries, made of the portable C of the package or of the repository, if there is any, by the
+/// programs that `CC` and `AR` name, or `cc` and `ar`. For another processor than this one `CC` has to be set.
 fn compiled() -> Option<PathBuf> {
-    let source = PathBuf::from(env::var_os("CARGO_MANIFEST_DIR")?).join("c");
+    let own = PathBuf::from(env::var_os("CARGO_MANIFEST_DIR")?);
     let out = PathBuf::from(env::var_os("OUT_DIR")?);
-    if !source.is_dir() {
-        return None;
-    }
+    let places = [("c", "c"), ("../../c/portable", "../../c/include")];
+    let here = places.map(|(source, headers)| (own.join(source), own.join(headers)));
+    let (source, headers) = here.into_iter().find(|(source, _)| source.is_dir())?;
     if env::var_os("TARGET") != env::var_os("HOST") && env::var_os("CC").is_none() {
         give_up("set CC to a compiler of C for the processor that the crate is built for, and AR to its ar");
     }
@@ -77,7 +77,7 @@ fn compiled() -> Option<PathBuf> {
         let (from, object) = (source.join(format!("{name}.c")), out.join(format!("{name}.o")));
         println!("cargo:rerun-if-changed={}", from.display());
         let flags = ["-std=c99", "-O2", "-fPIC", "-ffunction-sections", "-c"];
-        run(Command::new(&cc).args(flags).arg("-I").arg(&source).arg(&from).arg("-o").arg(&object));
+        run(Command::new(&cc).args(flags).arg("-I").arg(&headers).arg(&from).arg("-o").arg(&object));
         run(Command::new(&ar).arg("rcs").arg(out.join(format!("lib{name}.a"))).arg(&object));
     }
     Some(out)

@@ -33,6 +33,7 @@
 #![no_std]
 #![cfg_attr(docsrs, feature(doc_cfg))]
 #![deny(unsafe_code, missing_docs)]
+#![warn(clippy::missing_errors_doc)]
 
 #[cfg(feature = "nodes")]
 extern crate alloc;

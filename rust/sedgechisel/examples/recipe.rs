@@ -30,10 +30,7 @@ struct Totals {
 impl Totals {
     /// A number below this one, which is at most 256.
     fn draw(&mut self, below: u32) -> u8 {
-        self.state = self
-            .state
-            .wrapping_mul(1_664_525)
-            .wrapping_add(1_013_904_223);
+        self.state = self.state.wrapping_mul(1_664_525).wrapping_add(1_013_904_223);
         ((self.state >> 16) % below) as u8
     }
 
@@ -53,18 +50,11 @@ struct Way {
 
 impl Way {
     fn new(delay: u8, losses: u8) -> Way {
-        Way {
-            delay,
-            losses,
-            last: 0,
-            frames: VecDeque::new(),
-        }
+        Way { delay, losses, last: 0, frames: VecDeque::new() }
     }
 
     fn send(&mut self, all: &mut Totals, now: i64, frame: Vec<u8>) {
-        self.last = self
-            .last
-            .max(now + 1 + i64::from(all.draw(self.delay.into())));
+        self.last = self.last.max(now + 1 + i64::from(all.draw(self.delay.into())));
         if all.draw(10) >= self.losses {
             self.frames.push_back((self.last, frame));
         }
@@ -124,19 +114,7 @@ impl Run {
         }
         let (ground, spacecraft) = (Ground::new(&config)?, Spacecraft::new(&config)?);
         let (was_active, sent, submitted, done, taken) = (false, -99, 0, 0, [0; 2]);
-        Ok(Run {
-            ground,
-            spacecraft,
-            up,
-            down,
-            pause,
-            packets,
-            was_active,
-            sent,
-            submitted,
-            done,
-            taken,
-        })
+        Ok(Run { ground, spacecraft, up, down, pause, packets, was_active, sent, submitted, done, taken })
     }
 
     /// Takes a packet on board, which has to be the next of its MAP; whether there was one.
@@ -204,22 +182,14 @@ impl Run {
     fn hear(&mut self, all: &mut Totals, frame: &[u8], now: i64) -> Outcome {
         let heard = self.ground.telemetry(frame)?;
         self.was_active |= self.ground.state() == FopState::S1;
-        let Heard::Frame {
-            report: HeardReport::Used,
-            alert,
-            ..
-        } = heard
-        else {
+        let Heard::Frame { report: HeardReport::Used, alert, .. } = heard else {
             all.wrong("a report was not used")
         };
         all.alerts += u64::from(alert.is_some());
         if alert.is_some() || self.ground.state() != FopState::S6 {
             return Ok(());
         }
-        let report = self
-            .ground
-            .clcw_in(frame)
-            .ok_or("a frame without a report")?;
+        let report = self.ground.clcw_in(frame).ok_or("a frame without a report")?;
         let is_made_after = now - self.sent > 2 * i64::from(self.up.delay);
         if all.is_early || is_made_after {
             self.begin(all, report.value)?;
@@ -292,15 +262,7 @@ fn main() -> Outcome {
     let words: Vec<String> = env::args().collect();
     let sessions = words.get(1).ok_or("recipe SESSIONS [early]")?.parse()?;
     let is_early = words.get(2).is_some_and(|it| it == "early");
-    let mut all = Totals {
-        state: 0,
-        sessions,
-        is_early,
-        begun: 0,
-        alerts: 0,
-        taken: 0,
-        ticks: 0,
-    };
+    let mut all = Totals { state: 0, sessions, is_early, begun: 0, alerts: 0, taken: 0, ticks: 0 };
     while all.begun < all.sessions {
         Run::new(&mut all)?.play(&mut all)?;
     }

@@ -44,9 +44,7 @@ macro_rules! calls {
                 Ok(()) => Ok(format!("alert {}", Alert::Terminated.name())),
                 refusal => done(refusal),
             },
-            ["tick"] => Ok($ground
-                .tick()
-                .map_or("ok".into(), |it| format!("alert {}", it.name()))),
+            ["tick"] => Ok($ground.tick().map_or("ok".into(), |it| format!("alert {}", it.name()))),
             ["take"] => $spacecraft.take().map(packet_text).map_err(refused),
             ["takebypass"] => $spacecraft.take_bypass().map(packet_text).map_err(refused),
             ["init", "none"] => done($ground.init_without_check()),
@@ -85,28 +83,18 @@ fn digits_of(octets: &[u8]) -> String {
 
 fn octets_of(digits: &str) -> Vec<u8> {
     let digit = |it: u8| char::from(it).to_digit(16).expect("a hexadecimal digit") as u8;
-    digits
-        .as_bytes()
-        .chunks_exact(2)
-        .map(|it| digit(it[0]) << 4 | digit(it[1]))
-        .collect()
+    digits.as_bytes().chunks_exact(2).map(|it| digit(it[0]) << 4 | digit(it[1])).collect()
 }
 
 fn number<T: std::str::FromStr>(word: &str) -> T {
-    word.parse()
-        .unwrap_or_else(|_| panic!("{word} is not a number"))
+    word.parse().unwrap_or_else(|_| panic!("{word} is not a number"))
 }
 
 fn received_text(received: Received) -> String {
     match received {
         Received::Invalid(fault) => format!("invalid {} {}", fault.number(), fault.name()),
         Received::Foreign => "foreign".into(),
-        Received::Sequence {
-            n,
-            verdict,
-            ready,
-            dropped,
-        } => {
+        Received::Sequence { n, verdict, ready, dropped } => {
             let ready = match ready {
                 0 => String::new(),
                 1 => " ready".into(),
@@ -127,12 +115,7 @@ fn heard_text(heard: Heard) -> String {
     match heard {
         Heard::Invalid(fault) => format!("invalid {} {}", fault.number(), fault.name()),
         Heard::Foreign => "foreign".into(),
-        Heard::Frame {
-            gap,
-            packets,
-            alert,
-            ..
-        } => {
+        Heard::Frame { gap, packets, alert, .. } => {
             let gap = gap.map_or("-".into(), |it| it.to_string());
             let alert = alert.map_or(String::new(), |it| format!(" alert {}", it.name()));
             format!("gap={gap} packets={packets}{alert}")
@@ -142,16 +125,12 @@ fn heard_text(heard: Heard) -> String {
 }
 
 fn packet_text(taken: Option<(u8, Vec<u8>)>) -> String {
-    taken.map_or("nothing".into(), |(map, packet)| {
-        format!("packet {map} {}", digits_of(&packet))
-    })
+    taken.map_or("nothing".into(), |(map, packet)| format!("packet {map} {}", digits_of(&packet)))
 }
 
 /// The octets that arrive of the first frame on its way: its own, or those of a damage; none where it is lost.
 fn arriving(
-    way: &mut VecDeque<Vec<u8>>,
-    how: &[&str],
-    is_frame: impl Fn(&[u8]) -> bool,
+    way: &mut VecDeque<Vec<u8>>, how: &[&str], is_frame: impl Fn(&[u8]) -> bool,
 ) -> Result<Option<Vec<u8>>, String> {
     if way.is_empty() {
         return Err(refused(SimFault::NothingInTransit));
@@ -161,11 +140,7 @@ fn arriving(
         return Err(refused(SimFault::NotDetectable));
     }
     let frame = way.pop_front();
-    Ok(if how[0] == "lose" {
-        None
-    } else {
-        damaged.or(frame)
-    })
+    Ok(if how[0] == "lose" { None } else { damaged.or(frame) })
 }
 
 impl Ends for Nodes {
@@ -183,42 +158,27 @@ impl Ends for Nodes {
     }
 
     fn report(&mut self) -> Answer {
-        let word = self
-            .spacecraft
-            .control_word()
-            .encode()
-            .expect("a control word in its ranges");
+        let word = self.spacecraft.control_word().encode().expect("a control word in its ranges");
         let mut room = [0; TmFrame::LONGEST];
-        self.down
-            .push_back(self.spacecraft.telemetry_frame(&mut room).to_vec());
+        self.down.push_back(self.spacecraft.telemetry_frame(&mut room).to_vec());
         Ok(format!("report {}", digits_of(&word)))
     }
 
     fn up(&mut self, how: &[&str]) -> Answer {
-        let arrived = arriving(&mut self.up, how, |octets| {
-            TcFrame::decode(octets, Fecf::Present).is_ok()
-        })?;
+        let arrived = arriving(&mut self.up, how, |octets| TcFrame::decode(octets, Fecf::Present).is_ok())?;
         let Some(octets) = arrived else {
             return Ok("lost".into());
         };
-        self.spacecraft
-            .receive(&octets)
-            .map(received_text)
-            .map_err(refused)
+        self.spacecraft.receive(&octets).map(received_text).map_err(refused)
     }
 
     fn down(&mut self, how: &[&str]) -> Answer {
         let length = self.ground.frame_length();
-        let arrived = arriving(&mut self.down, how, |octets| {
-            TmFrame::decode(octets, length).is_ok()
-        })?;
+        let arrived = arriving(&mut self.down, how, |octets| TmFrame::decode(octets, length).is_ok())?;
         let Some(octets) = arrived else {
             return Ok("lost".into());
         };
-        self.ground
-            .telemetry(&octets)
-            .map(heard_text)
-            .map_err(refused)
+        self.ground.telemetry(&octets).map(heard_text).map_err(refused)
     }
 
     fn show(&self) -> Answer {
@@ -238,10 +198,7 @@ impl Ends for Link {
 
     fn report(&mut self) -> Answer {
         let word = Link::report(self).map_err(refused)?;
-        Ok(format!(
-            "report {}",
-            digits_of(&word.encode().expect("a control word in its ranges"))
-        ))
+        Ok(format!("report {}", digits_of(&word.encode().expect("a control word in its ranges"))))
     }
 
     fn up(&mut self, how: &[&str]) -> Answer {
@@ -268,8 +225,7 @@ impl Ends for Link {
             Some(_) if self.is_clean() => "yes",
             Some(_) => "no",
         };
-        let over_maps =
-            |of: fn(u8) -> Record| (0..64).map(|map| self.record(of(map)).len()).sum::<usize>();
+        let over_maps = |of: fn(u8) -> Record| (0..64).map(|map| self.record(of(map)).len()).sum::<usize>();
         Ok(format!(
             "clean={clean} state={:?} submitted={} delivered={} sent={} accepted={} acknowledged={} outstanding={}",
             self.state(),
@@ -289,12 +245,7 @@ fn begun(is_link: bool, config: &Config) -> Result<Box<dyn Ends>, OpenFault> {
         return Ok(Box::new(Link::new(config)?));
     }
     let (ground, spacecraft) = (Ground::new(config)?, Spacecraft::new(config)?);
-    Ok(Box::new(Nodes {
-        ground,
-        spacecraft,
-        up: VecDeque::new(),
-        down: VecDeque::new(),
-    }))
+    Ok(Box::new(Nodes { ground, spacecraft, up: VecDeque::new(), down: VecDeque::new() }))
 }
 
 fn configure(config: &mut Config, name: &str, value: &str) {
@@ -333,11 +284,7 @@ fn main() -> Result<(), Box<dyn Error>> {
                     Some(ends) => ends,
                     None => ends.insert(begun(is_link, &config)?),
                 };
-                writeln!(
-                    out,
-                    "{}",
-                    ends.answer(&words).unwrap_or_else(|refusal| refusal)
-                )?;
+                writeln!(out, "{}", ends.answer(&words).unwrap_or_else(|refusal| refusal))?;
             }
         }
     }
