@@ -171,7 +171,8 @@ frame_after packets frames rest left g h parts here next = (
 
 -- what the frames lay out, as what a builder does
 pub laid_again : (s : BuilderState) (packets : List (List ℕ)) (frames : List FrameView) (rest : List ℕ)
-    (all : List (List ℕ)) (l : IsLaidOut packets frames rest) → l.all ≡ all → rest ≡ held_by s → IsNext frames s.vc_count
+    (all : List (List ℕ)) (l : IsLaidOut packets frames rest) → l.all ≡ all → rest ≡ held_by s
+    → IsNext frames s.vc_count
     → IsCutAt all (length (carried_octets frames)) (s.idle_left + s.begun) s.sizes → IsLaidOutBy s packets frames
 laid_again s packets frames rest all l e held next cut = record {
   laid = record {
