@@ -6,8 +6,8 @@ use Rattle.octets.specs.Number.{number_of, IsOctets}
 use Rattle.space_packet.specs.Layout.{PacketView, type_bit, secondary_bit, is_idle_apid, IsPacket}
 use Rattle.space_packet.specs.Packets.{is_packet}
 use Rattle.space_packet.proofs.WholePackets.{packet_from, is_packet-again}
-use Rattle.tm_link.specs.Builder.{is_to_send, IsToSend, BuilderState, builder_with_counts, after_queue, idle_tail, held_by}
-use Rattle.tm_link.specs.Builder.{IsCutAt, IsLaidOutBy}
+use Rattle.tm_link.specs.Builder.{is_to_send, IsToSend, BuilderState, builder_with_counts, after_queue, idle_tail}
+use Rattle.tm_link.specs.Builder.{held_by, IsCutAt, IsLaidOutBy}
 use Rattle.tm_link.specs.Extractor.{is_idle, without_idle}
 use Rattle.std.specs.List.{AllByRecursion, concat}
 use Rattle.std.proofs.lemmas.List.{append-nil}
