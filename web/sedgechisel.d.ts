@@ -58,6 +58,10 @@ export interface sedge_packet {
     flags: number;
 }
 
+export interface sedge_gap_check {
+    last: number[];
+}
+
 export interface sedge_tm_frame {
     scid: number;
     pointer: number;
@@ -185,6 +189,8 @@ export interface sedge_spacecraft_reading {
     farm_b: number;
     value: number;
     state: number;
+    mc_count: number;
+    vc_count: number;
 }
 
 export interface sedge_sim {
@@ -255,6 +261,8 @@ export interface Calls {
     sedge_packet_decode(octets: Uint8Array, packet: Partial<sedge_packet>, data: Partial<sedge_part>): number;
     sedge_packet_encode(packet: sedge_packet, data: Uint8Array, out: Uint8Array, total: Partial<Box>): number;
     sedge_packet_declared(octets: Uint8Array, total: Partial<Box>): number;
+    sedge_gap_check_open(check: Partial<sedge_gap_check>): void;
+    sedge_gap_check_see(check: Partial<sedge_gap_check>, apid: number, count: number, missing: Partial<Box>): number;
     sedge_tm_decode(octets: Uint8Array, length: number, frame: Partial<sedge_tm_frame>, data: Partial<sedge_part>): number;
     sedge_tm_encode(frame: sedge_tm_frame, data: Uint8Array, out: Uint8Array, total: Partial<Box>): number;
     sedge_tm_builder_open(builder: Partial<sedge_tm_builder>, scid: number, vcid: number, length: number): number;
@@ -309,6 +317,7 @@ export interface Calls {
     sedge_spacecraft_telemetry(spacecraft: Partial<sedge_spacecraft>, packet: Uint8Array): number;
     sedge_spacecraft_telemetry_frame(spacecraft: Partial<sedge_spacecraft>, out: Uint8Array, count: Partial<Box>): number;
     sedge_spacecraft_read(spacecraft: Partial<sedge_spacecraft>, read: Partial<sedge_spacecraft_reading>): number;
+    sedge_spacecraft_open_at(config: sedge_config, kept: sedge_spacecraft_reading, spacecraft: Partial<sedge_spacecraft>): number;
     sedge_sim_open(config: sedge_config, sim: Partial<sedge_sim>): number;
     sedge_sim_close(sim: Partial<sedge_sim>): void;
     sedge_sim_fault_name(number: number): string;

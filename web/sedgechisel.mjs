@@ -97,7 +97,7 @@ class Given {
             this.view.setUint32(at, this.octets(octets), true);
             this.view.setUint32(count, octets.length, true);
         } else if (count > 0) {
-            new Uint8Array(this.of.memory.buffer, at, count).set(value ?? []);
+            for (let k = 0; k < count; k++) this.write(kind, at + k * SIZES[kind], 0, value?.[k]);
         } else if (structs[kind]) {
             for (const [field, own, from, many] of structs[kind].fields) {
                 this.write(own, at + from, own === 'octets' ? at + many : many, value?.[field]);
@@ -113,7 +113,7 @@ class Given {
 // Reads a value of some kind, a struct into an object.
 function read(memory, kind, at, count, into) {
     const view = new DataView(memory.buffer);
-    if (count > 0) return Array.from(new Uint8Array(memory.buffer, at, count));
+    if (count > 0) return Array.from({ length: count }, (_, k) => read(memory, kind, at + k * SIZES[kind], 0));
     if (structs[kind]) {
         const it = into ?? {};
         for (const [field, own, from, many] of structs[kind].fields) it[field] = read(memory, own, at + from, many);

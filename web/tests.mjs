@@ -22,6 +22,16 @@ function codecs() {
     assert.equal(sedge.sedge_check(new TextEncoder().encode('123456789')), 0x29b1);
 }
 
+function packetsThatAreMissing() {
+    const check = {}, missing = {};
+    sedge.sedge_gap_check_open(check);
+    const gaps = [0, 1, 3, 3].map((count) => [sedge.sedge_gap_check_see(check, 5, count, missing), missing.value]);
+    assert.deepEqual(gaps.map(([answer]) => answer), [n.SEDGE_ABSENT, n.SEDGE_OK, n.SEDGE_OK, n.SEDGE_OK]);
+    assert.deepEqual(gaps.slice(1).map(([, gap]) => gap), [0, 1, 16383]);
+    assert.deepEqual([check.last[5], check.last.length, sedge.sedge_gap_check_see(check, 2048, 0, missing)],
+        [3, 2048, n.SEDGE_PACKET_FIELD_RANGE]);
+}
+
 function machines() {
     const farm = {}, fop = {}, word = {};
     assert.equal(sedge.sedge_farm_open(farm, 10, 0), n.SEDGE_OK);
@@ -56,6 +66,11 @@ function nodes() {
     assert.deepEqual([read.outstanding, read.vs, read.nn, ...waits(read)], [0, 1, 1, 0, 0, 0, 0, 1]);
     sedge.sedge_spacecraft_read(spacecraft, board);
     assert.deepEqual([board.value, board.ready, board.bypassed], [1, 0, 0]);
+    sedge.sedge_spacecraft_close(spacecraft);
+    assert.equal(sedge.sedge_spacecraft_open_at(DEFAULTS, board, spacecraft), n.SEDGE_NODE_OK);
+    assert.equal(sedge.sedge_spacecraft_report(spacecraft, out, count), n.SEDGE_NODE_OK);
+    assert.equal(sedge.sedge_ground_telemetry(ground, out.subarray(0, count.value), heard), n.SEDGE_NODE_OK);
+    assert.deepEqual([heard.first, heard.missing], [0, 0]);
     sedge.sedge_ground_close(ground);
     sedge.sedge_spacecraft_close(spacecraft);
     assert.equal(sedge.sedge_ground_tick(ground), n.SEDGE_NODE_NONE);
@@ -113,5 +128,5 @@ function lines() {
     assert.equal(scriptOf('config maps 18446744073709551615\n').config.maps, DEFAULTS.maps);
 }
 
-for (const test of [codecs, machines, nodes, linked, memory, lines]) test();
+for (const test of [codecs, packetsThatAreMissing, machines, nodes, linked, memory, lines]) test();
 console.log('all as wanted');

@@ -342,6 +342,61 @@ static void after_an_alert(void) {
     WANT(live == 0);
 }
 
+/* The next telemetry frame comes down. */
+static void comes_down(struct sedge_ground *ground, struct sedge_spacecraft *spacecraft, int first, int missing) {
+    struct sedge_heard heard = {0};
+    size_t count = 77;
+    WANT(sedge_spacecraft_report(spacecraft, down, sizeof down, &count) == 0 && count == 64);
+    while (again(sedge_ground_telemetry(ground, down, count, &heard)))
+        ;
+    WANT(heard.kind == 3 && heard.first == first && heard.missing == missing && heard.packets == 0);
+}
+
+/* A spacecraft is read and closed, and one that is opened at what was read goes on: its next frame is not taken for one
+ * after a gap, and the session that the ground begins at the same number has what it needs. */
+static void a_restart_on_purpose(void) {
+    struct sedge_config whole = config, wrong;
+    struct sedge_ground ground = {0};
+    struct sedge_spacecraft spacecraft = {0};
+    struct sedge_spacecraft_reading kept = {0}, read = {0};
+    whole.part = 1016;
+    while (again(sedge_ground_open(&whole, &ground)))
+        ;
+    while (again(sedge_spacecraft_open(&whole, &spacecraft)))
+        ;
+    WANT(sedge_ground_init_without_check(&ground) == 0);
+    while (again(sedge_ground_submit(&ground, 5, packet, sizeof packet)))
+        ;
+    goes_up(&ground, &spacecraft, 3);
+    while (again(sedge_ground_bypass(&ground, 5, packet, sizeof packet)))
+        ;
+    goes_up(&ground, &spacecraft, 4);
+    comes_down(&ground, &spacecraft, 1, 0);
+    WANT(sedge_spacecraft_read(&spacecraft, &kept) == 0 && kept.value == 1 && kept.farm_b == 1);
+    WANT(kept.mc_count == 1 && kept.vc_count == 1);
+    sedge_spacecraft_close(&spacecraft);
+    wrong = whole;
+    wrong.width = 253;
+    WANT(sedge_spacecraft_open_at(&wrong, &kept, &spacecraft) == SEDGE_NODE_OUT_OF_RANGE && spacecraft.node == NULL);
+    kept.farm_b = 4;
+    WANT(sedge_spacecraft_open_at(&whole, &kept, &spacecraft) == SEDGE_NODE_OUT_OF_RANGE && spacecraft.node == NULL);
+    kept.farm_b = 1;
+    while (again(sedge_spacecraft_open_at(&whole, &kept, &spacecraft)))
+        ;
+    WANT(sedge_spacecraft_read(&spacecraft, &read) == 0 && read.value == 1 && read.farm_b == 1 && read.flags == 0);
+    WANT(read.mc_count == 1 && read.vc_count == 1 && read.state == SEDGE_FARM_OPEN);
+    wait_on_board(&read, 0, 0);
+    comes_down(&ground, &spacecraft, 0, 0);
+    WANT(sedge_ground_terminate(&ground) == 0 && sedge_ground_init_without_check(&ground) == 0);
+    while (again(sedge_ground_submit(&ground, 5, packet, sizeof packet)))
+        ;
+    goes_up(&ground, &spacecraft, 3);
+    comes_out(&spacecraft, sedge_spacecraft_next, sedge_spacecraft_take, 5);
+    sedge_ground_close(&ground);
+    sedge_spacecraft_close(&spacecraft);
+    WANT(live == 0);
+}
+
 /* A frame on a MAP that is closed on board is accepted, and its octets are dropped. */
 static void on_a_closed_map(void) {
     struct sedge_config whole = config, board;
@@ -393,7 +448,7 @@ static void handles_that_hold_none(void) {
     struct sedge_heard heard;
     struct sedge_received received;
     struct sedge_ground_reading read = {77, 77, 77, 77, 77, 77, 77, 77, 77, 77, 77, 77, 77};
-    struct sedge_spacecraft_reading board = {77, 77, 77, 77, 77, 77, 77, 77, 77};
+    struct sedge_spacecraft_reading board = {77, 77, 77, 77, 77, 77, 77, 77, 77, 77, 77};
     struct sedge_clcw word = {77, 77, 77, 77, 77};
     uint64_t whole = 77;
     size_t count = 77;
@@ -618,7 +673,7 @@ static void links_that_are_none(void) {
     struct sedge_reply reply = {0};
     struct sedge_sim_reading read;
     struct sedge_ground_reading ground = {77, 77, 77, 77, 77, 77, 77, 77, 77, 77, 77, 77, 77};
-    struct sedge_spacecraft_reading board = {77, 77, 77, 77, 77, 77, 77, 77, 77};
+    struct sedge_spacecraft_reading board = {77, 77, 77, 77, 77, 77, 77, 77, 77, 77, 77};
     size_t count = 77;
     uint8_t map = 77;
     wrong.blocking = 2;
@@ -666,6 +721,7 @@ int main(void) {
     past_the_sequence_control();
     after_an_alert();
     on_a_closed_map();
+    a_restart_on_purpose();
     link();
     events_by_number();
     all = tried;
@@ -678,6 +734,7 @@ int main(void) {
         past_the_sequence_control();
         after_an_alert();
         on_a_closed_map();
+        a_restart_on_purpose();
         link();
         events_by_number();
     }

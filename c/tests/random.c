@@ -10,7 +10,7 @@
 #include <sys/mman.h>
 #include <unistd.h>
 
-enum { MOST = 4096, REGIONS = 4, KINDS = 11 };
+enum { MOST = 4096, REGIONS = 4, KINDS = 12 };
 
 static int failures;
 
@@ -290,6 +290,19 @@ static void packets(void) {
     WANT(answer == SEDGE_OK ? total >= 7 && total <= 65542 : total == 99 && answer <= SEDGE_PACKET_IDLE_WITH_SECONDARY);
 }
 
+static void counts_of_packets(void) {
+    struct sedge_gap_check *check = ANY(struct sedge_gap_check), kept = *check;
+    uint16_t apid = (uint16_t)below(2100), count = (uint16_t)below(17000), missing = 99;
+    uint8_t answer = sedge_gap_check_see(check, apid, count, &missing);
+    WANT((answer == SEDGE_PACKET_FIELD_RANGE) == (apid > 2047 || count > 16383));
+    WANT(answer == SEDGE_OK ? missing < 16384 : missing == 99);
+    if (answer != SEDGE_PACKET_FIELD_RANGE) {
+        WANT((answer == SEDGE_ABSENT) == (kept.last[apid] > 16383) && check->last[apid] == count);
+        kept.last[apid] = count;
+    }
+    WANT(memcmp(check, &kept, sizeof kept) == 0);
+}
+
 static void telemetry_frames(void) {
     size_t count = any_count(), room = any_count(), total = 99, length = below(4) == 0 ? any_count() : count;
     uint8_t *octets = octets_of(0, count), *out = room_of(room), answer;
@@ -425,7 +438,8 @@ static void cuttings(void) {
 
 int main(int count, char **words) {
     static void (*const kinds[KINDS])(void) = {checks, control_words, receivers, senders, telecommand_frames,
-                                               packets, telemetry_frames, builders, extractors, maps, cuttings};
+                                               packets, counts_of_packets, telemetry_frames, builders, extractors,
+                                               maps, cuttings};
     if (count != 2 || make_regions() != 0) return 2;
     for (unsigned long left = strtoul(words[1], NULL, 10); left > 0; left--) kinds[below(KINDS)]();
     printf(failures ? "%d failed\n" : "all as wanted\n", failures);

@@ -227,6 +227,17 @@ static uint8_t directs(struct sedge_reply *reply) {
     return answer;
 }
 
+/* A new spacecraft, or one that goes on with any numbers. */
+static uint8_t opens_spacecraft(void) {
+    struct sedge_spacecraft_reading kept = {.value = (uint8_t)below(256), .vc_count = (uint8_t)below(256)};
+    uint8_t answer;
+    kept.farm_b = (uint8_t)below(5);
+    if (below(2)) return CALL(SEDGE_NODE_MEMORY, sedge_spacecraft_open(&config, &spacecraft));
+    answer = CALL(SEDGE_NODE_MEMORY, sedge_spacecraft_open_at(&config, &kept, &spacecraft));
+    if (kept.farm_b > 3) WANT(answer == SEDGE_NODE_OUT_OF_RANGE);
+    return answer;
+}
+
 /* Opens a ground, and a spacecraft whose MAPs, longest packet and blocking may be others. */
 static void opens_nodes(void) {
     uint8_t answer = CALL(SEDGE_NODE_MEMORY, sedge_ground_open(&config, &ground));
@@ -235,7 +246,7 @@ static void opens_nodes(void) {
     if (below(4) == 0) config.maps = any_maps();
     if (below(4) == 0) config.max_packet = 7 + below(60);
     config.blocking ^= below(4) == 0;
-    answer = CALL(SEDGE_NODE_MEMORY, sedge_spacecraft_open(&config, &spacecraft));
+    answer = opens_spacecraft();
     WANT(is_answer(answer, SEDGE_NODE_OUT_OF_RANGE, &config));
 }
 
@@ -336,7 +347,7 @@ static void takes(void) {
 }
 
 static void reports(void) {
-    struct sedge_spacecraft_reading read = {99, 99, 99, 99, 99, 99, 99, 99, 99};
+    struct sedge_spacecraft_reading read = {99, 99, 99, 99, 99, 99, 99, 99, 99, 99, 99};
     size_t count = 99, room;
     uint8_t *out, answer = sedge_spacecraft_read(&spacecraft, &read);
     WANT(is_answer(answer, SEDGE_NODE_OK, spacecraft.node) && (answer == 0 || read.state == 99));

@@ -729,6 +729,22 @@ static void refused_packets(void) {
     WANT(sedge_packet_declared(idle, 7, &total) == SEDGE_PACKET_IDLE_WITH_SECONDARY && total == 99);
 }
 
+static void packets_that_are_missing(void) {
+    static struct sedge_gap_check check;
+    uint16_t missing = 99;
+    sedge_gap_check_open(&check);
+    WANT(check.last[5] > 16383 && check.last[2047] > 16383);
+    WANT(sedge_gap_check_see(&check, 5, 0, &missing) == SEDGE_ABSENT && missing == 99);
+    WANT(sedge_gap_check_see(&check, 5, 1, &missing) == SEDGE_OK && missing == 0);
+    WANT(sedge_gap_check_see(&check, 5, 3, &missing) == SEDGE_OK && missing == 1);
+    WANT(sedge_gap_check_see(&check, 5, 3, &missing) == SEDGE_OK && missing == 16383);
+    missing = 99;
+    WANT(sedge_gap_check_see(&check, 2047, 16383, &missing) == SEDGE_ABSENT);
+    WANT(sedge_gap_check_see(&check, 2048, 0, &missing) == SEDGE_PACKET_FIELD_RANGE);
+    WANT(sedge_gap_check_see(&check, 2047, 16384, &missing) == SEDGE_PACKET_FIELD_RANGE && missing == 99);
+    WANT(sedge_gap_check_see(&check, 2047, 0, &missing) == SEDGE_OK && missing == 0);
+}
+
 static uint8_t packet_unwritten(struct sedge_packet packet, size_t data_count, size_t room) {
     size_t total = 99;
     uint8_t answer = sedge_packet_encode(&packet, long_octets, data_count, long_out, room, &total);
@@ -1008,6 +1024,7 @@ int main(void) {
     unwritten_telecommand_frames();
     space_packets();
     refused_packets();
+    packets_that_are_missing();
     unwritten_packets();
     telemetry_frames();
     refused_telemetry_frames();

@@ -411,7 +411,7 @@ def longest_link(it):
 def owners(it):
     """What has methods, and one of each."""
     return (it.Clcw(), it.Farm(10), it.Fop(10, 5, 1, 1), it.TcFrame(), it.Packet(), it.TmFrame(),
-            it.TmBuilder(1, 0, 20), it.TmExtractor(), it.Map(), it.Ground(), it.Spacecraft(), it.Link())
+            it.GapCheck(), it.TmBuilder(1, 0, 20), it.TmExtractor(), it.Map(), it.Ground(), it.Spacecraft(), it.Link())
 
 
 def callables(it):
@@ -429,10 +429,10 @@ def callables(it):
 def each_wrong_argument(it):
     """A value of a wrong type is a TypeError, and a number that does not fit an OverflowError; both name it."""
     right = {"int": 1, "Optional[int]": 1, "bytes": bytes(4), "bool": False, "Clcw": it.Clcw(), "TmFrame": it.TmFrame(),
-             "Optional[Config]": None, "Readable": io.BytesIO()}
+             "Optional[Config]": None, "Optional[KeptNumbers]": None, "Readable": io.BytesIO()}
     wrong = {"int": ("1", 1.0, None, b"1"), "bytes": ("1", 1, None), "Clcw": ("1", 1, None, it.TmFrame()),
              "TmFrame": ("1", 1, None, it.Clcw()), "Optional[Config]": ("1", 1, it.Clcw()), "Optional[int]": ("1", 1.0),
-             "Readable": ("1", 1, None)}
+             "Optional[KeptNumbers]": ("1", 1, it.Clcw()), "Readable": ("1", 1, None)}
     tried = 0
     for name, call in callables(it):
         parameters = {own: one for own, one in inspect.signature(call).parameters.items() if own != "fields"}

@@ -59,8 +59,8 @@ new_spacecraft c = record {
   builder = new_builder c.scid c.tm_vcid c.frame_length;
 }
 
--- a new one that goes on with kept numbers, as after a restart on purpose: packets and parts of them
--- that were on board are gone, and the receiver is open with no flag
+-- a new one that goes on with kept numbers, as after a restart on purpose: packets and parts of
+-- packets that were on board are gone, and the receiver is open with no flag
 abbrev pub restarted_spacecraft : Config → KeptNumbers → SpacecraftState
 restarted_spacecraft c kept = record (new_spacecraft c) {
   farm = record (new_farm c.width kept.vr) { farm_b = kept.farm_b };

@@ -1,6 +1,7 @@
 -- Space packets as C has them.
 use Rattle.std.specs.Prelude.{◌≡◌, ℕ, List, length, take, drop, ◌&&◌, ◌==◌, nat_lt, if◌then◌else◌}
-use Rattle.std.specs.Prelude.{Bool, Option, Some, None, Result, Ok, Err, slice_index, slice_set}
+use Rattle.std.specs.Prelude.{Bool, Option, Some, None, Result, Ok, Err, replicate}
+use Rattle.std.specs.Prelude.{slice_index, slice_set}
 use Rattle.octets.specs.Outcome.{map_ok}
 use Rattle.space_packet.specs.declared.fault.PacketFault.TheVariants.{FieldRange}
 use Rattle.space_packet.specs.Counters.{gap_after}
@@ -8,6 +9,7 @@ use Rattle.space_packet.specs.Faults.{fault_row}
 use Rattle.space_packet.specs.Layout.{PacketView, type_bit, secondary_bit}
 use Rattle.space_packet.specs.Decoding.{kind_at, extent_at, packet_at}
 use Rattle.space_packet.specs.Encoding.{encode_answer}
+use Rattle.sedgechisel.specs.declared.packet.KeptGaps.{KeptGaps}
 use Rattle.sedgechisel.specs.declared.packet.PacketFields.{PacketFields}
 use Rattle.sedgechisel.specs.declared.part.Part.{Part}
 use Rattle.sedgechisel.specs.Answers.{damaged, if_there, numbered, and_then, if_ok}
@@ -71,9 +73,13 @@ gap_seen last apid count =
     if is_counted apid count then if_there (gap_after (count_seen (slice_index last apid)) count)
     else Err (fault_row FieldRange).0
 
--- the counts that were seen last after it
-abbrev pub counts_after : List ℕ → ℕ → ℕ → List ℕ
-counts_after last apid count = if is_counted apid count then slice_set last apid count else last
+-- the check before any packet was seen, and after this one
+abbrev pub new_gaps : KeptGaps
+new_gaps = record { last = replicate 2048 65535 }
+
+abbrev pub gaps_after : KeptGaps → ℕ → ℕ → KeptGaps
+gaps_after check apid count =
+    if is_counted apid count then record { last = slice_set check.last apid count } else check
 
 -- what the fields and the octets at the place describe is the packet that was read
 abbrev pub DescribesPacket : List ℕ → PacketFields → Part → Type 0

@@ -1,11 +1,11 @@
 // Space packets.
 
-ghost use Rattle.std.specs.Prelude.{◌≡◌, length, replicate};
+ghost use Rattle.std.specs.Prelude.{◌≡◌, length};
 ghost use Rattle.octets.specs.Outcome.{map_ok};
 ghost use Rattle.space_packet.specs.Layout.{packet_view, type_bit, secondary_bit};
 ghost use Rattle.space_packet.specs.Encoding.{total_of, spelling};
 ghost use Rattle.sedgechisel.specs.Answers.{IsRead, IsSpelled, IsWritten};
-ghost use Rattle.sedgechisel.specs.Packets.{packet_described, fields_of, part_of, packet_read, packet_taken, total_declared, gap_seen, counts_after, DescribesPacket};
+ghost use Rattle.sedgechisel.specs.Packets.{packet_described, fields_of, part_of, packet_read, packet_taken, total_declared, gap_seen, new_gaps, gaps_after, DescribesPacket};
 
 use crate::numbers::{ABSENT, DAMAGED};
 use crate::part::Part;
@@ -103,7 +103,7 @@ pub struct KeptGaps {
 /// Begins a check of sequence counts, which has seen no packet.
 #[unsafe(no_mangle)]
 pub extern "C" fn sedge_gap_check_open(check: &mut KeptGaps)
-    ensures { check.new.last ≡ replicate 2048 65535 }
+    ensures { check.new ≡ new_gaps }
 {
     check.last = [65535; 2048];
 }
@@ -120,7 +120,7 @@ pub extern "C" fn sedge_gap_check_see(
 ) -> u8
     ensures gap { IsWritten (λ n. n) (gap_seen check.old.last apid count)
         missing.old missing.new result }
-    ensures after { check.new.last ≡ counts_after check.old.last apid count }
+    ensures after { check.new ≡ gaps_after check.old apid count }
 {
     if apid >= 2048 || count >= 16384 {
         return PacketFault::FieldRange.number();

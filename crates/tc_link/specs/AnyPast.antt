@@ -48,8 +48,8 @@ pub data LinkStep : Type 0 where
   -- the ground begins anew to take packets out of telemetry
   ForgetTelemetry : LinkStep
   -- a new node takes the place of the ground, or of the spacecraft: it begins anew, or another is
-  -- handed the link. The spacecraft goes on with any numbers: those that were kept of the one before,
-  -- as where it was restarted on purpose, or zeros, as a new one has
+  -- handed the link. The spacecraft goes on with any numbers: those that were kept of the one
+  -- before, as where it was restarted on purpose, or zeros, as a new one has
   NewGround : LinkStep
   NewSpacecraft : (kept : KeptNumbers) → LinkStep
 
@@ -170,16 +170,19 @@ RunsAsEvents =
 
 -- ---- a spacecraft that is restarted with its own numbers
 
+abbrev pub restarted_as_kept : SpacecraftState → SpacecraftState
+restarted_as_kept s = restarted_spacecraft s.config (kept_numbers s)
+
 -- Whatever it held: the next telemetry frame has the counts that were next, so of the frames that
 -- follow one another none is missing, and it reports the number that was expected next, and FARM-B.
 pub record GoesOnAsKept (s : SpacecraftState) : Type 0 where
-  pub mc_count : (spacecraft_report (restarted_spacecraft s.config (kept_numbers s))).answer.mc_count
+  pub mc_count : (spacecraft_report (restarted_as_kept s)).answer.mc_count
       ≡ (spacecraft_report s).answer.mc_count
-  pub vc_count : (spacecraft_report (restarted_spacecraft s.config (kept_numbers s))).answer.vc_count
+  pub vc_count : (spacecraft_report (restarted_as_kept s)).answer.vc_count
       ≡ (spacecraft_report s).answer.vc_count
-  pub value : (report_of (restarted_spacecraft s.config (kept_numbers s)).farm s.config.vcid).value
+  pub value : (report_of (restarted_as_kept s).farm s.config.vcid).value
       ≡ (report_of s.farm s.config.vcid).value
-  pub farm_b : (report_of (restarted_spacecraft s.config (kept_numbers s)).farm s.config.vcid).farm_b
+  pub farm_b : (report_of (restarted_as_kept s).farm s.config.vcid).farm_b
       ≡ (report_of s.farm s.config.vcid).farm_b
 
 abbrev pub EachGoesOnAsKept : Type 0

@@ -17,8 +17,8 @@ pub use laws::{
     law_of_progress, law_of_repetition, law_of_sessions, law_of_silence, law_of_taking,
 };
 pub use nodes::{
-    Config, Event, Ground, Heard, HeardClcw, HeardReport, KeptNumbers, LinkFault, Received, Spacecraft,
-    law_of_delivery,
+    Config, Event, Ground, Heard, HeardClcw, HeardReport, KeptNumbers, LinkFault, Received,
+    Spacecraft, law_of_delivery,
 };
 pub use outage_law::law_of_outage;
 pub use premises::law_of_premises;

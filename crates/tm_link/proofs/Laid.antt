@@ -6,8 +6,8 @@ use Rattle.octets.specs.Number.{number_of, IsOctets}
 use Rattle.space_packet.specs.Layout.{PacketView, type_bit, secondary_bit, is_idle_apid, IsPacket}
 use Rattle.space_packet.specs.Packets.{is_packet}
 use Rattle.space_packet.proofs.WholePackets.{packet_from, is_packet-again}
-use Rattle.tm_link.specs.Builder.{is_to_send, IsToSend, BuilderState, builder_with_counts, after_queue, idle_tail, held_by}
-use Rattle.tm_link.specs.Builder.{IsCutAt, IsLaidOutBy}
+use Rattle.tm_link.specs.Builder.{is_to_send, IsToSend, BuilderState, builder_with_counts, after_queue, idle_tail}
+use Rattle.tm_link.specs.Builder.{held_by, IsCutAt, IsLaidOutBy}
 use Rattle.tm_link.specs.Extractor.{is_idle, without_idle}
 use Rattle.std.specs.List.{AllByRecursion, concat}
 use Rattle.std.proofs.lemmas.List.{append-nil}
@@ -171,7 +171,8 @@ frame_after packets frames rest left g h parts here next = (
 
 -- what the frames lay out, as what a builder does
 pub laid_again : (s : BuilderState) (packets : List (List ℕ)) (frames : List FrameView) (rest : List ℕ)
-    (all : List (List ℕ)) (l : IsLaidOut packets frames rest) → l.all ≡ all → rest ≡ held_by s → IsNext frames s.vc_count
+    (all : List (List ℕ)) (l : IsLaidOut packets frames rest) → l.all ≡ all → rest ≡ held_by s
+    → IsNext frames s.vc_count
     → IsCutAt all (length (carried_octets frames)) (s.idle_left + s.begun) s.sizes → IsLaidOutBy s packets frames
 laid_again s packets frames rest all l e held next cut = record {
   laid = record {

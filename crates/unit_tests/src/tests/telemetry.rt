@@ -215,8 +215,7 @@ fn idle_packets_in_frames(rt: HostRuntime) {
 
 #[test]
 fn counts_that_were_kept(rt: HostRuntime) {
-    let mut builder =
-        TmBuilder::with_counts(rt.alloc(), 1, 0, 20, 7, 255).expect(&rt, "a builder");
+    let mut builder = TmBuilder::with_counts(rt.alloc(), 1, 0, 20, 7, 255).expect(&rt, "a builder");
     for (mc_count, vc_count) in [(7, 255), (8, 0)] {
         equal(&rt, &builder.mc_count(), &mc_count);
         equal(&rt, &builder.vc_count(), &vc_count);

@@ -200,6 +200,21 @@ fn space_packets() {
     assert_eq!(Packet::decode(&octets[..65541]), Err(PacketFault::Truncated));
 }
 
+/// (count - last - 1) modulo 16,384, for each APID by itself.
+#[test]
+fn packets_that_are_missing() {
+    let mut gaps = GapCheck::new();
+    let seen = [0, 1, 3, 3].map(|count| gaps.see(5, count).unwrap());
+    assert_eq!(seen, [None, Some(0), Some(1), Some(16383)]);
+    assert_eq!(gaps.see(2047, 16383), Ok(None));
+    assert_eq!(format!("{gaps:?}"), "GapCheck { seen: 2, .. }");
+    for (apid, count) in [(2048, 0), (2047, 16384), (u16::MAX, u16::MAX)] {
+        assert_eq!(gaps.see(apid, count), Err(PacketFault::FieldRange));
+    }
+    assert_eq!((gaps.clone().see(2047, 1), gaps.see(2047, 0)), (Ok(Some(1)), Ok(Some(0))));
+    assert_eq!(GapCheck::default().see(5, 7), Ok(None));
+}
+
 /// The sequence flags are the first two bits of the third octet.
 #[test]
 fn flags_of_packets() {

@@ -283,6 +283,29 @@ fn past_the_sequence_control() {
     assert_eq!(spacecraft.take_bypass(), Ok(None));
 }
 
+/// A spacecraft that received a frame and sent telemetry goes on with its numbers: the ground sees no gap.
+#[test]
+fn a_restart_on_purpose() {
+    let config = Config::default();
+    let (mut ground, mut before) = pair(&config);
+    ground.init_without_check().unwrap();
+    ground.submit(4, &octets_of(P0)).unwrap();
+    assert_eq!(before.receive(&sent(&mut ground).unwrap()), Ok(sequence(0, Verdict::Accepted, 1)));
+    assert_eq!(ground.telemetry(&reported(&mut before)), Ok(used(None, 0)));
+    let kept = before.kept_numbers();
+    assert_eq!(kept, KeptNumbers { vr: 1, farm_b: 0, mc_count: 1, vc_count: 1 });
+    drop(before);
+    let mut after = Spacecraft::restarted(&config, kept).unwrap();
+    assert_eq!((after.kept_numbers(), after.mode(), after.ready()), (kept, FarmMode::Open, 0));
+    assert_eq!(ground.telemetry(&reported(&mut after)), Ok(used(Some(0), 0)));
+    assert_eq!(after.kept_numbers(), KeptNumbers { mc_count: 2, vc_count: 2, ..kept });
+    let refused =
+        |config: &Config, farm_b| Spacecraft::restarted(config, KeptNumbers { farm_b, ..kept }).unwrap_err();
+    assert_eq!(refused(&config, 4), OpenFault::FarmB);
+    assert_eq!(refused(&config, 4).to_string(), "FARM-B is not 0 to 3");
+    assert_eq!(refused(&Config { limit: 0, ..config }, 4), OpenFault::OutOfRange(Parameter::Limit));
+}
+
 /// The first parameter that is out of its range is named.
 #[test]
 fn parameters_out_of_their_ranges() {

@@ -136,8 +136,10 @@ fn a_restart_on_purpose(rt: HostRuntime) {
         vc_count: 1,
     };
     equal(&rt, &kept, &one_sent);
-    let mut after =
-        Spacecraft::restarted(rt.alloc(), valid.config(), kept).expect(&rt, "a spacecraft");
+    let mut after = Spacecraft::restarted(rt.alloc(), valid.config(), kept).expect(
+        &rt,
+        "a spacecraft",
+    );
     for event in [
         Event::Queue(&B),
         Event::Hear(Gap::Lost(0), 0),
