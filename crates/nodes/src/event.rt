@@ -11,6 +11,8 @@ pub enum Event<'a> {
     Bypass(u8, &'a [u8]),
     /// A directive to the ground's sender.
     Directive(Directive),
+    /// The ground goes on after an alert, by a report's value.
+    Resume(u8),
     /// The ground sends a frame.
     Send,
     /// The first frame on its way up arrives.
@@ -27,6 +29,8 @@ pub enum Event<'a> {
     DownLose,
     /// These octets arrive in its place, which are no frame.
     DownDamage(&'a [u8]),
+    /// It arrives, and its CLCW alone reaches the ground, as from a front end that hands on control words.
+    DownClcw,
     /// A tick of the ground's clock passes.
     Tick,
     /// A packet of sequence-controlled frames is taken on board.

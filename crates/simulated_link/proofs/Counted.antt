@@ -11,11 +11,12 @@ use Rattle.simulated_link.proofs.Common.{after_repeat, after_alert, after_stop, 
 use Rattle.simulated_link.proofs.Common.{GroundState, refill_step, with_fop, unless_refused, after_submission}
 use Rattle.simulated_link.proofs.Common.{after_extraction, telemetry_outcome, frame_to_send, is_initiation, first_in}
 use Rattle.simulated_link.proofs.Common.{is_closed, obeyed, begun, ticked, pulled_out, heard_active, Bool}
+use Rattle.simulated_link.proofs.Common.{ClcwFault}
 use Rattle.tc_frame.specs.Layout.{FrameView}
 use Rattle.tc_frame.specs.Encoding.{spelling}
 use Rattle.cop1.specs.Units.{IsFop}
 use Rattle.cop1.specs.FopWords.{is_outside}
-use Rattle.simulated_link.proofs.TelemetryCases.{reported, frame_seen}
+use Rattle.simulated_link.proofs.TelemetryCases.{reported, report_seen, frame_seen}
 use Rattle.tm_link.specs.Layout as telemetry
 use Rattle.nodes.specs.Fates.{Fates, with_submission, after_acknowledging, after_obeying}
 use Rattle.nodes.specs.Ground.{moved_by}
@@ -212,6 +213,13 @@ module _ (s : GroundState) (fop : IsFop s.fop) (octet : s.fop.nn < 256) where
         let fates : Fates = after_acknowledging (moved_by f.nn s.fop.nn) s.fates in
         refilled_less (record (after_extraction s x) { fates = fates; fop = f }) (report_gone s.fop fop octet report);
   })
+
+  -- when a control word arrives by itself
+  pub word_less : (r : Result Clcw ClcwFault) → IsLess (ground.report_outcome s r).after
+  word_less = report_seen s IsLess (same_less s refl) (λ report.
+      let f : FopState SegmentView = (clcw_step s.fop report).after in
+      let fates : Fates = after_acknowledging (moved_by f.nn s.fop.nn) s.fates in
+      refilled_less (record s { fates = fates; fop = f }) (report_gone s.fop fop octet report))
 
 -- ---- nothing is sent first where nothing goes
 

@@ -13,7 +13,7 @@ use Rattle.simulated_link.specs.declared.fault.SimFault.TheVariants.{Memory}
 use Rattle.simulated_link.specs.declared.reply.Reply.{Reply}
 use Rattle.simulated_link.specs.declared.reply.NodeFault.TheVariants.{Link}
 use Rattle.simulated_link.specs.Replies.{answer_to_refusal}
-use Rattle.simulated_link.proofs.Unchanged.{AtEachLoss, lost, pulled, up_arrives, down_arrives}
+use Rattle.simulated_link.proofs.Unchanged.{AtEachLoss, lost, pulled, up_arrives, down_arrives, word_arrives, resumes}
 use Rattle.nodes.specs.declared.fault.LinkFault.TheVariants as faults
 use Rattle.simulated_link.specs.declared.reply.Reply.TheVariants as replies
 use Rattle.nodes.specs.declared.event.Event.TheVariants as events
@@ -80,4 +80,6 @@ refused_keeps w events.UpLose = lost w (Keeps w) (losses w) events.UpLose tt
 refused_keeps w (events.UpDamage octets) = lost w (Keeps w) (losses w) (events.UpDamage octets) tt
 refused_keeps w events.DownLose = lost w (Keeps w) (losses w) events.DownLose tt
 refused_keeps w (events.DownDamage octets) = lost w (Keeps w) (losses w) (events.DownDamage octets) tt
+refused_keeps w events.DownClcw = word_arrives w (Keeps w) (losses w) (λ b bs is r. tt)
+refused_keeps w (events.Resume value) = resumes w value (Keeps w) tt (λ whole can. tt)
 refused_keeps w _ = tt

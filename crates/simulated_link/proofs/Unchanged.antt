@@ -7,7 +7,14 @@ use Rattle.simulated_link.proofs.Common.{up_damage_outcome, up_damage_step, down
 use Rattle.simulated_link.proofs.Common.{down_damage_outcome, down_damage_step}
 use Rattle.tc_frame.specs.Layout.{FrameView}
 use Rattle.simulated_link.specs.declared.fault.SimFault.TheVariants.{NothingInTransit}
-use Rattle.simulated_link.specs.Replies.{ReplyView, Nothing, Lost}
+use Rattle.simulated_link.proofs.Common.{true, false, cond_both, Clcw, ClcwFault, GroundOutcome, LinkFault}
+use Rattle.simulated_link.specs.Replies.{ReplyView, Nothing, Lost, Refused, Resumed}
+use Rattle.simulated_link.specs.World.{world_after_word, down_word_outcome, down_clcw_step, world_after_resuming}
+use Rattle.simulated_link.specs.World.{resumed}
+use Rattle.simulated_link.specs.declared.reply.NodeFault.TheVariants.{Link}
+use Rattle.clcw.specs.Decoding.{clcw_at}
+use Rattle.nodes.specs.Ground.{report_outcome, can_resume}
+use Rattle.nodes.specs.declared.fault.LinkFault.TheVariants.{NotKnown}
 use Rattle.tc_frame.specs.Decoding as command
 use Rattle.tm_link.specs.Layout as telemetry
 use Rattle.tm_link.specs.Decoding as telemetry_reading
@@ -96,3 +103,33 @@ module _ (w : World) (P : WorldOutcome → Type 0) where
       → ((b : List ℕ) (bs : List (List ℕ)) → w.down ≡ b ∷ bs → P (down_deliver_step w (b ∷ bs)))
       → P (world_step w events.DownDeliver)
   down_arrives none each = first_on P (down_deliver_step w) w.down none each
+
+-- a control word arrives by itself
+module _ (w : World) (P : WorldOutcome → Type 0) (each : AtEachLoss w P) where
+  word_in : (b : List ℕ) (bs : List (List ℕ)) → w.down ≡ b ∷ bs
+      → ((r : Result Clcw ClcwFault) → P (world_after_word w bs (report_outcome w.ground_node r)))
+      → (r : Result telemetry.FrameView TmFault) → P (down_word_outcome w bs r)
+  word_in b bs is uses (Ok frame) = uses (clcw_at frame.ocf)
+  word_in b bs is uses (Err fault) = each.down b bs is (Down (heard_cases.Invalid fault)) refl
+
+  pub word_arrives : ((b : List ℕ) (bs : List (List ℕ)) → w.down ≡ b ∷ bs
+      → (r : Result Clcw ClcwFault) → P (world_after_word w bs (report_outcome w.ground_node r)))
+      → P (world_step w events.DownClcw)
+  word_arrives uses =
+      first_on P (down_clcw_step w) w.down (each.refused NothingInTransit)
+      (λ b bs is. word_in b bs is (uses b bs is)
+      (telemetry_reading.frame_at w.ground_node.config.frame_length b))
+
+-- the ground resumes, or refuses to
+module _ (w : World) (value : ℕ) where
+  pub resumes : (P : WorldOutcome → Type 0) → P (world_reply (Refused (Link NotKnown)) w)
+      → ((whole : ℕ) → can_resume w.ground_node value ≡ true → P (world_reply (Resumed whole) (resumed w value)))
+      → P (world_step w (events.Resume value))
+  resumes P refused each =
+      cond_both (can_resume w.ground_node value) _ _
+      (λ (o : GroundOutcome (Result ℕ LinkFault)). P (world_after_resuming w value o.answer)) (λ can. each _ can)
+      (λ t. refused)
+
+  pub resumes_not : can_resume w.ground_node value ≡ false
+      → world_step w (events.Resume value) ≡ world_reply (Refused (Link NotKnown)) w
+  resumes_not refused = rw refused refl

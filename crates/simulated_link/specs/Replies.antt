@@ -8,6 +8,7 @@ use Rattle.nodes.specs.declared.fault.LinkFault.{LinkFault}
 use Rattle.nodes.specs.declared.fault.LinkFault.TheVariants as link_faults
 use Rattle.nodes.specs.declared.heard.Heard.{Heard}
 use Rattle.nodes.specs.declared.heard.Heard.TheVariants as heard_cases
+use Rattle.nodes.specs.declared.heard.HeardClcw.{HeardClcw}
 use Rattle.nodes.specs.declared.received.Received.{Received}
 use Rattle.simulated_link.specs.declared.reply.NodeFault.{NodeFault}
 use Rattle.simulated_link.specs.declared.reply.NodeFault.TheVariants.{Link, Cop, Tm}
@@ -27,6 +28,8 @@ pub data ReplyView : Type 0 where
   Reported : Clcw → ReplyView
   Up : Received → ReplyView
   Down : Heard → ReplyView
+  DownClcw : HeardClcw → ReplyView
+  Resumed : ℕ → ReplyView
   Packet : PacketOn → ReplyView
 
 abbrev pub reply_view : Reply → ReplyView
@@ -39,6 +42,8 @@ reply_view (replies.Sent octets) = Sent octets.items
 reply_view (replies.Reported report) = Reported report
 reply_view (replies.Up received) = Up received
 reply_view (replies.Down heard) = Down heard
+reply_view (replies.DownClcw heard) = DownClcw heard
+reply_view (replies.Resumed whole) = Resumed whole
 reply_view (replies.Packet m octets) = Packet (packet_on m octets.items)
 
 -- ---- to what a node answers
@@ -77,4 +82,5 @@ heard_alert _ = None
 abbrev pub replied_alert : ReplyView → Option Alert
 replied_alert (Alerted alert) = Some alert
 replied_alert (Down heard) = heard_alert heard
+replied_alert (DownClcw heard) = heard.alert
 replied_alert _ = None

@@ -20,7 +20,8 @@ use Rattle.cop1.specs.Report.{report_of}
 use Rattle.cop1.specs.declared.fault.CopFault.{CopFault}
 use Rattle.cop1.specs.declared.vocabulary.Alert.{Alert}
 use Rattle.cop1.specs.declared.vocabulary.Directive.{Directive}
-use Rattle.cop1.specs.declared.vocabulary.Directive.TheVariants.{InitWithoutCheck}
+use Rattle.cop1.specs.declared.vocabulary.Directive.TheVariants.{InitWithoutCheck, InitUnlock}
+use Rattle.cop1.specs.declared.vocabulary.Directive.TheVariants.{SetVs}
 use Rattle.cop1.specs.declared.vocabulary.FopMode.{FopMode}
 use Rattle.cop1.specs.declared.vocabulary.FopMode.TheVariants.{S1, S4, S5}
 use Rattle.cop1.specs.FopDirective.{is_initiation}
@@ -34,6 +35,7 @@ use Rattle.nodes.specs.declared.event.Event.TheVariants as events
 use Rattle.nodes.specs.declared.fault.LinkFault.{LinkFault}
 use Rattle.nodes.specs.declared.heard.Heard.{Heard}
 use Rattle.nodes.specs.declared.heard.Heard.TheVariants as heard_cases
+use Rattle.nodes.specs.declared.heard.HeardClcw.{HeardClcw}
 use Rattle.nodes.specs.declared.received.Received.{Received}
 use Rattle.nodes.specs.declared.received.Received.TheVariants as received_cases
 use Rattle.simulated_link.specs.declared.session_start.Opening.{Opening}
@@ -42,12 +44,15 @@ use Rattle.simulated_link.specs.declared.fault.SimFault.TheVariants.{NothingInTr
 use Rattle.simulated_link.specs.declared.fault.SimFault.TheVariants.{NotDetectable}
 use Rattle.nodes.specs.Parameters.{limits_of}
 use Rattle.nodes.specs.Packets.{PacketOn, packet_on}
-use Rattle.nodes.specs.Ground.{GroundState, GroundOutcome, is_closed, new_ground, ground_step}
+use Rattle.nodes.specs.Ground.{GroundState, GroundOutcome, is_closed, can_resume, new_ground}
+use Rattle.nodes.specs.Ground.{ground_step}
 use Rattle.nodes.specs.Ground as ground_calls
 use Rattle.nodes.specs.Spacecraft.{SpacecraftState, SpacecraftOutcome, new_spacecraft}
 use Rattle.nodes.specs.Spacecraft.{spacecraft_step}
 use Rattle.nodes.specs.Spacecraft as spacecraft_calls
-use Rattle.simulated_link.specs.Replies.{ReplyView, Nothing, Lost, Sent, Reported, Up, Down}
+use Rattle.simulated_link.specs.Replies.{ReplyView, Nothing, Lost, Refused, Sent, Reported, Up}
+use Rattle.simulated_link.specs.Replies.{Down, DownClcw, Resumed}
+use Rattle.simulated_link.specs.declared.reply.NodeFault.TheVariants.{Link}
 use Rattle.simulated_link.specs.Replies.{reply_to_submission, reply_to_directive, reply_to_alert}
 use Rattle.simulated_link.specs.Replies.{reply_to_taking, reply_to_telemetry}
 
@@ -180,11 +185,13 @@ is_idle w =
 abbrev pub begins_idle : World → Directive → Bool
 begins_idle w directive = may_begin w directive && is_idle w
 
--- no session begins with an event: it is no initiation, or it comes while the sender is not in S6
+-- no session begins with an event: it is no initiation, or it comes while the sender is not in S6; or
+-- it is a resumption that is refused
 abbrev pub BeginsNoSession : World → Event → Type 0
-BeginsNoSession w event =
-    (directive : Directive) → event ≡ events.Directive directive → is_initiation directive ≡ true
-    → is_closed w.ground_node.fop.state ≡ false
+BeginsNoSession w (events.Directive directive) =
+    is_initiation directive ≡ true → is_closed w.ground_node.fop.state ≡ false
+BeginsNoSession w (events.Resume value) = can_resume w.ground_node value ≡ false
+BeginsNoSession w _ = Unit {0}
 
 -- a session begins
 abbrev pub session_begun : World → Opening → Session
@@ -261,6 +268,20 @@ world_after_directive w directive o =
       ground_node = o.after;
       session = session_after_directive w directive o.answer;
     })
+
+-- a session goes on after an alert: V(S) is set to a report's value, and the next begins by Unlock
+
+abbrev pub directed : World → Directive → World
+directed w directive =
+    (world_after_directive w directive
+    (ground_step w.ground_node (ground_calls.Direct directive))).after
+
+abbrev pub resumed : World → ℕ → World
+resumed w value = directed (directed w (SetVs value)) InitUnlock
+
+abbrev pub world_after_resuming : World → ℕ → Result ℕ LinkFault → WorldOutcome
+world_after_resuming w value (Ok whole) = world_reply (Resumed whole) (resumed w value)
+world_after_resuming w value (Err fault) = world_reply (Refused (Link fault)) w
 
 -- the ground sends a frame; a Type-AD frame is first sent where V(S) is its number
 
@@ -349,6 +370,29 @@ abbrev pub down_damage_step : World → List (List ℕ) → List ℕ → WorldOu
 down_damage_step w way damaged = at_first w way (λ octets down. down_damage_outcome w down
     (telemetry_reading.frame_at w.ground_node.config.frame_length damaged))
 
+-- it arrives, and its control word alone reaches the ground, as from a front end that hands on
+-- control words: what else it carries is as of a lost frame
+
+abbrev pub world_after_word : World → List (List ℕ) → GroundOutcome HeardClcw → WorldOutcome
+world_after_word w down o =
+    world_reply (DownClcw o.answer) (record w {
+      ground_node = o.after;
+      down = down;
+      session = session_after_report w.session w.ground_node o.after;
+    })
+
+-- octets of no frame have no control word
+abbrev pub down_word_outcome : World → List (List ℕ) → Result telemetry.FrameView TmFault
+    → WorldOutcome
+down_word_outcome w down (Ok frame) =
+    world_after_word w down (ground_step w.ground_node (ground_calls.ControlWord frame.ocf))
+down_word_outcome w down (Err fault) =
+    world_reply (Down (heard_cases.Invalid fault)) (record w { down = down })
+
+abbrev pub down_clcw_step : World → List (List ℕ) → WorldOutcome
+down_clcw_step w way = at_first w way (λ octets down. down_word_outcome w down
+    (telemetry_reading.frame_at w.ground_node.config.frame_length octets))
+
 -- a tick passes, packets are taken on board, and telemetry is queued there
 
 abbrev pub world_after_tick : World → GroundOutcome (Option Alert) → WorldOutcome
@@ -372,6 +416,9 @@ world_step w (events.Bypass m octets) =
     world_after_bypass w (ground_step w.ground_node (ground_calls.Bypass m octets.now))
 world_step w (events.Directive directive) =
     world_after_directive w directive (ground_step w.ground_node (ground_calls.Direct directive))
+world_step w (events.Resume value) =
+    world_after_resuming w value
+    (ground_step w.ground_node (ground_calls.Resume value)).answer
 world_step w events.Send = world_after_send w (ground_step w.ground_node ground_calls.Pull)
 world_step w events.UpDeliver = up_deliver_step w w.up
 world_step w events.UpLose = up_lose_step w w.up
@@ -381,6 +428,7 @@ world_step w events.Report =
 world_step w events.DownDeliver = down_deliver_step w w.down
 world_step w events.DownLose = down_lose_step w w.down
 world_step w (events.DownDamage octets) = down_damage_step w w.down octets.now
+world_step w events.DownClcw = down_clcw_step w w.down
 world_step w events.Tick = world_after_tick w (ground_step w.ground_node ground_calls.Tick)
 world_step w events.Take = world_after_take w (spacecraft_step w.spacecraft spacecraft_calls.Take)
 world_step w events.TakeBypass =

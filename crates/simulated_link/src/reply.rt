@@ -2,7 +2,7 @@
 
 use clcw::Clcw;
 use cop1::{Alert, CopFault};
-use nodes::{Heard, LinkFault, Received};
+use nodes::{Heard, HeardClcw, LinkFault, Received};
 use thiserror::Error;
 use tm_link::TmFault;
 
@@ -27,6 +27,10 @@ pub enum Reply {
     Up(Received),
     /// The ground received.
     Down(Heard),
+    /// A CLCW reached the ground by itself.
+    DownClcw(HeardClcw),
+    /// The ground has resumed; so many submissions of the session that ended are on board.
+    Resumed(u64),
     /// A packet was taken, which came on this MAP.
     Packet(u8, Vec<u8>),
 }

@@ -28,30 +28,27 @@ use Rattle.tc_frame.specs.Decoding as command
 use Rattle.tm_link.specs.Extractor.{ExtractorState, new_extractor, extract_step}
 use Rattle.tm_link.specs.Layout as telemetry
 use Rattle.tm_link.specs.Decoding as telemetry_reading
-use Rattle.tc_link.specs.AnyPast.{LinkStep, Happens, TakeTelemetry, Receives, Hears, ReportArrives, HearsReport}
+use Rattle.tc_link.specs.AnyPast.{LinkStep, Happens, TakeTelemetry, Receives, Hears, HearsReport}
 use Rattle.tc_link.specs.AnyPast.{ForgetTelemetry, NewGround, NewSpacecraft, AreNumbers, IsLinkStep, with_nodes}
-use Rattle.tc_link.specs.AnyPast.{received, heard, EachGoesOnAsKept}
-use Rattle.tc_link.specs.AnyPast.{heard_word, arriving_word, with_word, after_word, link_step, link_run, SaysAs}
-use Rattle.tc_link.specs.AnyPast.{with_telemetry_of, DoesAsItsFrame, ReportsDoAsFrames}
+use Rattle.tc_link.specs.AnyPast.{received, heard, EachGoesOnAsKept, heard_word, link_step, link_run}
+use Rattle.tc_link.specs.AnyPast.{ReportsDoAsFrames}
 use Rattle.tc_link.specs.AnyPast.{HasAnyPast, HoldsAfterAnyPast, RunsAsEvents}
 use Rattle.tc_link.proofs.IdleStart.{InSession}
 use Rattle.tc_link.proofs.Board.{eases_keep}
 use Rattle.tc_link.proofs.Eased.{bypass_eases}
 use Rattle.tc_link.proofs.FitFrames.{GroundFits, with_fits, heard_fits}
-use Rattle.tc_link.proofs.Downward.{used, used_is, used_word, word_is, with_heard}
+use Rattle.tc_link.proofs.Downward.{apart}
 use Rattle.tc_link.proofs.Invariant.{Holding, new_holds, step_holds}
 use Rattle.tc_link.proofs.Linked.{In, Tells, Reporting, beside, run_to}
 use Rattle.tc_link.proofs.Promised.{holds_so}
 use Rattle.tc_link.proofs.SteadyNodes.{refilled_so, report_so}
 use Rattle.tc_link.proofs.SteadyWorld.{sequence_so, bypass_so, body_so, new_sound}
 use Rattle.tc_link.proofs.Sound.{GroundNodeSteady, SpacecraftSteady}
+use Rattle.tc_link.proofs.Downward.{words_apart, words_say}
 
 -- ---- the session goes on
 
 -- with another extractor, and other packets of telemetry
-abbrev apart : GroundState → ExtractorState → List (List ℕ) → GroundState
-apart s extractor packets = record s { extractor = extractor; telemetry = packets }
-
 abbrev with_telemetry : World → ExtractorState → List (List ℕ) → World
 with_telemetry w extractor packets = record w { ground_node = apart w.ground_node extractor packets }
 
@@ -87,23 +84,6 @@ module _ (c : Config) (w : World) (x : ExtractorState) (packets : List (List ℕ
     clean = h.clean;
     session = λ is. heard_session (h.session is);
   }
-
-moved_apart : (s : GroundState) (x : ExtractorState) (packets : List (List ℕ)) (waiting : Option SegmentView)
-    (pending : List SegmentView)
-    → after_moving_up (apart s x packets) waiting pending ≡ apart (after_moving_up s waiting pending) x packets
-moved_apart s x packets (Some u) pending = refl
-moved_apart s x packets None [] = refl
-moved_apart s x packets None (u ∷ us) = refl
-
-settled_apart : (s : GroundState) (f : FopState SegmentView) (x : ExtractorState) (packets : List (List ℕ))
-    → with_fop (apart s x packets) f ≡ apart (with_fop s f) x packets
-settled_apart s f x packets = settled (is_closed f.state) where
-  settled : (off : Bool) → (if off then record (apart s x packets) { fop = f; pending = [] }
-      else after_moving_up (record (apart s x packets) { fop = f }) f.waiting s.pending)
-      ≡ apart (if off then record s { fop = f; pending = [] }
-      else after_moving_up (record s { fop = f }) f.waiting s.pending) x packets
-  settled true = refl
-  settled false = moved_apart (record s { fop = f }) x packets f.waiting s.pending
 
 -- where a Type-BD frame arrived
 module _ (c : Config) (w : World) (h : Holding c w) (u : SegmentView) (kept : Bool) where
@@ -234,59 +214,6 @@ module _ (c : Config) (w : World) (h : Holding c w) where
       cond_both (is_own_telemetry w.ground_node.config frame) _ _ Hears_well
       (λ t. word_holds (extract_step w.ground_node.extractor frame).after _ (clcw_at frame.ocf)) (λ t. h)
 
-  -- ---- a report arrives by itself
-
-  module _ (b : List ℕ) (bs : List (List ℕ)) (r : Clcw) (t : Tells c b r) where
-    abbrev extracted : Extracted
-    extracted = extract_step w.ground_node.extractor t.frame
-
-    whole_is : ground_telemetry w.ground_node b ≡ used w.ground_node extracted r
-    whole_is = used_is c w.ground_node b r h.sound.ground_node.config t
-
-    alone_is : arriving_word w b ≡ used_word w.ground_node r
-    alone_is = word_is c w.ground_node b r h.sound.ground_node.config t
-
-    -- telemetry is the one thing in which it differs from what its frame does
-    apart_is : with_word w bs (arriving_word w b) ≡ with_telemetry_of w (down_deliver_step w (b ∷ bs)).after
-    apart_is =
-        let s : GroundState = w.ground_node in
-        let f : FopState SegmentView = (clcw_step s.fop r).after in
-        ap (λ (o : GroundOutcome HeardClcw). with_heard w o.after bs) alone_is
-        ∙ ap (λ (g : GroundState). with_heard w g bs) (settled_apart (acknowledging s f) f s.extractor s.telemetry)
-        ∙ sym (ap (λ (g : GroundState). with_telemetry_of w (with_heard w g bs))
-        (settled_apart (acknowledging s f) f extracted.after (s.telemetry ++ extracted.packets)))
-        ∙ sym (ap (λ (o : GroundOutcome Heard). with_telemetry_of w (with_heard w o.after bs)) whole_is)
-
-    says_as : SaysAs (Ok (Down (ground_telemetry w.ground_node b).answer)) (arriving_word w b).answer
-    says_as =
-        subst (λ (o : GroundOutcome Heard). SaysAs (Ok (Down o.answer)) (arriving_word w b).answer) (sym whole_is)
-        (subst (λ (o : GroundOutcome HeardClcw). SaysAs (Ok (Down (used w.ground_node extracted r).answer)) o.answer)
-        (sym alone_is) (refl, refl))
-
-  arrives_apart : (bs : List (List ℕ)) (rs : List Clcw) → Reporting c bs rs
-      → after_word w bs ≡ with_telemetry_of w (down_deliver_step w bs).after
-  arrives_apart [] rs reporting = refl
-  arrives_apart (b ∷ bs) [] reporting = elim reporting [ ]
-  arrives_apart (b ∷ bs) (r ∷ rs) reporting = apart_is b bs r reporting.0
-
-  arrives_holds : Holding c (after_word w w.down)
-  arrives_holds =
-      let after : World = (world_step w events.DownDeliver).after in
-      subst (Holding c) (sym (arrives_apart w.down h.reports.reports h.reports.reporting))
-      (telemetry_holds c after w.ground_node.extractor w.ground_node.telemetry (step_holds c w h events.DownDeliver tt))
-
-  pub does_as_its_frame : DoesAsItsFrame w
-  does_as_its_frame = record {
-    after = arrives_apart w.down h.reports.reports h.reports.reporting;
-    answer = λ octets down is. said octets down is h.reports.reports (rw is at h.reports.reporting);
-  } where
-    said : (b : List ℕ) (bs : List (List ℕ)) → w.down ≡ b ∷ bs → (rs : List Clcw) → Reporting c (b ∷ bs) rs
-        → SaysAs (world_step w events.DownDeliver).answer (arriving_word w b).answer
-    said b bs is [] reporting = elim reporting [ ]
-    said b bs is (r ∷ rs) reporting =
-        subst (λ (way : List (List ℕ)). SaysAs (down_deliver_step w way).answer (arriving_word w b).answer) (sym is)
-        (says_as b bs r reporting.0)
-
   -- ---- a node is new
 
   new_ground_steady : GroundNodeSteady c (new_ground w.ground_node.config)
@@ -307,7 +234,6 @@ module _ (c : Config) (w : World) (h : Holding c w) where
   link_step_holds (Receives octets) fits = received_holds (command.frame_at On octets)
   link_step_holds (Hears octets) fits =
       heard_holds (telemetry_reading.frame_at w.ground_node.config.frame_length octets)
-  link_step_holds ReportArrives fits = arrives_holds
   link_step_holds (HearsReport octets) fits =
       word_holds w.ground_node.extractor w.ground_node.telemetry (clcw_at octets)
   link_step_holds ForgetTelemetry fits = telemetry_holds c w new_extractor w.ground_node.telemetry h
@@ -346,4 +272,9 @@ pub each_goes_on_as_kept : EachGoesOnAsKept
 each_goes_on_as_kept s = record { mc_count = refl; vc_count = refl; value = refl; farm_b = refl }
 
 pub reports_do_as_frames : ReportsDoAsFrames
-reports_do_as_frames w past = does_as_its_frame past.config w (past_holds w past)
+reports_do_as_frames w past =
+    let h = past_holds w past in
+    record {
+      after = words_apart past.config w h.sound h.reports;
+      answer = words_say past.config w h.sound h.reports;
+    }

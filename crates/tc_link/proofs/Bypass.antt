@@ -25,9 +25,9 @@ use Rattle.clcw.specs.Decoding.{clcw_at}
 use Rattle.simulated_link.proofs.Unchanged.{AtEachLoss, lost, up_arrives, down_arrives}
 use Rattle.simulated_link.specs.World.{world_after_bypass}
 use Rattle.tm_link.specs.Decoding.{frame_at}
-use Rattle.tc_link.specs.AnyPast.{LinkStep, Happens, TakeTelemetry, Receives, Hears, ReportArrives, HearsReport}
+use Rattle.tc_link.specs.AnyPast.{LinkStep, Happens, TakeTelemetry, Receives, Hears, HearsReport}
 use Rattle.tc_link.specs.AnyPast.{ForgetTelemetry, NewGround, NewSpacecraft, IsLinkStep, link_step, link_run}
-use Rattle.tc_link.specs.AnyPast.{after_report, after_hearing, word_in, after_word}
+use Rattle.tc_link.specs.AnyPast.{after_report, after_hearing}
 use Rattle.tc_link.specs.Bypass.{packet_of, packet_in, bypass_up, bypass_queued, bypass_held, bypass_accepted_by}
 use Rattle.tc_link.specs.Bypass.{bypass_taken_by, by_step, bypass_accepted, bypass_taken, ReceivesNothingElse}
 use Rattle.tc_link.specs.Bypass.{BypassKeepsOrder}
@@ -44,6 +44,9 @@ use Rattle.tc_frame.specs.Decoding as command
 use Rattle.nodes.specs.Ground as ground_calls
 use Rattle.nodes.specs.declared.heard.Heard.TheVariants as heard_cases
 use Rattle.nodes.specs.declared.event.Event.TheVariants as events
+use Rattle.tc_link.proofs.Common.{SetVs, InitUnlock}
+use Rattle.simulated_link.proofs.Unchanged.{word_arrives, resumes}
+use Rattle.simulated_link.specs.World.{resumed, directed}
 
 -- What some of a list, in order, are of another.
 
@@ -300,6 +303,10 @@ module _ (c : Config) (w : World) (h : Holding c w) where
       on_ground _ refl refl (submission_same w.ground_node m octets.now (submit_fault w.ground_node m octets.now))
   event_passes (events.Bypass m octets) = bypass_event m octets (bypass_fault w.ground_node m octets.now)
   event_passes (events.Directive d) = on_ground _ refl refl (directive_same w.ground_node d)
+  event_passes (events.Resume value) =
+      let t : GroundState = (directed w (SetVs value)).ground_node in
+      resumes w value AtLoss same (λ whole can.
+      on_ground (resumed w value) refl refl (directive_same t InitUnlock ∙ directive_same w.ground_node (SetVs value)))
   event_passes events.Send = sent_passes
   event_passes events.UpDeliver =
       up_arrives w (Passes_on events.UpDeliver) same
@@ -310,6 +317,8 @@ module _ (c : Config) (w : World) (h : Holding c w) where
   event_passes events.DownDeliver =
       down_arrives w (Passes_on events.DownDeliver) same (λ b bs is.
       on_ground _ refl refl (telemetry_same w.ground_node (frame_at w.ground_node.config.frame_length b)))
+  event_passes events.DownClcw =
+      word_arrives w AtLoss losses (λ b bs is r. on_ground _ refl refl (word_same w.ground_node r))
   event_passes events.UpLose = lost w AtLoss losses events.UpLose tt
   event_passes (events.UpDamage octets) = lost w AtLoss losses (events.UpDamage octets) tt
   event_passes events.DownLose = lost w AtLoss losses events.DownLose tt
@@ -331,12 +340,6 @@ module _ (c : Config) (w : World) (h : Holding c w) where
   heard_passes after (heard_cases.Frame gap packets report alert) queued = report_passes after report queued
   heard_passes after _ queued = on_ground _ refl refl queued
 
-  word_passes : (bs : List (List ℕ)) → Passes w [] [] (after_word w bs)
-  word_passes [] = same
-  word_passes (b ∷ bs) =
-      on_ground _ refl refl
-      (word_same w.ground_node (clcw_at (word_in (frame_at w.ground_node.config.frame_length b))))
-
   taken_same : (packets : List (List ℕ))
       → (ground_take_telemetry w.ground_node packets).after.fop.bypass ≡ w.ground_node.fop.bypass
   taken_same [] = refl
@@ -350,7 +353,6 @@ module _ (c : Config) (w : World) (h : Holding c w) where
       let o = ground_step w.ground_node (ground_calls.Telemetry octets) in
       heard_passes o.after o.answer
       (telemetry_same w.ground_node (frame_at w.ground_node.config.frame_length octets))
-  step_passes ReportArrives own = word_passes w.down
   step_passes (HearsReport octets) own =
       let o = ground_step w.ground_node (ground_calls.ControlWord octets) in
       report_passes o.after o.answer.report (word_same w.ground_node (clcw_at octets))

@@ -13,6 +13,7 @@ use Rattle.tc_link.proofs.InOrder.{has_plain_history}
 use Rattle.tc_link.proofs.Invariant.{Holding, begun_is, idle_goes, step_holds}
 use Rattle.tc_link.proofs.Known.{with_same, octet, moves_with_records}
 use Rattle.tc_link.proofs.OneLink.{sent_count}
+use Rattle.tc_link.proofs.Invariant.{began_at, begun_session}
 
 -- an initiation sets NN(R) to V(S)
 begun_equal : (f : FopState SegmentView) (d : Directive) → is_initiation d ≡ true → (begun f d).nn ≡ (begun f d).vs
@@ -83,11 +84,11 @@ keeps_what_is_known w e since r b keeps quiet fits idle =
     let start : World = (world_step w e).after in
     let h = step_holds r.config w (past_holds w r) e fits.0 in
     let f = start.ground_node.fop in
-    let s = subst (λ (e : Event). (world_step w e).after.session ≡ session_begun_by w b.0) (sym b.1)
-    (begun_is w b.0 b.2 b.3) in
+    let at = began_at w e b in
+    let s = begun_session w e at in
     let equal =
-    subst (λ (e : Event). (world_step w e).after.ground_node.fop.nn ≡ (world_step w e).after.ground_node.fop.vs)
-    (sym b.1) (starts_equal w b.0 b.2 b.3) in
+    subst (λ (x : World). x.ground_node.fop.nn ≡ x.ground_node.fop.vs) (sym at.is)
+    (starts_equal at.start at.directive at.initiates at.closed) in
     let small = h.sound.ground_node.fop.vs_octet in
     let sent : length start.session.sent ≡ 0 = ap (λ (s : Session). length s.sent) s in
     let acked : start.session.acknowledged ≡ 0 = ap (λ (s : Session). s.acknowledged) s in

@@ -23,7 +23,18 @@ use Rattle.nodes.specs.declared.heard.HeardClcw.{HeardClcw}
 use Rattle.tm_link.specs.Decoding.{frame_at}
 use Rattle.tm_link.specs.Decoding as telemetry_reading
 use Rattle.clcw.specs.Decoding.{clcw_at}
-use Rattle.tc_link.specs.AnyPast.{word_in}
+use Rattle.tc_link.specs.AnyPast.{with_telemetry_of, SaysAs}
+use Rattle.tc_link.specs.FalseAlarms.{alert_in}
+use Rattle.tc_link.proofs.Common.{Option, Some, None, if◌then◌else◌, Result, PlainLink, WorldOutcome, world_step}
+use Rattle.tc_link.proofs.Common.{down_deliver_step, with_fop}
+use Rattle.tc_link.proofs.Linked.{beside}
+use Rattle.tc_link.proofs.ReportsDown.{HasReports}
+use Rattle.clcw.specs.declared.fault.ClcwFault.{ClcwFault}
+use Rattle.nodes.specs.Ground.{after_moving_up}
+use Rattle.nodes.specs.declared.event.Event.TheVariants as events
+use Rattle.simulated_link.specs.Replies.{Down, replied_alert}
+use Rattle.simulated_link.specs.World.{world_after_word, down_word_outcome, down_clcw_step}
+use Rattle.tm_link.specs.Extractor.{ExtractorState}
 use Rattle.tc_link.proofs.Sound.{Sound}
 
 -- ---- octets that tell a report lead to its use
@@ -50,14 +61,6 @@ used_word s report = record {
   answer = record { report = Used; alert = (clcw_step s.fop report).answer };
   after = after_report s (clcw_step s.fop report).after;
 }
-
-pub word_is : (c : Config) (s : GroundState) (octets : List ℕ) (report : Clcw) → s.config ≡ c
-    → (t : Tells c octets report) → report_outcome s (clcw_at (word_in (frame_at s.config.frame_length octets)))
-    ≡ used_word s report
-word_is c s octets report is t =
-    let reads : frame_at s.config.frame_length octets ≡ Ok t.frame = rw is t.reads in
-    ap (λ r. report_outcome s (clcw_at (word_in r))) reads ∙ ap (report_outcome s) t.word
-    ∙ rw (eq-eqb report.vcid s.config.vcid (rw is t.own)) refl
 
 -- ---- a report leads to another sender
 
@@ -112,6 +115,103 @@ heard_keeps early to c d base w g x bs rs v vs f gone also rest count up moves s
       linked = assumption (rest, held, moves.nn_octet, acked_is, a_r, n_a, count, rises, l);
       stage = stage;
     })
+
+-- ---- a report by itself does what its telemetry frame does, but for telemetry
+
+-- with another extractor, and other packets of telemetry
+abbrev pub apart : GroundState → ExtractorState → List (List ℕ) → GroundState
+apart s extractor packets = record s { extractor = extractor; telemetry = packets }
+
+moved_apart : (s : GroundState) (x : ExtractorState) (packets : List (List ℕ)) (waiting : Option SegmentView)
+    (pending : List SegmentView)
+    → after_moving_up (apart s x packets) waiting pending ≡ apart (after_moving_up s waiting pending) x packets
+moved_apart s x packets (Some u) pending = refl
+moved_apart s x packets None [] = refl
+moved_apart s x packets None (u ∷ us) = refl
+
+settled_apart : (s : GroundState) (f : FopState SegmentView) (x : ExtractorState) (packets : List (List ℕ))
+    → with_fop (apart s x packets) f ≡ apart (with_fop s f) x packets
+settled_apart s f x packets = settled (is_closed f.state) where
+  settled : (off : Bool) → (if off then record (apart s x packets) { fop = f; pending = [] }
+      else after_moving_up (record (apart s x packets) { fop = f }) f.waiting s.pending)
+      ≡ apart (if off then record s { fop = f; pending = [] }
+      else after_moving_up (record s { fop = f }) f.waiting s.pending) x packets
+  settled true = refl
+  settled false = moved_apart (record s { fop = f }) x packets f.waiting s.pending
+
+module _ (c : Config) (w : World) (k : Sound c w) where
+  module _ (b : List ℕ) (bs : List (List ℕ)) (r : Clcw) (t : Tells c b r) where
+    abbrev extracted : Extracted
+    extracted = extract_step w.ground_node.extractor t.frame
+
+    whole_is : ground_telemetry w.ground_node b ≡ used w.ground_node extracted r
+    whole_is = used_is c w.ground_node b r k.ground_node.config t
+
+    word_is : down_clcw_step w (b ∷ bs) ≡ world_after_word w bs (used_word w.ground_node r)
+    word_is =
+        let s : GroundState = w.ground_node in
+        let is : s.config ≡ c = k.ground_node.config in
+        let reads : frame_at s.config.frame_length b ≡ Ok t.frame = rw is t.reads in
+        ap (down_word_outcome w bs) reads
+        ∙ ap (λ (x : Result Clcw ClcwFault). world_after_word w bs (report_outcome s x)) t.word
+        ∙ rw (eq-eqb r.vcid s.config.vcid (rw is t.own)) refl
+
+    word_apart : (down_clcw_step w (b ∷ bs)).after ≡ with_telemetry_of w (down_deliver_step w (b ∷ bs)).after
+    word_apart =
+        let s : GroundState = w.ground_node in
+        let f : FopState SegmentView = (clcw_step s.fop r).after in
+        ap (λ (o : WorldOutcome). o.after) word_is
+        ∙ ap (λ (g : GroundState). with_heard w g bs) (settled_apart (acknowledging s f) f s.extractor s.telemetry)
+        ∙ sym (ap (λ (g : GroundState). with_telemetry_of w (with_heard w g bs))
+        (settled_apart (acknowledging s f) f extracted.after (s.telemetry ++ extracted.packets)))
+        ∙ sym (ap (λ (o : GroundOutcome Heard). with_telemetry_of w (with_heard w o.after bs)) whole_is)
+
+    word_says : SaysAs (down_deliver_step w (b ∷ bs)).answer (down_clcw_step w (b ∷ bs)).answer
+    word_says =
+        subst (λ (o : GroundOutcome Heard). SaysAs (Ok (Down o.answer)) (down_clcw_step w (b ∷ bs)).answer)
+        (sym whole_is)
+        (subst (λ (o : WorldOutcome). SaysAs (Ok (Down (used w.ground_node extracted r).answer)) o.answer) (sym word_is)
+        (refl, refl))
+
+    word_alerts : alert_in (down_clcw_step w (b ∷ bs)).answer ≡ alert_in (down_deliver_step w (b ∷ bs)).answer
+    word_alerts =
+        ap (λ (o : WorldOutcome). alert_in o.answer) word_is
+        ∙ sym (ap (λ (o : GroundOutcome Heard). replied_alert (Down o.answer)) whole_is)
+
+  apart_on : (bs : List (List ℕ)) (rs : List Clcw) → Reporting c bs rs
+      → (down_clcw_step w bs).after ≡ with_telemetry_of w (down_deliver_step w bs).after
+  apart_on [] rs reporting = refl
+  apart_on (b ∷ bs) [] reporting = elim reporting [ ]
+  apart_on (b ∷ bs) (r ∷ rs) reporting = word_apart b bs r reporting.0
+
+  says_on : (bs : List (List ℕ)) (rs : List Clcw) → Reporting c bs rs
+      → SaysAs (down_deliver_step w bs).answer (down_clcw_step w bs).answer
+  says_on [] rs reporting = refl
+  says_on (b ∷ bs) [] reporting = elim reporting [ ]
+  says_on (b ∷ bs) (r ∷ rs) reporting = word_says b bs r reporting.0
+
+  alerts_on : (bs : List (List ℕ)) (rs : List Clcw) → Reporting c bs rs
+      → alert_in (down_clcw_step w bs).answer ≡ alert_in (down_deliver_step w bs).answer
+  alerts_on [] rs reporting = refl
+  alerts_on (b ∷ bs) [] reporting = elim reporting [ ]
+  alerts_on (b ∷ bs) (r ∷ rs) reporting = word_alerts b bs r reporting.0
+
+  module _ (t : HasReports c w.down) where
+    pub words_apart : (world_step w events.DownClcw).after
+        ≡ with_telemetry_of w (world_step w events.DownDeliver).after
+    words_apart = apart_on w.down t.reports t.reporting
+
+    pub words_say : SaysAs (world_step w events.DownDeliver).answer (world_step w events.DownClcw).answer
+    words_say = says_on w.down t.reports t.reporting
+
+    pub words_alert : alert_in (world_step w events.DownClcw).answer
+        ≡ alert_in (world_step w events.DownDeliver).answer
+    words_alert = alerts_on w.down t.reports t.reporting
+
+-- telemetry is nothing to a session
+pub next_apart : {early : Bool} {c : Config} {d : Directive} {base : ℕ} {p : PlainLink} (w : World) {new : World}
+    → Next early c d base p new → Next early c d base p (with_telemetry_of w new)
+next_apart w {new} n = beside n (with_telemetry_of w new) n.ran (assumption n.linked) n.stage
 
 -- ---- a report is lost, or is sent
 

@@ -15,6 +15,10 @@ use Rattle.tc_link.proofs.Reports.{asked}
 use Rattle.tc_link.proofs.Refilled.{refilled_keeps, held_same_where}
 use Rattle.tc_link.proofs.Transit.{bit}
 use Rattle.tc_link.proofs.Sound.{Sound}
+use Rattle.tc_link.proofs.Common.{world_step}
+use Rattle.tc_link.proofs.Downward.{words_apart, next_apart}
+use Rattle.tc_link.proofs.ReportsDown.{HasReports}
+use Rattle.nodes.specs.declared.event.Event.TheVariants as events
 
 confirms_not : (d : Directive) (old new : FopMode) → IsEarly d new → is_confirmation old new ≡ false
 confirms_not d old S4 early = refl
@@ -175,3 +179,14 @@ module _ (c : Config) (d : Directive) (base : ℕ) (w : World) (k : Sound c w) (
       ⊎ Confirmed c d base g.plain (down_deliver_step w w.down).after
   early_down_deliver =
       down_early w.down g.reports g.plain.down refl refl g.linked.reporting g.linked.counted g.linked.rises
+
+  -- and a report by itself
+  pub early_down_clcw : Next true c d base g.plain (world_step w events.DownClcw).after
+      ⊎ Confirmed c d base g.plain (world_step w events.DownClcw).after
+  early_down_clcw =
+      let t : HasReports c w.down = record { reports = g.reports; reporting = g.linked.reporting } in
+      subst (λ (new : World). Next true c d base g.plain new ⊎ Confirmed c d base g.plain new)
+      (sym (words_apart c w k t)) (elim early_down_deliver [
+        | inl n ↦ inl (next_apart w n)
+        | inr n ↦ inr (record { late = next_apart w n.late; exact = n.exact })
+      ])

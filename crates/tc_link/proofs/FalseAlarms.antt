@@ -23,6 +23,9 @@ use Rattle.tc_link.proofs.InTransit.{report_told}
 use Rattle.simulated_link.proofs.Unchanged.{AtEachLoss, lost, pulled, up_arrives}
 use Rattle.nodes.specs.declared.event.Event.TheVariants as events
 use Rattle.tc_link.proofs.Sound.{Sound}
+use Rattle.tc_link.proofs.Downward.{words_alert}
+use Rattle.tc_link.proofs.ReportsDown.{HasReports}
+use Rattle.simulated_link.proofs.Unchanged.{resumes}
 
 -- ---- answers without an alert
 
@@ -91,7 +94,7 @@ module _ (s : FopState SegmentView) where
 
 allowed_cause : (w : World) (r : Clcw) (alert : Alert) → IsAllowed (asks r) w.ground_node.fop.limit (Some alert)
     → (asks r ≡ true → FirstAsks w.ground_node.config w.down) → HasCause w events.DownDeliver alert
-allowed_cause w r Limit allowed first = (refl, first allowed.0, allowed.1)
+allowed_cause w r Limit allowed first = (tt, first allowed.0, allowed.1)
 allowed_cause w r _ allowed first = elim allowed [ ]
 
 module _ (c : Config) (d : Directive) (base : ℕ) (w : World) (k : Sound c w) (checked : IsChecked d) where
@@ -194,6 +197,25 @@ module _ (c : Config) (d : Directive) (base : ℕ) (w : World) (k : Sound c w) (
         g.linked.rises (λ t. (g.stage.calm t).ranks) alert e
   ]
 
+  -- a report by itself has the cause that its frame has
+  word_cause : (alert : Alert) → HasCause w events.DownDeliver alert → HasCause w events.DownClcw alert
+  word_cause Limit is = (tt, is.1, is.2)
+  word_cause Timer is = absurd (cc is)
+  word_cause Terminated is = absurd (cc is)
+  word_cause Lockout is = is
+  word_cause NnR is = is
+  word_cause ClcwAlert is = elim is [ ]
+  word_cause Synch is = is
+
+  cause_word : Begun c d base w ⊎ Late c d base w → (alert : Alert)
+      → alert_in (world_step w events.DownClcw).answer ≡ Some alert → HasCause w events.DownClcw alert
+  cause_word s alert is =
+      let t : HasReports c w.down = elim s [
+        | inl g ↦ record { reports = g.reports; reporting = g.linked.reporting }
+        | inr g ↦ record { reports = g.reports; reporting = g.linked.reporting }
+      ] in
+      word_cause alert (cause_heard s alert (sym (words_alert c w k t) ∙ is))
+
   pub cause : Begun c d base w ⊎ Late c d base w → (e : Event) → (alert : Alert)
       → alert_in (world_step w e).answer ≡ Some alert → HasCause w e alert
   cause s (events.Submit m octets) alert is =
@@ -207,6 +229,9 @@ module _ (c : Config) (d : Directive) (base : ℕ) (w : World) (k : Sound c w) (
   cause s events.UpDeliver alert is = none_some _ alert (up_arrives w IsSilent refl (λ b bs same. refl)) is
   cause s events.Report alert is = absurd cc
   cause s events.DownDeliver alert is = cause_heard s alert is
+  cause s events.DownClcw alert is = cause_word s alert is
+  cause s (events.Resume value) alert is =
+      none_some _ alert (resumes w value IsSilent refl (λ whole can. refl)) is
   cause s events.Tick alert is =
       let only : alert ≡ Timer =
       tick_only w.ground_node.fop alert

@@ -46,6 +46,11 @@ use Rattle.tc_link.specs.Whole.{segments_each}
 use Rattle.tc_link.specs.Known.{SetsNoNumber}
 use Rattle.tm_link.specs.Decoding as telemetry_reading
 use Rattle.tm_link.specs.Layout as telemetry
+use Rattle.tc_link.proofs.Common.{ClcwFault, Clcw}
+use Rattle.tc_link.proofs.Invariant.{began_at, begun_session}
+use Rattle.simulated_link.proofs.Unchanged.{word_arrives, resumes_not}
+use Rattle.nodes.specs.Ground.{report_outcome}
+use Rattle.simulated_link.proofs.TelemetryCases.{report_seen}
 
 -- ---- the segments of submissions
 
@@ -140,6 +145,10 @@ telemetry_acknowledges s = frame_seen s (Acknowledges s) (record {
   uses = λ x report. with_report (after_extraction s x) (clcw_step s.fop report).after;
 })
 
+word_acknowledges : (s : GroundState) (r : Result Clcw ClcwFault) → Acknowledges s (report_outcome s r).after
+word_acknowledges s =
+    report_seen s (Acknowledges s) (inl (refl, refl)) (λ report. with_report s (clcw_step s.fop report).after)
+
 -- ---- a directive that begins no session, and sets no number
 
 off_refused : (s : FopState SegmentView) (m : FopMode) (next : FopState SegmentView) → is_closed m ≡ false
@@ -174,13 +183,13 @@ module _ (w : World) where
   directive_keeps : (d : Directive) → BeginsNoSession w (events.Directive d) → SetsNoNumber w (events.Directive d)
       → KeepsAccount w (world_step w (events.Directive d))
   directive_keeps InitWithoutCheck goes quiet =
-      refused_keeps InitWithoutCheck (off_refused _ w.ground_node.fop.state _ (goes InitWithoutCheck refl refl))
+      refused_keeps InitWithoutCheck (off_refused _ w.ground_node.fop.state _ (goes refl))
   directive_keeps InitWithCheck goes quiet =
-      refused_keeps InitWithCheck (off_refused _ w.ground_node.fop.state _ (goes InitWithCheck refl refl))
+      refused_keeps InitWithCheck (off_refused _ w.ground_node.fop.state _ (goes refl))
   directive_keeps InitUnlock goes quiet =
-      refused_keeps InitUnlock (off_refused _ w.ground_node.fop.state _ (goes InitUnlock refl refl))
+      refused_keeps InitUnlock (off_refused _ w.ground_node.fop.state _ (goes refl))
   directive_keeps (InitSetVr x) goes quiet =
-      refused_keeps (InitSetVr x) (off_refused _ w.ground_node.fop.state _ (goes (InitSetVr x) refl refl))
+      refused_keeps (InitSetVr x) (off_refused _ w.ground_node.fop.state _ (goes refl))
   directive_keeps (SetVs x) goes quiet =
       refused_keeps (SetVs x) (off_refused _ w.ground_node.fop.state _ (quiet x refl))
   directive_keeps Terminate goes quiet = obeyed_keeps Terminate refl refl _ _
@@ -254,6 +263,13 @@ module _ (c : Config) (w : World) (k : AccountsAt c w) (config : w.ground_node.c
       down_arrives w Still k (λ b bs is. hears
       (telemetry_outcome w.ground_node (telemetry_reading.frame_at w.ground_node.config.frame_length b)).after octet
       (telemetry_acknowledges w.ground_node (telemetry_reading.frame_at w.ground_node.config.frame_length b)))
+  step_accounts octet events.DownClcw goes quiet =
+      word_arrives w Still (record {
+        refused = λ fault. k;
+        up = λ b bs is reply silent. k;
+        down = λ b bs is reply silent. k;
+      }) (λ b bs is r. hears (report_outcome w.ground_node r).after octet (word_acknowledges w.ground_node r))
+  step_accounts octet (events.Resume value) goes quiet = subst Still (sym (resumes_not w value goes)) k
   step_accounts octet events.Tick goes quiet = rw (with_fates w.ground_node _) k
   step_accounts octet events.Report goes quiet = k
   step_accounts octet events.Take goes quiet = k
@@ -430,10 +446,10 @@ knows_fates w e since r b keeps quiet fits idle =
     let c : Config = r.config in
     let start : World = (world_step w e).after in
     let h = step_holds c w (past_holds w r) e fits.0 in
-    let s = subst (λ (e : Event). (world_step w e).after.session ≡ session_begun_by w b.0) (sym b.1)
-    (begun_is w b.0 b.2 b.3) in
-    let fates = subst (λ (e : Event). (world_step w e).after.ground_node.fates ≡ new_fates true) (sym b.1)
-    (starts_account w b.0 b.2 b.3) in
+    let at = began_at w e b in
+    let s = begun_session w e at in
+    let fates = subst (λ (x : World). x.ground_node.fates ≡ new_fates true) (sym at.is)
+    (starts_account at.start at.directive at.initiates at.closed) in
     let k : AccountsAt c start = rw (fates, s) (new_accounts c) in
     let goes : Goes c start.session.opening start =
     record { holds = h; idle = idle; opening = refl; accounts = k } in
@@ -441,7 +457,7 @@ knows_fates w e since r b keeps quiet fits idle =
     let now : World = world_run start since in
     let counts = keeps_what_is_known w e since r b keeps quiet fits idle in
     let base : ℕ = start.ground_node.fop.vs in
-    let opened : directive_of now ≡ Some b.0 =
+    let opened : directive_of now ≡ Some at.directive =
     ap (λ (o : Option Opening). option_map (λ (o : Opening). o.directive) o)
     (on.opening ∙ ap (λ (s : Session). s.opening) s) in
     record {
@@ -450,5 +466,5 @@ knows_fates w e since r b keeps quiet fits idle =
           (sent_is c now on.holds on.idle on.accounts base counts);
       acknowledged = whole_is c now on.holds on.idle on.accounts 0 now.session.acknowledged (omega arith);
       on_board = on_board c now on.holds on.idle on.accounts base counts (promised_so c now on.holds on.idle).says
-          (settled_or_none c now on.holds on.idle b.0 b.2 opened);
+          (settled_or_none c now on.holds on.idle at.directive at.initiates opened);
     }

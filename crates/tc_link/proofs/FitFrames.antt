@@ -18,6 +18,9 @@ use Rattle.simulated_link.proofs.TelemetryCases.{reported, frame_seen}
 use Rattle.tc_link.proofs.Refilled.{refilled_keeps}
 use Rattle.tm_link.specs.Layout as telemetry
 use Rattle.tc_link.proofs.Sound.{GroundNodeSteady}
+use Rattle.tc_link.proofs.Common.{ClcwFault}
+use Rattle.nodes.specs.Ground.{report_outcome}
+use Rattle.simulated_link.proofs.TelemetryCases.{report_seen}
 
 abbrev pub All : List SegmentView → Type 0
 All us = AllByRecursion FitsFrame us
@@ -199,3 +202,8 @@ module _ (c : Config) (s : GroundState) (g : GroundNodeSteady c s) (k : GroundFi
         let f : FopState SegmentView = (clcw_step s.fop report).after in
         with_fits (acknowledging (after_extraction s x) f) f (heard_fits s.fop s.pending k report);
   })
+
+  pub word_fits : (r : Result Clcw ClcwFault) → GroundFits (report_outcome s r).after
+  word_fits = report_seen s GroundFits k (λ report.
+      let f : FopState SegmentView = (clcw_step s.fop report).after in
+      with_fits (acknowledging s f) f (heard_fits s.fop s.pending k report))

@@ -26,6 +26,14 @@ use Rattle.tc_link.proofs.Common.{closed_not, closed_is}
 use Rattle.simulated_link.proofs.Unchanged.{AtEachLoss, lost, pulled, up_arrives, down_arrives}
 use Rattle.nodes.specs.declared.event.Event.TheVariants as events
 use Rattle.tc_link.proofs.Sound.{Sound}
+use Rattle.tc_link.proofs.Common.{SetVs, InitUnlock, GroundState, and_parts, S6}
+use Rattle.simulated_link.proofs.Unchanged.{word_arrives, resumes, resumes_not}
+use Rattle.simulated_link.specs.World.{directed}
+use Rattle.nodes.specs.Ground.{can_resume}
+use Rattle.tc_link.specs.Taken.{BeginsSession}
+use Rattle.tc_link.proofs.LateTelemetry.{late_down_clcw}
+use Rattle.tc_link.proofs.EarlyTelemetry.{early_down_clcw}
+use Rattle.std.specs.Prelude.{◌&&◌}
 
 -- ---- such an event leaves the session's opening as it is, and another begins one
 
@@ -59,7 +67,7 @@ module _ (w : World) where
   })
 
   pub session_stays : (e : Event) → BeginsNoSession w e → StaysOpen (world_step w e)
-  session_stays (events.Directive d) goes = opened_directive d (goes d refl)
+  session_stays (events.Directive d) goes = opened_directive d goes
   session_stays events.Send goes = pulled w StaysOpen (λ reply up sent silent. refl)
   session_stays events.UpDeliver goes = up_arrives w StaysOpen refl (λ b bs is. refl)
   session_stays events.DownDeliver goes = down_arrives w StaysOpen refl (λ b bs is. refl)
@@ -67,6 +75,8 @@ module _ (w : World) where
   session_stays (events.UpDamage octets) goes = lost w StaysOpen opening_losses (events.UpDamage octets) tt
   session_stays events.DownLose goes = lost w StaysOpen opening_losses events.DownLose tt
   session_stays (events.DownDamage octets) goes = lost w StaysOpen opening_losses (events.DownDamage octets) tt
+  session_stays events.DownClcw goes = word_arrives w StaysOpen opening_losses (λ b bs is r. refl)
+  session_stays (events.Resume value) goes = subst StaysOpen (sym (resumes_not w value goes)) refl
   session_stays _ goes = refl
 
   pub opening_stays : (e : Event) → BeginsNoSession w e → (world_step w e).after.session.opening ≡ w.session.opening
@@ -103,15 +113,18 @@ module _ (early : Bool) (c : Config) (d : Directive) (base : ℕ) (w : World) (k
 
     -- where it is known what telemetry leads to that arrives
     module _ (P : World → Type 0) (goes_so : (new : World) → Next early c d base g.plain new → P new)
-        (heard : P (down_deliver_step w w.down).after) where
+        (heard : P (down_deliver_step w w.down).after) (word : P (world_step w events.DownClcw).after) where
       step_so : (e : Event) → IsEvent e → BeginsNoSession w e → P (world_step w e).after
       step_so (events.Submit m octets) fits goes = goes_so _ (submits early c d base w k g m octets.now)
       step_so (events.Bypass m octets) fits goes = goes_so _ (bypasses early c d base w k g m octets.now)
-      step_so (events.Directive e) fits goes = goes_so _ (directs early c d base w g e fits (goes e refl))
+      step_so (events.Directive e) fits goes = goes_so _ (directs early c d base w g e fits goes)
       step_so events.Send fits goes = goes_so _ (pulls_keep early c d base w k g)
       step_so events.UpDeliver fits goes = goes_so _ (up_delivers early c d base w k g)
       step_so events.Report fits goes = goes_so _ (reports_keep early c d base w k g)
       step_so events.DownDeliver fits goes = heard
+      step_so events.DownClcw fits goes = word
+      step_so (events.Resume value) fits goes =
+          subst (λ o. P o.after) (sym (resumes_not w value goes)) (goes_so w (stays g))
       step_so events.Tick fits goes = goes_so _ (ticks early c d base w g)
       step_so events.Take fits goes = goes_so _ (takes early c d base w k g)
       step_so events.TakeBypass fits goes = goes_so _ (takes_bypass early c d base w k g)
@@ -122,13 +135,14 @@ module _ (c : Config) (d : Directive) (base : ℕ) (w : World) (k : Sound c w) w
   pub late_step : (g : Late c d base w) (e : Event) → IsEvent e → BeginsNoSession w e
       → Next false c d base g.plain (world_step w e).after
   late_step g = step_so false c d base w k g (Next false c d base g.plain) (λ new next. next)
-      (late_down_deliver c d base w k g)
+      (late_down_deliver c d base w k g) (late_down_clcw c d base w k g)
 
   pub early_step : (g : Begun c d base w) (e : Event) → IsEvent e → BeginsNoSession w e
       → Begun c d base (world_step w e).after ⊎ Late c d base (world_step w e).after
   early_step g = step_so true c d base w k g (λ new. Begun c d base new ⊎ Late c d base new)
       (λ new next. inl (run_to g next))
       (elim (early_down_deliver c d base w k g) [ inl t ↦ inl (run_to g t) | inr t ↦ inr (run_to g t.late) ])
+      (elim (early_down_clcw c d base w k g) [ inl t ↦ inl (run_to g t) | inr t ↦ inr (run_to g t.late) ])
 
 -- ---- the invariant
 
@@ -187,39 +201,38 @@ module _ (c : Config) (w : World) (h : Holding c w) where
       ap (λ s. idles s.opening) (begun_is w d is off)
       ∙ ap Some (clean_idle w d (some_true (begins_clean w d) same))
 
-  -- one begins, or none does
-  module _ (P : Event → Type 0)
-      (begun : (d : Directive) → is_initiation d ≡ true → is_closed w.ground_node.fop.state ≡ true
-      → P (events.Directive d))
-      (none : (e : Event) → BeginsNoSession w e → P e) where
-    by_directive : (d : Directive) → P (events.Directive d)
-    by_directive d = elim (cases_Bool (is_initiation d)) [
-      | inl is ↦ (elim (cases_Bool (is_closed w.ground_node.fop.state)) [
-        | inl off ↦ begun d is off
-        | inr on ↦ none (events.Directive d) (λ x same is. on)
-      ])
-      | inr other ↦ none (events.Directive d) (λ x same is. absurd (cc (same, is, other)))
-    ]
-
-    by_event : (e : Event) → P e
-    by_event (events.Directive d) = by_directive d
-    by_event e = none e (λ x same is. absurd (cc same))
-
-  session_so : (e : Event) → IsEvent e → IsIdle (world_step w e).after → InSession c (world_step w e).after
-  session_so = by_event (λ e. IsEvent e → IsIdle (world_step w e).after → InSession c (world_step w e).after)
-      session_begins session_goes
-
-  clean_so : (e : Event) → IsClean (world_step w e).after → IsIdle (world_step w e).after
-  clean_so = by_event (λ e. IsClean (world_step w e).after → IsIdle (world_step w e).after) clean_begins clean_goes
-
-  pub step_holds : (e : Event) → IsEvent e → Holding c (world_step w e).after
-  step_holds e fits = record {
+  -- no session begins
+  goes_holds : (e : Event) → IsEvent e → BeginsNoSession w e → Holding c (world_step w e).after
+  goes_holds e fits goes = record {
     sound = step_sound c w h.sound e fits;
     reports = step_reports c w h.sound h.reports e;
-    carried = step_carried c w h.sound h.carried e;
-    clean = clean_so e;
-    session = session_so e fits;
+    carried = step_carried c w h.sound h.carried e fits;
+    clean = clean_goes e goes;
+    session = session_goes e goes fits;
   }
+
+  -- one begins with a directive, or none does
+  directive_holds : (d : Directive) → IsDirective d → Holding c (directed w d)
+  directive_holds d fits = elim (cases_Bool (is_initiation d)) [
+    | inl is ↦ (elim (cases_Bool (is_closed w.ground_node.fop.state)) [
+      | inl off ↦ record {
+        sound = step_sound c w h.sound (events.Directive d) fits;
+        reports = step_reports c w h.sound h.reports (events.Directive d);
+        carried = step_carried c w h.sound h.carried (events.Directive d) fits;
+        clean = clean_begins d is off;
+        session = session_begins d is off fits;
+      }
+      | inr on ↦ goes_holds (events.Directive d) fits (λ same. on)
+    ])
+    | inr other ↦ goes_holds (events.Directive d) fits (λ same. absurd (cc (same, other)))
+  ]
+
+pub step_holds : (c : Config) (w : World) → Holding c w → (e : Event) → IsEvent e → Holding c (world_step w e).after
+step_holds c w h (events.Directive d) fits = directive_holds c w h d fits
+step_holds c w h (events.Resume value) fits =
+    resumes w value (λ o. Holding c o.after) h (λ whole can.
+    directive_holds c (directed w (SetVs value)) (directive_holds c w h (SetVs value) fits) InitUnlock tt)
+step_holds c w h e fits = goes_holds c w h e fits tt
 
 pub new_holds : (c : Config) → IsConfig c → Holding c (new_world c)
 new_holds c ranges = record {
@@ -239,3 +252,34 @@ pub reached_holds : (w : World) → (r : IsReached w) → Holding r.config w
 reached_holds w r =
     subst (Holding r.config) r.led (run_holds r.config r.events (new_world r.config) r.octets
     (new_holds r.config r.ranges))
+
+-- ---- a session begins with an event
+
+pub can_off : (s : GroundState) (value : ℕ) → can_resume s value ≡ true → s.fop.state ≡ S6
+can_off s value can =
+    let both = and_parts (is_closed s.fop.state && s.fates.kept) _ can in
+    closed_is s.fop.state (and_parts (is_closed s.fop.state) s.fates.kept both.0).0
+
+-- it is an initiation, or ends with one
+pub record BeganAt (w : World) (e : Event) : Type 0 where
+  pub start : World
+  pub directive : Directive
+  pub initiates : is_initiation directive ≡ true
+  pub closed : is_closed start.ground_node.fop.state ≡ true
+  pub is : (world_step w e).after ≡ directed start directive
+
+pub began_at : (w : World) (e : Event) → BeginsSession w e → BeganAt w e
+began_at w (events.Directive d) b = record { start = w; directive = d; initiates = b.0; closed = b.1; is = refl }
+began_at w (events.Resume value) can = record {
+  start = directed w (SetVs value);
+  directive = InitUnlock;
+  initiates = refl;
+  closed = let off = can_off w.ground_node value can in rw off refl;
+  is = rw can refl;
+}
+began_at w _ b = elim b [ ]
+
+pub begun_session : (w : World) (e : Event) (b : BeganAt w e)
+    → (world_step w e).after.session ≡ session_begun_by b.start b.directive
+begun_session w e b =
+    ap (λ (x : World). x.session) b.is ∙ begun_is b.start b.directive b.initiates b.closed

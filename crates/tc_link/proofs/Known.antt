@@ -25,6 +25,10 @@ use Rattle.tm_link.specs.Layout as telemetry
 use Rattle.tm_link.specs.Decoding as telemetry_reading
 use Rattle.nodes.specs.declared.event.Event.TheVariants as events
 use Rattle.tc_link.proofs.Sound.{Sound}
+use Rattle.tc_link.proofs.Common.{subst, sym, ClcwFault}
+use Rattle.simulated_link.proofs.Unchanged.{word_arrives, resumes_not}
+use Rattle.nodes.specs.Ground.{report_outcome}
+use Rattle.simulated_link.proofs.TelemetryCases.{report_seen}
 
 -- ---- the sender's numbers are the same
 
@@ -89,6 +93,11 @@ telemetry_same s = frame_seen s (λ t. t.fop.vs ≡ s.fop.vs) (record {
       (with_same (acknowledging (after_extraction s x) f) f).0 ∙ heard_same s.fop report;
 })
 
+word_same : (s : GroundState) (r : Result Clcw ClcwFault) → (report_outcome s r).after.fop.vs ≡ s.fop.vs
+word_same s = report_seen s (λ t. t.fop.vs ≡ s.fop.vs) refl (λ report.
+    let f : FopState SegmentView = (clcw_step s.fop report).after in
+    (with_same (acknowledging s f) f).0 ∙ heard_same s.fop report)
+
 -- ---- one event
 
 module _ (w : World) where
@@ -121,7 +130,7 @@ module _ (w : World) where
       let s = w.ground_node.fop in
       obeyed s Directed (record {
         refused = λ d fault on goes quiet. stays;
-        begins = λ d is closed goes quiet. closed_not s.state closed (goes d refl is);
+        begins = λ d is closed goes quiet. closed_not s.state closed (goes is);
         terminated = λ goes quiet. with_so (after_alert s) (alert_same s);
         numbers = λ x is goes quiet. closed_not s.state is (quiet x refl);
         sets = λ d k n ticks plain most goes quiet. rw plain
@@ -217,6 +226,17 @@ module _ (c : Config) (w : World) (k : Sound c w) (s : InSession c w) where
       down_arrives w (λ o. IsOctet o.after → MovesWithRecords w o.after) (λ t. stays w)
       (λ b bs is t. record {
         vs = rw (telemetry_same w.ground_node (telemetry_reading.frame_at w.ground_node.config.frame_length b)) refl;
+        nn = omega (arith, octet, t);
+      }) octet_after
+  step_moves (events.Resume value) goes quiet octet_after =
+      subst (λ o. MovesWithRecords w o.after) (sym (resumes_not w value goes)) (stays w)
+  step_moves events.DownClcw goes quiet octet_after =
+      word_arrives w (λ o. IsOctet o.after → MovesWithRecords w o.after) (record {
+        refused = λ fault t. stays w;
+        up = λ b bs is reply silent t. moves w (record w { up = bs }) (refl, refl) refl refl;
+        down = λ b bs is reply silent t. moves w (record w { down = bs }) (refl, refl) refl refl;
+      }) (λ b bs is r t. record {
+        vs = rw (word_same w.ground_node r) refl;
         nn = omega (arith, octet, t);
       }) octet_after
   step_moves events.Tick goes quiet octet_after = tick_so w

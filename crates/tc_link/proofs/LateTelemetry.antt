@@ -11,6 +11,10 @@ use Rattle.tc_link.proofs.Linked.{Late, Settled, Reporting, Held, Next, holds_on
 use Rattle.tc_link.proofs.Reports.{IsLate, asked, HeldBy, Led, ReportComes, active_led}
 use Rattle.tc_link.proofs.Transit.{DownIs, Ranks, bit, rises_to, ranks_lower, ranks_to}
 use Rattle.tc_link.proofs.Sound.{Sound}
+use Rattle.tc_link.proofs.Common.{world_step}
+use Rattle.tc_link.proofs.Downward.{words_apart, next_apart}
+use Rattle.tc_link.proofs.ReportsDown.{HasReports}
+use Rattle.nodes.specs.declared.event.Event.TheVariants as events
 
 -- ---- what a report leads to
 
@@ -184,3 +188,9 @@ module _ (c : Config) (d : Directive) (base : ℕ) (w : World) (k : Sound c w) (
   late_down_deliver =
       deliver_keeps w.down g.reports g.plain.down refl g.linked.reporting g.linked.counted g.stage.down_is
       g.linked.rises (λ t. (g.stage.calm t).ranks)
+
+  -- and a report by itself
+  pub late_down_clcw : Next false c d base g.plain (world_step w events.DownClcw).after
+  late_down_clcw =
+      let t : HasReports c w.down = record { reports = g.reports; reporting = g.linked.reporting } in
+      subst (Next false c d base g.plain) (sym (words_apart c w k t)) (next_apart w late_down_deliver)

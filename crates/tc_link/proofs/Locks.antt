@@ -25,6 +25,11 @@ use Rattle.tc_link.proofs.InTransit.{state_by}
 use Rattle.simulated_link.proofs.Unchanged.{AtEachLoss, lost, pulled, up_arrives, down_arrives}
 use Rattle.nodes.specs.declared.event.Event.TheVariants as events
 use Rattle.tc_link.proofs.Sound.{Sound}
+use Rattle.tc_link.proofs.Common.{SetVs, InitUnlock}
+use Rattle.simulated_link.proofs.Unchanged.{word_arrives, resumes}
+use Rattle.simulated_link.specs.World.{resumed, directed}
+use Rattle.nodes.specs.Ground.{ground_directive}
+use Rattle.tc_link.proofs.EarlyTelemetry.{early_down_clcw}
 
 -- ---- what leaves the receiver as it is
 
@@ -49,6 +54,13 @@ taken_same s (p ∷ left) =
 
 -- ---- frames before the confirmation
 
+-- a directive confirms no session
+unconfirmed_by : (w : World) (e : Directive) (r : Result (Option Alert) CopFault) → w.session.confirmed ≡ false
+    → (session_after_directive w e r).confirmed ≡ false
+unconfirmed_by w e (Err fault) not_yet = not_yet
+unconfirmed_by w e (Ok alert) not_yet =
+    cond_both (is_initiation e) (session_begun_by w e) w.session (λ s. s.confirmed ≡ false) (λ t. refl) (λ t. not_yet)
+
 module _ (c : Config) (d : Directive) (base : ℕ) (w : World) (k : Sound c w) where
   body_by : (f : BodyView) (fs : List BodyView) → UpIs d base true (f ∷ fs) [] → w.spacecraft.farm.lockout ≡ false
       → (body_outcome w.spacecraft f).after.farm.lockout ≡ false
@@ -69,7 +81,7 @@ module _ (c : Config) (d : Directive) (base : ℕ) (w : World) (k : Sound c w) w
       → (up_deliver_step w w.up).after.spacecraft.farm.lockout ≡ false
   up_unlocked checked s is = elim s [
     | inl g ↦ delivered_by w.up g.frames g.linked.carries (early_up c d base w g) is
-    | inr g ↦ (let next = late_step c d base w k g events.UpDeliver tt (λ x same begins. absurd (cc same)) in
+    | inr g ↦ (let next = late_step c d base w k g events.UpDeliver tt tt in
         (next.stage.calm checked).unlocked)
   ]
 
@@ -88,6 +100,8 @@ module _ (c : Config) (d : Directive) (base : ℕ) (w : World) (k : Sound c w) w
   not_locked checked s events.Send is = pulled w IsUnlocked (λ reply up sent silent. is)
   not_locked checked s events.UpDeliver is = up_unlocked checked s is
   not_locked checked s events.DownDeliver is = down_arrives w IsUnlocked is (λ b bs same. is)
+  not_locked checked s events.DownClcw is = word_arrives w IsUnlocked (unlocked_losses is) (λ b bs same r. is)
+  not_locked checked s (events.Resume value) is = resumes w value IsUnlocked is (λ whole can. is)
   not_locked checked s events.Take is = taken_same w.spacecraft w.spacecraft.ready ∙ is
   not_locked checked s events.TakeBypass is = ap (λ f. f.lockout) (bypass_same w.spacecraft w.spacecraft.bypass) ∙ is
   not_locked checked s (events.Telemetry octets) is = ap (λ f. f.lockout) (queued_same w.spacecraft octets.now) ∙ is
@@ -107,11 +121,11 @@ module _ (c : Config) (d : Directive) (base : ℕ) (w : World) (k : Sound c w) w
 
   -- ---- the event that confirms
 
-  confirmed_by : (e : Directive) (r : Result (Option Alert) CopFault) → w.session.confirmed ≡ false
-      → (session_after_directive w e r).confirmed ≡ false
-  confirmed_by e (Err fault) not_yet = not_yet
-  confirmed_by e (Ok alert) not_yet =
-      cond_both (is_initiation e) (session_begun_by w e) w.session (λ s. s.confirmed ≡ false) (λ t. refl) (λ t. not_yet)
+  resumed_unconfirmed : w.session.confirmed ≡ false → (value : ℕ) → (resumed w value).session.confirmed ≡ false
+  resumed_unconfirmed not_yet value =
+      unconfirmed_by (directed w (SetVs value)) InitUnlock
+      (ground_directive (directed w (SetVs value)).ground_node InitUnlock).answer
+      (unconfirmed_by w (SetVs value) (ground_directive w.ground_node (SetVs value)).answer not_yet)
 
   abbrev IsUnconfirmed : WorldOutcome → Type 0
   IsUnconfirmed o = o.after.session.confirmed ≡ false
@@ -129,7 +143,7 @@ module _ (c : Config) (d : Directive) (base : ℕ) (w : World) (k : Sound c w) w
       × ((world_step w e).after.ground_node.fop.nn ≡ (world_step w e).after.ground_node.fop.vs)
   exactly g (events.Directive e) not_yet now =
       absurd (cc (
-        confirmed_by e (directive_outcome w.ground_node e (directive_step w.ground_node.fop e)).answer not_yet,
+        unconfirmed_by w e (directive_outcome w.ground_node e (directive_step w.ground_node.fop e)).answer not_yet,
         now,
       ))
   exactly g events.Send not_yet now =
@@ -138,6 +152,11 @@ module _ (c : Config) (d : Directive) (base : ℕ) (w : World) (k : Sound c w) w
   exactly g events.DownDeliver not_yet now =
       elim (early_down_deliver c d base w k g)
       [ inl t ↦ absurd (let no = t.stage.confirmed_not in cc (no, now)) | inr t ↦ t.exact ]
+  exactly g events.DownClcw not_yet now =
+      elim (early_down_clcw c d base w k g)
+      [ inl t ↦ absurd (let no = t.stage.confirmed_not in cc (no, now)) | inr t ↦ t.exact ]
+  exactly g (events.Resume value) not_yet now =
+      absurd (cc (resumes w value IsUnconfirmed not_yet (λ whole can. resumed_unconfirmed not_yet value), now))
   exactly g events.UpLose not_yet now =
       absurd (cc (lost w IsUnconfirmed (unconfirmed_losses not_yet) events.UpLose tt, now))
   exactly g (events.UpDamage octets) not_yet now =

@@ -28,6 +28,10 @@ use Rattle.tm_link.specs.Layout as telemetry
 use Rattle.tm_link.specs.Decoding as telemetry_reading
 use Rattle.nodes.specs.declared.event.Event.TheVariants as events
 use Rattle.tc_link.proofs.Sound.{Sound}
+use Rattle.tc_link.proofs.Common.{sym, ClcwFault}
+use Rattle.simulated_link.proofs.Unchanged.{word_arrives, resumes_not}
+use Rattle.nodes.specs.Ground.{report_outcome}
+use Rattle.simulated_link.proofs.TelemetryCases.{report_seen}
 
 -- ---- no Type-AD frame on its way
 
@@ -90,6 +94,11 @@ module _ (s : GroundState) (off : s.fop.state ≡ S6) where
         let f : FopState SegmentView = (clcw_step s.fop report).after in
         closed_with (acknowledging (after_extraction s x) f) f (heard_in s.fop report s.fop.state off off);
   })
+
+  word_closed : (r : Result Clcw ClcwFault) → (report_outcome s r).after.fop.state ≡ S6
+  word_closed = report_seen s (λ t. t.fop.state ≡ S6) off (λ report.
+      let f : FopState SegmentView = (clcw_step s.fop report).after in
+      closed_with (acknowledging s f) f (heard_in s.fop report s.fop.state off off))
 
 -- on board a frame that is not of Type-AD adds no segment to those accepted
 module _ (s : SpacecraftState) where
@@ -159,7 +168,7 @@ module _ (c : Config) (w : World) (k : Sound c w) (off : IsOff w) (none_up : num
       let s = w.ground_node.fop in
       obeyed s Directed (record {
         refused = λ d fault on goes. stays;
-        begins = λ d is closed goes. closed_not s.state closed (goes d refl is);
+        begins = λ d is closed goes. closed_not s.state closed (goes is);
         terminated = λ goes. with_so (after_alert s) refl;
         numbers = λ x is goes. counted_so _ (record s { vs = x; nn = x }) off;
         sets = λ d k n ticks plain most goes. rw plain
@@ -243,6 +252,7 @@ module _ (c : Config) (w : World) (k : Sound c w) (off : IsOff w) (none_up : num
     same = refl;
   }
   step_over (events.Directive d) goes = directive_so d goes
+  step_over (events.Resume value) goes = subst Stays (sym (resumes_not w value goes)) stays
   step_over events.Send goes = send_so
   step_over events.UpDeliver goes = up_arrives w Stays stays (λ b bs is. record {
     closed = off;
@@ -253,6 +263,11 @@ module _ (c : Config) (w : World) (k : Sound c w) (off : IsOff w) (none_up : num
   step_over events.Report goes = record { closed = off; none_up = none_up; same = refl }
   step_over events.DownDeliver goes = down_arrives w Stays stays (λ b bs is. record {
     closed = telemetry_closed w.ground_node off (telemetry_reading.frame_at w.ground_node.config.frame_length b);
+    none_up = none_up;
+    same = refl;
+  })
+  step_over events.DownClcw goes = word_arrives w Stays losses (λ b bs is r. record {
+    closed = word_closed w.ground_node off r;
     none_up = none_up;
     same = refl;
   })

@@ -13,6 +13,8 @@ use Rattle.tc_link.specs.Progress.{are_marked}
 use Rattle.tc_link.proofs.ProgressRuns.{IsCalm, no_directive}
 use Rattle.tc_link.proofs.ProgressSender.{marked_all}
 use Rattle.tc_link.proofs.Senders.{with_kept, hears_kept, step_kept}
+use Rattle.tc_link.proofs.Senders.{words_kept}
+use Rattle.tc_link.proofs.ProgressRuns.{no_resumption}
 
 -- ---- units may be sent again: the count is below the limit, or all that was sent is to be sent again already
 
@@ -83,8 +85,9 @@ limit_stays w e calm =
     let s = w.ground_node.fop in
     let Same : FopState SegmentView → Type 0 = λ f. f.limit ≡ s.limit in
     step_kept Same (λ f waiting bypass is. is) w refl (tick_limit s) (pull_goes s).0
-    (hears_kept Same (λ f waiting bypass is. is) w refl (λ r. (report_goes s r).0)) e
-    (λ d is. no_directive e calm d is)
+    (hears_kept Same (λ f waiting bypass is. is) w refl (λ r. (report_goes s r).0))
+    (words_kept Same (λ f waiting bypass is. is) w refl (λ r. (report_goes s r).0)) e
+    (λ d is. no_directive e calm d is) (λ value is. no_resumption e calm value is)
 
 -- until the report is heard
 abbrev pub IsBefore : Event → Type 0

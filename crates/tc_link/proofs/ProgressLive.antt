@@ -29,6 +29,7 @@ use Rattle.nodes.specs.Packets.{put_on_map}
 use Rattle.nodes.specs.Spacecraft.{assemble_step}
 use Rattle.simulated_link.proofs.TelemetryCases.{reported}
 use Rattle.tc_link.proofs.Senders.{hears_kept, step_kept}
+use Rattle.tc_link.proofs.Senders.{words_kept, resume_kept}
 
 -- ---- the sender's timer
 
@@ -279,7 +280,10 @@ pub timed_step : (w : World) → Timed w.ground_node.fop → (e : Event) → Tim
 timed_step w k e =
     let s = w.ground_node.fop in
     step_kept Timed queued_timed w k (ticked_timed s k s.ticks refl) (pull_timed s k)
-    (hears_kept Timed queued_timed w k (report_timed s k)) e (λ d is. directive_timed s k d)
+    (hears_kept Timed queued_timed w k (report_timed s k)) (words_kept Timed queued_timed w k (report_timed s k)) e
+    (λ d is. directive_timed s k d)
+    (λ value is. resume_kept Timed queued_timed w k value (directive_timed s k (SetVs value))
+    (λ f kept. directive_timed f kept InitUnlock))
 
 -- ---- on board: a receiver that waits has no buffer
 

@@ -42,6 +42,11 @@ use Rattle.tc_link.proofs.Spelled.{Goes, reads_back, fits_at}
 use Rattle.tc_link.proofs.Submissions.{all_append}
 use Rattle.tc_link.proofs.ProgressSender.{without_length, marked_length}
 use Rattle.tc_link.proofs.ProgressLive.{WaitsFull, body_full, taken_full, bypass_taken_full, queued_full}
+use Rattle.tc_link.proofs.Common.{SetVs, ◌≢◌}
+use Rattle.tc_link.proofs.Downward.{words_apart}
+use Rattle.simulated_link.proofs.Unchanged.{resumes}
+use Rattle.simulated_link.specs.World.{directed}
+use Rattle.tc_link.proofs.Invariant.{step_holds}
 
 -- ---- the sender
 
@@ -415,49 +420,79 @@ module _ (c : Config) (w : World) (h : Holding c w) (k : HasOctets c w) where
   off_idle off =
       let idle : Commanded S6 s.control = rw off at h.sound.ground_node.fop.commanded in idle
 
-  numbers_step : (e : Event) → IsEvent e → Numbered (world_step w e).after.ground_node.fop
-  numbers_step e fits =
+  -- a control word by itself does what its frame does, but for telemetry
+  words : After (world_step w events.DownClcw)
+  words =
+      let heard : After (world_step w events.DownDeliver) = down_arrives w After k hears in
+      subst (HasOctets c) (sym (words_apart c w h.sound h.reports)) (record {
+        sender = heard.sender;
+        receiver = record { vr = heard.receiver.vr; full = heard.receiver.full };
+        up = heard.up;
+        down = heard.down;
+      })
+
+  abbrev IsOther : Event → Type 0
+  IsOther e = (value : ℕ) → e ≢ events.Resume value
+
+  numbers_step : (e : Event) → IsEvent e → IsOther e → Numbered (world_step w e).after.ground_node.fop
+  numbers_step e fits other =
       step_kept Numbered queued_numbers w k.sender (tick_numbers s k.sender) (pull_numbers s k.sender small_window)
-      (down_arrives w (λ o. Numbered o.after.ground_node.fop) k.sender (λ b bs is. (hears b bs is).sender)) e
-      (λ d is. directive_numbers s k.sender off_idle d (subst IsEvent is fits))
+      (down_arrives w (λ o. Numbered o.after.ground_node.fop) k.sender (λ b bs is. (hears b bs is).sender))
+      words.sender e (λ d is. directive_numbers s k.sender off_idle d (subst IsEvent is fits))
+      (λ value is. absurd (other value is))
 
   -- only the sender is another
-  step_sender : (e : Event) → IsEvent e → (world_step w e).after.spacecraft ≡ w.spacecraft
+  step_sender : (e : Event) → IsEvent e → IsOther e → (world_step w e).after.spacecraft ≡ w.spacecraft
       → (world_step w e).after.up ≡ w.up → (world_step w e).after.down ≡ w.down → After (world_step w e)
-  step_sender e fits craft up down = record {
-    sender = numbers_step e fits;
+  step_sender e fits other craft up down = record {
+    sender = numbers_step e fits other;
     receiver = rw craft k.receiver;
     up = rw up k.up;
     down = rw down k.down;
   }
 
-  pub step_octets : (e : Event) → IsEvent e → After (world_step w e)
-  step_octets (events.Submit m octets) fits = step_sender (events.Submit m octets) fits refl refl refl
-  step_octets (events.Bypass m octets) fits = step_sender (events.Bypass m octets) fits refl refl refl
-  step_octets (events.Directive d) fits = step_sender (events.Directive d) fits refl refl refl
-  step_octets events.Tick fits = step_sender events.Tick fits refl refl refl
-  step_octets events.Send fits = sends (pull_numbers s k.sender small_window)
-  step_octets events.UpDeliver fits = up_arrives w After k arrives
-  step_octets events.Report fits = record {
+  directive_octets : (d : Directive) → IsDirective d → HasOctets c (directed w d)
+  directive_octets d fits = step_sender (events.Directive d) fits (λ value is. cc is) refl refl refl
+
+  -- where it is known what resuming leads to
+  event_octets : ((value : ℕ) → value < 256 → HasOctets c (world_step w (events.Resume value)).after)
+      → (e : Event) → IsEvent e → After (world_step w e)
+  event_octets resumed (events.Submit m octets) fits = step_sender (events.Submit m octets) fits (λ value is. cc is) refl refl refl
+  event_octets resumed (events.Bypass m octets) fits = step_sender (events.Bypass m octets) fits (λ value is. cc is) refl refl refl
+  event_octets resumed (events.Directive d) fits = directive_octets d fits
+  event_octets resumed events.Tick fits = step_sender events.Tick fits (λ value is. cc is) refl refl refl
+  event_octets resumed events.Send fits = sends (pull_numbers s k.sender small_window)
+  event_octets resumed events.UpDeliver fits = up_arrives w After k arrives
+  event_octets resumed events.Report fits = record {
     sender = k.sender;
     receiver = record { vr = k.receiver.vr; full = k.receiver.full };
     up = k.up;
     down = all_append (IsOctetReport c) w.down (telemetry_writing.spelling (spacecraft_report w.spacecraft).answer ∷ [])
         k.down ((report_of w.spacecraft.farm w.spacecraft.config.vcid, tells_now c w h.sound, k.receiver.vr), tt);
   }
-  step_octets events.DownDeliver fits = down_arrives w After k hears
-  step_octets events.Take fits =
+  event_octets resumed events.DownDeliver fits = down_arrives w After k hears
+  event_octets resumed events.Take fits =
       let ready = w.spacecraft.ready in
       with_receiver (spacecraft_take w.spacecraft ready).after (taken_octet w.spacecraft k.receiver.vr ready)
       (taken_full w.spacecraft flags k.receiver.full ready)
-  step_octets events.TakeBypass fits =
+  event_octets resumed events.TakeBypass fits =
       let ring = w.spacecraft.bypass in
       with_receiver (spacecraft_take_bypass w.spacecraft ring).after
       (bypass_taken_octet w.spacecraft k.receiver.vr ring) (bypass_taken_full w.spacecraft flags k.receiver.full ring)
-  step_octets (events.Telemetry octets) fits =
+  event_octets resumed (events.Telemetry octets) fits =
       with_receiver (spacecraft_telemetry w.spacecraft octets.now).after
       (queued_octet w.spacecraft k.receiver.vr octets.now) (queued_full w.spacecraft flags k.receiver.full octets.now)
-  step_octets e fits = lost w After losses e tt
+  event_octets resumed (events.Resume value) fits = resumed value fits
+  event_octets resumed events.DownClcw fits = words
+  event_octets resumed e fits = lost w After losses e tt
+
+pub step_octets : (c : Config) (w : World) → Holding c w → HasOctets c w → (e : Event) → IsEvent e
+    → HasOctets c (world_step w e).after
+step_octets c w h k =
+    event_octets c w h k (λ value fits.
+    resumes w value (λ o. HasOctets c o.after) k (λ whole can.
+    directive_octets c (directed w (SetVs value)) (step_holds c w h (events.Directive (SetVs value)) fits)
+    (directive_octets c w h k (SetVs value) fits) InitUnlock tt))
 
 pub new_octets : (c : Config) → HasOctets c (new_world c)
 new_octets c = record {

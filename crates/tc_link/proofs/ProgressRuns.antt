@@ -38,8 +38,17 @@ calm_fits _ calm = elim calm [ ]
 pub no_directive : {A : Type 0} (e : Event) → IsCalm e → (d : Directive) → e ≡ events.Directive d → A
 no_directive e calm d is = absurd (let no : IsCalm (events.Directive d) = subst IsCalm is calm in no)
 
+pub no_resumption : {A : Type 0} (e : Event) → IsCalm e → (value : ℕ) → e ≡ events.Resume value → A
+no_resumption e calm value is = absurd (let no : IsCalm (events.Resume value) = subst IsCalm is calm in no)
+
 pub calm_goes : (w : World) (e : Event) → IsCalm e → BeginsNoSession w e
-calm_goes w e calm d is = no_directive e calm d is
+calm_goes w events.Send calm = tt
+calm_goes w events.UpDeliver calm = tt
+calm_goes w events.Report calm = tt
+calm_goes w events.DownDeliver calm = tt
+calm_goes w events.Tick calm = tt
+calm_goes w events.Take calm = tt
+calm_goes w _ calm = elim calm [ ]
 
 pub going_step : (w : World) → IsReached w → (e : Event) → IsCalm e → IsReached (world_step w e).after
 going_step w g e calm = reached_step w e g (calm_fits e calm)

@@ -20,6 +20,11 @@ use Rattle.tm_link.specs.declared.fault.TmFault.TheVariants as faults
 use Rattle.tm_link.specs.Layout as telemetry
 use Rattle.nodes.specs.declared.event.Event.TheVariants as events
 use Rattle.tc_link.proofs.Sound.{Sound}
+use Rattle.tc_link.proofs.Common.{SetVs, InitUnlock, IsDirective, Directive, IsEvent, ◌<◌}
+use Rattle.simulated_link.proofs.Unchanged.{word_arrives, resumes}
+use Rattle.simulated_link.specs.World.{directed}
+use Rattle.tc_link.proofs.FitFrames.{word_fits}
+use Rattle.tc_link.proofs.SteadyWorld.{directive_sound}
 
 pub record Carried (c : Config) (w : World) : Type 0 where
   pub frames : List BodyView
@@ -94,41 +99,60 @@ module _ (c : Config) (w : World) (k : Sound c w) (g : Carried c w) where
 
   -- ---- all events
 
-  pub step_carried : (e : Event) → Carries_on (world_step w e)
-  step_carried (events.Submit m octets) = record {
+  directive_carried : (d : Directive) → Carried c (directed w d)
+  directive_carried d = record {
+    frames = g.frames;
+    carries = g.carries;
+    fits = directive_fits c w.ground_node k.ground_node g.fits d;
+  }
+
+  -- where it is known what resuming leads to
+  event_carried : ((value : ℕ) → value < 256 → Carried c (world_step w (events.Resume value)).after)
+      → (e : Event) → IsEvent e → Carries_on (world_step w e)
+  event_carried resumed (events.Submit m octets) fits = record {
     frames = g.frames;
     carries = g.carries;
     fits = submission_fits c w.ground_node k.ground_node g.fits k.ranges m octets.now
         (submit_fault w.ground_node m octets.now) refl;
   }
-  step_carried (events.Bypass m octets) = record {
+  event_carried resumed (events.Bypass m octets) fits = record {
     frames = g.frames;
     carries = g.carries;
     fits = bypass_refilled c w.ground_node k.ground_node g.fits m octets.now (bypass_fault w.ground_node m octets.now);
   }
-  step_carried (events.Directive d) = record {
-    frames = g.frames;
-    carries = g.carries;
-    fits = directive_fits c w.ground_node k.ground_node g.fits d;
-  }
-  step_carried events.Send = sent_carried (pull_refilled c w.ground_node k.ground_node g.fits)
-  step_carried events.UpDeliver = up_arrives w Carries_on g (λ b bs is.
+  event_carried resumed (events.Directive d) fits = directive_carried d
+  event_carried resumed (events.Resume value) fits = resumed value fits
+  event_carried resumed events.Send fits = sent_carried (pull_refilled c w.ground_node k.ground_node g.fits)
+  event_carried resumed events.UpDeliver fits = up_arrives w Carries_on g (λ b bs is.
       let r = rest b bs is in record { frames = r.left; carries = r.carried; fits = g.fits })
-  step_carried events.Report = record { frames = g.frames; carries = g.carries; fits = g.fits }
-  step_carried events.DownDeliver = down_arrives w Carries_on g (λ b bs is. record {
+  event_carried resumed events.Report fits = record { frames = g.frames; carries = g.carries; fits = g.fits }
+  event_carried resumed events.DownDeliver fits = down_arrives w Carries_on g (λ b bs is. record {
     frames = g.frames;
     carries = g.carries;
     fits = telemetry_fits c w.ground_node k.ground_node g.fits (frame_at w.ground_node.config.frame_length b);
   })
-  step_carried events.Tick = record {
+  event_carried resumed events.Tick fits = record {
     frames = g.frames;
     carries = g.carries;
     fits = tick_refilled c w.ground_node k.ground_node g.fits;
   }
-  step_carried events.Take = record { frames = g.frames; carries = g.carries; fits = g.fits }
-  step_carried events.TakeBypass = record { frames = g.frames; carries = g.carries; fits = g.fits }
-  step_carried (events.Telemetry octets) = record { frames = g.frames; carries = g.carries; fits = g.fits }
-  step_carried e = lost w Carries_on losses e tt
+  event_carried resumed events.Take fits = record { frames = g.frames; carries = g.carries; fits = g.fits }
+  event_carried resumed events.TakeBypass fits = record { frames = g.frames; carries = g.carries; fits = g.fits }
+  event_carried resumed (events.Telemetry octets) fits = record { frames = g.frames; carries = g.carries; fits = g.fits }
+  event_carried resumed events.DownClcw fits = word_arrives w Carries_on losses (λ b bs is r. record {
+    frames = g.frames;
+    carries = g.carries;
+    fits = word_fits c w.ground_node k.ground_node g.fits r;
+  })
+  event_carried resumed e fits = lost w Carries_on losses e tt
+
+pub step_carried : (c : Config) (w : World) → Sound c w → Carried c w → (e : Event) → IsEvent e
+    → Carried c (world_step w e).after
+step_carried c w k g =
+    event_carried c w k g (λ value fits.
+    resumes w value (λ o. Carried c o.after) g (λ whole can.
+    directive_carried c (directed w (SetVs value)) (directive_sound c w k (SetVs value) fits)
+    (directive_carried c w k g (SetVs value)) InitUnlock))
 
 -- ---- so each can be read
 

@@ -1,7 +1,7 @@
 -- Each frame on its way down is one of the spacecraft's, with a report.
 use Rattle.tc_link.proofs.Common.{◌≡◌, ℕ, List, [], ◌∷◌, ◌++◌, Clcw, report_of, Config, Event, World, WorldOutcome}
 use Rattle.tc_link.proofs.Common.{world_step}
-use Rattle.simulated_link.proofs.Unchanged.{AtEachLoss, lost, pulled, up_arrives, down_arrives}
+use Rattle.simulated_link.proofs.Unchanged.{AtEachLoss, lost, pulled, up_arrives, down_arrives, word_arrives, resumes}
 use Rattle.tc_link.proofs.Linked.{Reporting}
 use Rattle.tc_link.proofs.ReportFrames.{reporting_now}
 use Rattle.nodes.specs.declared.event.Event.TheVariants as events
@@ -42,4 +42,6 @@ module _ (c : Config) (w : World) (k : Sound c w) (t : HasReports c w.down) wher
   step_reports (events.UpDamage octets) = lost w KeepsReports report_losses (events.UpDamage octets) tt
   step_reports events.DownLose = lost w KeepsReports report_losses events.DownLose tt
   step_reports (events.DownDamage octets) = lost w KeepsReports report_losses (events.DownDamage octets) tt
+  step_reports events.DownClcw = word_arrives w KeepsReports report_losses (λ b bs is r. first_gone b bs is)
+  step_reports (events.Resume value) = resumes w value KeepsReports t (λ whole can. t)
   step_reports _ = t

@@ -25,7 +25,7 @@ use Rattle.nodes.specs.declared.event.Event.TheVariants as events
 use Rattle.simulated_link.specs.World.{Session, is_idle, is_none, reports_as, report_now}
 use Rattle.tc_link.proofs.AnyPast.{past_holds}
 use Rattle.tc_link.proofs.Fates.{knows_fates}
-use Rattle.tc_link.proofs.Invariant.{Holding, begun_is, idle_goes}
+use Rattle.tc_link.proofs.Invariant.{Holding, idle_goes}
 use Rattle.tc_link.proofs.Known.{octet}
 use Rattle.tc_link.proofs.Promised.{promised_so}
 use Rattle.tc_link.proofs.Submissions.{all_push}
@@ -33,10 +33,13 @@ use Rattle.tc_link.specs.AnyPast.{HasAnyPast, LinkStep, Happens, IsLinkStep, lin
 use Rattle.tc_link.specs.CountsOn.{SetsNone}
 use Rattle.tc_link.specs.Fates.{CountsSubmissions}
 use Rattle.tc_link.specs.Known.{SetsNoNumber}
-use Rattle.tc_link.specs.Resumed.{packets_on_map, resumed, Sessions, first, goes_on, resumes, ResumesInOrder, ResumesSo}
+use Rattle.tc_link.specs.Resumed.{packets_on_map, Sessions, first, goes_on, resumes, ResumesInOrder, ResumesSo}
 use Rattle.tc_link.specs.Taken.{BeginsSession}
 use Rattle.tc_link.specs.Whole.{on_board, IsOneGroup, AreSingle, DeliversWhole}
 use Rattle.tm_link.specs.Decoding as telemetry_reading
+use Rattle.tc_link.proofs.Invariant.{began_at, begun_session, can_off}
+use Rattle.simulated_link.specs.Replies.{Resumed}
+use Rattle.simulated_link.specs.World.{world_after_resuming}
 
 -- ---- lists of submissions
 
@@ -183,7 +186,18 @@ ground_resumes s value more answered =
 
 pub resumes_so : ResumesSo
 resumes_so w value more answered =
-    let can = (ground_resumes w.ground_node value more answered).0 in rw can refl
+    let r = ground_resumes w.ground_node value more answered in
+    record {
+      answer = ap (λ (a : Result ℕ LinkFault). (world_after_resuming w value a).answer) answered;
+      after = rw r.0 refl;
+      leaves = rw r.0 refl;
+    }
+
+-- what the link answers is what the ground answers
+answered_by : (w : World) (value more : ℕ) (r : Result ℕ LinkFault)
+    → (world_after_resuming w value r).answer ≡ Ok (Resumed more) → r ≡ Ok more
+answered_by w value more (Ok whole) is = cc is
+answered_by w value more (Err fault) is = absurd (cc is)
 
 -- what a value says, by which the ground resumes, it says of what is on board
 known_by : (s : GroundState) (value : ℕ) → s.fop.nn < 256 → can_resume s value ≡ true
@@ -272,30 +286,19 @@ module _ (c : Config) (wanted : List PacketOn) (w : World) (done : ℕ) (l : Lea
 
 -- ---- the next session
 
-closed_set : (s : GroundState) (value : ℕ) → s.fop.state ≡ S6
-    → (ground_step s (Direct (SetVs value))).after.fop.state ≡ S6
-closed_set s value is = rw is refl
-
 module _ (c : Config) (wanted : List PacketOn) (w : World) (done : ℕ) (l : Leads c wanted w done) (value more : ℕ)
     (quiet : is_idle w ≡ true) (octet_is : value < 256)
     (answered : (ground_step w.ground_node (Resume value)).answer ≡ Ok more) where
+  can : can_resume w.ground_node value ≡ true
+  can = (ground_resumes w.ground_node value more answered).0
+
   abbrev set : World
   set = (world_step w (events.Directive (SetVs value))).after
-
-  off : w.ground_node.fop.state ≡ S6
-  off =
-      let can = (ground_resumes w.ground_node value more answered).0 in
-      let both = and_parts (is_closed w.ground_node.fop.state && w.ground_node.fates.kept) _ can in
-      closed_is w.ground_node.fop.state
-      (and_parts (is_closed w.ground_node.fop.state) w.ground_node.fates.kept both.0).0
 
   set_past : (q : HasAnyPast set) × (q.config ≡ c)
   set_past =
       let p = past_now c wanted w done l in
       past_push c w p.0 p.1 (events.Directive (SetVs value)) octet_is
-
-  set_closed : is_closed set.ground_node.fop.state ≡ true
-  set_closed = rw (closed_set w.ground_node value off) refl
 
   set_idle : is_idle set ≡ true
   set_idle =
@@ -305,31 +308,42 @@ module _ (c : Config) (wanted : List PacketOn) (w : World) (done : ℕ) (l : Lea
       ap (λ (x : Config). is_none w.up && list_all (λ (octets : List ℕ). reports_as (report_now w)
       (telemetry_reading.frame_at x.frame_length octets)) w.down) config ∙ quiet
 
-  begun_so : (resumed w value).session ≡ session_begun_by set InitUnlock
-  begun_so = begun_is set InitUnlock refl set_closed
+  set_closed : is_closed set.ground_node.fop.state ≡ true
+  set_closed = let off = can_off w.ground_node value can in rw off refl
 
-  resumed_idle : IsIdle (resumed w value)
+  begun_so : (world_step w (events.Resume value)).after.session ≡ session_begun_by set InitUnlock
+  begun_so = begun_session w (events.Resume value) (record {
+    start = set;
+    directive = InitUnlock;
+    initiates = refl;
+    closed = set_closed;
+    is = rw can refl;
+  })
+
+  resumed_idle : IsIdle (world_step w (events.Resume value)).after
   resumed_idle =
       ap (λ (s : Session). option_map (λ (o : Opening). o.idle) s.opening) begun_so ∙ ap Some set_idle
 
-  leads_resumed : Leads c wanted (resumed w value) (done + more)
-  leads_resumed = record {
-    start = set;
-    initiation = events.Directive InitUnlock;
-    since = [];
-    past = set_past.0;
-    config = set_past.1;
-    begins = (InitUnlock, refl, refl, set_closed);
-    keeps = tt;
-    quiet = tt;
-    fits = (tt, tt);
-    idle = resumed_idle;
-    led = refl;
-    submits = (
-      drop (done + more) wanted,
-      sym (ap (λ (s : Session). s.submissions ++ drop (done + more) wanted) begun_so),
-    );
-  }
+  leads_resumed : Leads c wanted (world_step w (events.Resume value)).after (done + more)
+  leads_resumed =
+      let p = past_now c wanted w done l in
+      record {
+        start = w;
+        initiation = events.Resume value;
+        since = [];
+        past = p.0;
+        config = p.1;
+        begins = can;
+        keeps = tt;
+        quiet = tt;
+        fits = (octet_is, tt);
+        idle = resumed_idle;
+        led = refl;
+        submits = (
+          drop (done + more) wanted,
+          sym (ap (λ (s : Session). s.submissions ++ drop (done + more) wanted) begun_so),
+        );
+      }
 
 -- ---- all sessions
 
@@ -354,14 +368,14 @@ leads {wanted} (first {w} initiation past begins fits idle) = record {
   idle = idle;
   led = refl;
   submits =
-      let s = subst (λ (e : Event). (world_step w e).after.session ≡ session_begun_by w begins.0) (sym begins.1)
-      (begun_is w begins.0 begins.2 begins.3) in
+      let s = begun_session w initiation (began_at w initiation begins) in
       (wanted, sym (ap (λ (s : Session). s.submissions ++ wanted) s));
 }
 leads {wanted} (goes_on {w} {done} event s goes quiet fits submits) =
     leads_on (config_of s) wanted w done (leads s) event goes quiet fits submits
 leads {wanted} (resumes {w} {done} value more s quiet small_value is answered) =
-    leads_resumed (config_of s) wanted w done (leads s) value more quiet small_value answered
+    leads_resumed (config_of s) wanted w done (leads s) value more quiet small_value
+    (answered_by w value more (ground_step w.ground_node (Resume value)).answer answered)
 
 module _ (wanted : List PacketOn) (small : length wanted < 2 ^ 64) (m : ℕ) where
   whole_now : {w : World} {done : ℕ} {before : ℕ → List (List ℕ)} (s : Sessions wanted w done before) → DeliversWhole w
@@ -376,7 +390,8 @@ module _ (wanted : List PacketOn) (small : length wanted < 2 ^ 64) (m : ℕ) whe
   given (goes_on event s goes quiet fits submits) single = given s single
   given (resumes {w} {done} {before} value more s quiet small_value is answered) single =
       let c : Config = config_of s in
-      let count = more_is c wanted w done (leads s) small value more is answered in
+      let count = more_is c wanted w done (leads s) small value more is
+      (answered_by w value more (ground_step w.ground_node (Resume value)).answer answered) in
       given_on c wanted w done (leads s) small single (whole_now s) before m (given s single)
       ∙ ap (λ (k : ℕ). packets_on_map (take (done + k) wanted) m) (sym count)
 

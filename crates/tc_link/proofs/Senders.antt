@@ -9,6 +9,10 @@ use Rattle.simulated_link.proofs.Unchanged.{AtEachLoss, lost, pulled, up_arrives
 use Rattle.tm_link.specs.Decoding as telemetry_reading
 use Rattle.nodes.specs.declared.event.Event.TheVariants as events
 use Rattle.tc_link.proofs.Refilled.{refilled_keeps}
+use Rattle.tc_link.proofs.Common.{SetVs, InitUnlock}
+use Rattle.simulated_link.proofs.Unchanged.{word_arrives, resumes}
+use Rattle.simulated_link.proofs.TelemetryCases.{report_seen}
+use Rattle.simulated_link.specs.World.{directed as directed_by}
 
 module _ (P : FopState SegmentView → Type 0)
     (queues : (f : FopState SegmentView) (waiting : Option SegmentView) (bypass : List SegmentView) → P f
@@ -41,6 +45,19 @@ module _ (P : FopState SegmentView → Type 0)
     abbrev pub After : WorldOutcome → Type 0
     After o = P o.after.ground_node.fop
 
+    losses : AtEachLoss w After
+    losses = record {
+      refused = λ fault. k;
+      up = λ b bs is reply silent. k;
+      down = λ b bs is reply silent. k;
+    }
+
+    pub words_kept : ((report : Clcw) → P (clcw_step s report).after) → After (world_step w events.DownClcw)
+    words_kept reports = word_arrives w After losses (λ b bs is.
+        report_seen w.ground_node (λ t. P t.fop) k (λ report.
+        let f : FopState SegmentView = (clcw_step s report).after in
+        with_kept (acknowledging w.ground_node f) f (reports report)))
+
     pub hears_kept : ((report : Clcw) → P (clcw_step s report).after) → After (world_step w events.DownDeliver)
     hears_kept reports = down_arrives w After k (λ b bs is.
         frame_seen w.ground_node (λ t. P t.fop) (record {
@@ -51,30 +68,36 @@ module _ (P : FopState SegmentView → Type 0)
               with_kept (acknowledging (after_extraction w.ground_node x) f) f (reports report);
         }) (telemetry_reading.frame_at w.ground_node.config.frame_length b))
 
-    losses : AtEachLoss w After
-    losses = record {
-      refused = λ fault. k;
-      up = λ b bs is reply silent. k;
-      down = λ b bs is reply silent. k;
-    }
+    -- with V(S) set, and a session begun by Unlock
+    pub resume_kept : (value : ℕ) → P (directive_step s (SetVs value)).after
+        → ((f : FopState SegmentView) → P f → P (directive_step f InitUnlock).after)
+        → After (world_step w (events.Resume value))
+    resume_kept value set begins = resumes w value After k (λ whole can.
+        let set_so = directed w.ground_node k (SetVs value) (directive_step s (SetVs value)).answer _ set in
+        let t : GroundState = (directed_by w (SetVs value)).ground_node in
+        directed t set_so InitUnlock (directive_step t.fop InitUnlock).answer _ (begins t.fop set_so))
 
     -- where each report, tick, pull and directive keeps it
     pub step_kept : P (tick_step s).after → P (pull_step s).after → After (world_step w events.DownDeliver)
-        → (e : Event) → ((d : Directive) → e ≡ events.Directive d → P (directive_step s d).after)
+        → After (world_step w events.DownClcw) → (e : Event)
+        → ((d : Directive) → e ≡ events.Directive d → P (directive_step s d).after)
+        → ((value : ℕ) → e ≡ events.Resume value → After (world_step w (events.Resume value)))
         → After (world_step w e)
-    step_kept tick pull hears (events.Submit m octets) direct =
+    step_kept tick pull hears words (events.Submit m octets) direct resumed =
         submitted w.ground_node k m octets.now (submit_fault w.ground_node m octets.now)
-    step_kept tick pull hears (events.Bypass m octets) direct =
+    step_kept tick pull hears words (events.Bypass m octets) direct resumed =
         bypassed w.ground_node k m octets.now (bypass_fault w.ground_node m octets.now)
-    step_kept tick pull hears (events.Directive d) direct =
+    step_kept tick pull hears words (events.Directive d) direct resumed =
         directed w.ground_node k d (directive_step s d).answer (directive_step s d).after (direct d refl)
-    step_kept tick pull hears events.Send direct =
+    step_kept tick pull hears words events.Send direct resumed =
         pulled w After (λ reply up sent silent. with_kept w.ground_node (pull_step s).after pull)
-    step_kept tick pull hears events.UpDeliver direct = up_arrives w After k (λ b bs is. k)
-    step_kept tick pull hears events.DownDeliver direct = hears
-    step_kept tick pull hears events.Tick direct = with_kept w.ground_node (tick_step s).after tick
-    step_kept tick pull hears events.Report direct = k
-    step_kept tick pull hears events.Take direct = k
-    step_kept tick pull hears events.TakeBypass direct = k
-    step_kept tick pull hears (events.Telemetry octets) direct = k
-    step_kept tick pull hears e direct = lost w After losses e tt
+    step_kept tick pull hears words events.UpDeliver direct resumed = up_arrives w After k (λ b bs is. k)
+    step_kept tick pull hears words events.DownDeliver direct resumed = hears
+    step_kept tick pull hears words events.DownClcw direct resumed = words
+    step_kept tick pull hears words (events.Resume value) direct resumed = resumed value refl
+    step_kept tick pull hears words events.Tick direct resumed = with_kept w.ground_node (tick_step s).after tick
+    step_kept tick pull hears words events.Report direct resumed = k
+    step_kept tick pull hears words events.Take direct resumed = k
+    step_kept tick pull hears words events.TakeBypass direct resumed = k
+    step_kept tick pull hears words (events.Telemetry octets) direct resumed = k
+    step_kept tick pull hears words e direct resumed = lost w After losses e tt

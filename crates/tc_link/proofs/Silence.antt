@@ -16,14 +16,15 @@ use Rattle.simulated_link.specs.World.{is_idle}
 use Rattle.tm_link.specs.Decoding.{frame_at}
 use Rattle.tm_link.specs.Encoding.{spelling}
 use Rattle.nodes.specs.declared.event.Event.TheVariants as events
-use Rattle.tc_link.specs.AnyPast.{LinkStep, Happens, TakeTelemetry, Hears, ReportArrives, HearsReport, ForgetTelemetry}
-use Rattle.tc_link.specs.AnyPast.{NewGround, IsLinkStep, link_step, link_run, after_report, after_hearing, after_word}
+use Rattle.tc_link.specs.AnyPast.{LinkStep, Happens, TakeTelemetry, Hears, HearsReport, ForgetTelemetry}
+use Rattle.tc_link.specs.AnyPast.{NewGround, IsLinkStep, link_step, link_run, after_report, after_hearing}
 use Rattle.tc_link.specs.Silence.{IsSilent, KeepsSilence, gone_by, gone_down, SilenceIsIdle}
 use Rattle.tc_link.specs.Telemetry.{came_by}
 use Rattle.tc_link.proofs.AnyPast.{link_step_holds, past_holds}
 use Rattle.tc_link.proofs.Invariant.{Holding}
 use Rattle.tc_link.proofs.Linked.{Tells}
 use Rattle.tc_link.proofs.ReportFrames.{tells_now}
+use Rattle.simulated_link.proofs.Unchanged.{word_arrives, resumes}
 
 -- ---- the frames on their way down
 
@@ -191,6 +192,13 @@ module _ (c : Config) (w : World) (h : Holding c w) (k : ℕ) (q : Quiet c k w) 
     up = λ b bs is reply silent. none_up b bs is;
     down = λ b bs is reply silent. first_gone b bs is (record w { down = bs }) refl refl refl;
   }) (events.DownDamage octets) tt
+  event_kept events.DownClcw silent = word_arrives w (Keeps events.DownClcw) (record {
+    refused = λ fault. same;
+    up = λ b bs is reply silent. none_up b bs is;
+    down = λ b bs is reply silent. first_gone b bs is (record w { down = bs }) refl refl refl;
+  }) (λ b bs is r. first_gone b bs is _ refl refl refl)
+  event_kept (events.Resume value) silent =
+      resumes w value (Keeps (events.Resume value)) same (λ whole can. on_ground _ refl refl refl)
   event_kept events.Take silent = take_kept w.spacecraft.ready silent
   event_kept events.TakeBypass silent = bypass_kept w.spacecraft.bypass
   event_kept (events.Telemetry octets) silent = queue_kept octets.now
@@ -207,17 +215,11 @@ module _ (c : Config) (w : World) (h : Holding c w) (k : ℕ) (q : Quiet c k w) 
   hearing_kept after (heard_cases.Frame gap packets report alert) = report_heard after report
   hearing_kept after _ = on_ground _ refl refl refl
 
-  word_kept : (bs : List (List ℕ)) → w.down ≡ bs
-      → Left c k (length (came_by events.DownDeliver (down_deliver_step w bs).answer)) (after_word w bs)
-  word_kept [] is = same
-  word_kept (b ∷ bs) is = first_gone b bs is _ refl refl refl
-
   step_kept : (s : LinkStep) → IsSilent w s → Left c k (gone_by w s) (link_step w s)
   step_kept (Happens e) silent = event_kept e silent
   step_kept TakeTelemetry silent = on_ground _ refl refl refl
   step_kept (Hears octets) silent =
       let o = ground_step w.ground_node (ground_calls.Telemetry octets) in hearing_kept o.after o.answer
-  step_kept ReportArrives silent = word_kept w.down refl
   step_kept (HearsReport octets) silent =
       let o = ground_step w.ground_node (ground_calls.ControlWord octets) in report_heard o.after o.answer.report
   step_kept ForgetTelemetry silent = on_ground _ refl refl refl

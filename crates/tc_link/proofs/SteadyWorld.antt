@@ -32,6 +32,11 @@ use Rattle.simulated_link.proofs.Unchanged.{AtEachLoss, lost, pulled, up_arrives
 use Rattle.tm_link.specs.Layout as telemetry
 use Rattle.tm_link.specs.Decoding as telemetry_reading
 use Rattle.nodes.specs.declared.event.Event.TheVariants as events
+use Rattle.tc_link.proofs.Common.{Clcw, ClcwFault, subst}
+use Rattle.nodes.specs.Ground.{report_outcome}
+use Rattle.simulated_link.proofs.TelemetryCases.{report_seen}
+use Rattle.simulated_link.proofs.Unchanged.{word_arrives, resumes}
+use Rattle.simulated_link.specs.World.{directed, world_after_word}
 
 -- ---- the spacecraft
 
@@ -199,6 +204,11 @@ module _ (c : Config) (s : GroundState) (k : GroundNodeSteady c s) where
         (report_so c s.fop k.fop report);
   })
 
+  word_so : (r : Result Clcw ClcwFault) → GroundNodeSteady c (report_outcome s r).after
+  word_so = report_seen s (GroundNodeSteady c) k (λ report.
+      let f : FopState SegmentView = (clcw_step s.fop report).after in
+      refilled_so c (record (acknowledging s f) { fop = f }) k.config (report_so c s.fop k.fop report))
+
 -- ---- the world
 
 module _ (c : Config) (w : World) (k : Sound c w) where
@@ -265,22 +275,17 @@ module _ (c : Config) (w : World) (k : Sound c w) where
       cond_both (is_to_send octets) _ _ (λ (o : SpacecraftOutcome (Result (Unit {0}) TmFault)). o.after.accepted
       ≡ w.spacecraft.accepted) (λ t. refl) (λ t. refl)
 
-  pub step_sound : (e : Event) → IsEvent e → Sound c (world_step w e).after
-  step_sound (events.Submit m octets) fits =
-      record {
-        ranges =
-            k.ranges;
-        ground_node =
-            submitted_so c w.ground_node k.ground_node m octets.now (submit_fault w.ground_node m octets.now);
-        spacecraft =
-            k.spacecraft;
-        before = k.before;
-      }
-  step_sound (events.Bypass m octets) fits =
-      ground_so (unless_refused (bypass_fault w.ground_node m octets.now) w.ground_node
-      (after_bypass w.ground_node m octets.now)).after
-      (bypassed_so c w.ground_node k.ground_node k.ranges m octets.now (bypass_fault w.ground_node m octets.now) refl)
-  step_sound (events.Directive d) fits =
+  word_sound : (bs : List (List ℕ)) (r : Result Clcw ClcwFault)
+      → Sound c (world_after_word w bs (report_outcome w.ground_node r)).after
+  word_sound bs r = record {
+    ranges = k.ranges;
+    ground_node = word_so c w.ground_node k.ground_node r;
+    spacecraft = k.spacecraft;
+    before = k.before;
+  }
+
+  pub directive_sound : (d : Directive) → IsDirective d → Sound c (directed w d)
+  directive_sound d fits =
       record {
         ranges =
             k.ranges;
@@ -291,7 +296,25 @@ module _ (c : Config) (w : World) (k : Sound c w) where
         before =
             session_so d (directive_outcome w.ground_node d (directive_step w.ground_node.fop d)).answer;
       }
-  step_sound events.Send fits =
+
+  -- where it is known what resuming leads to
+  event_sound : ((value : ℕ) → value < 256 → Sound c (world_step w (events.Resume value)).after)
+      → (e : Event) → IsEvent e → Sound c (world_step w e).after
+  event_sound resumed (events.Submit m octets) fits =
+      record {
+        ranges =
+            k.ranges;
+        ground_node =
+            submitted_so c w.ground_node k.ground_node m octets.now (submit_fault w.ground_node m octets.now);
+        spacecraft =
+            k.spacecraft;
+        before = k.before;
+      }
+  event_sound resumed (events.Bypass m octets) fits =
+      ground_so (unless_refused (bypass_fault w.ground_node m octets.now) w.ground_node
+      (after_bypass w.ground_node m octets.now)).after
+      (bypassed_so c w.ground_node k.ground_node k.ranges m octets.now (bypass_fault w.ground_node m octets.now) refl)
+  event_sound resumed events.Send fits =
       pulled w IsSound (λ reply up sent silent. record {
         ranges = k.ranges;
         ground_node =
@@ -300,8 +323,8 @@ module _ (c : Config) (w : World) (k : Sound c w) where
         spacecraft = k.spacecraft;
         before = k.before;
       })
-  step_sound events.UpDeliver fits = up_arrives w IsSound k (λ b bs is. delivered_so b bs)
-  step_sound events.Report fits =
+  event_sound resumed events.UpDeliver fits = up_arrives w IsSound k (λ b bs is. delivered_so b bs)
+  event_sound resumed events.Report fits =
       record {
         ranges =
             k.ranges;
@@ -309,21 +332,30 @@ module _ (c : Config) (w : World) (k : Sound c w) where
         spacecraft = reported_so c w.spacecraft k.spacecraft;
         before = k.before;
       }
-  step_sound events.DownDeliver fits = down_arrives w IsSound k (λ b bs is. heard_so b bs)
-  step_sound events.Tick fits =
+  event_sound resumed events.DownDeliver fits = down_arrives w IsSound k (λ b bs is. heard_so b bs)
+  event_sound resumed events.Tick fits =
       ground_so (with_fop w.ground_node (tick_step w.ground_node.fop).after)
       (with_so c w.ground_node k.ground_node (tick_step w.ground_node.fop).after
       (tick_so c w.ground_node.fop k.ground_node.fop))
-  step_sound events.Take fits =
+  event_sound resumed events.Take fits =
       spacecraft_so (spacecraft_take w.spacecraft w.spacecraft.ready).after
       (taken_so c w.spacecraft k.spacecraft w.spacecraft.ready) (taken_accepted w.spacecraft.ready)
-  step_sound events.TakeBypass fits =
+  event_sound resumed events.TakeBypass fits =
       spacecraft_so (spacecraft_take_bypass w.spacecraft w.spacecraft.bypass).after
       (bypass_taken_so c w.spacecraft k.spacecraft w.spacecraft.bypass) (bypass_accepted w.spacecraft.bypass)
-  step_sound (events.Telemetry octets) fits =
+  event_sound resumed (events.Telemetry octets) fits =
       spacecraft_so (spacecraft_telemetry w.spacecraft octets.now).after
       (queued_so c w.spacecraft k.spacecraft octets.now) (queued_accepted octets.now)
-  step_sound e fits = lost w IsSound losses e tt
+  event_sound resumed (events.Directive d) fits = directive_sound d fits
+  event_sound resumed (events.Resume value) fits = resumed value fits
+  event_sound resumed events.DownClcw fits = word_arrives w IsSound losses (λ b bs is r. word_sound bs r)
+  event_sound resumed e fits = lost w IsSound losses e tt
+
+pub step_sound : (c : Config) (w : World) → Sound c w → (e : Event) → IsEvent e → Sound c (world_step w e).after
+step_sound c w k =
+    event_sound c w k (λ value fits.
+    resumes w value (λ o. Sound c o.after) k (λ whole can.
+    directive_sound c (directed w (SetVs value)) (directive_sound c w k (SetVs value) fits) InitUnlock tt))
 
 pub new_sound : (c : Config) → IsConfig c → Sound c (new_world c)
 new_sound c ranges = record {

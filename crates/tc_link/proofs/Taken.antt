@@ -26,6 +26,9 @@ use Rattle.tc_link.proofs.AnyPast.{past_holds}
 use Rattle.tc_link.proofs.Invariant.{opened, session_stays, begun_is, step_holds, run_holds}
 use Rattle.simulated_link.proofs.Unchanged.{AtEachLoss, lost, pulled, up_arrives, down_arrives}
 use Rattle.nodes.specs.declared.event.Event.TheVariants as events
+use Rattle.tc_link.proofs.Invariant.{began_at}
+use Rattle.simulated_link.specs.World.{Session}
+use Rattle.simulated_link.proofs.Unchanged.{word_arrives, resumes}
 
 -- from the one state to the other these packets were handed out, and some more were made ready
 record Passes (old : SpacecraftState) (out : List PacketOn) (new : SpacecraftState) : Type 0 where
@@ -134,6 +137,8 @@ module _ (w : World) where
   passes (events.UpDamage octets) = lost w HandsOutNone losses (events.UpDamage octets) tt
   passes events.DownLose = lost w HandsOutNone losses events.DownLose tt
   passes (events.DownDamage octets) = lost w HandsOutNone losses (events.DownDamage octets) tt
+  passes events.DownClcw = word_arrives w HandsOutNone losses (λ b bs is r. stays)
+  passes (events.Resume value) = resumes w value HandsOutNone stays (λ whole can. stays)
   passes events.Report = passes_none w.spacecraft _ [] refl refl refl
   passes events.Take = takes w.spacecraft.ready refl
   passes events.TakeBypass = takes_bypass w.spacecraft.bypass
@@ -185,8 +190,9 @@ module _ (old new : World) (out : List PacketOn) (m : ℕ) (s : Since old out ne
 begins_there : (w : World) (e : Event) → BeginsSession w e
     → (world_step w e).after.session.before ≡ length (world_step w e).after.spacecraft.accepted
 begins_there w e b =
-    subst (λ (e : Event). (world_step w e).after.session.before ≡ length (world_step w e).after.spacecraft.accepted)
-    (sym b.1) (ap (λ s. s.before) (begun_is w b.0 b.2 b.3))
+    let at = began_at w e b in
+    subst (λ (x : World). x.session.before ≡ length x.spacecraft.accepted) (sym at.is)
+    (ap (λ (s : Session). s.before) (begun_is at.start at.directive at.initiates at.closed))
 
 pub hands_out_what_is_delivered : HandsOutWhatIsDelivered
 hands_out_what_is_delivered w e since m b keeps =

@@ -42,6 +42,11 @@ use Rattle.nodes.specs.declared.heard.Heard.TheVariants as heard_cases
 use Rattle.nodes.specs.declared.received.Received.TheVariants as received_cases
 use Rattle.nodes.specs.declared.event.Event.TheVariants as events
 use Rattle.tc_link.proofs.Sound.{Sound}
+use Rattle.tc_link.proofs.Common.{SetVs, InitUnlock, Clcw, ClcwFault}
+use Rattle.simulated_link.proofs.Unchanged.{resumes}
+use Rattle.simulated_link.specs.World.{resumed, directed, world_after_word, down_word_outcome, down_clcw_step}
+use Rattle.nodes.specs.Ground.{report_outcome}
+use Rattle.tc_link.proofs.TelemetrySteps.{report_extracts}
 
 -- a frame that was sent: of the link's channel, and read as it was sent
 pub record IsSentBy (c : Config) (f : FrameView) : Type 0 where
@@ -198,6 +203,9 @@ module _ (c : Config) (d : Downlink) (g : Laid c d) where
         };
       })
 
+  abbrev Keeps : Event → WorldOutcome → Type 0
+  Keeps e o = Sound c o.after → Laid c (after_event d e o)
+
   -- ---- the first frame on its way down is there no more
 
   module _ (b : List ℕ) (bs : List (List ℕ)) (is : d.world.down ≡ b ∷ bs) where
@@ -254,6 +262,24 @@ module _ (c : Config) (d : Downlink) (g : Laid c d) where
         choice_more v.gone first.frame d.came false v.counted ∙ append-nil (choice v.gone d.came) in
         gone false (record d.world { down = bs }) sound refl refl (rw same v.state) (rw same v.given)
 
+    -- its control word alone reaches the ground
+    word_lost : (r : Result Clcw ClcwFault)
+        → Keeps events.DownClcw (world_after_word d.world bs (report_outcome d.world.ground_node r))
+    word_lost r sound =
+        let v = g.way in
+        let s : GroundState = d.world.ground_node in
+        let t = report_extracts s r in
+        let same : came_with false ≡ choice v.gone d.came =
+        choice_more v.gone first.frame d.came false v.counted ∙ append-nil (choice v.gone d.came) in
+        let state : s.extractor ≡ state_after new_extractor (came_with false) = rw same v.state in
+        let given : d.taken ++ s.telemetry ≡ all_extracted new_extractor (came_with false) = rw same v.given in
+        gone false (world_after_word d.world bs (report_outcome s r)).after sound refl refl (t.0 ∙ state)
+        (ap (λ (ps : List (List ℕ)). d.taken ++ ps) t.1 ∙ given)
+
+    word_seen : (r : Result FrameView TmFault) → Keeps events.DownClcw (down_word_outcome d.world bs r)
+    word_seen (Ok frame) = word_lost (clcw_at frame.ocf)
+    word_seen (Err fault) = lost
+
     extracts : IsExtracted d.world.ground_node (extract_step d.world.ground_node.extractor first.frame)
         (down_deliver_step d.world (b ∷ bs)).after.ground_node
     extracts =
@@ -290,9 +316,6 @@ module _ (c : Config) (d : Downlink) (g : Laid c d) where
         ∙ sym (extracted_more new_extractor t x.frame) ∙ ap (all_extracted new_extractor) (sym more))
 
   -- ---- all events
-
-  abbrev Keeps : Event → WorldOutcome → Type 0
-  Keeps e o = Sound c o.after → Laid c (after_event d e o)
 
   up_seen : (P : WorldOutcome → Type 0) (bs : List (List ℕ)) → P (world_refusal d.world NotDetectable)
       → ((fault : TcFault) → P (world_reply (Up (received_cases.Invalid fault)) (record d.world { up = bs })))
@@ -357,6 +380,18 @@ module _ (c : Config) (d : Downlink) (g : Laid c d) where
       first_on (Keeps (events.DownDamage octets)) (λ bs. down_damage_step d.world bs octets.now) d.world.down refused
       (λ b bs is. down_seen (Keeps (events.DownDamage octets)) bs refused (λ fault. lost b bs is)
       (frame_at d.world.ground_node.config.frame_length octets.now))
+  keeps events.DownClcw =
+      first_on (Keeps events.DownClcw) (down_clcw_step d.world) d.world.down refused (λ b bs is.
+      word_seen b bs is (frame_at d.world.ground_node.config.frame_length b))
+  keeps (events.Resume value) =
+      let s : GroundState = d.world.ground_node in
+      let t : GroundState = (directed d.world (SetVs value)).ground_node in
+      let set = directed_extracts s (SetVs value) (directive_step s.fop (SetVs value)).answer
+      (directive_step s.fop (SetVs value)).after in
+      let begun = directed_extracts t InitUnlock (directive_step t.fop InitUnlock).answer
+      (directive_step t.fop InitUnlock).after in
+      resumes d.world value (Keeps (events.Resume value)) refused (λ whole can sound.
+      stays (resumed d.world value) sound refl refl (begun.0 ∙ set.0, begun.1 ∙ set.1))
   keeps events.Tick =
       let s : GroundState = d.world.ground_node in
       λ sound. stays (world_step d.world events.Tick).after sound refl refl (with_extracts s (tick_step s.fop).after)

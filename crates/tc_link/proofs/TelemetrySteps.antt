@@ -25,6 +25,8 @@ use Rattle.nodes.specs.Ground.{after_directive}
 use Rattle.nodes.specs.declared.heard.HeardClcw.{HeardClcw}
 use Rattle.tc_link.proofs.Refilled.{refilled_keeps}
 use Rattle.tm_link.specs.Layout as telemetry
+use Rattle.nodes.specs.Ground.{report_outcome}
+use Rattle.simulated_link.proofs.TelemetryCases.{report_seen}
 
 -- ---- a packet is queued
 
@@ -130,3 +132,9 @@ word_extracts s x (Ok report) =
     (λ t.
     let f : FopState SegmentView = (clcw_step s.fop report).after in
     with_extracts (acknowledging (after_extraction s x) f) f) (λ t. (refl, refl))
+
+-- ---- a control word by itself
+
+pub report_extracts : (s : GroundState) (r : Result Clcw ClcwFault) → Extracts s (report_outcome s r).after
+report_extracts s = report_seen s (Extracts s) (refl, refl) (λ report.
+    let f : FopState SegmentView = (clcw_step s.fop report).after in with_extracts (acknowledging s f) f)

@@ -21,15 +21,11 @@ use Rattle.nodes.specs.Spacecraft.{kept_numbers, spacecraft_step, spacecraft_rep
 use Rattle.nodes.specs.Spacecraft as spacecraft_calls
 use Rattle.nodes.specs.declared.event.Event.{Event}
 use Rattle.nodes.specs.declared.event.Event.TheVariants as events
-use Rattle.simulated_link.specs.Replies.{ReplyView, Down}
+use Rattle.simulated_link.specs.Replies.{ReplyView, Down, DownClcw}
 use Rattle.simulated_link.specs.declared.fault.SimFault.{SimFault}
-use Rattle.tm_link.specs.declared.fault.TmFault.{TmFault}
-use Rattle.tm_link.specs.Layout as telemetry
-use Rattle.tm_link.specs.Decoding.{frame_at}
 use Rattle.tc_link.specs.Promises.{HoldsAt}
 use Rattle.tc_link.specs.Reached.{IsEvent}
 use Rattle.simulated_link.specs.World.{World, new_world, no_session, world_step, world_run}
-use Rattle.simulated_link.specs.World.{session_after_report}
 
 pub data LinkStep : Type 0 where
   -- an event happens
@@ -40,9 +36,6 @@ pub data LinkStep : Type 0 where
   -- decoder does not see, a frame out of its order, one that came before, or another's
   Receives : (octets : List ℕ) → LinkStep
   Hears : (octets : List ℕ) → LinkStep
-  -- the first telemetry frame on its way down arrives, and its report alone reaches the ground, as
-  -- from a front end that hands on control words: what else it carries is as of a lost frame
-  ReportArrives : LinkStep
   -- a control word from outside the link reaches the ground by itself, or one that came before
   HearsReport : (octets : List ℕ) → LinkStep
   -- the ground begins anew to take packets out of telemetry
@@ -107,27 +100,6 @@ word_step w octets = ground_step w.ground_node (ground_calls.ControlWord octets)
 abbrev pub heard_word : World → GroundOutcome HeardClcw → World
 heard_word w o = after_report w o.after o.answer.report
 
--- the control word of a telemetry frame
-abbrev pub word_in : Result telemetry.FrameView TmFault → List ℕ
-word_in (Ok frame) = frame.ocf
-word_in (Err fault) = []
-
--- what the ground makes of the control word in octets on their way down
-abbrev pub arriving_word : World → List ℕ → GroundOutcome HeardClcw
-arriving_word w octets = word_step w (word_in (frame_at w.ground_node.config.frame_length octets))
-
--- the session goes on with the report
-abbrev pub with_word : World → List (List ℕ) → GroundOutcome HeardClcw → World
-with_word w down o = record w {
-  ground_node = o.after;
-  down = down;
-  session = session_after_report w.session w.ground_node o.after;
-}
-
-abbrev pub after_word : World → List (List ℕ) → World
-after_word w [] = w
-after_word w (octets ∷ down) = with_word w down (arriving_word w octets)
-
 abbrev pub link_step : World → LinkStep → World
 link_step w (Happens event) = (world_step w event).after
 link_step w TakeTelemetry =
@@ -135,7 +107,6 @@ link_step w TakeTelemetry =
 link_step w (Receives octets) =
     received w (spacecraft_step w.spacecraft (spacecraft_calls.Receive octets))
 link_step w (Hears octets) = heard w (ground_step w.ground_node (ground_calls.Telemetry octets))
-link_step w ReportArrives = after_word w w.down
 link_step w (HearsReport octets) = heard_word w (word_step w octets)
 link_step w ForgetTelemetry =
     record w { ground_node = (ground_step w.ground_node ground_calls.ForgetTelemetry).after }
@@ -190,11 +161,12 @@ EachGoesOnAsKept = (s : SpacecraftState) → GoesOnAsKept s
 
 -- ---- a report by itself
 
--- what a telemetry frame is answered says the same of its report
-abbrev pub SaysAs : Result ReplyView SimFault → HeardClcw → Type 0
-SaysAs (Ok (Down (heard_cases.Frame gap packets report alert))) word =
+-- what a telemetry frame is answered says the same of its report; or both are refused
+abbrev pub SaysAs : (frame word : Result ReplyView SimFault) → Type 0
+SaysAs (Ok (Down (heard_cases.Frame gap packets report alert))) (Ok (DownClcw word)) =
     (word.report ≡ report) × (word.alert ≡ alert)
-SaysAs _ word = ⊥
+SaysAs (Err fault) (Err other) = other ≡ fault
+SaysAs _ _ = ⊥
 
 -- the world but for telemetry, which is as in another
 abbrev pub with_telemetry_of : World → World → World
@@ -208,10 +180,10 @@ with_telemetry_of v w = record w {
 -- After any past, a report that arrives by itself does what the telemetry frame would that carries
 -- it, but for telemetry, and is answered so.
 pub record DoesAsItsFrame (w : World) : Type 0 where
-  pub after : link_step w ReportArrives
-      ≡ with_telemetry_of w (link_step w (Happens events.DownDeliver))
-  pub answer : (octets : List ℕ) (down : List (List ℕ)) → w.down ≡ octets ∷ down
-      → SaysAs (world_step w events.DownDeliver).answer (arriving_word w octets).answer
+  pub after : (world_step w events.DownClcw).after
+      ≡ with_telemetry_of w (world_step w events.DownDeliver).after
+  pub answer : SaysAs (world_step w events.DownDeliver).answer
+      (world_step w events.DownClcw).answer
 
 abbrev pub ReportsDoAsFrames : Type 0
 ReportsDoAsFrames = (w : World) → HasAnyPast w → DoesAsItsFrame w

@@ -38,6 +38,12 @@ abbrev pub FirstAsks : Config → List (List ℕ) → Type 0
 FirstAsks c [] = ⊥
 FirstAsks c (octets ∷ more) = AsksAgain (report_carried c octets)
 
+-- a report comes, in its telemetry frame or by itself
+abbrev pub IsReport : Event → Type 0
+IsReport events.DownDeliver = Unit {0}
+IsReport events.DownClcw = Unit {0}
+IsReport _ = ⊥
+
 -- the one cause of each alert
 abbrev pub HasCause : World → Event → Alert → Type 0
 HasCause w event Lockout = IsUnderCheck w × (w.spacecraft.farm.state ≡ farm.Lockout)
@@ -45,7 +51,7 @@ HasCause w event NnR = IsUnderCheck w × (w.spacecraft.farm.vr ≢ w.ground_node
 HasCause w event ClcwAlert = ⊥
 HasCause w event Synch = IsUnderCheck w × (w.spacecraft.farm.retransmit ≡ true)
 HasCause w event Limit =
-    (event ≡ events.DownDeliver) × FirstAsks w.ground_node.config w.down
+    IsReport event × FirstAsks w.ground_node.config w.down
     × (w.ground_node.fop.limit ≡ 1)
 HasCause w event Timer = event ≡ events.Tick
 HasCause w event Terminated = event ≡ events.Directive Terminate

@@ -6,7 +6,7 @@ use Rattle.nodes.specs.declared.event.Event.{Event}
 use Rattle.nodes.specs.declared.event.Event.TheVariants as events
 use Rattle.simulated_link.specs.World.{World}
 
--- an event does not set V(S): it is no such directive, or comes while the sender is not in S6
+-- no directive sets V(S): an event is no such directive, or comes while the sender is not in S6
 abbrev pub SetsNoNumber : World → Event → Type 0
 SetsNoNumber w event =
     (x : ℕ) → event ≡ events.Directive (SetVs x) → is_closed w.ground_node.fop.state ≡ false

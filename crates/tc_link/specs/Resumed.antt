@@ -5,12 +5,12 @@ use Rattle.std.specs.Prelude.{◌==◌, true, Ok}
 use Rattle.std.specs.List.{AllByRecursion}
 use Rattle.octets.specs.Beginning.{IsBeginning}
 use Rattle.map_service.specs.Packets.{packets_in}
-use Rattle.cop1.specs.declared.vocabulary.Directive.TheVariants.{SetVs, InitUnlock}
 use Rattle.nodes.specs.Ground.{ground_step, Resume}
 use Rattle.nodes.specs.Packets.{PacketOn}
 use Rattle.nodes.specs.declared.event.Event.{Event}
 use Rattle.nodes.specs.declared.event.Event.TheVariants as events
-use Rattle.simulated_link.specs.World.{World, IsIdle, BeginsNoSession, is_idle, delivered}
+use Rattle.simulated_link.specs.Replies.{Resumed}
+use Rattle.simulated_link.specs.World.{World, IsIdle, BeginsNoSession, is_idle, delivered, resumed}
 use Rattle.simulated_link.specs.World.{world_step}
 use Rattle.tc_link.specs.AnyPast.{HasAnyPast}
 use Rattle.tc_link.specs.Known.{SetsNoNumber}
@@ -23,13 +23,6 @@ abbrev pub packets_on_map : List PacketOn → ℕ → List (List ℕ)
 packets_on_map submissions m =
     flat_map (λ (p : PacketOn). packets_in p.octets)
     (filter (λ (p : PacketOn). p.on_map == m) submissions)
-
--- the link once V(S) is set to a report's value and Unlock begins a session, which is what `resume`
--- does
-abbrev pub resumed : World → ℕ → World
-resumed w value =
-    (world_step (world_step w (events.Directive (SetVs value))).after
-    (events.Directive InitUnlock)).after
 
 -- The sessions of a program that wants these submissions delivered, in this order: the link now,
 -- how many of the submissions the sessions before this one have brought on board, and what these
@@ -50,8 +43,8 @@ pub data Sessions (wanted : List PacketOn) : World → ℕ → (ℕ → List (Li
   resumes : {w : World} {done : ℕ} {before : ℕ → List (List ℕ)} (value more : ℕ)
       → Sessions wanted w done before → is_idle w ≡ true → value < 256
       → value ≡ w.spacecraft.farm.vr
-      → (ground_step w.ground_node (Resume value)).answer ≡ Ok more
-      → Sessions wanted (resumed w value) (done + more) (λ m. before m ++ delivered w m)
+      → (world_step w (events.Resume value)).answer ≡ Ok (Resumed more)
+      → Sessions wanted (world_step w (events.Resume value)).after (done + more) (λ m. before m ++ delivered w m)
 
 -- Over all its sessions together it has on each MAP a prefix of what it wants, each packet once.
 abbrev pub ResumesInOrder : Type 0
@@ -61,8 +54,13 @@ ResumesInOrder =
     → AllByRecursion (IsOneGroup w.ground_node.config.part) wanted
     → IsBeginning (before m ++ delivered w m) (packets_on_map wanted m)
 
--- what `resume` leaves is the ground of that link
+-- what `resume` answers and leaves is so in that link: V(S) is set, and a session begins by Unlock
+pub record ResumesAs (w : World) (value more : ℕ) : Type 0 where
+  pub answer : (world_step w (events.Resume value)).answer ≡ Ok (Resumed more)
+  pub after : (world_step w (events.Resume value)).after ≡ resumed w value
+  pub leaves : (ground_step w.ground_node (Resume value)).after ≡ (resumed w value).ground_node
+
 abbrev pub ResumesSo : Type 0
 ResumesSo =
     (w : World) (value more : ℕ) → (ground_step w.ground_node (Resume value)).answer ≡ Ok more
-    → (ground_step w.ground_node (Resume value)).after ≡ (resumed w value).ground_node
+    → ResumesAs w value more

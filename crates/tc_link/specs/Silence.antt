@@ -3,7 +3,7 @@ use Rattle.std.specs.Prelude.{◌≡◌, ◌≤◌, ◌+◌, ℕ, List, [], ◌�
 use Rattle.std.specs.List.{AllByRecursion}
 use Rattle.nodes.specs.declared.event.Event.{Event}
 use Rattle.nodes.specs.declared.event.Event.TheVariants as events
-use Rattle.tc_link.specs.AnyPast.{LinkStep, Happens, Receives, ReportArrives, NewSpacecraft}
+use Rattle.tc_link.specs.AnyPast.{LinkStep, Happens, Receives, NewSpacecraft}
 use Rattle.tc_link.specs.AnyPast.{IsLinkStep, HasAnyPast, link_step, link_run}
 use Rattle.tc_link.specs.Telemetry.{came_by}
 use Rattle.simulated_link.specs.World.{World, world_step, is_idle}
@@ -28,7 +28,6 @@ gone_at w event = length (came_by event (world_step w event).answer)
 
 abbrev pub gone_by : World → LinkStep → ℕ
 gone_by w (Happens event) = gone_at w event
-gone_by w ReportArrives = gone_at w events.DownDeliver
 gone_by w _ = 0
 
 -- and by such steps

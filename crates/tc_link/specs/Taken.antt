@@ -3,11 +3,10 @@ use Rattle.std.specs.Prelude.{◌≡◌, ℕ, List, [], ◌∷◌, ◌++◌, fla
 use Rattle.std.specs.List.{AllByRecursion}
 use Rattle.octets.specs.Beginning.{IsBeginning}
 use Rattle.map_service.specs.Packets.{packets_in}
-use Rattle.cop1.specs.declared.vocabulary.Directive.{Directive}
 use Rattle.cop1.specs.declared.vocabulary.FopMode.TheVariants.{S1}
 use Rattle.cop1.specs.FopDirective.{is_initiation}
 use Rattle.nodes.specs.Delivery.{packets_of_map}
-use Rattle.nodes.specs.Ground.{is_closed, outstanding}
+use Rattle.nodes.specs.Ground.{is_closed, can_resume, outstanding}
 use Rattle.nodes.specs.Packets.{PacketOn, put_on_map}
 use Rattle.nodes.specs.declared.event.Event.{Event}
 use Rattle.nodes.specs.declared.event.Event.TheVariants as events
@@ -18,11 +17,13 @@ use Rattle.simulated_link.specs.Replies.{ReplyView, Packet}
 use Rattle.simulated_link.specs.World.{World, KeepsSession, IsIdle, submitted, delivered}
 use Rattle.simulated_link.specs.World.{world_step, world_run, run_answers}
 
--- a session begins with an event: it is an initiation, and comes while the sender is in S6
+-- a session begins with an event: it is an initiation, and comes while the sender is in S6; or it is
+-- a resumption that is not refused
 abbrev pub BeginsSession : World → Event → Type 0
-BeginsSession w event =
-    (directive : Directive) × (event ≡ events.Directive directive)
-    × (is_initiation directive ≡ true) × (is_closed w.ground_node.fop.state ≡ true)
+BeginsSession w (events.Directive directive) =
+    (is_initiation directive ≡ true) × (is_closed w.ground_node.fop.state ≡ true)
+BeginsSession w (events.Resume value) = can_resume w.ground_node value ≡ true
+BeginsSession w _ = ⊥
 
 -- the packet that an event hands out from those that are ready
 abbrev pub handed_out : Event → Result ReplyView SimFault → List PacketOn

@@ -12,6 +12,7 @@ pub(crate) fn keeps_octets(event: Event<'_>)
     match event {
         Event::Directive(Directive::InitSetVr(_x)) => {}
         Event::Directive(Directive::SetVs(_x)) => {}
+        Event::Resume(_x) => {}
         _ => {}
     }
 }

@@ -84,8 +84,8 @@ impl Sim {
     /// of whose segments were accepted (`from_idle`). In any session the node that a frame is on its way
     /// to can read it. docs/PROMISES.md states each of these.
     /// Faults: 7 NothingInTransit, then 8 NotDetectable, then 6 Memory. Memory: yes; none for losing,
-    /// damaging, ticks, directives and taking. Cost: that of the nodes' calls; for an initiation also
-    /// the records released.
+    /// damaging, a CLCW by itself, ticks, directives, resuming and taking. Cost: that of the nodes' calls;
+    /// where a session begins also the records released.
     pub fn step(&mut self, event: Event<'_>) -> Result<Reply, SimFault>
         ensures reply { IfOk result (IsReplyTo self.old.world event.entry) }
         ensures after { OnOk result

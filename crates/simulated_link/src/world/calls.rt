@@ -42,6 +42,21 @@ impl World {
         }
     }
 
+    pub(crate) fn resume(&mut self, value: u8) -> Reply
+        ensures reply { IsReplyTo self.old (Event.Resume value) result }
+        ensures after { self.new ≡ (world_step self.old (Event.Resume value)).after }
+    {
+        let clean = self.is_quiet();
+        let idle = self.is_idle();
+        match self.ground_node.resume(value) {
+            Ok(whole) => {
+                self.begin(Directive::InitUnlock, clean, idle);
+                Reply::Resumed(whole)
+            }
+            Err(fault) => Reply::Refused(NodeFault::Link(fault)),
+        }
+    }
+
     pub(crate) fn tick(&mut self) -> Reply
         ensures reply { IsReplyTo self.old Event.Tick result }
         ensures after { self.new ≡ (world_step self.old Event.Tick).after }

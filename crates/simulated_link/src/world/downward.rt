@@ -8,10 +8,13 @@ use crate::down_frame::put_report;
 use crate::fault::SimFault;
 use crate::reply::Reply;
 use cop1::FopMode;
-use nodes::Event;
+use nodes::{Event, Heard, HeardClcw};
 
 impl World {
+    ghost use Rattle.std.specs.Prelude.{◌≡◌};
+    ghost use Rattle.nodes.specs.Ground.{ground_step, ControlWord};
     ghost use Rattle.simulated_link.specs.Events.{LetsHappen};
+    ghost use Rattle.simulated_link.specs.World.{world_after_word};
 
     pub(crate) fn report(&mut self) -> Result<Reply, SimFault>
         ensures { LetsHappen Event.Report self.old self.new result }
@@ -43,6 +46,37 @@ impl World {
         self.session.confirmed = self.session.confirmed
             || is_confirmation(mode, self.ground_node.state());
         Ok(Reply::Down(heard))
+    }
+
+    pub(crate) fn down_clcw(&mut self) -> Result<Reply, SimFault>
+        ensures { LetsHappen Event.DownClcw self.old self.new result }
+    {
+        let Some(octets) = self.down.front() else {
+            return Err(SimFault::NothingInTransit);
+        };
+        let word = match tm_link::decode(octets, self.ground_node.frame_length()) {
+            Ok(frame) => Ok(frame.ocf),
+            Err(fault) => Err(fault),
+        };
+        let _ = self.down.pop_front();
+        match word {
+            Ok(word) => Ok(Reply::DownClcw(self.hear_word(word))),
+            Err(fault) => Ok(Reply::Down(Heard::Invalid(fault))),
+        }
+    }
+
+    // The ground is given a control word, and the session goes on with it.
+    fn hear_word(&mut self, word: [u8; 4]) -> HeardClcw
+        ensures answer { result ≡ (ground_step self.old.ground_node (ControlWord word)).answer }
+        ensures after { self.new ≡ (world_after_word self.old self.old.down
+            (ground_step self.old.ground_node (ControlWord word))).after }
+    {
+        let (mode, before) = (self.ground_node.state(), self.ground_node.nn());
+        let heard = self.ground_node.clcw(word);
+        self.session.acknowledged += usize::from(self.ground_node.nn().wrapping_sub(before));
+        self.session.confirmed = self.session.confirmed
+            || is_confirmation(mode, self.ground_node.state());
+        heard
     }
 }
 

@@ -14,8 +14,8 @@ impl World {
     /// and by 8 octets of a damaged frame that the receiver's decoder accepts. Nothing has changed
     /// then. Any other refusal of a node is a reply.
     /// Faults: 7 NothingInTransit, then 8 NotDetectable, then 6 Memory. Memory: yes; none for losing,
-    /// damaging, ticks, directives and taking. Cost: that of the nodes' calls; for an initiation also
-    /// the records released.
+    /// damaging, a CLCW by itself, ticks, directives, resuming and taking. Cost: that of the nodes' calls;
+    /// where a session begins also the records released.
     pub fn step(&mut self, event: Event<'_>) -> Result<Reply, SimFault>
         ensures reply { IfOk result (IsReplyTo self.old event.entry) }
         ensures after { OnOk result (self.new ≡ (world_step self.old event.entry).after) }
@@ -29,6 +29,7 @@ impl World {
             Event::Submit(map, octets) => self.submit(map, octets),
             Event::Bypass(map, octets) => self.bypass(map, octets),
             Event::Directive(directive) => Ok(self.directive(directive)),
+            Event::Resume(value) => Ok(self.resume(value)),
             Event::Send => self.send(),
             Event::UpDeliver => self.up_deliver(),
             Event::UpLose => self.up_lose(),
@@ -37,6 +38,7 @@ impl World {
             Event::DownDeliver => self.down_deliver(),
             Event::DownLose => self.down_lose(),
             Event::DownDamage(octets) => self.down_damage(octets),
+            Event::DownClcw => self.down_clcw(),
             Event::Tick => Ok(self.tick()),
             Event::Take => Ok(self.take()),
             Event::TakeBypass => Ok(self.take_bypass()),
