@@ -578,9 +578,9 @@ static void sedge_cop_fault_name_at(uint64_t result, uint32_t fault);
 static void sedge_dropped_name_at(uint64_t result, uint32_t cause);
 static uint32_t sedge_farm_ad_at(uint64_t farm, uint32_t n, uint32_t buffer_free);
 static uint32_t sedge_farm_bd_at(uint64_t farm);
+static uint32_t sedge_farm_control_word_at(uint64_t farm, uint32_t vcid, uint64_t word);
 static uint32_t sedge_farm_open_at(uint64_t farm, uint32_t width, uint32_t vr);
 static uint32_t sedge_farm_released_at(uint64_t farm);
-static uint32_t sedge_farm_report_at(uint64_t farm, uint32_t vcid, uint64_t word);
 static uint32_t sedge_farm_set_vr_at(uint64_t farm, uint32_t vr);
 static uint32_t sedge_farm_state_at(uint64_t farm);
 static uint32_t sedge_farm_unlock_at(uint64_t farm);
@@ -614,9 +614,9 @@ static uint32_t sedge_map_take_at(uint64_t map, uint32_t flags, uint64_t data, u
     uint64_t room, uint64_t taken);
 static uint32_t sedge_tm_extractor_frame_at(uint64_t extractor, uint64_t frame, uint64_t data, uint64_t data_count,
     uint64_t memory, uint64_t room, uint64_t extracted);
+static uint32_t sedge_fop_clcw_at(uint64_t fop, uint32_t vcid, uint64_t word, uint64_t released);
 static uint32_t sedge_fop_directive_at(uint64_t fop, uint32_t directive, uint32_t value);
 static uint32_t sedge_fop_next_at(uint64_t fop, uint64_t number);
-static uint32_t sedge_fop_report_at(uint64_t fop, uint32_t vcid, uint64_t word, uint64_t released);
 static uint32_t sedge_fop_submit_at(uint64_t fop);
 static uint32_t sedge_fop_tick_at(uint64_t fop);
 static uint32_t sedge_tm_builder_build_at(uint64_t builder, uint64_t ocf, uint64_t ocf_count, uint64_t memory,
@@ -1332,6 +1332,33 @@ static uint32_t sedge_farm_bd_at(uint64_t farm)
     return v1;
 }
 
+static uint32_t sedge_farm_control_word_at(uint64_t farm, uint32_t vcid, uint64_t word)
+{
+    uint32_t v3 = 0, v4 = 0, v5 = 0, v6 = 0, v7 = 0;
+    v3 = 255;
+    v4 = get8(farm + 2);
+    if (v4 > 1) return v3;
+    v5 = get8(farm + 3);
+    if (v5 > 1) return v3;
+    v6 = get8(farm + 4);
+    if (v6 > 1) return v3;
+    if (v5 == 1 && v6 != 1) return v3;
+    v7 = get8(farm);
+    if (v7 == 0) return v3;
+    if ((v7 & 1) != 0) return v3;
+    v7 = get8(farm + 5);
+    if ((v7 & 255) > 3) return v3;
+    v3 = 5;
+    if ((vcid & 255) > 63) return v3;
+    put8(word + 4, get8(farm + 1));
+    put8(word + 3, v7);
+    put8(word + 1, vcid);
+    v3 = 0;
+    put8(word, 0);
+    put8(word + 2, (((v5 == 1) ? 16U : 0U) | ((v4 == 1) ? 32U : 0U)) | ((v6 != 1) ? 0U : 8U));
+    return v3;
+}
+
 static uint32_t sedge_farm_open_at(uint64_t farm, uint32_t width, uint32_t vr)
 {
     uint32_t v3 = 0;
@@ -1368,33 +1395,6 @@ static uint32_t sedge_farm_released_at(uint64_t farm)
     put8(farm + 3, 0);
     put8(farm + 2, v2 == 1);
     return v1;
-}
-
-static uint32_t sedge_farm_report_at(uint64_t farm, uint32_t vcid, uint64_t word)
-{
-    uint32_t v3 = 0, v4 = 0, v5 = 0, v6 = 0, v7 = 0;
-    v3 = 255;
-    v4 = get8(farm + 2);
-    if (v4 > 1) return v3;
-    v5 = get8(farm + 3);
-    if (v5 > 1) return v3;
-    v6 = get8(farm + 4);
-    if (v6 > 1) return v3;
-    if (v5 == 1 && v6 != 1) return v3;
-    v7 = get8(farm);
-    if (v7 == 0) return v3;
-    if ((v7 & 1) != 0) return v3;
-    v7 = get8(farm + 5);
-    if ((v7 & 255) > 3) return v3;
-    v3 = 5;
-    if ((vcid & 255) > 63) return v3;
-    put8(word + 4, get8(farm + 1));
-    put8(word + 3, v7);
-    put8(word + 1, vcid);
-    v3 = 0;
-    put8(word, 0);
-    put8(word + 2, (((v5 == 1) ? 16U : 0U) | ((v4 == 1) ? 32U : 0U)) | ((v6 != 1) ? 0U : 8U));
-    return v3;
 }
 
 static uint32_t sedge_farm_set_vr_at(uint64_t farm, uint32_t vr)
@@ -3198,6 +3198,323 @@ l2:;
     return v8;
 }
 
+static uint32_t sedge_fop_clcw_at(uint64_t fop, uint32_t vcid, uint64_t word, uint64_t released)
+{
+    uint32_t v4 = 0, v5 = 0, v6 = 0, v7 = 0, v8 = 0, v9 = 0, v10 = 0, v11 = 0, v12 = 0, v13 = 0, v14 = 0, v15 = 0,
+        v16 = 0, v17 = 0, v18 = 0, v19 = 0, v20 = 0, v21 = 0;
+    v4 = 253;
+    if (get8(word + 1) != (vcid & 255)) return v4;
+    vcid = get8(fop + 5);
+    v5 = vcid - 1;
+    if ((v5 & 255) <= 5) {
+        v6 = 1;
+        v7 = get8(fop + 8);
+        if (v7 <= 1) {
+            v8 = get8(fop + 15);
+            v9 = 0;
+            v10 = 1;
+            v4 = get8(fop + 14);
+            switch (v4 - 3) {
+            case 0:
+                goto l14;
+            case 1:
+                v10 = 2;
+                goto l14;
+            default:
+                goto l15;
+            }
+        l15:;
+            if (v4 > 2) return 255;
+            if ((v8 & 255) != 0) return 255;
+            v6 = 0;
+            v9 = 1;
+            v10 = v4;
+        l14:;
+            v11 = get8(fop + 13);
+            if (v11 != 0) {
+                v12 = get16(fop);
+                if ((v12 & 0xffff) != 0) {
+                    v13 = get8(fop + 12);
+                    if ((v13 & 255) != 0) {
+                        v14 = get8(fop + 10);
+                        v15 = get8(fop + 9);
+                        if ((v14 & 255) <= (v15 & 255)) {
+                            v16 = get8(fop + 4);
+                            v4 = v16 & 255;
+                            if ((v15 & 255) <= v4) {
+                                v17 = get8(fop + 6);
+                                v18 = get8(fop + 7);
+                                v19 = v17 - v18;
+                                if ((v19 & 255) <= v4) {
+                                    if (extend32(v16, 0x80) <= 0x7fffffffU) goto l25;
+                                    return 255;
+                                l25:;
+                                    v4 = 255;
+                                    v20 = get8(fop + 11);
+                                    if (((v20 - 1) & 255) >= (v16 & 255)) return v4;
+                                    v21 = get16(fop + 2);
+                                    switch (vcid - 1) {
+                                    case 1:
+                                    case 2:
+                                        goto l34;
+                                    case 3:
+                                        goto l37;
+                                    case 4:
+                                        goto l36;
+                                    case 5:
+                                        goto l35;
+                                    default:
+                                        goto l38;
+                                    }
+                                l38:;
+                                    v4 = 255;
+                                    if (v10 != 0) return v4;
+                                    if ((v15 & 255) != (v19 & 255)) return v4;
+                                    if (((uint32_t)((v15 & 255) == 0) ^ (uint32_t)((v21 & 0xffff) != 0)) != 0) goto
+                                        l33;
+                                    return v4;
+                                l37:;
+                                    v4 = 255;
+                                    if ((v15 & 255) != (v19 & 255)) return v4;
+                                    if (((v15 | v10) & 255) != 0) return v4;
+                                    if ((v21 & 0xffff) == 0) return v4;
+                                    vcid = 0;
+                                    v4 = get8(word + 2);
+                                    if ((v4 & 32) == 0) goto l32;
+                                    v5 = 1;
+                                    goto l30;
+                                l36:;
+                                    v4 = 255;
+                                    if ((v15 & 255) != (v19 & 255)) return v4;
+                                    if ((v15 & 255) != 0) return v4;
+                                    v4 = 255;
+                                    switch (v10) {
+                                    case 1:
+                                        goto l10;
+                                    case 2:
+                                        goto l39;
+                                    default:
+                                        return v4;
+                                    }
+                                l39:;
+                                    v4 = 255;
+                                    if ((~v9 & (uint32_t)((v8 & 255) != (v17 & 255))) != 0) return v4;
+                                    if ((v21 & 0xffff) == 0) return v4;
+                                    goto l8;
+                                l35:;
+                                    v4 = 255;
+                                    if (((v15 | v10) & 255) != 0) return v4;
+                                    if ((v7 & 1) != 0) return v4;
+                                    if ((v21 & 0xffff) != 0) return v4;
+                                    goto l6;
+                                l34:;
+                                    v4 = 255;
+                                    if (v10 != 0) return v4;
+                                    vcid = v15 & 255;
+                                    if (vcid != (v19 & 255)) return v4;
+                                    if (vcid == 0) return v4;
+                                    if ((v21 & 0xffff) == 0) return v4;
+                                l33:;
+                                    vcid = 0;
+                                    v4 = get8(word + 2);
+                                    if ((v4 & 32) == 0) goto l40;
+                                    v5 = 1;
+                                    goto l30;
+                                l40:;
+                                    v6 = get8(word + 4);
+                                    v10 = v6 - v18;
+                                    if ((v19 & 255) >= (v10 & 255)) goto l41;
+                                    v5 = 2;
+                                    goto l30;
+                                l41:;
+                                    if ((v4 & 24) == 16) goto l31;
+                                    if ((v4 & 8) == 0) goto l43;
+                                    v8 = v6 & 255;
+                                    if (v8 != (v17 & 255)) goto l42;
+                                    v5 = 4;
+                                    goto l30;
+                                l43:;
+                                    if ((v18 & 255) != (v6 & 255)) goto l44;
+                                    if ((v5 & 255) == 0) goto l27;
+                                    v5 = 4;
+                                    goto l30;
+                                l44:;
+                                    put8(released, v10);
+                                    v15 = v18 - v6 + v15;
+                                    v5 = v15 & 255;
+                                    vcid = v14 & 255;
+                                    v14 = (v5 < vcid) ? v5 : vcid;
+                                    v4 = 0;
+                                    vcid = 1;
+                                    v10 = 0;
+                                    v11 = 1;
+                                    v21 = v12;
+                                    v18 = v6;
+                                    if (v5 != 0) goto l2;
+                                    v10 = 0;
+                                    v11 = 1;
+                                    v15 = 0;
+                                    v18 = v6;
+                                    goto l5;
+                                l42:;
+                                    v4 = v4 & 16;
+                                    if ((v18 & 255) == v8) goto l45;
+                                    v11 = 1;
+                                    if ((v13 & 255) != 1) goto l46;
+                                    v5 = 5;
+                                    vcid = v10;
+                                    v18 = v6;
+                                    goto l30;
+                                l46:;
+                                    v15 = v18 - v6 + v15;
+                                    v11 = 2;
+                                    if (v4 != 0) goto l47;
+                                    v14 = v15;
+                                    v18 = v6;
+                                    goto l28;
+                                l47:;
+                                    vcid = v15 & 255;
+                                    v4 = v14 & 255;
+                                    v14 = (vcid < v4) ? vcid : v4;
+                                    vcid = 3;
+                                    v11 = 1;
+                                    v18 = v6;
+                                    goto l26;
+                                l45:;
+                                    v6 = v13 & 255;
+                                    if (v6 != 1) goto l48;
+                                    v5 = 5;
+                                    goto l30;
+                                l48:;
+                                    if (v4 == 0) goto l49;
+                                    vcid = 3;
+                                    goto l26;
+                                l49:;
+                                    if ((v5 & 255) != 1 && v11 < v6) goto l29;
+                                    vcid = 2;
+                                    goto l26;
+                                l32:;
+                                    if (get8(word + 4) == (v17 & 255)) goto l50;
+                                    v5 = 2;
+                                    goto l30;
+                                l50:;
+                                    if ((v4 & 8) == 0) goto l51;
+                                    v5 = 4;
+                                    goto l30;
+                                l51:;
+                                    if ((v4 & 16) == 0) goto l7;
+                                l31:;
+                                    v5 = 3;
+                                l30:;
+                                    put8(released, vcid);
+                                    v4 = 0;
+                                    vcid = 6;
+                                    v10 = 0;
+                                    v14 = 0;
+                                    v15 = 0;
+                                    v7 = 0;
+                                    goto l3;
+                                l29:;
+                                    v11 = v11 + 1;
+                                    v14 = v15;
+                                l28:;
+                                    put8(released, v10);
+                                    v4 = 0;
+                                    vcid = 2;
+                                    v10 = 0;
+                                    v21 = v12;
+                                    goto l2;
+                                l27:;
+                                    vcid = 1;
+                                l26:;
+                                    put8(released, v10);
+                                    v4 = 0;
+                                    v10 = 0;
+                                    if ((v21 & 0xffff) != 0) goto l2;
+                                    v10 = 0;
+                                    goto l5;
+                                }
+                                return 255;
+                            }
+                            return 255;
+                        }
+                        return 255;
+                    }
+                    return 255;
+                }
+                return 255;
+            }
+            return 255;
+        }
+        return 255;
+    }
+    return 255;
+l10:;
+    v4 = 255;
+    if ((v9 | (uint32_t)((v8 & 255) == (v17 & 255))) != 0) goto l8;
+    return v4;
+l8:;
+    if ((get8(word + 2) & 56) != 0) goto l6;
+    if (get8(word + 4) != (v17 & 255)) goto l6;
+l7:;
+    v4 = 0;
+    put8(released, 0);
+    vcid = 1;
+    v10 = 0;
+    v15 = 0;
+    goto l5;
+l6:;
+    v4 = 0;
+    put8(released, 0);
+    switch (v10) {
+    case 1:
+        goto l53;
+    case 2:
+        v10 = (v9 != 0) ? 2U : 4U;
+        if (v6 == 0) goto l52;
+        goto l4;
+    default:
+        goto l52;
+    }
+l53:;
+    v10 = (v9 != 0) ? 1U : 3U;
+    if (v6 != 0) goto l4;
+l52:;
+    if ((v21 & 0xffff) != 0) goto l2;
+l5:;
+    v5 = 0;
+    goto l3;
+l4:;
+    if ((v21 & 0xffff) != 0) {
+        v4 = v8;
+        v5 = 0;
+        goto l1;
+    }
+    v5 = 0;
+    v4 = v8;
+l3:;
+    v21 = 0;
+    goto l1;
+l2:;
+    v5 = 0;
+l1:;
+    put16(fop, v12);
+    put8(fop + 15, v4);
+    put8(fop + 14, v10);
+    put8(fop + 13, v11);
+    put8(fop + 12, v13);
+    put8(fop + 11, v20);
+    put8(fop + 10, v14);
+    put8(fop + 9, v15);
+    put8(fop + 8, v7);
+    put8(fop + 7, v18);
+    put8(fop + 6, v17);
+    put8(fop + 5, vcid);
+    put8(fop + 4, v16);
+    put16(fop + 2, v21);
+    return v5;
+}
+
 static uint32_t sedge_fop_directive_at(uint64_t fop, uint32_t directive, uint32_t value)
 {
     uint32_t v3 = 0, v4 = 0, v5 = 0, v6 = 0, v7 = 0, v8 = 0, v9 = 0, v10 = 0, v11 = 0, v12 = 0, v13 = 0, v14 = 0,
@@ -3681,323 +3998,6 @@ l1:;
     put8(fop + 4, v14);
     put16(fop + 2, v5);
     return v18;
-}
-
-static uint32_t sedge_fop_report_at(uint64_t fop, uint32_t vcid, uint64_t word, uint64_t released)
-{
-    uint32_t v4 = 0, v5 = 0, v6 = 0, v7 = 0, v8 = 0, v9 = 0, v10 = 0, v11 = 0, v12 = 0, v13 = 0, v14 = 0, v15 = 0,
-        v16 = 0, v17 = 0, v18 = 0, v19 = 0, v20 = 0, v21 = 0;
-    v4 = 253;
-    if (get8(word + 1) != (vcid & 255)) return v4;
-    vcid = get8(fop + 5);
-    v5 = vcid - 1;
-    if ((v5 & 255) <= 5) {
-        v6 = 1;
-        v7 = get8(fop + 8);
-        if (v7 <= 1) {
-            v8 = get8(fop + 15);
-            v9 = 0;
-            v10 = 1;
-            v4 = get8(fop + 14);
-            switch (v4 - 3) {
-            case 0:
-                goto l14;
-            case 1:
-                v10 = 2;
-                goto l14;
-            default:
-                goto l15;
-            }
-        l15:;
-            if (v4 > 2) return 255;
-            if ((v8 & 255) != 0) return 255;
-            v6 = 0;
-            v9 = 1;
-            v10 = v4;
-        l14:;
-            v11 = get8(fop + 13);
-            if (v11 != 0) {
-                v12 = get16(fop);
-                if ((v12 & 0xffff) != 0) {
-                    v13 = get8(fop + 12);
-                    if ((v13 & 255) != 0) {
-                        v14 = get8(fop + 10);
-                        v15 = get8(fop + 9);
-                        if ((v14 & 255) <= (v15 & 255)) {
-                            v16 = get8(fop + 4);
-                            v4 = v16 & 255;
-                            if ((v15 & 255) <= v4) {
-                                v17 = get8(fop + 6);
-                                v18 = get8(fop + 7);
-                                v19 = v17 - v18;
-                                if ((v19 & 255) <= v4) {
-                                    if (extend32(v16, 0x80) <= 0x7fffffffU) goto l25;
-                                    return 255;
-                                l25:;
-                                    v4 = 255;
-                                    v20 = get8(fop + 11);
-                                    if (((v20 - 1) & 255) >= (v16 & 255)) return v4;
-                                    v21 = get16(fop + 2);
-                                    switch (vcid - 1) {
-                                    case 1:
-                                    case 2:
-                                        goto l34;
-                                    case 3:
-                                        goto l37;
-                                    case 4:
-                                        goto l36;
-                                    case 5:
-                                        goto l35;
-                                    default:
-                                        goto l38;
-                                    }
-                                l38:;
-                                    v4 = 255;
-                                    if (v10 != 0) return v4;
-                                    if ((v15 & 255) != (v19 & 255)) return v4;
-                                    if (((uint32_t)((v15 & 255) == 0) ^ (uint32_t)((v21 & 0xffff) != 0)) != 0) goto
-                                        l33;
-                                    return v4;
-                                l37:;
-                                    v4 = 255;
-                                    if ((v15 & 255) != (v19 & 255)) return v4;
-                                    if (((v15 | v10) & 255) != 0) return v4;
-                                    if ((v21 & 0xffff) == 0) return v4;
-                                    vcid = 0;
-                                    v4 = get8(word + 2);
-                                    if ((v4 & 32) == 0) goto l32;
-                                    v5 = 1;
-                                    goto l30;
-                                l36:;
-                                    v4 = 255;
-                                    if ((v15 & 255) != (v19 & 255)) return v4;
-                                    if ((v15 & 255) != 0) return v4;
-                                    v4 = 255;
-                                    switch (v10) {
-                                    case 1:
-                                        goto l10;
-                                    case 2:
-                                        goto l39;
-                                    default:
-                                        return v4;
-                                    }
-                                l39:;
-                                    v4 = 255;
-                                    if ((~v9 & (uint32_t)((v8 & 255) != (v17 & 255))) != 0) return v4;
-                                    if ((v21 & 0xffff) == 0) return v4;
-                                    goto l8;
-                                l35:;
-                                    v4 = 255;
-                                    if (((v15 | v10) & 255) != 0) return v4;
-                                    if ((v7 & 1) != 0) return v4;
-                                    if ((v21 & 0xffff) != 0) return v4;
-                                    goto l6;
-                                l34:;
-                                    v4 = 255;
-                                    if (v10 != 0) return v4;
-                                    vcid = v15 & 255;
-                                    if (vcid != (v19 & 255)) return v4;
-                                    if (vcid == 0) return v4;
-                                    if ((v21 & 0xffff) == 0) return v4;
-                                l33:;
-                                    vcid = 0;
-                                    v4 = get8(word + 2);
-                                    if ((v4 & 32) == 0) goto l40;
-                                    v5 = 1;
-                                    goto l30;
-                                l40:;
-                                    v6 = get8(word + 4);
-                                    v10 = v6 - v18;
-                                    if ((v19 & 255) >= (v10 & 255)) goto l41;
-                                    v5 = 2;
-                                    goto l30;
-                                l41:;
-                                    if ((v4 & 24) == 16) goto l31;
-                                    if ((v4 & 8) == 0) goto l43;
-                                    v8 = v6 & 255;
-                                    if (v8 != (v17 & 255)) goto l42;
-                                    v5 = 4;
-                                    goto l30;
-                                l43:;
-                                    if ((v18 & 255) != (v6 & 255)) goto l44;
-                                    if ((v5 & 255) == 0) goto l27;
-                                    v5 = 4;
-                                    goto l30;
-                                l44:;
-                                    put8(released, v10);
-                                    v15 = v18 - v6 + v15;
-                                    v5 = v15 & 255;
-                                    vcid = v14 & 255;
-                                    v14 = (v5 < vcid) ? v5 : vcid;
-                                    v4 = 0;
-                                    vcid = 1;
-                                    v10 = 0;
-                                    v11 = 1;
-                                    v21 = v12;
-                                    v18 = v6;
-                                    if (v5 != 0) goto l2;
-                                    v10 = 0;
-                                    v11 = 1;
-                                    v15 = 0;
-                                    v18 = v6;
-                                    goto l5;
-                                l42:;
-                                    v4 = v4 & 16;
-                                    if ((v18 & 255) == v8) goto l45;
-                                    v11 = 1;
-                                    if ((v13 & 255) != 1) goto l46;
-                                    v5 = 5;
-                                    vcid = v10;
-                                    v18 = v6;
-                                    goto l30;
-                                l46:;
-                                    v15 = v18 - v6 + v15;
-                                    v11 = 2;
-                                    if (v4 != 0) goto l47;
-                                    v14 = v15;
-                                    v18 = v6;
-                                    goto l28;
-                                l47:;
-                                    vcid = v15 & 255;
-                                    v4 = v14 & 255;
-                                    v14 = (vcid < v4) ? vcid : v4;
-                                    vcid = 3;
-                                    v11 = 1;
-                                    v18 = v6;
-                                    goto l26;
-                                l45:;
-                                    v6 = v13 & 255;
-                                    if (v6 != 1) goto l48;
-                                    v5 = 5;
-                                    goto l30;
-                                l48:;
-                                    if (v4 == 0) goto l49;
-                                    vcid = 3;
-                                    goto l26;
-                                l49:;
-                                    if ((v5 & 255) != 1 && v11 < v6) goto l29;
-                                    vcid = 2;
-                                    goto l26;
-                                l32:;
-                                    if (get8(word + 4) == (v17 & 255)) goto l50;
-                                    v5 = 2;
-                                    goto l30;
-                                l50:;
-                                    if ((v4 & 8) == 0) goto l51;
-                                    v5 = 4;
-                                    goto l30;
-                                l51:;
-                                    if ((v4 & 16) == 0) goto l7;
-                                l31:;
-                                    v5 = 3;
-                                l30:;
-                                    put8(released, vcid);
-                                    v4 = 0;
-                                    vcid = 6;
-                                    v10 = 0;
-                                    v14 = 0;
-                                    v15 = 0;
-                                    v7 = 0;
-                                    goto l3;
-                                l29:;
-                                    v11 = v11 + 1;
-                                    v14 = v15;
-                                l28:;
-                                    put8(released, v10);
-                                    v4 = 0;
-                                    vcid = 2;
-                                    v10 = 0;
-                                    v21 = v12;
-                                    goto l2;
-                                l27:;
-                                    vcid = 1;
-                                l26:;
-                                    put8(released, v10);
-                                    v4 = 0;
-                                    v10 = 0;
-                                    if ((v21 & 0xffff) != 0) goto l2;
-                                    v10 = 0;
-                                    goto l5;
-                                }
-                                return 255;
-                            }
-                            return 255;
-                        }
-                        return 255;
-                    }
-                    return 255;
-                }
-                return 255;
-            }
-            return 255;
-        }
-        return 255;
-    }
-    return 255;
-l10:;
-    v4 = 255;
-    if ((v9 | (uint32_t)((v8 & 255) == (v17 & 255))) != 0) goto l8;
-    return v4;
-l8:;
-    if ((get8(word + 2) & 56) != 0) goto l6;
-    if (get8(word + 4) != (v17 & 255)) goto l6;
-l7:;
-    v4 = 0;
-    put8(released, 0);
-    vcid = 1;
-    v10 = 0;
-    v15 = 0;
-    goto l5;
-l6:;
-    v4 = 0;
-    put8(released, 0);
-    switch (v10) {
-    case 1:
-        goto l53;
-    case 2:
-        v10 = (v9 != 0) ? 2U : 4U;
-        if (v6 == 0) goto l52;
-        goto l4;
-    default:
-        goto l52;
-    }
-l53:;
-    v10 = (v9 != 0) ? 1U : 3U;
-    if (v6 != 0) goto l4;
-l52:;
-    if ((v21 & 0xffff) != 0) goto l2;
-l5:;
-    v5 = 0;
-    goto l3;
-l4:;
-    if ((v21 & 0xffff) != 0) {
-        v4 = v8;
-        v5 = 0;
-        goto l1;
-    }
-    v5 = 0;
-    v4 = v8;
-l3:;
-    v21 = 0;
-    goto l1;
-l2:;
-    v5 = 0;
-l1:;
-    put16(fop, v12);
-    put8(fop + 15, v4);
-    put8(fop + 14, v10);
-    put8(fop + 13, v11);
-    put8(fop + 12, v13);
-    put8(fop + 11, v20);
-    put8(fop + 10, v14);
-    put8(fop + 9, v15);
-    put8(fop + 8, v7);
-    put8(fop + 7, v18);
-    put8(fop + 6, v17);
-    put8(fop + 5, vcid);
-    put8(fop + 4, v16);
-    put16(fop + 2, v21);
-    return v5;
 }
 
 static uint32_t sedge_fop_submit_at(uint64_t fop)
@@ -4930,9 +4930,9 @@ uint8_t sedge_farm_released(struct sedge_farm *farm)
     return (uint8_t)sedge_farm_released_at(address(farm));
 }
 
-uint8_t sedge_farm_report(const struct sedge_farm *farm, uint8_t vcid, struct sedge_clcw *word)
+uint8_t sedge_farm_control_word(const struct sedge_farm *farm, uint8_t vcid, struct sedge_clcw *word)
 {
-    return (uint8_t)sedge_farm_report_at(address(farm), vcid, address(word));
+    return (uint8_t)sedge_farm_control_word_at(address(farm), vcid, address(word));
 }
 
 uint8_t sedge_farm_state(const struct sedge_farm *farm)
@@ -4984,13 +4984,13 @@ uint8_t sedge_fop_next(struct sedge_fop *fop, uint8_t *number)
     return answer;
 }
 
-uint8_t sedge_fop_report(struct sedge_fop *fop, uint8_t vcid, const struct sedge_clcw *word, uint8_t *released)
+uint8_t sedge_fop_clcw(struct sedge_fop *fop, uint8_t vcid, const struct sedge_clcw *word, uint8_t *released)
 {
     unsigned char fop_octets[16 + 15];
     const uint64_t fop_at = aligned(fop_octets);
     uint8_t answer;
     put_sedge_fop(fop_at, fop);
-    answer = (uint8_t)sedge_fop_report_at(fop_at, vcid, address(word), address(released));
+    answer = (uint8_t)sedge_fop_clcw_at(fop_at, vcid, address(word), address(released));
     get_sedge_fop(fop_at, fop);
     return answer;
 }
