@@ -52,23 +52,19 @@ class _Struct(ctypes.Structure):
 
 
 def _typed(**fields: Dict[int, Any]) -> Callable[[Type[_Own]], Type[_Own]]:
-    """Makes fields of a struct answer members, by their numbers. A number that has none, as only a caller can set it,
+    """Makes fields of an octet answer members, by their numbers. A number that has none, as only a caller can set it,
     stays a number."""
     def made(struct: Type[_Own]) -> Type[_Own]:
         for name, members in fields.items():
-            field = getattr(struct, name)
-            setattr(struct, name, property(_member_of(field.__get__, members), field.__set__))
+            field, of_all = getattr(struct, name), tuple(members.get(number, number) for number in range(256))
+            setattr(struct, name, property(_member_of(field.__get__, of_all), field.__set__))
         return struct
 
     return made
 
 
-def _member_of(number_in: Callable[[Any], int], members: Dict[int, Any]) -> Callable[[Any], Any]:
-    def member(struct: Any) -> Any:
-        number = number_in(struct)
-        return members.get(number, number)
-
-    return member
+def _member_of(number_in: Callable[[Any], int], of_all: Tuple[Any, ...]) -> Callable[[Any], Any]:
+    return lambda struct: of_all[number_in(struct)]
 
 
 class _Part(ctypes.Structure):
