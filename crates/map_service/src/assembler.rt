@@ -159,11 +159,7 @@ impl Assembler {
     }
 
     // The same. A part is opened in the spare room, where there is any.
-    fn prepared(
-        &self,
-        spare: &mut Option<Vec<u8>>,
-        segment: &Segment,
-    ) -> Result<Prepared, MapFault>
+    fn prepared(&self, spare: &mut Option<Vec<u8>>, segment: &Segment) -> Result<Prepared, MapFault>
         requires { HasLongest self.now.limits.max_packet spare.old }
         ensures spare { HasLongest self.now.limits.max_packet spare.new }
         ensures prepared { IfOk result (IsPrepared self.now (segment_view segment.now)) }
