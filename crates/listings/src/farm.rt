@@ -17,6 +17,7 @@ use octets::Splitter;
 use std::alloc::AllocError;
 use tc_frame::{Body, Check, Command, FrameLayout, TcFault, check_if, decode};
 
+#[inline(always)]
 fn put_state(room: &mut [u8], at: usize, state: FarmMode) -> usize
     requires { at + 7 ≤ length room.old }
     ensures put { take result room.new ≡ take at room.old ++ state_word state }
@@ -29,6 +30,7 @@ fn put_state(room: &mut [u8], at: usize, state: FarmMode) -> usize
     }
 }
 
+#[inline(always)]
 fn put_verdict(room: &mut [u8], at: usize, verdict: Verdict) -> usize
     requires { at + 9 ≤ length room.old }
     ensures put { take result room.new ≡ take at room.old ++ (verdict_row verdict).1 }
@@ -44,6 +46,7 @@ fn put_verdict(room: &mut [u8], at: usize, verdict: Verdict) -> usize
     }
 }
 
+#[inline(always)]
 fn put_flags(room: &mut [u8], at: usize, farm: &Farm) -> usize
     requires { at + 32 ≤ length room.old }
     ensures put { take result room.new ≡ take at room.old ++ flags_text farm.now }
@@ -56,6 +59,7 @@ fn put_flags(room: &mut [u8], at: usize, farm: &Farm) -> usize
     put_word(room, next, b"\n")
 }
 
+#[inline(always)]
 fn put_receiver(room: &mut [u8], at: usize, farm: &Farm) -> usize
     requires { at + 64 ≤ length room.old }
     ensures put { take result room.new ≡ take at room.old ++ state_text farm.now }
@@ -66,6 +70,7 @@ fn put_receiver(room: &mut [u8], at: usize, farm: &Farm) -> usize
     put_flags(room, next, farm)
 }
 
+#[inline(always)]
 fn put_ad(room: &mut [u8], at: usize, n: u8, verdict: Verdict) -> usize
     requires { at + 32 ≤ length room.old }
     ensures put { take result room.new ≡ take at room.old
@@ -78,6 +83,7 @@ fn put_ad(room: &mut [u8], at: usize, n: u8, verdict: Verdict) -> usize
     put_word(room, next, b" ")
 }
 
+#[inline(always)]
 fn put_set_vr(room: &mut [u8], at: usize, vr: u8) -> usize
     requires { at + 32 ≤ length room.old }
     ensures put { take result room.new ≡ take at room.old
@@ -103,6 +109,7 @@ pub fn give(farm: &mut Farm, body: &Body)
 }
 
 /// Gives a frame to the receiver, whose buffer is free, and puts what it made of it.
+#[inline(always)]
 fn put_body(room: &mut [u8], at: usize, farm: &mut Farm, body: &Body) -> usize
     requires { at + 32 ≤ length room.old }
     ensures put { take result room.new ≡ take at room.old
@@ -131,6 +138,7 @@ fn put_body(room: &mut [u8], at: usize, farm: &mut Farm, body: &Body) -> usize
 }
 
 /// Gives a frame to the receiver, and puts its line.
+#[inline(always)]
 fn put_frame(room: &mut [u8], at: usize, farm: &mut Farm, index: u64, body: &Body) -> usize
     requires { at + 128 ≤ length room.old }
     ensures put { take result room.new ≡ take at room.old ++ (decimal index ++ (codes " "
@@ -145,6 +153,7 @@ fn put_frame(room: &mut [u8], at: usize, farm: &mut Farm, index: u64, body: &Bod
 }
 
 /// Gives a record to the receiver, appends its line, and answers whether it is a frame.
+#[inline(always)]
 fn push_frame(
     text: &mut Text,
     farm: &mut Farm,

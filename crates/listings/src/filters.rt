@@ -2,7 +2,8 @@
 
 ghost use Rattle.std.specs.Prelude.{◌≡◌, ℕ, Bool, List, take, drop};
 ghost use Rattle.octets.specs.Number.{number_of};
-ghost use Rattle.listings.specs.Filters.{is_asked, keeps_frame, keeps_telemetry, keeps_packet, NamesItsFields};
+ghost use Rattle.listings.specs.Filters.{is_asked, frame_scid, frame_vcid, telemetry_scid, telemetry_vcid};
+ghost use Rattle.listings.specs.Filters.{keeps_frame, keeps_telemetry, keeps_packet, NamesItsFields};
 
 use octets::first_two;
 
@@ -64,47 +65,69 @@ fn second_number(octets: &[u8]) -> u16
     first_number(&octets[2..])
 }
 
+// Each looks at the header only where something is asked.
 #[inline(always)]
-fn is_scid(asked: Option<u16>, scid: u16) -> bool
-    ensures { result ≡ is_asked asked scid }
+fn is_frame_scid(asked: Option<u16>, octets: &[u8]) -> bool
+    ensures { result ≡ is_asked asked (frame_scid octets.now) }
 {
     match asked {
         None => true,
-        Some(asked) => scid == asked,
+        Some(asked) => first_number(octets) % 1024 == asked,
     }
 }
 
 #[inline(always)]
-fn is_vcid(asked: Option<u8>, vcid: u16) -> bool
-    ensures { result ≡ is_asked asked vcid }
+fn is_frame_vcid(asked: Option<u8>, octets: &[u8]) -> bool
+    ensures { result ≡ is_asked asked (frame_vcid octets.now) }
 {
     match asked {
         None => true,
-        Some(asked) => vcid == u16::from(asked),
+        Some(asked) => second_number(octets) / 1024 == u16::from(asked),
+    }
+}
+
+#[inline(always)]
+fn is_telemetry_scid(asked: Option<u16>, octets: &[u8]) -> bool
+    ensures { result ≡ is_asked asked (telemetry_scid octets.now) }
+{
+    match asked {
+        None => true,
+        Some(asked) => first_number(octets) / 16 % 1024 == asked,
+    }
+}
+
+#[inline(always)]
+fn is_telemetry_vcid(asked: Option<u8>, octets: &[u8]) -> bool
+    ensures { result ≡ is_asked asked (telemetry_vcid octets.now) }
+{
+    match asked {
+        None => true,
+        Some(asked) => first_number(octets) / 2 % 8 == u16::from(asked),
     }
 }
 
 impl Filter for FramesOf {
     ghost keeps = { λ f octets. keeps_frame f.scid f.vcid octets };
 
+    #[inline(always)]
     fn keeps(&self, octets: &[u8]) -> bool {
-        is_scid(self.scid, first_number(octets) % 1024)
-            && is_vcid(self.vcid, second_number(octets) / 1024)
+        is_frame_scid(self.scid, octets) && is_frame_vcid(self.vcid, octets)
     }
 }
 
 impl Filter for TelemetryOf {
     ghost keeps = { λ f octets. keeps_telemetry f.scid f.vcid octets };
 
+    #[inline(always)]
     fn keeps(&self, octets: &[u8]) -> bool {
-        let first = first_number(octets);
-        is_scid(self.scid, first / 16 % 1024) && is_vcid(self.vcid, first / 2 % 8)
+        is_telemetry_scid(self.scid, octets) && is_telemetry_vcid(self.vcid, octets)
     }
 }
 
 impl Filter for PacketsOf {
     ghost keeps = { λ f octets. keeps_packet f.apid octets };
 
+    #[inline(always)]
     fn keeps(&self, octets: &[u8]) -> bool {
         first_number(octets) % 2048 == self.apid
     }

@@ -64,6 +64,7 @@ impl MapListing {
     }
 
     /// Gives a segment to the assembler, and appends what it drops and hands out.
+    #[inline(always)]
     fn push_segment(
         &mut self,
         text: &mut Text,
@@ -180,6 +181,7 @@ fn put_dropped(room: &mut [u8], at: usize, index: u64) -> usize
 }
 
 /// Appends a word, a MAP, and octets that came on it.
+#[inline(always)]
 fn push_on_map(text: &mut Text, word: &[u8; 7], map: u8, octets: &[u8]) -> Result<(), AllocError>
     ensures { Appends result text.old text.new (on_map_line word.now map octets.now) }
 {
@@ -188,6 +190,7 @@ fn push_on_map(text: &mut Text, word: &[u8; 7], map: u8, octets: &[u8]) -> Resul
     push_octets(text, octets)
 }
 
+#[inline(always)]
 fn put_on_map(room: &mut [u8], at: usize, word: &[u8; 7], map: u8) -> usize
     requires { at + 16 ≤ length room.old }
     ensures put { take result room.new ≡ take at room.old
@@ -198,6 +201,7 @@ fn put_on_map(room: &mut [u8], at: usize, word: &[u8; 7], map: u8) -> usize
     put_word(room, next, b" ")
 }
 
+#[inline(always)]
 fn push_cause(text: &mut Text, index: u64, dropped: Option<Dropped>) -> Result<(), AllocError>
     ensures { Appends result text.old text.new (cause_text index dropped) }
 {
@@ -208,6 +212,7 @@ fn push_cause(text: &mut Text, index: u64, dropped: Option<Dropped>) -> Result<(
 }
 
 /// Appends the line of a packet that is handed out.
+#[inline(always)]
 fn push_packet(text: &mut Text, map: u8, packet: &[u8]) -> Result<(), AllocError>
     ensures { Appends result text.old text.new (on_map_line (codes "packet ") map packet.now) }
 {
@@ -215,6 +220,7 @@ fn push_packet(text: &mut Text, map: u8, packet: &[u8]) -> Result<(), AllocError
 }
 
 /// Appends the line of each packet that is handed out.
+#[inline(always)]
 fn push_packets(text: &mut Text, map: u8, packets: &[Vec<u8>]) -> Result<(), AllocError>
     ensures { Appends result text.old text.new (map_packets_text map (octets_of packets.now)) }
 {

@@ -41,6 +41,7 @@ impl PacketListing {
 }
 
 #[tactic(auto, unfolding(crate::specs::PacketLines::kind_word))]
+#[inline(always)]
 fn word_of_kind(kind: PacketKind) -> [u8; 2]
     ensures { result ≡ kind_word kind }
 {
@@ -50,12 +51,14 @@ fn word_of_kind(kind: PacketKind) -> [u8; 2]
     }
 }
 
+#[inline(always)]
 fn number_of_flag(flag: bool) -> u16
     ensures { result ≡ secondary_bit flag }
 {
     u16::from(flag)
 }
 
+#[inline(always)]
 fn put_process(room: &mut [u8], at: usize, kind: &[u8; 2], secondary: u16, apid: u16) -> usize
     requires { at + 48 ≤ length room.old }
     ensures put { take result room.new ≡ take at room.old ++ process_text kind.now secondary apid }
@@ -66,6 +69,7 @@ fn put_process(room: &mut [u8], at: usize, kind: &[u8; 2], secondary: u16, apid:
     put_field(room, next, b" apid=", apid)
 }
 
+#[inline(always)]
 fn put_sequence(room: &mut [u8], at: usize, packet: &Packet) -> usize
     requires { at + 32 ≤ length room.old }
     ensures put { take result room.new ≡ take at room.old ++ sequence_text (packet_view packet.now) }
@@ -75,6 +79,7 @@ fn put_sequence(room: &mut [u8], at: usize, packet: &Packet) -> usize
     put_field(room, next, b" count=", packet.count)
 }
 
+#[inline(always)]
 fn put_gap(room: &mut [u8], at: usize, gap: Option<u16>) -> usize
     requires { at + 32 ≤ length room.old }
     ensures put { take result room.new ≡ take at room.old ++ gap_text gap }
@@ -89,6 +94,7 @@ fn put_gap(room: &mut [u8], at: usize, gap: Option<u16>) -> usize
     }
 }
 
+#[inline(always)]
 fn put_packet(room: &mut [u8], at: usize, index: u64, packet: &Packet, gap: Option<u16>) -> usize
     requires { at + 144 ≤ length room.old }
     ensures put { take result room.new ≡ take at room.old ++ (decimal index ++ (codes " "

@@ -19,6 +19,30 @@ pub fn put_all(room: &mut [u8], at: usize, octets: &[u8]) -> usize
     next
 }
 
+// Puts the first N of these octets, by one load and one store.
+#[inline(always)]
+fn put_front<const N: usize>(room: &mut [u8], at: usize, octets: &[u8])
+    requires { (N ≤ length octets.now) × (at + N ≤ length room.old) }
+    ensures { take (at + N) room.new ≡ take at room.old ++ take N octets.now }
+{
+    Simd::<u8, N>::from_slice(octets).copy_to_slice(&mut room[at..]);
+}
+
+// Puts at most twice N octets: the first N, and the last N over them.
+#[inline(always)]
+fn put_ends<const N: usize>(room: &mut [u8], at: usize, octets: &[u8]) -> usize
+    requires room { at + length octets.now ≤ length room.old }
+    requires most { (N ≤ length octets.now) × (length octets.now ≤ N + N) }
+    ensures put { take result room.new ≡ take at room.old ++ octets.now }
+    ensures next { result ≡ at + length octets.now }
+{
+    let next = at + octets.len();
+    let last = octets.len() - N;
+    put_front::<N>(room, at, octets);
+    put_front::<N>(room, at + last, &octets[last..]);
+    next
+}
+
 /// Puts octets whose count is known when this is compiled.
 #[inline(always)]
 pub fn put_word<const N: usize>(room: &mut [u8], at: usize, word: &[u8; N]) -> usize
@@ -26,8 +50,83 @@ pub fn put_word<const N: usize>(room: &mut [u8], at: usize, word: &[u8; N]) -> u
     ensures put { take result room.new ≡ take at room.old ++ word.now }
     ensures next { result ≡ at + N }
 {
-    room[at..at + N].copy_from_slice(word);
-    at + N
+    match N {
+        2..=3 => put_ends::<2>(room, at, word),
+        4..=7 => put_ends::<4>(room, at, word),
+        8..=15 => put_ends::<8>(room, at, word),
+        16..=31 => put_ends::<16>(room, at, word),
+        _ => put_all(room, at, word),
+    }
+}
+
+// The decimal digits of each octet: three places, and how many of them are digits.
+static OCTETS: [u8; 1024] = [
+    48, 48, 48, 1, 49, 48, 48, 1, 50, 48, 48, 1, 51, 48, 48, 1, 52, 48, 48, 1, 53, 48, 48, 1, 54,
+    48, 48, 1, 55, 48, 48, 1, 56, 48, 48, 1, 57, 48, 48, 1, 49, 48, 48, 2, 49, 49, 48, 2, 49, 50,
+    48, 2, 49, 51, 48, 2, 49, 52, 48, 2, 49, 53, 48, 2, 49, 54, 48, 2, 49, 55, 48, 2, 49, 56, 48,
+    2, 49, 57, 48, 2, 50, 48, 48, 2, 50, 49, 48, 2, 50, 50, 48, 2, 50, 51, 48, 2, 50, 52, 48, 2,
+    50, 53, 48, 2, 50, 54, 48, 2, 50, 55, 48, 2, 50, 56, 48, 2, 50, 57, 48, 2, 51, 48, 48, 2, 51,
+    49, 48, 2, 51, 50, 48, 2, 51, 51, 48, 2, 51, 52, 48, 2, 51, 53, 48, 2, 51, 54, 48, 2, 51, 55,
+    48, 2, 51, 56, 48, 2, 51, 57, 48, 2, 52, 48, 48, 2, 52, 49, 48, 2, 52, 50, 48, 2, 52, 51, 48,
+    2, 52, 52, 48, 2, 52, 53, 48, 2, 52, 54, 48, 2, 52, 55, 48, 2, 52, 56, 48, 2, 52, 57, 48, 2,
+    53, 48, 48, 2, 53, 49, 48, 2, 53, 50, 48, 2, 53, 51, 48, 2, 53, 52, 48, 2, 53, 53, 48, 2, 53,
+    54, 48, 2, 53, 55, 48, 2, 53, 56, 48, 2, 53, 57, 48, 2, 54, 48, 48, 2, 54, 49, 48, 2, 54, 50,
+    48, 2, 54, 51, 48, 2, 54, 52, 48, 2, 54, 53, 48, 2, 54, 54, 48, 2, 54, 55, 48, 2, 54, 56, 48,
+    2, 54, 57, 48, 2, 55, 48, 48, 2, 55, 49, 48, 2, 55, 50, 48, 2, 55, 51, 48, 2, 55, 52, 48, 2,
+    55, 53, 48, 2, 55, 54, 48, 2, 55, 55, 48, 2, 55, 56, 48, 2, 55, 57, 48, 2, 56, 48, 48, 2, 56,
+    49, 48, 2, 56, 50, 48, 2, 56, 51, 48, 2, 56, 52, 48, 2, 56, 53, 48, 2, 56, 54, 48, 2, 56, 55,
+    48, 2, 56, 56, 48, 2, 56, 57, 48, 2, 57, 48, 48, 2, 57, 49, 48, 2, 57, 50, 48, 2, 57, 51, 48,
+    2, 57, 52, 48, 2, 57, 53, 48, 2, 57, 54, 48, 2, 57, 55, 48, 2, 57, 56, 48, 2, 57, 57, 48, 2,
+    49, 48, 48, 3, 49, 48, 49, 3, 49, 48, 50, 3, 49, 48, 51, 3, 49, 48, 52, 3, 49, 48, 53, 3, 49,
+    48, 54, 3, 49, 48, 55, 3, 49, 48, 56, 3, 49, 48, 57, 3, 49, 49, 48, 3, 49, 49, 49, 3, 49, 49,
+    50, 3, 49, 49, 51, 3, 49, 49, 52, 3, 49, 49, 53, 3, 49, 49, 54, 3, 49, 49, 55, 3, 49, 49, 56,
+    3, 49, 49, 57, 3, 49, 50, 48, 3, 49, 50, 49, 3, 49, 50, 50, 3, 49, 50, 51, 3, 49, 50, 52, 3,
+    49, 50, 53, 3, 49, 50, 54, 3, 49, 50, 55, 3, 49, 50, 56, 3, 49, 50, 57, 3, 49, 51, 48, 3, 49,
+    51, 49, 3, 49, 51, 50, 3, 49, 51, 51, 3, 49, 51, 52, 3, 49, 51, 53, 3, 49, 51, 54, 3, 49, 51,
+    55, 3, 49, 51, 56, 3, 49, 51, 57, 3, 49, 52, 48, 3, 49, 52, 49, 3, 49, 52, 50, 3, 49, 52, 51,
+    3, 49, 52, 52, 3, 49, 52, 53, 3, 49, 52, 54, 3, 49, 52, 55, 3, 49, 52, 56, 3, 49, 52, 57, 3,
+    49, 53, 48, 3, 49, 53, 49, 3, 49, 53, 50, 3, 49, 53, 51, 3, 49, 53, 52, 3, 49, 53, 53, 3, 49,
+    53, 54, 3, 49, 53, 55, 3, 49, 53, 56, 3, 49, 53, 57, 3, 49, 54, 48, 3, 49, 54, 49, 3, 49, 54,
+    50, 3, 49, 54, 51, 3, 49, 54, 52, 3, 49, 54, 53, 3, 49, 54, 54, 3, 49, 54, 55, 3, 49, 54, 56,
+    3, 49, 54, 57, 3, 49, 55, 48, 3, 49, 55, 49, 3, 49, 55, 50, 3, 49, 55, 51, 3, 49, 55, 52, 3,
+    49, 55, 53, 3, 49, 55, 54, 3, 49, 55, 55, 3, 49, 55, 56, 3, 49, 55, 57, 3, 49, 56, 48, 3, 49,
+    56, 49, 3, 49, 56, 50, 3, 49, 56, 51, 3, 49, 56, 52, 3, 49, 56, 53, 3, 49, 56, 54, 3, 49, 56,
+    55, 3, 49, 56, 56, 3, 49, 56, 57, 3, 49, 57, 48, 3, 49, 57, 49, 3, 49, 57, 50, 3, 49, 57, 51,
+    3, 49, 57, 52, 3, 49, 57, 53, 3, 49, 57, 54, 3, 49, 57, 55, 3, 49, 57, 56, 3, 49, 57, 57, 3,
+    50, 48, 48, 3, 50, 48, 49, 3, 50, 48, 50, 3, 50, 48, 51, 3, 50, 48, 52, 3, 50, 48, 53, 3, 50,
+    48, 54, 3, 50, 48, 55, 3, 50, 48, 56, 3, 50, 48, 57, 3, 50, 49, 48, 3, 50, 49, 49, 3, 50, 49,
+    50, 3, 50, 49, 51, 3, 50, 49, 52, 3, 50, 49, 53, 3, 50, 49, 54, 3, 50, 49, 55, 3, 50, 49, 56,
+    3, 50, 49, 57, 3, 50, 50, 48, 3, 50, 50, 49, 3, 50, 50, 50, 3, 50, 50, 51, 3, 50, 50, 52, 3,
+    50, 50, 53, 3, 50, 50, 54, 3, 50, 50, 55, 3, 50, 50, 56, 3, 50, 50, 57, 3, 50, 51, 48, 3, 50,
+    51, 49, 3, 50, 51, 50, 3, 50, 51, 51, 3, 50, 51, 52, 3, 50, 51, 53, 3, 50, 51, 54, 3, 50, 51,
+    55, 3, 50, 51, 56, 3, 50, 51, 57, 3, 50, 52, 48, 3, 50, 52, 49, 3, 50, 52, 50, 3, 50, 52, 51,
+    3, 50, 52, 52, 3, 50, 52, 53, 3, 50, 52, 54, 3, 50, 52, 55, 3, 50, 52, 56, 3, 50, 52, 57, 3,
+    50, 53, 48, 3, 50, 53, 49, 3, 50, 53, 50, 3, 50, 53, 51, 3, 50, 53, 52, 3, 50, 53, 53, 3,
+];
+
+// The entry of an octet, and all after it.
+#[inline(always)]
+fn entry_of(octet: u8) -> &'static [u8]
+    ensures room { 4 ≤ length result.now }
+    ensures digits { take (slice_index result.now 3) result.now ≡ decimal octet }
+    ensures count { slice_index result.now 3 ≡ length (decimal octet) }
+    ensures few { slice_index result.now 3 ≤ 3 }
+{
+    let at = 4 * usize::from(octet);
+    &OCTETS[at..]
+}
+
+// Puts the decimal digits of an octet, which are at most three.
+#[inline(always)]
+fn put_octet(room: &mut [u8], at: usize, octet: u8) -> usize
+    requires { at + 4 ≤ length room.old }
+    ensures put { take result room.new ≡ take at room.old ++ decimal octet }
+    ensures next { result ≡ at + length (decimal octet) }
+    ensures few { result ≤ at + 3 }
+{
+    let entry = entry_of(octet);
+    put_front::<4>(room, at, entry);
+    at + usize::from(entry[3])
 }
 
 /// Puts a word, and a number's decimal digits after it, which are at most five.
@@ -50,6 +149,7 @@ fn digit_of_flag(flag: bool) -> u8
 }
 
 /// Puts a word, and a flag as 0 or 1 after it.
+#[inline(always)]
 pub fn put_flag<const N: usize>(room: &mut [u8], at: usize, word: &[u8; N], flag: bool) -> usize
     requires { at + (N + 1) ≤ length room.old }
     ensures put { take result room.new ≡ take at room.old
@@ -79,6 +179,7 @@ pub fn put_number(room: &mut [u8], at: usize, number: u64) -> usize
 #[tactic(auto, using(crate::proofs::Digits::four_more))]
 fn put_eight(room: &mut [u8], at: usize, number: u32) -> usize
     requires room { at + length (decimal number) ≤ length room.old }
+    requires five { at + 5 ≤ length room.old }
     requires eight { number < 100000000 }
     ensures put { take result room.new ≡ take at room.old ++ decimal number }
     ensures next { result ≡ at + length (decimal number) }
@@ -92,7 +193,8 @@ fn put_eight(room: &mut [u8], at: usize, number: u32) -> usize
 
 #[tactic(auto, using(crate::proofs::Digits::then_four, crate::proofs::Digits::four_more))]
 fn put_long(room: &mut [u8], at: usize, number: u64) -> usize
-    requires { at + length (decimal number) ≤ length room.old }
+    requires room { at + length (decimal number) ≤ length room.old }
+    requires five { at + 5 ≤ length room.old }
     ensures put { take result room.new ≡ take at room.old ++ decimal number }
     ensures next { result ≡ at + length (decimal number) }
 {
@@ -105,31 +207,35 @@ fn put_long(room: &mut [u8], at: usize, number: u64) -> usize
 
 // Puts the decimal digits of a number below 10,000.
 #[inline(always)]
-#[tactic(auto, using(std::proofs::lemmas::Fmt::decimal_digit, crate::proofs::Digits::two_digits, crate::proofs::Digits::three_digits, crate::proofs::Digits::is_four))]
 fn put_upper(room: &mut [u8], at: usize, number: u16) -> usize
-    requires room { at + length (decimal number) ≤ length room.old }
+    requires room { at + 5 ≤ length room.old }
     requires four { number < 10000 }
     ensures put { take result room.new ≡ take at room.old ++ decimal number }
     ensures next { result ≡ at + length (decimal number) }
 {
-    match number {
-        0..=9 => put_word(room, at, &[b'0' + number as u8]),
-        10..=99 => put_word(
-            room,
-            at,
-            &[b'0' + (number / 10) as u8, b'0' + (number % 10) as u8],
-        ),
-        100..=999 => put_word(
-            room,
-            at,
-            &[
-                b'0' + (number / 100) as u8,
-                b'0' + (number / 10 % 10) as u8,
-                b'0' + (number % 10) as u8,
-            ],
-        ),
-        _ => put_four(room, at, number),
+    if number < 256 {
+        return put_octet(room, at, number as u8);
     }
+    if number < 1000 {
+        let next = put_octet(room, at, (number / 10) as u8);
+        return put_word(room, next, &[b'0' + (number % 10) as u8]);
+    }
+    let next = put_octet(room, at, (number / 100) as u8);
+    put_two(room, next, (number % 100) as u8)
+}
+
+// Puts two decimal digits, which are the last two of three.
+#[inline(always)]
+fn put_two(room: &mut [u8], at: usize, number: u8) -> usize
+    requires room { at + 2 ≤ length room.old }
+    requires two { number < 100 }
+    ensures put { take result room.new
+        ≡ take at room.old ++ (48 + number / 10) ∷ (48 + number % 10) ∷ [] }
+    ensures next { result ≡ at + 2 }
+{
+    let entry = entry_of(number + 100);
+    put_front::<2>(room, at, &entry[1..]);
+    at + 2
 }
 
 // Puts four decimal digits.
@@ -140,16 +246,8 @@ fn put_four(room: &mut [u8], at: usize, number: u16) -> usize
     ensures put { take result room.new ≡ take at room.old ++ four_digits number }
     ensures next { result ≡ at + 4 }
 {
-    put_word(
-        room,
-        at,
-        &[
-            b'0' + (number / 1000) as u8,
-            b'0' + (number / 100 % 10) as u8,
-            b'0' + (number / 10 % 10) as u8,
-            b'0' + (number % 10) as u8,
-        ],
-    )
+    let next = put_two(room, at, (number / 100) as u8);
+    put_two(room, next, (number % 100) as u8)
 }
 
 /// Puts octets as upper-case hexadecimal digits.

@@ -27,6 +27,7 @@ impl Model for ReportListing {
     ghost view = { λ l. tt };
 }
 
+#[inline(always)]
 fn put_status(room: &mut [u8], at: usize, word: &Clcw) -> usize
     requires { at + 32 ≤ length room.old }
     ensures put { take result room.new ≡ take at room.old ++ status_text word.now }
@@ -48,6 +49,7 @@ fn put_status(room: &mut [u8], at: usize, word: &Clcw) -> usize
     put_word(room, next, b"\n")
 }
 
+#[inline(always)]
 fn put_receiver(room: &mut [u8], at: usize, word: &Clcw) -> usize
     requires { at + 64 ≤ length room.old }
     ensures put { take result room.new ≡ take at room.old ++ receiver_text word.now }
@@ -66,6 +68,7 @@ fn put_receiver(room: &mut [u8], at: usize, word: &Clcw) -> usize
     put_status(room, next, word)
 }
 
+#[inline(always)]
 fn put_report(room: &mut [u8], at: usize, word: &Clcw) -> usize
     requires { at + 96 ≤ length room.old }
     ensures put { take result room.new ≡ take at room.old ++ report_line word.now }
@@ -75,6 +78,7 @@ fn put_report(room: &mut [u8], at: usize, word: &Clcw) -> usize
     put_receiver(room, next, word)
 }
 
+#[inline(always)]
 fn put_numbered(room: &mut [u8], at: usize, index: u64, word: &Clcw) -> usize
     requires { at + 128 ≤ length room.old }
     ensures put { take result room.new ≡ take at room.old
@@ -97,6 +101,7 @@ fn put_invalid(room: &mut [u8], at: usize, number: u8) -> usize
 }
 
 /// Appends the line of the control word in a telemetry frame, or why its field is none.
+#[inline(always)]
 pub fn push_report(text: &mut Text, field: [u8; 4]) -> Result<(), AllocError>
     ensures { Appends result text.old text.new (field_line (clcw_at field)) }
 {

@@ -82,6 +82,7 @@ impl<K: FrameLength> Listing<FrameCutter<K>> for TelemetryListing<K> {
     }
 }
 
+#[inline(always)]
 fn put_counts(room: &mut [u8], at: usize, index: u64, frame: &TmFrame) -> usize
     requires { at + 64 ≤ length room.old }
     ensures put { take result room.new ≡ take at room.old
@@ -95,6 +96,7 @@ fn put_counts(room: &mut [u8], at: usize, index: u64, frame: &TmFrame) -> usize
     put_field(room, next, b" vc=", u16::from(frame.vc_count))
 }
 
+#[inline(always)]
 fn put_pointer(room: &mut [u8], at: usize, pointer: Pointer) -> usize
     requires { at + 32 ≤ length room.old }
     ensures put { take result room.new ≡ take at room.old
@@ -111,6 +113,7 @@ fn put_pointer(room: &mut [u8], at: usize, pointer: Pointer) -> usize
     }
 }
 
+#[inline(always)]
 fn put_gap(room: &mut [u8], at: usize, gap: Gap) -> usize
     requires { at + 16 ≤ length room.old }
     ensures put { take result room.new ≡ take at room.old
@@ -126,6 +129,7 @@ fn put_gap(room: &mut [u8], at: usize, gap: Gap) -> usize
     }
 }
 
+#[inline(always)]
 fn put_frame(room: &mut [u8], at: usize, index: u64, frame: &TmFrame, gap: Gap) -> usize
     requires { at + 128 ≤ length room.old }
     ensures put { take result room.new ≡ take at room.old
@@ -149,6 +153,7 @@ fn push_report_if(text: &mut Text, reports: bool, frame: &TmFrame) -> Result<(),
 }
 
 /// Appends the line of each packet that is finished.
+#[inline(always)]
 fn push_finished(text: &mut Text, packets: &[Vec<u8>]) -> Result<(), AllocError>
     ensures { Appends result text.old text.new (finished_lines (octets_of packets.now)) }
 {
@@ -158,6 +163,7 @@ fn push_finished(text: &mut Text, packets: &[Vec<u8>]) -> Result<(), AllocError>
     Ok(())
 }
 
+#[inline(always)]
 fn push_packet(text: &mut Text, packet: &[u8]) -> Result<(), AllocError>
     ensures { Appends result text.old text.new (finished_line packet.now) }
 {

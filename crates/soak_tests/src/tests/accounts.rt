@@ -53,32 +53,57 @@ fn cutters_and_builders(rt: HostRuntime) {
     });
 }
 
-fn opens_part(rt: &(impl Abort + Eprint), alloc: Global, max_packet: u32, line: &str) {
+fn takes_parts(rt: &impl Abort, assembler: &mut Assembler, segments: &[(SegmentFlags, u8)]) {
+    for (flags, map) in segments {
+        let header = SegmentHeader {
+            flags: *flags,
+            map: *map,
+        };
+        let segment = Segment {
+            header,
+            payload: &[0x10],
+        };
+        assert!(rt; assembler.take(&segment).is_ok());
+    }
+}
+
+fn keeps_parts(
+    rt: &(impl Abort + Eprint),
+    alloc: Global,
+    max_packet: u32,
+    segments: &[(SegmentFlags, u8)],
+    line: &str,
+) {
     let limits = Limits {
         part: 1016,
         max_packet,
         maps: u64::MAX,
         blocking: false,
     };
-    let header = SegmentHeader {
-        flags: SegmentFlags::First,
-        map: 63,
-    };
-    let segment = Segment {
-        header,
-        payload: &[0x10],
-    };
     let mut assembler = Assembler::new(alloc, limits);
-    keeps(rt, line, || assert!(rt; assembler.take(&segment).is_ok()));
+    keeps(rt, line, || takes_parts(rt, &mut assembler, segments));
 }
 
 #[test]
 fn open_parts(rt: HostRuntime) {
-    for (max_packet, line) in [
-        (7, "account open part max_packet 7"),
-        (65_542, "account open part max_packet 65542"),
+    let opened = [(SegmentFlags::First, 63)];
+    let closed = [
+        (SegmentFlags::First, 62),
+        (SegmentFlags::First, 63),
+        (SegmentFlags::Last, 62),
+        (SegmentFlags::Last, 63),
+    ];
+    for (max_packet, segments, line) in [
+        (7, &opened[..], "account open part max_packet 7"),
+        (65_542, &opened[..], "account open part max_packet 65542"),
+        (7, &closed[..], "account two closed parts max_packet 7"),
+        (
+            65_542,
+            &closed[..],
+            "account two closed parts max_packet 65542",
+        ),
     ] {
-        opens_part(&rt, rt.alloc(), max_packet, line);
+        keeps_parts(&rt, rt.alloc(), max_packet, segments, line);
     }
 }
 
