@@ -2,6 +2,7 @@
 use Rattle.std.specs.Prelude.{ℕ, true, false, ◌==◌, if◌then◌else◌, List, [], ◌++◌, codes, decimal}
 use Rattle.std.specs.Prelude.{Option, Some, None, option_map, Result, Ok, Err}
 use Rattle.hex.specs.Hex.{encode_upper}
+use Rattle.clcw.specs.Faults as clcw
 use Rattle.clcw.specs.declared.fault.ClcwFault.{ClcwFault}
 use Rattle.cop1.specs.declared.vocabulary.Alert.{Alert}
 use Rattle.cop1.specs.declared.vocabulary.FopMode.{FopMode}
@@ -16,6 +17,8 @@ use Rattle.tm_link.specs.declared.gap.Gap.TheVariants.{First, Lost as Missing}
 use Rattle.tm_link.specs.Faults as tm
 use Rattle.nodes.specs.declared.heard.Heard.{Heard}
 use Rattle.nodes.specs.declared.heard.Heard.TheVariants as hearing
+use Rattle.nodes.specs.declared.heard.HeardReport.{HeardReport}
+use Rattle.nodes.specs.declared.heard.HeardReport.TheVariants.{Used, Refused, OtherChannel}
 use Rattle.nodes.specs.declared.received.Received.{Received}
 use Rattle.nodes.specs.declared.received.Received.TheVariants as receiving
 use Rattle.nodes.specs.Packets.{PacketOn}
@@ -85,6 +88,12 @@ heard_text (hearing.Frame gap packets report alert) =
 abbrev pub tick_text : Option Alert → List ℕ
 tick_text None = codes "ok"
 tick_text (Some alert) = codes "alert " ++ (alert_row alert).1
+
+-- what becomes of a control word by itself, and the alert that it gives
+abbrev pub reported_text : HeardReport → Option Alert → List ℕ
+reported_text Used alert = tick_text alert
+reported_text (Refused fault) alert = fault_text (codes "invalid") (clcw.fault_row fault)
+reported_text OtherChannel alert = codes "foreign"
 
 -- ---- how the sender stands
 

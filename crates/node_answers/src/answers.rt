@@ -5,11 +5,11 @@ ghost use Rattle.hex.specs.Hex.{encode_upper};
 ghost use Rattle.clcw.specs.Encoding.{encode_answer};
 ghost use Rattle.octets.specs.Beginning.{Appends};
 ghost use Rattle.nodes.specs.Packets.{packet_on};
-ghost use Rattle.node_answers.specs.Answers.{fault_text, ready_text, named_text, received_text, frame_gap_text, heard_text, report_text, sent_text, packet_text, tick_text, fop_state_word};
+ghost use Rattle.node_answers.specs.Answers.{fault_text, ready_text, named_text, received_text, frame_gap_text, heard_text, report_text, reported_text, sent_text, packet_text, tick_text, fop_state_word};
 
 use clcw::Clcw;
 use cop1::{Alert, FopMode};
-use nodes::{Heard, Received};
+use nodes::{Heard, HeardClcw, HeardReport, Received};
 use std::alloc::{AllocError, Global};
 use std::fmt::Write;
 use tc_frame::Command;
@@ -141,6 +141,18 @@ pub fn push_heard(text: &mut String, heard: &Heard) -> Result<(), AllocError>
             write!(text, " packets={packets}")?;
             push_named(text, " alert ", alert.map(|alert| alert.name()))
         }
+    }
+}
+
+/// Appends what a ground makes of a control word that came by itself.
+/// Faults: AllocError. Memory: yes. Cost: 1*.
+pub fn push_reported(text: &mut String, heard: HeardClcw) -> Result<(), AllocError>
+    ensures { Appends result text.old text.new (reported_text heard.report heard.alert) }
+{
+    match heard.report {
+        HeardReport::Used => push_alert(text, heard.alert),
+        HeardReport::Refused(fault) => push_fault(text, "invalid", fault.number(), fault.name()),
+        HeardReport::OtherChannel => text.push_str("foreign"),
     }
 }
 

@@ -6,5 +6,5 @@ mod answers;
 
 pub use answers::{
     fop_state_word, push_alert, push_digits, push_fault, push_heard, push_named, push_packet,
-    push_received, push_report, push_sent,
+    push_received, push_report, push_reported, push_sent,
 };

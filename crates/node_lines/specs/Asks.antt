@@ -1,4 +1,4 @@
--- What a line says to a node: a line of a script, or one of `frame HEX`, `clcw HEX` and `resume X`.
+-- What a line says to a node: a line of a script, or one of `frame HEX` and `clcw HEX`.
 use Rattle.std.specs.Prelude.{◌≤◌, ℕ, if◌then◌else◌, List, [], ◌∷◌, codes, Option, Some, None}
 use Rattle.std.specs.Prelude.{option_map}
 use Rattle.std.specs.Str.{bytes_eq}
@@ -6,7 +6,7 @@ use Rattle.cop1.specs.declared.vocabulary.Directive.{Directive}
 use Rattle.nodes.specs.declared.event.Event.{Event}
 use Rattle.nodes.specs.declared.event.Event.TheVariants as events
 use Rattle.nodes.specs.declared.parameter.Parameter.{Parameter}
-use Rattle.script_lines.specs.Words.{words_in, number_in_word, octets_in_word}
+use Rattle.script_lines.specs.Words.{words_in, octets_in_word}
 use Rattle.script_lines.specs.Lines.{ScriptLine, line_in, octets_of_digits}
 use Rattle.script_lines.specs.Lines as scripts
 use Rattle.node_lines.specs.declared.ask.Ask as code
@@ -49,6 +49,7 @@ abbrev pub ask_of : Event → Option Ask
 ask_of (events.Submit m octets) = Some (Submit m octets.now)
 ask_of (events.Bypass m octets) = Some (Bypass m octets.now)
 ask_of (events.Directive directive) = Some (Direct directive)
+ask_of (events.Resume value) = Some (Resume value)
 ask_of events.Send = Some Send
 ask_of events.Report = Some Report
 ask_of events.Tick = Some Tick
@@ -74,7 +75,6 @@ abbrev pub ask_of_two_words : List ℕ → List ℕ → Option Ask
 ask_of_two_words name word =
     if bytes_eq name (codes "frame") then option_map Frame (octets_in_word word)
     else if bytes_eq name (codes "clcw") then option_map ControlWord (octets_in_word word)
-    else if bytes_eq name (codes "resume") then option_map Resume (number_in_word 255 word)
     else None
 
 abbrev pub ask_of_words : List (List ℕ) → Option Ask

@@ -2,7 +2,6 @@
 use Rattle.std.specs.Prelude.{ℕ, ◌==◌, if◌then◌else◌, List, ◌++◌, length, codes, decimal, Option}
 use Rattle.std.specs.Prelude.{Some, None, Result, Ok, Err}
 use Rattle.hex.specs.Hex.{encode_upper}
-use Rattle.clcw.specs.Faults as clcw
 use Rattle.tc_frame.specs.declared.frame.Check.TheVariants.{On}
 use Rattle.tc_frame.specs.Layout.{FrameView}
 use Rattle.tc_frame.specs.Encoding.{spelling}
@@ -11,14 +10,13 @@ use Rattle.cop1.specs.declared.vocabulary.Alert.{Alert}
 use Rattle.cop1.specs.Faults as cop
 use Rattle.cop1.specs.Units.{due_units}
 use Rattle.nodes.specs.declared.fault.LinkFault.{LinkFault}
-use Rattle.nodes.specs.declared.heard.HeardReport.{HeardReport}
-use Rattle.nodes.specs.declared.heard.HeardReport.TheVariants.{Used, Refused, OtherChannel}
 use Rattle.nodes.specs.Faults as link
 use Rattle.nodes.specs.Fates.{submitted, whole_with}
 use Rattle.nodes.specs.Ground.{GroundState, GroundEvent, GroundAnswer, ground_step, new_ground}
 use Rattle.nodes.specs.Ground.{outstanding, sent_beyond, unsent_segments}
 use Rattle.nodes.specs.Ground as calls
-use Rattle.node_answers.specs.Answers.{fault_text, sent_text, heard_text, tick_text, fop_state_word}
+use Rattle.node_answers.specs.Answers.{fault_text, sent_text, heard_text, reported_text, tick_text}
+use Rattle.node_answers.specs.Answers.{fop_state_word}
 use Rattle.node_lines.specs.Asks.{Ask, Submit, Bypass, Direct, Send, Tick, Take, Telemetry}
 use Rattle.node_lines.specs.Asks.{ControlWord, Resume, Show}
 use Rattle.node_lines.specs.Turns.{Turn, NodeRules, told}
@@ -40,12 +38,6 @@ resumed_text (Err fault) = fault_text (codes "refused") (link.fault_row fault)
 abbrev pub pulled_text : Option FrameView → List ℕ
 pulled_text (Some frame) = sent_text (spelling On frame)
 pulled_text None = codes "nothing"
-
--- what becomes of a control word, and the alert that it gives
-abbrev pub reported_text : HeardReport → Option Alert → List ℕ
-reported_text Used alert = tick_text alert
-reported_text (Refused fault) alert = fault_text (codes "invalid") (clcw.fault_row fault)
-reported_text OtherChannel alert = codes "foreign"
 
 abbrev pub taken_text : Option (List ℕ) → List ℕ
 taken_text (Some packet) = codes "packet " ++ encode_upper packet

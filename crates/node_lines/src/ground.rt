@@ -8,13 +8,15 @@ ghost use Rattle.nodes.specs.Faults as link;
 ghost use Rattle.node_answers.specs.Answers.{fault_text};
 ghost use Rattle.node_lines.specs.Asks.{ControlWord};
 ghost use Rattle.node_lines.specs.Turns.{Takes, turned};
-ghost use Rattle.node_lines.specs.Ground.{count_text, ground_rules, ground_asked, ground_call, ground_show, queues_text, reported_text, sender_text, submissions_text, taken_text, timer_text};
+ghost use Rattle.node_lines.specs.Ground.{count_text, ground_rules, ground_asked, ground_call, ground_show, queues_text, sender_text, submissions_text, taken_text, timer_text};
 
 use crate::ask::Ask;
 use crate::node::Node;
 use cop1::Directive;
-use node_answers::{fop_state_word, push_alert, push_digits, push_fault, push_heard, push_sent};
-use nodes::{Ground, HeardClcw, HeardReport, LinkFault, ValidConfig};
+use node_answers::{
+    fop_state_word, push_alert, push_digits, push_fault, push_heard, push_reported, push_sent,
+};
+use nodes::{Ground, LinkFault, ValidConfig};
 use std::alloc::{AllocError, Global};
 use std::fmt::Write;
 
@@ -153,16 +155,6 @@ fn control_word(node: &mut Ground, text: &mut String, octets: &[u8]) -> Result<(
             push_reported(text, heard)
         }
         _ => Ok(()),
-    }
-}
-
-fn push_reported(text: &mut String, heard: HeardClcw) -> Result<(), AllocError>
-    ensures { Appends result text.old text.new (reported_text heard.report heard.alert) }
-{
-    match heard.report {
-        HeardReport::Used => push_alert(text, heard.alert),
-        HeardReport::Refused(fault) => push_fault(text, "invalid", fault.number(), fault.name()),
-        HeardReport::OtherChannel => text.push_str("foreign"),
     }
 }
 

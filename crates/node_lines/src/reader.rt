@@ -4,12 +4,12 @@ ghost use Rattle.std.specs.Prelude.{◌≡◌, option_map, Some, true, is_some};
 ghost use Rattle.nodes.specs.declared.event.Event.{Event};
 ghost use Rattle.script_lines.specs.Lines.{event_said, octets_of_digits};
 ghost use Rattle.script_lines.specs.Lines as scripts;
-ghost use Rattle.script_lines.specs.Words.{words_in, number_in_word, octets_in_word};
+ghost use Rattle.script_lines.specs.Words.{words_in, octets_in_word};
 ghost use Rattle.node_lines.specs.Asks.{ask_of, asking, ask_said, ask_of_two_words, ask_of_words, line_of_script, node_line, line_view, IsWellRead};
 
 use crate::ask::{Ask, NodeLine};
 use nodes::Event;
-use script_lines::{Line, cut, is, is_octets, number_in_word, read_line};
+use script_lines::{Line, cut, is, is_octets, read_line};
 
 /// What a line says to a node, a line of a script or one that no script has. The octets that it carries are
 /// lent as digits.
@@ -49,6 +49,7 @@ fn ask_of(event: Event<'_>) -> Option<Ask<'_>>
         Event::Submit(map, digits) => Some(Ask::Submit(map, digits)),
         Event::Bypass(map, digits) => Some(Ask::Bypass(map, digits)),
         Event::Directive(directive) => Some(Ask::Direct(directive)),
+        Event::Resume(value) => Some(Ask::Resume(value)),
         Event::Send => Some(Ask::Send),
         Event::Report => Some(Ask::Report),
         Event::Tick => Some(Ask::Tick),
@@ -56,7 +57,7 @@ fn ask_of(event: Event<'_>) -> Option<Ask<'_>>
         Event::TakeBypass => Some(Ask::TakeBypass),
         Event::Telemetry(digits) => Some(Ask::Telemetry(digits)),
         Event::UpDeliver | Event::UpLose | Event::UpDamage(_) => None,
-        Event::DownDeliver | Event::DownLose | Event::DownDamage(_) => None,
+        Event::DownDeliver | Event::DownLose | Event::DownDamage(_) | Event::DownClcw => None,
     }
 }
 
@@ -79,10 +80,6 @@ fn ask_of_two_words<'a>(name: &'a [u8], word: &'a [u8]) -> Option<Ask<'a>>
     }
     if is(name, "clcw") {
         return Some(Ask::ControlWord(digits_in(word)?));
-    }
-    if is(name, "resume") {
-        let value = number_in_word(word, 255)?;
-        return Some(Ask::Resume(value as u8));
     }
     None
 }

@@ -118,8 +118,9 @@ module _ (name word : List ℕ) where
       tested Pair g (with_number (codes "limit") 255 (sets directives.SetLimit) what (omega arith) spelling.limit) (λ h.
       tested Pair h (with_number (codes "timer") 65535 (sets directives.SetTimer) what (omega arith) spelling.timer)
       (λ i.
-      tested Pair i (with_octets (codes "telemetry") (λ octets. events.Telemetry (borrow_of octets)) what
-      spelling.telemetry) (λ k. cc k)))))
+      tested Pair i (with_number (codes "resume") 255 (λ x. events.Resume x) what (omega arith) spelling.resume) (λ j.
+      tested Pair j (with_octets (codes "telemetry") (λ octets. events.Telemetry (borrow_of octets)) what
+      spelling.telemetry) (λ k. cc k))))))
 
 -- ---- lines of three words
 

@@ -90,6 +90,8 @@ spelled (spelling.limit x le) =
     numbered (codes "limit") x refl (omega arith) ∙ rw (printed 255 x (omega arith) le) refl
 spelled (spelling.timer x le) =
     numbered (codes "timer") x refl (omega arith) ∙ rw (printed 65535 x (omega arith) le) refl
+spelled (spelling.resume x le) =
+    numbered (codes "resume") x refl (omega arith) ∙ rw (printed 255 x (omega arith) le) refl
 spelled (spelling.up_damage octets hex is) =
     let read = spelled_octets octets hex is in
     ap meant (three_words (codes "up") (codes "damage") hex refl refl (hex_word is)) ∙ rw read refl

@@ -45,6 +45,7 @@ plain_events =
     ∷ (codes "up lose", events.UpLose)
     ∷ (codes "down deliver", events.DownDeliver)
     ∷ (codes "down lose", events.DownLose)
+    ∷ (codes "down clcw", events.DownClcw)
     ∷ (codes "tick", events.Tick)
     ∷ (codes "take", events.Take)
     ∷ (codes "takebypass", events.TakeBypass)
@@ -67,6 +68,8 @@ line_of_two_words name word =
     (λ x. Happening (events.Directive (SetLimit x))) (number_in_word 255 word)
     else if bytes_eq name (codes "timer") then option_map
     (λ x. Happening (events.Directive (SetTimer x))) (number_in_word 65535 word)
+    else if bytes_eq name (codes "resume") then option_map
+    (λ x. Happening (events.Resume x)) (number_in_word 255 word)
     else if bytes_eq name (codes "telemetry") then option_map
     (λ octets. Happening (events.Telemetry (borrow_of octets))) (octets_in_word word)
     else None

@@ -64,6 +64,8 @@ pub data Spells : ScriptLine → List ℕ → Type 0 where
       → Spells (Happening (events.Directive (directives.SetLimit x))) (codes "limit " ++ decimal x)
   timer : (x : ℕ) → x ≤ 65535
       → Spells (Happening (events.Directive (directives.SetTimer x))) (codes "timer " ++ decimal x)
+  resume : (x : ℕ) → x ≤ 255
+      → Spells (Happening (events.Resume x)) (codes "resume " ++ decimal x)
   up_damage : (octets hex : List ℕ) → IsHex octets hex
       → Spells (Happening (events.UpDamage (borrow_of octets))) (codes "up damage " ++ hex)
   down_damage : (octets hex : List ℕ) → IsHex octets hex

@@ -69,6 +69,7 @@ pub(crate) fn plain_event(line: &[u8]) -> Option<Event<'static>>
         ("up lose", Event::UpLose),
         ("down deliver", Event::DownDeliver),
         ("down lose", Event::DownLose),
+        ("down clcw", Event::DownClcw),
         ("tick", Event::Tick),
         ("take", Event::Take),
         ("takebypass", Event::TakeBypass),

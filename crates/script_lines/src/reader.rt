@@ -51,6 +51,13 @@ fn directive<'a>(directive: Directive) -> Option<Line<'a>>
     Some(Line::Happening(Event::Directive(directive)))
 }
 
+fn resumption<'a>(value: u8) -> Option<Line<'a>>
+    ensures line { option_map line_view result ≡ Some (Happening (Event.Resume value)) }
+    ensures fits { IfSome result IsWellRead }
+{
+    Some(Line::Happening(Event::Resume(value)))
+}
+
 fn byte_in(word: &[u8]) -> Option<u8>
     ensures { result ≡ number_in_word 255 word.now }
 {
@@ -86,6 +93,9 @@ fn line_of_two_words<'a>(name: &'a [u8], word: &'a [u8]) -> Option<Line<'a>>
     if is(name, "timer") {
         let ticks = number_in_word(word, 65535)?;
         return directive(Directive::SetTimer(ticks as u16));
+    }
+    if is(name, "resume") {
+        return resumption(byte_in(word)?);
     }
     if is(name, "telemetry") {
         return carrying(Event::Telemetry(word));

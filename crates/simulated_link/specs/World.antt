@@ -185,8 +185,8 @@ is_idle w =
 abbrev pub begins_idle : World → Directive → Bool
 begins_idle w directive = may_begin w directive && is_idle w
 
--- no session begins with an event: it is no initiation, or it comes while the sender is not in S6; or
--- it is a resumption that is refused
+-- no session begins with an event: it is no initiation, or it comes while the sender is not in S6;
+-- or it is a resumption that is refused
 abbrev pub BeginsNoSession : World → Event → Type 0
 BeginsNoSession w (events.Directive directive) =
     is_initiation directive ≡ true → is_closed w.ground_node.fop.state ≡ false

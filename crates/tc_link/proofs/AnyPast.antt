@@ -1,23 +1,19 @@
 -- Whatever came before, the world is sound, and so is a session that had an idle start.
 use Rattle.tc_link.proofs.Common.{◌≡◌, ℕ, Bool, true, false, List, [], ◌∷◌, map, Result, Ok, Err, refl, subst, arith}
 use Rattle.tc_link.proofs.Common.{AllByRecursion, cond_both, ◌==◌, Clcw, TcFault, On, SegmentView, BodyView, Ad, Bd, Bc}
-use Rattle.tc_link.proofs.Common.{Verdict, Accepted, Directive, TmFault, Extracted, clcw_step, Config, Event}
+use Rattle.tc_link.proofs.Common.{Verdict, Accepted, Directive, TmFault, clcw_step, Config, Event}
 use Rattle.tc_link.proofs.Common.{World, new_world, world_step, world_run, inl, inr, GroundState}
 use Rattle.tc_link.proofs.Common.{SpacecraftState, SpacecraftOutcome, frame_outcome, body_outcome, sequence_outcome}
-use Rattle.tc_link.proofs.Common.{bypass_outcome, verdict_of, is_free, is_kept, limits_of, is_own_frame, with_fop}
+use Rattle.tc_link.proofs.Common.{bypass_outcome, verdict_of, is_free, is_kept, limits_of, is_own_frame}
 use Rattle.tc_link.proofs.Common.{telemetry_outcome, ap, sym, FarmState, FarmEvent, AdArrives}
-use Rattle.tc_link.proofs.Common.{farm_step, after_verdict, ◌∙◌, after_report, acknowledging}
+use Rattle.tc_link.proofs.Common.{farm_step, after_verdict, after_report, acknowledging}
 use Rattle.cop1.specs.declared.farm.Verdict.TheVariants.{Behind, Discarded}
 use Rattle.cop1.specs.Units.{FopState}
-use Rattle.std.specs.Prelude.{if◌then◌else◌, Option, Some, None, ◌++◌}
-use Rattle.simulated_link.specs.Replies.{Down}
-use Rattle.simulated_link.specs.World.{down_deliver_step}
-use Rattle.nodes.specs.declared.event.Event.TheVariants as events
 use Rattle.nodes.specs.Spacecraft.{after_farm}
 use Rattle.clcw.specs.Decoding.{clcw_at}
 use Rattle.clcw.specs.declared.fault.ClcwFault.{ClcwFault}
-use Rattle.nodes.specs.Ground.{GroundOutcome, report_outcome, is_own_telemetry, new_ground, ground_telemetry}
-use Rattle.nodes.specs.Ground.{ground_take_telemetry, after_moving_up, is_closed}
+use Rattle.nodes.specs.Ground.{GroundOutcome, report_outcome, is_own_telemetry, new_ground}
+use Rattle.nodes.specs.Ground.{ground_take_telemetry}
 use Rattle.nodes.specs.declared.heard.HeardClcw.{HeardClcw}
 use Rattle.nodes.specs.declared.heard.Heard.{Heard}
 use Rattle.nodes.specs.declared.received.Received.{Received}
@@ -39,7 +35,7 @@ use Rattle.tc_link.proofs.Eased.{bypass_eases}
 use Rattle.tc_link.proofs.FitFrames.{GroundFits, with_fits, heard_fits}
 use Rattle.tc_link.proofs.Downward.{apart}
 use Rattle.tc_link.proofs.Invariant.{Holding, new_holds, step_holds}
-use Rattle.tc_link.proofs.Linked.{In, Tells, Reporting, beside, run_to}
+use Rattle.tc_link.proofs.Linked.{In, beside, run_to}
 use Rattle.tc_link.proofs.Promised.{holds_so}
 use Rattle.tc_link.proofs.SteadyNodes.{refilled_so, report_so}
 use Rattle.tc_link.proofs.SteadyWorld.{sequence_so, bypass_so, body_so, new_sound}

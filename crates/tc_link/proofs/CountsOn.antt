@@ -3,14 +3,14 @@ use Rattle.tc_link.proofs.Common.{◌≡◌, ℕ, ◌+◌, ◌%◌, ◌/◌, ◌
 use Rattle.tc_link.proofs.Common.{ap, sym, subst, ◌∙◌, arith, AllByRecursion, SegmentView, CopFault, Alert, Directive}
 use Rattle.tc_link.proofs.Common.{InitWithoutCheck, InitWithCheck, InitUnlock, InitSetVr, directive_step, FopState}
 use Rattle.tc_link.proofs.Common.{FopOutcome, begun, obeyed, is_initiation, is_closed, Config, directive_outcome, Event}
-use Rattle.tc_link.proofs.Common.{World, world_step, world_run, KeepsSession, IsIdle, IsEvent, session_begun_by}
+use Rattle.tc_link.proofs.Common.{World, world_step, world_run, KeepsSession, IsIdle, IsEvent}
 use Rattle.simulated_link.specs.World.{Session}
 use Rattle.tc_link.proofs.AnyPast.{past_holds}
 use Rattle.tc_link.specs.CountsOn.{SetsNone, CountsFrom, KeepsWhatIsKnown}
 use Rattle.tc_link.specs.Known.{MovesWithRecords}
 use Rattle.tc_link.proofs.Common.{closed_is, obeying}
 use Rattle.tc_link.proofs.InOrder.{has_plain_history}
-use Rattle.tc_link.proofs.Invariant.{Holding, begun_is, idle_goes, step_holds}
+use Rattle.tc_link.proofs.Invariant.{Holding, idle_goes, step_holds}
 use Rattle.tc_link.proofs.Known.{with_same, octet, moves_with_records}
 use Rattle.tc_link.proofs.OneLink.{sent_count}
 use Rattle.tc_link.proofs.Invariant.{began_at, begun_session}

@@ -22,7 +22,6 @@ use Rattle.nodes.specs.Ground.{report_outcome}
 use Rattle.nodes.specs.declared.heard.HeardClcw.{HeardClcw}
 use Rattle.tm_link.specs.Decoding.{frame_at}
 use Rattle.tm_link.specs.Decoding as telemetry_reading
-use Rattle.clcw.specs.Decoding.{clcw_at}
 use Rattle.tc_link.specs.AnyPast.{with_telemetry_of, SaysAs}
 use Rattle.tc_link.specs.FalseAlarms.{alert_in}
 use Rattle.tc_link.proofs.Common.{Option, Some, None, if◌then◌else◌, Result, PlainLink, WorldOutcome, world_step}

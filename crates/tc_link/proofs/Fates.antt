@@ -12,7 +12,7 @@ use Rattle.tc_link.proofs.Common.{KeepsSession}
 use Rattle.tc_link.proofs.Common.{world_after_directive, BeginsNoSession, IsIdle, IsSettled, IsEvent, accepted}
 use Rattle.tc_link.proofs.Common.{directive_of, option_map, Opening, IsChecking}
 use Rattle.tc_link.specs.Confirmation.{IsChecked}
-use Rattle.tc_link.proofs.Common.{session_begun_by, closed_is, HasPlainHistory, obeyed, begun}
+use Rattle.tc_link.proofs.Common.{closed_is, HasPlainHistory, obeyed, begun}
 use Rattle.std.specs.Prelude.{◌^◌, ◌==◌}
 use Rattle.std.specs.List.{flat_map}
 use Rattle.cop1.specs.declared.vocabulary.Directive.TheVariants.{Terminate, SetVs, SetWindow, SetLimit, SetTimer}
@@ -32,7 +32,7 @@ use Rattle.simulated_link.specs.World.{Session, submission_of, session_after_rep
 use Rattle.tc_link.proofs.AnyPast.{past_holds}
 use Rattle.tc_link.proofs.CountsOn.{keeps_what_is_known}
 use Rattle.tc_link.proofs.InOrder.{has_plain_history}
-use Rattle.tc_link.proofs.Invariant.{Holding, begun_is, idle_goes, opening_stays, step_holds}
+use Rattle.tc_link.proofs.Invariant.{Holding, idle_goes, opening_stays, step_holds}
 use Rattle.tc_link.proofs.Known.{octet}
 use Rattle.tc_link.proofs.OneLink.{sent_count, accepted_count}
 use Rattle.tc_link.proofs.Promised.{promised_so}

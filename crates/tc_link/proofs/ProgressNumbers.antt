@@ -457,34 +457,36 @@ module _ (c : Config) (w : World) (h : Holding c w) (k : HasOctets c w) where
   -- where it is known what resuming leads to
   event_octets : ((value : ℕ) → value < 256 → HasOctets c (world_step w (events.Resume value)).after)
       → (e : Event) → IsEvent e → After (world_step w e)
-  event_octets resumed (events.Submit m octets) fits = step_sender (events.Submit m octets) fits (λ value is. cc is) refl refl refl
-  event_octets resumed (events.Bypass m octets) fits = step_sender (events.Bypass m octets) fits (λ value is. cc is) refl refl refl
-  event_octets resumed (events.Directive d) fits = directive_octets d fits
-  event_octets resumed events.Tick fits = step_sender events.Tick fits (λ value is. cc is) refl refl refl
-  event_octets resumed events.Send fits = sends (pull_numbers s k.sender small_window)
-  event_octets resumed events.UpDeliver fits = up_arrives w After k arrives
-  event_octets resumed events.Report fits = record {
+  event_octets goes (events.Submit m octets) fits =
+      step_sender (events.Submit m octets) fits (λ value is. cc is) refl refl refl
+  event_octets goes (events.Bypass m octets) fits =
+      step_sender (events.Bypass m octets) fits (λ value is. cc is) refl refl refl
+  event_octets goes (events.Directive d) fits = directive_octets d fits
+  event_octets goes events.Tick fits = step_sender events.Tick fits (λ value is. cc is) refl refl refl
+  event_octets goes events.Send fits = sends (pull_numbers s k.sender small_window)
+  event_octets goes events.UpDeliver fits = up_arrives w After k arrives
+  event_octets goes events.Report fits = record {
     sender = k.sender;
     receiver = record { vr = k.receiver.vr; full = k.receiver.full };
     up = k.up;
     down = all_append (IsOctetReport c) w.down (telemetry_writing.spelling (spacecraft_report w.spacecraft).answer ∷ [])
         k.down ((report_of w.spacecraft.farm w.spacecraft.config.vcid, tells_now c w h.sound, k.receiver.vr), tt);
   }
-  event_octets resumed events.DownDeliver fits = down_arrives w After k hears
-  event_octets resumed events.Take fits =
+  event_octets goes events.DownDeliver fits = down_arrives w After k hears
+  event_octets goes events.Take fits =
       let ready = w.spacecraft.ready in
       with_receiver (spacecraft_take w.spacecraft ready).after (taken_octet w.spacecraft k.receiver.vr ready)
       (taken_full w.spacecraft flags k.receiver.full ready)
-  event_octets resumed events.TakeBypass fits =
+  event_octets goes events.TakeBypass fits =
       let ring = w.spacecraft.bypass in
       with_receiver (spacecraft_take_bypass w.spacecraft ring).after
       (bypass_taken_octet w.spacecraft k.receiver.vr ring) (bypass_taken_full w.spacecraft flags k.receiver.full ring)
-  event_octets resumed (events.Telemetry octets) fits =
+  event_octets goes (events.Telemetry octets) fits =
       with_receiver (spacecraft_telemetry w.spacecraft octets.now).after
       (queued_octet w.spacecraft k.receiver.vr octets.now) (queued_full w.spacecraft flags k.receiver.full octets.now)
-  event_octets resumed (events.Resume value) fits = resumed value fits
-  event_octets resumed events.DownClcw fits = words
-  event_octets resumed e fits = lost w After losses e tt
+  event_octets goes (events.Resume value) fits = goes value fits
+  event_octets goes events.DownClcw fits = words
+  event_octets goes e fits = lost w After losses e tt
 
 pub step_octets : (c : Config) (w : World) → Holding c w → HasOctets c w → (e : Event) → IsEvent e
     → HasOctets c (world_step w e).after

@@ -20,7 +20,7 @@ use Rattle.tm_link.specs.declared.fault.TmFault.TheVariants as faults
 use Rattle.tm_link.specs.Layout as telemetry
 use Rattle.nodes.specs.declared.event.Event.TheVariants as events
 use Rattle.tc_link.proofs.Sound.{Sound}
-use Rattle.tc_link.proofs.Common.{SetVs, InitUnlock, IsDirective, Directive, IsEvent, ◌<◌}
+use Rattle.tc_link.proofs.Common.{SetVs, InitUnlock, Directive, IsEvent, ◌<◌}
 use Rattle.simulated_link.proofs.Unchanged.{word_arrives, resumes}
 use Rattle.simulated_link.specs.World.{directed}
 use Rattle.tc_link.proofs.FitFrames.{word_fits}
@@ -109,42 +109,42 @@ module _ (c : Config) (w : World) (k : Sound c w) (g : Carried c w) where
   -- where it is known what resuming leads to
   event_carried : ((value : ℕ) → value < 256 → Carried c (world_step w (events.Resume value)).after)
       → (e : Event) → IsEvent e → Carries_on (world_step w e)
-  event_carried resumed (events.Submit m octets) fits = record {
+  event_carried goes (events.Submit m octets) fits = record {
     frames = g.frames;
     carries = g.carries;
     fits = submission_fits c w.ground_node k.ground_node g.fits k.ranges m octets.now
         (submit_fault w.ground_node m octets.now) refl;
   }
-  event_carried resumed (events.Bypass m octets) fits = record {
+  event_carried goes (events.Bypass m octets) fits = record {
     frames = g.frames;
     carries = g.carries;
     fits = bypass_refilled c w.ground_node k.ground_node g.fits m octets.now (bypass_fault w.ground_node m octets.now);
   }
-  event_carried resumed (events.Directive d) fits = directive_carried d
-  event_carried resumed (events.Resume value) fits = resumed value fits
-  event_carried resumed events.Send fits = sent_carried (pull_refilled c w.ground_node k.ground_node g.fits)
-  event_carried resumed events.UpDeliver fits = up_arrives w Carries_on g (λ b bs is.
+  event_carried goes (events.Directive d) fits = directive_carried d
+  event_carried goes (events.Resume value) fits = goes value fits
+  event_carried goes events.Send fits = sent_carried (pull_refilled c w.ground_node k.ground_node g.fits)
+  event_carried goes events.UpDeliver fits = up_arrives w Carries_on g (λ b bs is.
       let r = rest b bs is in record { frames = r.left; carries = r.carried; fits = g.fits })
-  event_carried resumed events.Report fits = record { frames = g.frames; carries = g.carries; fits = g.fits }
-  event_carried resumed events.DownDeliver fits = down_arrives w Carries_on g (λ b bs is. record {
+  event_carried goes events.Report fits = record { frames = g.frames; carries = g.carries; fits = g.fits }
+  event_carried goes events.DownDeliver fits = down_arrives w Carries_on g (λ b bs is. record {
     frames = g.frames;
     carries = g.carries;
     fits = telemetry_fits c w.ground_node k.ground_node g.fits (frame_at w.ground_node.config.frame_length b);
   })
-  event_carried resumed events.Tick fits = record {
+  event_carried goes events.Tick fits = record {
     frames = g.frames;
     carries = g.carries;
     fits = tick_refilled c w.ground_node k.ground_node g.fits;
   }
-  event_carried resumed events.Take fits = record { frames = g.frames; carries = g.carries; fits = g.fits }
-  event_carried resumed events.TakeBypass fits = record { frames = g.frames; carries = g.carries; fits = g.fits }
-  event_carried resumed (events.Telemetry octets) fits = record { frames = g.frames; carries = g.carries; fits = g.fits }
-  event_carried resumed events.DownClcw fits = word_arrives w Carries_on losses (λ b bs is r. record {
+  event_carried goes events.Take fits = record { frames = g.frames; carries = g.carries; fits = g.fits }
+  event_carried goes events.TakeBypass fits = record { frames = g.frames; carries = g.carries; fits = g.fits }
+  event_carried goes (events.Telemetry octets) fits = record { frames = g.frames; carries = g.carries; fits = g.fits }
+  event_carried goes events.DownClcw fits = word_arrives w Carries_on losses (λ b bs is r. record {
     frames = g.frames;
     carries = g.carries;
     fits = word_fits c w.ground_node k.ground_node g.fits r;
   })
-  event_carried resumed e fits = lost w Carries_on losses e tt
+  event_carried goes e fits = lost w Carries_on losses e tt
 
 pub step_carried : (c : Config) (w : World) → Sound c w → Carried c w → (e : Event) → IsEvent e
     → Carried c (world_step w e).after

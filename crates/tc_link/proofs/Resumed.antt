@@ -2,8 +2,8 @@
 use Rattle.tc_link.proofs.Common.{◌≡◌, ℕ, zero, suc, ◌+◌, ◌%◌, ◌<◌, ◌≤◌, Bool, true, false, List, [], ◌∷◌, ◌++◌}
 use Rattle.tc_link.proofs.Common.{length, take, drop, Some, Result, Ok, Err, refl, ap, sym, subst}
 use Rattle.tc_link.proofs.Common.{◌∙◌, arith, length-append, length-map, take-append-drop, AllByRecursion}
-use Rattle.tc_link.proofs.Common.{inl, inr, Opening, segments_of, closed_is, length-drop}
-use Rattle.tc_link.proofs.Common.{option_map, SetVs, InitUnlock, is_closed, S6, Config, GroundState, PacketOn}
+use Rattle.tc_link.proofs.Common.{inl, inr, Opening, segments_of, length-drop}
+use Rattle.tc_link.proofs.Common.{option_map, SetVs, InitUnlock, is_closed, Config, GroundState, PacketOn}
 use Rattle.tc_link.proofs.Common.{Event, World, world_step, world_run, KeepsSession, BeginsNoSession, IsIdle, IsEvent}
 use Rattle.tc_link.proofs.Common.{session_begun_by, delivered, ahead_by}
 use Rattle.std.specs.Prelude.{◌^◌, ◌==◌, ◌&&◌, nat_lt}
@@ -16,7 +16,7 @@ use Rattle.std.proofs.lemmas.List.Elements.{filter-append}
 use Rattle.octets.specs.Beginning.{IsBeginning}
 use Rattle.map_service.specs.Packets.{packets_in}
 use Rattle.nodes.specs.Fates.{whole_with}
-use Rattle.nodes.specs.Ground.{ground_step, Resume, Direct, can_resume, after_resuming, known_on_board, ground_resume}
+use Rattle.nodes.specs.Ground.{ground_step, Resume, can_resume, after_resuming, known_on_board, ground_resume}
 use Rattle.nodes.specs.Ground.{GroundOutcome}
 use Rattle.nodes.specs.declared.fault.LinkFault.{LinkFault}
 use Rattle.nodes.specs.declared.fault.LinkFault.TheVariants.{NotKnown}

@@ -5,7 +5,7 @@ use Rattle.tc_link.proofs.Common.{FarmState, FarmMode, Open, Wait, farm_step, Bu
 use Rattle.tc_link.proofs.Common.{is_to_send, Config, PacketOn, SpacecraftState, GroundState, Heard, Event, World}
 use Rattle.tc_link.proofs.Common.{WorldOutcome, world_step, spacecraft_take, spacecraft_take_bypass, spacecraft_report}
 use Rattle.tc_link.proofs.Common.{world_after_take, world_after_queueing, reports_as, report_now, up_lose_step}
-use Rattle.tc_link.proofs.Common.{up_damage_step, down_deliver_step, spacecraft_telemetry, eq-eqb, ◌==◌}
+use Rattle.tc_link.proofs.Common.{up_damage_step, spacecraft_telemetry, eq-eqb, ◌==◌}
 use Rattle.nodes.specs.Ground as ground_calls
 use Rattle.nodes.specs.Ground.{ground_step}
 use Rattle.nodes.specs.declared.heard.Heard.TheVariants as heard_cases

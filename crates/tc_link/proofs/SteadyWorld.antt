@@ -32,7 +32,7 @@ use Rattle.simulated_link.proofs.Unchanged.{AtEachLoss, lost, pulled, up_arrives
 use Rattle.tm_link.specs.Layout as telemetry
 use Rattle.tm_link.specs.Decoding as telemetry_reading
 use Rattle.nodes.specs.declared.event.Event.TheVariants as events
-use Rattle.tc_link.proofs.Common.{Clcw, ClcwFault, subst}
+use Rattle.tc_link.proofs.Common.{Clcw, ClcwFault}
 use Rattle.nodes.specs.Ground.{report_outcome}
 use Rattle.simulated_link.proofs.TelemetryCases.{report_seen}
 use Rattle.simulated_link.proofs.Unchanged.{word_arrives, resumes}

@@ -44,7 +44,8 @@ pub data Sessions (wanted : List PacketOn) : World → ℕ → (ℕ → List (Li
       → Sessions wanted w done before → is_idle w ≡ true → value < 256
       → value ≡ w.spacecraft.farm.vr
       → (world_step w (events.Resume value)).answer ≡ Ok (Resumed more)
-      → Sessions wanted (world_step w (events.Resume value)).after (done + more) (λ m. before m ++ delivered w m)
+      → Sessions wanted (world_step w (events.Resume value)).after (done + more)
+      (λ m. before m ++ delivered w m)
 
 -- Over all its sessions together it has on each MAP a prefix of what it wants, each packet once.
 abbrev pub ResumesInOrder : Type 0

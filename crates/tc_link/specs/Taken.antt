@@ -17,8 +17,8 @@ use Rattle.simulated_link.specs.Replies.{ReplyView, Packet}
 use Rattle.simulated_link.specs.World.{World, KeepsSession, IsIdle, submitted, delivered}
 use Rattle.simulated_link.specs.World.{world_step, world_run, run_answers}
 
--- a session begins with an event: it is an initiation, and comes while the sender is in S6; or it is
--- a resumption that is not refused
+-- a session begins with an event: it is an initiation, and comes while the sender is in S6; or it
+-- is a resumption that is not refused
 abbrev pub BeginsSession : World → Event → Type 0
 BeginsSession w (events.Directive directive) =
     (is_initiation directive ≡ true) × (is_closed w.ground_node.fop.state ≡ true)

@@ -53,8 +53,8 @@ abbrev pub sent_by : World → Event → List FrameView
 sent_by w events.Report = (spacecraft_step w.spacecraft spacecraft_calls.Report).answer ∷ []
 sent_by w _ = []
 
--- whether the frame arrived that is no longer on its way; where its report alone reached the ground,
--- the rest of it is lost
+-- whether the frame arrived that is no longer on its way; where its report alone reached the
+-- ground, the rest of it is lost
 abbrev pub came_by : Event → Result ReplyView SimFault → List Bool
 came_by events.DownDeliver (Ok reply) = true ∷ []
 came_by events.DownLose (Ok reply) = false ∷ []

@@ -137,7 +137,7 @@ pub fn law_of_submissions()
 /// answers, session after session, has on each MAP over all its sessions together a prefix of what it
 /// wants delivered, each packet once (`in_order`). Each of its submissions is one packet, or packets that
 /// fit into one segment together. What `resume` leaves is the ground once V(S) is set to the value and
-/// Unlock begins a session (`ground`).
+/// Unlock begins a session, and so it is with the event Resume of the link and its records (`ground`).
 pub fn law_of_resuming()
     ensures in_order { ResumesInOrder }
     ensures ground { ResumesSo }
