@@ -1,8 +1,12 @@
 use Rattle.tc_link.proofs.Common.{◌≡◌, ◌≤◌, ℕ, List, [], ◌∷◌, ◌++◌, length, drop, ap, sym, ◌∙◌, append-nil}
 use Rattle.tc_link.proofs.Common.{append_assoc, Config, Event, world_step, world_run, run_answers, SimState, run_from}
 use Rattle.tc_link.proofs.Common.{new_sim, sim_run, subst, arith, AllByRecursion, take_all, IsEvent, IsReached}
+use Rattle.std.proofs.Common.{Result, Ok, Err, Option, None}
+use Rattle.std.specs.Result.{IsErrAnd}
 use Rattle.std.proofs.lemmas.List.{at_drop_all}
-use Rattle.tc_link.specs.Simulation.{record_step}
+use Rattle.simulated_link.specs.declared.fault.SimFault.{SimFault}
+use Rattle.simulated_link.specs.declared.fault.SimFault.TheVariants.{Memory}
+use Rattle.tc_link.specs.Simulation.{record_step, refused_field, field_of}
 use Rattle.std.proofs.lemmas.Grind.{common_steps}
 use Rattle.nodes.proofs.InRange.{config_is}
 use Rattle.tc_link.proofs.Promised.{readable_of, idle_of, promised, holds_throughout, one_more, reached_by}
@@ -65,3 +69,14 @@ returns-clause-readable c = readable_of c.events.sim.world (reached c)
 pub returns-clause-throughout : goal.returns-clause-throughout
 returns-clause-throughout c =
     holds_throughout c.args.config c.args.events.now (config_is c.args.config (sym c.in_ok-sim.ensures.range)) (fits c)
+
+-- what a step was refused for is handed on
+refused_alike : {A : Type 0} (r : Result A SimFault) (e : SimFault) → IsErrAnd r (λ it. it ≡ e) → e ≡ Memory
+    → refused_field r ≡ None
+refused_alike (Ok x) e is memory = absurd is
+refused_alike (Err x) e is memory = ap field_of (is ∙ memory)
+
+pub returns-in_err-record_step-clause-range : goal.returns-in_err-record_step-clause-range
+returns-in_err-record_step-clause-range c =
+    refused_alike c.from_residual-in_err-record_step.result c.in_err-record_step.field-0.0
+    c.from_residual-in_err-record_step.ensures.1 c.in_err-record_step.ensures.fault ∙ c.in_ok-sim.ensures.range
