@@ -201,7 +201,7 @@ def each_method_with_the_longest_values(it):
 
 
 def public_code(it):
-    """The code of each public function, method and property."""
+    """The code of each public function, method and property, but for names of before 0.3."""
     for owner in (vars(it)[name] for name in it.__all__):
         kinds = owner.__mro__ if isinstance(owner, type) else ()
         own = {name: one for kind in reversed(kinds) for name, one in vars(kind).items()} or {owner: owner}
@@ -209,7 +209,7 @@ def public_code(it):
             one = getattr(one, "fget", None) or getattr(one, "__func__", one)
             is_public = name == "__init__" or not str(name).startswith("_")
             if is_public and inspect.isfunction(one) and one.__module__.startswith(it.__name__ + "."):
-                if not one.__code__.co_filename.startswith("<"):
+                if not one.__code__.co_filename.startswith("<") and not hasattr(one, "__wrapped__"):
                     yield one.__code__
 
 

@@ -212,7 +212,7 @@ def methods_and_their_calls(it):
         owner, _, own = name.rpartition(".")
         prefix = "directive" if own in it._calls._DIRECTIVES else PREFIXES.get(owner)
         default = f"{prefix}_{own}" if prefix else own
-        if owner in ("Handle", "_Struct", "_Part", "_Heard") or (not owner and default not in known):
+        if owner in ("Handle", "_Struct", "_Part", "_Heard", "_Renamed") or (not owner and default not in known):
             assert made == OTHERS.get(name, ""), f"{name} calls {made}"
         elif name in BY:
             assert reads_in(function) == BY[name] and not made, f"{name} reads {reads_in(function)}"
