@@ -111,7 +111,7 @@ export const calls = {
     "sedge_spacecraft_telemetry": ["uint8_t", [["spacecraft", "written", "sedge_spacecraft"], ["packet", "octets", ""]]],
     "sedge_spacecraft_telemetry_frame": ["uint8_t", [["spacecraft", "written", "sedge_spacecraft"], ["out", "room", ""], ["count", "written", "size_t"]]],
     "sedge_spacecraft_read": ["uint8_t", [["spacecraft", "written", "sedge_spacecraft"], ["read", "written", "sedge_spacecraft_reading"]]],
-    "sedge_spacecraft_open_at": ["uint8_t", [["config", "read", "sedge_config"], ["kept", "read", "sedge_spacecraft_reading"], ["spacecraft", "written", "sedge_spacecraft"]]],
+    "sedge_spacecraft_open_kept": ["uint8_t", [["config", "read", "sedge_config"], ["kept", "read", "sedge_spacecraft_reading"], ["spacecraft", "written", "sedge_spacecraft"]]],
     "sedge_sim_open": ["uint8_t", [["config", "read", "sedge_config"], ["sim", "written", "sedge_sim"]]],
     "sedge_sim_close": ["void", [["sim", "written", "sedge_sim"]]],
     "sedge_sim_fault_name": ["sedge_text", [["number", "value", "uint8_t"]]],

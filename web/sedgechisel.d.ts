@@ -317,7 +317,7 @@ export interface Calls {
     sedge_spacecraft_telemetry(spacecraft: Partial<sedge_spacecraft>, packet: Uint8Array): number;
     sedge_spacecraft_telemetry_frame(spacecraft: Partial<sedge_spacecraft>, out: Uint8Array, count: Partial<Box>): number;
     sedge_spacecraft_read(spacecraft: Partial<sedge_spacecraft>, read: Partial<sedge_spacecraft_reading>): number;
-    sedge_spacecraft_open_at(config: sedge_config, kept: sedge_spacecraft_reading, spacecraft: Partial<sedge_spacecraft>): number;
+    sedge_spacecraft_open_kept(config: sedge_config, kept: sedge_spacecraft_reading, spacecraft: Partial<sedge_spacecraft>): number;
     sedge_sim_open(config: sedge_config, sim: Partial<sedge_sim>): number;
     sedge_sim_close(sim: Partial<sedge_sim>): void;
     sedge_sim_fault_name(number: number): string;

@@ -67,7 +67,7 @@ function nodes() {
     sedge.sedge_spacecraft_read(spacecraft, board);
     assert.deepEqual([board.value, board.ready, board.bypassed], [1, 0, 0]);
     sedge.sedge_spacecraft_close(spacecraft);
-    assert.equal(sedge.sedge_spacecraft_open_at(DEFAULTS, board, spacecraft), n.SEDGE_NODE_OK);
+    assert.equal(sedge.sedge_spacecraft_open_kept(DEFAULTS, board, spacecraft), n.SEDGE_NODE_OK);
     assert.equal(sedge.sedge_spacecraft_report(spacecraft, out, count), n.SEDGE_NODE_OK);
     assert.equal(sedge.sedge_ground_telemetry(ground, out.subarray(0, count.value), heard), n.SEDGE_NODE_OK);
     assert.deepEqual([heard.first, heard.missing], [0, 0]);

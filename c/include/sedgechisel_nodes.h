@@ -367,8 +367,8 @@ uint8_t sedge_spacecraft_read(struct sedge_spacecraft *spacecraft, struct sedge_
  * value there, farm_b, and the counts of telemetry frames. Its receiver is Open with no flag, and no packet is on
  * board; the other fields are not looked at. It is opened as sedge_spacecraft_open does. Returns 0,
  * SEDGE_NODE_OUT_OF_RANGE (also if farm_b is not below 4) or SEDGE_NODE_MEMORY. */
-uint8_t sedge_spacecraft_open_at(const struct sedge_config *config, const struct sedge_spacecraft_reading *kept,
-                                 struct sedge_spacecraft *spacecraft);
+uint8_t sedge_spacecraft_open_kept(const struct sedge_config *config, const struct sedge_spacecraft_reading *kept,
+                                   struct sedge_spacecraft *spacecraft);
 
 /* ---- A simulated link between two nodes, for tests: it keeps its order in each direction, and loses or damages
  * frames only so that the receiver sees it. ---- */
@@ -558,6 +558,9 @@ static inline SEDGE_CHECK uint8_t sedge_sim_down_deliver(struct sedge_sim *sim, 
 }
 static inline SEDGE_CHECK uint8_t sedge_sim_down_lose(struct sedge_sim *sim, struct sedge_reply *reply) {
     return sedge_sim_event(sim, SEDGE_EVENT_DOWN_LOSE, reply);
+}
+static inline SEDGE_CHECK uint8_t sedge_sim_down_clcw(struct sedge_sim *sim, struct sedge_reply *reply) {
+    return sedge_sim_event(sim, SEDGE_EVENT_DOWN_CLCW, reply);
 }
 static inline SEDGE_CHECK uint8_t sedge_sim_tick(struct sedge_sim *sim, struct sedge_reply *reply) {
     return sedge_sim_event(sim, SEDGE_EVENT_TICK, reply);

@@ -377,11 +377,11 @@ static void a_restart_on_purpose(void) {
     sedge_spacecraft_close(&spacecraft);
     wrong = whole;
     wrong.width = 253;
-    WANT(sedge_spacecraft_open_at(&wrong, &kept, &spacecraft) == SEDGE_NODE_OUT_OF_RANGE && spacecraft.node == NULL);
+    WANT(sedge_spacecraft_open_kept(&wrong, &kept, &spacecraft) == SEDGE_NODE_OUT_OF_RANGE && spacecraft.node == NULL);
     kept.farm_b = 4;
-    WANT(sedge_spacecraft_open_at(&whole, &kept, &spacecraft) == SEDGE_NODE_OUT_OF_RANGE && spacecraft.node == NULL);
+    WANT(sedge_spacecraft_open_kept(&whole, &kept, &spacecraft) == SEDGE_NODE_OUT_OF_RANGE && spacecraft.node == NULL);
     kept.farm_b = 1;
-    while (again(sedge_spacecraft_open_at(&whole, &kept, &spacecraft)))
+    while (again(sedge_spacecraft_open_kept(&whole, &kept, &spacecraft)))
         ;
     WANT(sedge_spacecraft_read(&spacecraft, &read) == 0 && read.value == 1 && read.farm_b == 1 && read.flags == 0);
     WANT(read.mc_count == 1 && read.vc_count == 1 && read.state == SEDGE_FARM_OPEN);

@@ -233,7 +233,7 @@ static uint8_t opens_spacecraft(void) {
     uint8_t answer;
     kept.farm_b = (uint8_t)below(5);
     if (below(2)) return CALL(SEDGE_NODE_MEMORY, sedge_spacecraft_open(&config, &spacecraft));
-    answer = CALL(SEDGE_NODE_MEMORY, sedge_spacecraft_open_at(&config, &kept, &spacecraft));
+    answer = CALL(SEDGE_NODE_MEMORY, sedge_spacecraft_open_kept(&config, &kept, &spacecraft));
     if (kept.farm_b > 3) WANT(answer == SEDGE_NODE_OUT_OF_RANGE);
     return answer;
 }

@@ -530,7 +530,8 @@ class _SpacecraftReading(ctypes.Structure):
 
 
 _spacecraft_open = _call("spacecraft_open", c_uint8, POINTER(Config), POINTER(_Raw))
-_spacecraft_open_at = _call("spacecraft_open_at", c_uint8, POINTER(Config), POINTER(_SpacecraftReading), POINTER(_Raw))
+_spacecraft_open_kept = _call("spacecraft_open_kept", c_uint8, POINTER(Config), POINTER(_SpacecraftReading),
+                              POINTER(_Raw))
 _spacecraft_close = _call("spacecraft_close", None, POINTER(_Raw))
 
 
@@ -568,7 +569,7 @@ class Spacecraft(Handle):
     def _open(self, config: Config) -> int:
         if self._kept is None:
             return super()._open(config)
-        answer = int(_spacecraft_open_at(config, self._kept, self._handle))
+        answer = int(_spacecraft_open_kept(config, self._kept, self._handle))
         if answer == _OUT_OF_RANGE and not _config_fault(config):
             raise OverflowError(f"farm_b: {self._kept.farm_b} is not in 0 to 3")
         return answer

@@ -417,7 +417,7 @@ unsafe extern "C" {
         spacecraft: &mut Spacecraft, out: *mut u8, room: usize, count: &mut usize,
     ) -> u8;
     pub safe fn sedge_spacecraft_read(spacecraft: &mut Spacecraft, read: &mut SpacecraftReading) -> u8;
-    pub safe fn sedge_spacecraft_open_at(
+    pub safe fn sedge_spacecraft_open_kept(
         config: &Config, kept: &SpacecraftReading, spacecraft: &mut Spacecraft,
     ) -> u8;
 

@@ -142,7 +142,7 @@ impl Spacecraft {
             vc_count: kept.vc_count,
             ..raw::SpacecraftReading::default()
         };
-        match raw::sedge_spacecraft_open_at(&config.raw(), &read, spacecraft.0.get()) {
+        match raw::sedge_spacecraft_open_kept(&config.raw(), &read, spacecraft.0.get()) {
             raw::SEDGE_NODE_OUT_OF_RANGE if config.fault().is_none() => Err(OpenFault::FarmB),
             answer => config.judge(answer).map(|()| spacecraft),
         }
