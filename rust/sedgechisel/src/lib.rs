@@ -66,7 +66,7 @@ pub use nodes::{
     Record, SimFault, Spacecraft,
 };
 pub use packet::{Packet, PacketFault, PacketKind, SequenceFlags};
-pub use tc::{Body, Command, Segment, SegmentFlags, TcFault, TcFrame};
-pub use tm::{Pointer, TmFault, TmFrame};
+pub use tc::{Body, Command, Segment, SegmentFlags, TcFault, TcFrame, TcFrames};
+pub use tm::{Pointer, TmFault, TmFrame, TmFrames};
 pub use tm_packets::{Extracted, TmBuilder, TmExtractor, TmPackets};
 pub use version::{version, Version};
