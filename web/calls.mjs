@@ -52,6 +52,7 @@ export const calls = {
     "sedge_tc_decode": ["uint8_t", [["octets", "octets", ""], ["checked", "value", "bool"], ["frame", "written", "sedge_tc_frame"], ["data", "written", "sedge_part"]]],
     "sedge_tc_encode": ["uint8_t", [["frame", "read", "sedge_tc_frame"], ["data", "octets", ""], ["checked", "value", "bool"], ["out", "room", ""], ["total", "written", "size_t"]]],
     "sedge_tc_declared": ["uint8_t", [["octets", "octets", ""], ["checked", "value", "bool"], ["total", "written", "size_t"]]],
+    "sedge_tc_frames": ["size_t", [["octets", "octets", ""], ["checked", "value", "bool"], ["out", "room", ""], ["total", "written", "size_t"]]],
     "sedge_packet_decode": ["uint8_t", [["octets", "octets", ""], ["packet", "written", "sedge_packet"], ["data", "written", "sedge_part"]]],
     "sedge_packet_encode": ["uint8_t", [["packet", "read", "sedge_packet"], ["data", "octets", ""], ["out", "room", ""], ["total", "written", "size_t"]]],
     "sedge_packet_declared": ["uint8_t", [["octets", "octets", ""], ["total", "written", "size_t"]]],

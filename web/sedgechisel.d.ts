@@ -258,6 +258,7 @@ export interface Calls {
     sedge_tc_decode(octets: Uint8Array, checked: boolean, frame: Partial<sedge_tc_frame>, data: Partial<sedge_part>): number;
     sedge_tc_encode(frame: sedge_tc_frame, data: Uint8Array, checked: boolean, out: Uint8Array, total: Partial<Box>): number;
     sedge_tc_declared(octets: Uint8Array, checked: boolean, total: Partial<Box>): number;
+    sedge_tc_frames(octets: Uint8Array, checked: boolean, out: Uint8Array, total: Partial<Box>): number;
     sedge_packet_decode(octets: Uint8Array, packet: Partial<sedge_packet>, data: Partial<sedge_part>): number;
     sedge_packet_encode(packet: sedge_packet, data: Uint8Array, out: Uint8Array, total: Partial<Box>): number;
     sedge_packet_declared(octets: Uint8Array, total: Partial<Box>): number;

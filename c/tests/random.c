@@ -229,7 +229,7 @@ static void senders(void) {
 }
 
 static void telecommand_frames(void) {
-    size_t count = any_count(), room = any_count(), total = 99;
+    size_t count = any_count(), room = any_count(), total = 99, found, whole = 0;
     uint8_t *octets = octets_of(0, count), *out = room_of(room), answer;
     struct sedge_tc_frame *frame = ANY(struct sedge_tc_frame), kept;
     struct sedge_part data = {11, 22};
@@ -257,6 +257,12 @@ static void telecommand_frames(void) {
     total = 99;
     answer = sedge_tc_declared(octets, count, checked, &total);
     WANT(answer == SEDGE_OK ? total <= 1024 : total == 99 && (answer == SEDGE_TC_SHORT || answer == SEDGE_TC_LENGTH));
+    found = sedge_tc_frames(octets, count, checked, out, room, &total);
+    WANT(found <= room / 12 && total <= count);
+    for (; found > 0; found--, out += 12, octets += whole, count -= whole) {
+        WANT(sedge_tc_declared(octets, count, checked, &whole) == SEDGE_OK && whole == out[0] + 256u * out[1]);
+        WANT(whole <= count && sedge_tc_decode(octets, whole, checked, frame, &data) == out[2]);
+    }
 }
 
 static void make_packet(uint8_t *octets, size_t count) {

@@ -643,6 +643,36 @@ static void a_wrong_octet(void) {
     WANT(accepted == 15);
 }
 
+/* Frames that stand one after another: what is written of each, where there is room for it, and octets after it stay. */
+static void many_telecommand_frames(void) {
+    static const uint8_t octets[42] = {
+        0x00, 0x01, 0x08, 0x0e, 0x00, 0xc4, 0x10, 0x05, 0xc0, 0x00, 0x00, 0x00, 0xaa, 0xe7, 0x5d, /* Type-AD */
+        0x30, 0x01, 0x08, 0x07, 0x00, 0x00, 0x8b, 0x9f,                                           /* a wrong check */
+        0x33, 0xff, 0x08, 0x09, 0x00, 0x82, 0x00, 0x07, 0x9a, 0x05,                               /* Set V(R) to 7 */
+        0x30, 0x01, 0x08, 0x07, 0x00, 0x00, 0x8b, 0x9e, 0x00};                                    /* Unlock, and one more */
+    static const uint8_t wanted[48] = {15, 0, 0, 0x01, 0x00, 2, 0, 0, 3, 4, 0, 0,
+                                       8,  0, 6, 0x00, 0x00, 0, 0, 0, 0, 0, 0, 0,
+                                       10, 0, 0, 0xff, 0x03, 2, 2, 0, 0, 0, 1, 7,
+                                       8,  0, 0, 0x01, 0x00, 2, 2, 0, 0, 0, 0, 0};
+    static const size_t ends[5] = {0, 15, 23, 33, 41};
+    uint8_t out[64];
+    size_t room, count, total, frames, i;
+    for (room = 0; room <= sizeof out; room++) {
+        memset(out, 0x55, sizeof out);
+        total = 99;
+        frames = sedge_tc_frames(octets, 42, true, out, room, &total);
+        WANT(frames == (room / 12 < 4 ? room / 12 : 4) && total == ends[frames]);
+        WANT(memcmp(out, wanted, 12 * frames) == 0);
+        for (i = 12 * frames; i < sizeof out; i++) WANT(out[i] == 0x55);
+    }
+    for (count = 0; count <= 42; count++) {
+        frames = sedge_tc_frames(octets, count, true, out, sizeof out, &total);
+        WANT(total == ends[frames] && total <= count && (frames == 4 || ends[frames + 1] > count));
+    }
+    WANT(sedge_tc_frames(UNLOCK_FRAME, 6, false, out, 12, &total) == 1 && total == 6 && out[2] == SEDGE_OK);
+    WANT(sedge_tc_frames(UNLOCK_FRAME, 6, true, out, 12, &total) == 0 && total == 0);
+}
+
 static uint8_t unwritten(struct sedge_tc_frame frame, size_t data_count, size_t room) {
     static const uint8_t data[1100] = {0};
     uint8_t out[1100];
@@ -1021,6 +1051,7 @@ int main(void) {
     telecommand_frames();
     refused_telecommand_frames();
     a_wrong_octet();
+    many_telecommand_frames();
     unwritten_telecommand_frames();
     space_packets();
     refused_packets();

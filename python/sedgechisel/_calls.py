@@ -5,14 +5,17 @@ from __future__ import annotations
 import ctypes
 from ctypes import POINTER, c_bool, c_char_p, c_size_t, c_uint8, c_uint16, c_uint32
 from enum import IntEnum
+from struct import Struct
+from sys import byteorder
 from threading import RLock
-from typing import Any, Callable, Dict, Iterator, List, Optional, Tuple, Type, TypeVar
+from typing import Any, Callable, Dict, Iterator, List, Optional, Tuple, Type, TypeVar, Union
 
 from ._faults import (
     CheckFault, ClcwFault, CopFault, Fault, MapFault, PacketFault, TcFault, Text, TmFault, word_of as _word_of)
 from ._library import (
-    FIRST, Bits as _Bits, Numbers as _Numbers, Single, call_of, number_of as _number_of, octets_of as _octets_of,
-    renamed, room_of as _room_of, struct_of as _struct_of, within as _within, written as _written)
+    FIRST, Bits as _Bits, Numbers as _Numbers, Single, call_of, frame_length_of as _frame_length_of,
+    number_of as _number_of, octets_of as _octets_of, renamed, room_of as _room_of, struct_of as _struct_of,
+    within as _within, written as _written)
 
 _ABSENT, _DAMAGED = 253, 255
 _Member = TypeVar("_Member", bound=IntEnum)
@@ -479,6 +482,14 @@ class TcFrame(_Struct):
         TcFault._look_at(_tc_decode(octets, len(octets), checked, frame, part))
         return frame, part.of(octets)
 
+    @classmethod
+    def decode_all(cls, octets: bytes, checked: bool = True) -> Iterator[Tuple[Union[TcFrame, TcFault], bytes]]:
+        """Reads the frames that stand one after another in the octets, each as long as it declares: for each the frame
+        and its data, as `decode` gives them, or in place of these its TcFault and its octets. Where octets are left
+        after the last whole frame, these come at the end, with TcFault 1 for fewer than 5, or 5; no frame before has
+        either."""
+        return _frames_in(cls, _octets_of("octets", octets), checked)
+
     def encode(self, data: bytes = b"", checked: bool = True) -> bytes:
         """The octets of the frame with these data, at most 1,024 with its FECF, which it lacks where `checked` is False;
         a TcFault where a field is out of its range."""
@@ -497,6 +508,34 @@ _tc_decode = _call("tc_decode", c_uint8, c_char_p, c_size_t, c_bool, POINTER(TcF
 _tc_encode = _call("tc_encode", c_uint8, POINTER(TcFrame), c_char_p, c_size_t, c_bool, c_char_p, c_size_t,
                    POINTER(c_size_t))
 _tc_declared = _call("tc_declared", c_uint8, c_char_p, c_size_t, c_bool, POINTER(c_size_t))
+_tc_frames = _call("tc_frames", c_size_t, c_char_p, c_size_t, c_bool, c_char_p, c_size_t, POINTER(c_size_t))
+
+# What `_tc_frames` writes of a frame: the number of its octets, its fault, and its fields from the third octet on, of
+# which the kind is needed; and how many octets and frames it is given at once.
+_FOUND, _FIELDS = Struct("<HB3xB5x"), 3
+_PIECE, _MOST, _IS_SWAPPED = 65536, 4096, byteorder == "big"
+
+
+def _frames_in(cls: Type[TcFrame], octets: bytes, checked: bool) -> Iterator[Tuple[Union[TcFrame, TcFault], bytes]]:
+    """The frames in octets, and what is left of these."""
+    total, out, begun, check = c_size_t(), ctypes.create_string_buffer(_MOST * _FOUND.size + 1), 0, 2 if checked else 0
+    records, frame_of, control = memoryview(out).cast("B"), cls.from_buffer_copy, Kind.BC.value
+    while found := _tc_frames(piece := octets[begun:begun + _PIECE], len(piece), checked, out, len(out), total):
+        start, fields = 0, _FIELDS
+        for count, fault, kind in _FOUND.iter_unpack(records[:found * _FOUND.size]):
+            end = start + count
+            if fault:
+                yield TcFault(fault), piece[start:end]
+            else:
+                frame = frame_of(out, fields)
+                if _IS_SWAPPED:
+                    frame.scid = frame.scid >> 8 | (frame.scid & 255) << 8
+                yield frame, b"" if kind == control else piece[start + 6:end - check]
+            start, fields = end, fields + _FOUND.size
+        begun += total.value
+    if begun < len(octets):
+        yield TcFault(1 if len(octets) - begun < 5 else 5), octets[begun:]
+
 
 # ---- Space packets ----
 
@@ -707,12 +746,40 @@ class TmExtractor(Single):
         """Takes the next frame that came, a TmFrame and its data: the packets whose last octets it has, but for idle ones,
         and the number of frames missing before it, modulo 256, or None for the first. A TmFault, 10 FieldRange for a
         pointer after the data, and 7 Memory where the packets need more memory; then the frame counts as missing."""
-        data, extracted = _octets_of("data", data), _TmExtracted()
+        extracted = _TmExtracted()
+        fault, packets = self._taken(_struct_of("frame", TmFrame, frame), _octets_of("data", data), extracted)
+        TmFault._look_at(fault)
+        return packets, None if extracted.first else extracted.lost
+
+    def take_all(
+            self, octets: bytes, length: int) -> Iterator[Tuple[Union[TmFrame, TmFault], List[bytes], Optional[int]]]:
+        """Takes the frames of `length` octets that stand one after another, each when it is asked for: the frame, and
+        its packets and the number of frames missing before it, as `decode` and `take` give them; or in place of the
+        frame its TmFault, with no packets. Where octets are left at the end, TmFault 1 is the last. A ValueError for a
+        length that is not in 16 to 2,048."""
+        return self._all_of(_octets_of("octets", octets), _frame_length_of(length))
+
+    def _all_of(
+            self, octets: bytes, length: int) -> Iterator[Tuple[Union[TmFrame, TmFault], List[bytes], Optional[int]]]:
+        place, extracted, new, decode = _Part(), _TmExtracted(), TmFrame.__new__, FIRST.sedge_tm_decode
+        for start in range(0, len(octets), length):
+            whole, frame = octets[start:start + length], new(TmFrame)
+            fault = decode(whole, len(whole), length, frame, place)
+            if not fault:
+                fault, packets = self._taken(frame, place.of(whole), extracted)
+            if fault:
+                yield TmFault(fault), [], None
+            else:
+                yield frame, packets, None if extracted.first else extracted.lost
+
+    def _taken(self, frame: TmFrame, data: bytes, extracted: _TmExtracted) -> Tuple[int, List[bytes]]:
+        """What the library answers, and the packets."""
         with self._lock:
             begun = self._begun()
-            TmFault._look_at(_tm_extractor_frame(
-                self._extractor, _struct_of("frame", TmFrame, frame), data, len(data), self._memory, len(self._memory),
-                extracted))
+            fault = _tm_extractor_frame(
+                self._extractor, frame, data, len(data), self._memory, len(self._memory), extracted)
+            if fault:
+                return fault, []
             packets = [self._memory[:extracted.joined]] if extracted.joined else []
             goes_on = frame.pointer == NO_START and self._extractor.count > 0
             if begun and not packets and not goes_on:
@@ -720,7 +787,7 @@ class TmExtractor(Single):
         part = extracted.packets
         while _tm_packet(data, len(data), part):
             packets.append(part.of(data))
-        return packets, None if extracted.first else extracted.lost
+        return 0, packets
 
     def _begun(self) -> bytes:
         """The first octets of the packet whose end is to come, two at most; none where there is none."""

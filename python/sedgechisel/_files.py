@@ -3,9 +3,9 @@ from __future__ import annotations
 
 from typing import Callable, Iterator, Optional, Protocol
 
-from ._library import number_of, octets_of
+from ._library import frame_length_of, octets_of
 
-_SHORTEST, _LONGEST, _PIECE = 16, 2048, 65536
+_PIECE = 65536
 
 
 class Readable(Protocol):
@@ -26,9 +26,7 @@ def read_frames(file: Readable, length: int) -> Iterator[bytes]:
     read = getattr(file, "read1", None) or getattr(file, "read", None)
     if read is None:
         raise TypeError(f"file: {file!r} has no read")
-    if not _SHORTEST <= number_of("length", length) <= _LONGEST:
-        raise ValueError(f"length: {length} is not in {_SHORTEST} to {_LONGEST}")
-    return _cut(read, length)
+    return _cut(read, frame_length_of(length))
 
 
 def _piece_of(read: Callable[[int], Optional[bytes]]) -> bytes:

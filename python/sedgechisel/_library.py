@@ -52,6 +52,13 @@ def number_of(name: str, value: Any) -> int:
     return value
 
 
+def frame_length_of(value: Any) -> int:
+    """A length that telemetry frames may have; a ValueError for another one."""
+    if not 16 <= number_of("length", value) <= 2048:
+        raise ValueError(f"length: {value} is not in 16 to 2048")
+    return int(value)
+
+
 def within(name: str, kind: Any, value: Any) -> None:
     """A number that its kind does not hold is an OverflowError, and what is no number a TypeError."""
     most = _MOST.get(kind)

@@ -12,8 +12,8 @@ from typing import Any, Callable, Dict, Iterator, Optional, Tuple, Type, TypeVar
 from ._calls import Alert, Clcw, Command, Mode, State, Verdict, _directive, _dropped_word, _Struct
 from ._faults import ClcwFault, ConfigFault, CopFault, Fault, LinkFault, TcFault, TelemetryFault, TmFault
 from ._library import (
-    LONGEST, NODES, Numbers, Single, call_of, octets_of as _octets_of, renamed, struct_of as _struct_of,
-    warn_of as _warn_of, within as _within, written as _written)
+    LONGEST, NODES, Numbers, Single, call_of, frame_length_of as _frame_length_of, octets_of as _octets_of, renamed,
+    struct_of as _struct_of, warn_of as _warn_of, within as _within, written as _written)
 
 _ABSENT, _OUT_OF_RANGE, _NONE = 253, 254, 255
 _Own = TypeVar("_Own", bound="Handle")
@@ -364,6 +364,13 @@ class Ground(Sender):
         octets, heard = _octets_of("octets", octets), _Heard()
         self._asked(_ground_telemetry(self._handle, octets, len(octets), heard))
         return heard.value()
+
+    def telemetry_all(self, octets: bytes, length: int) -> Iterator[Heard]:
+        """Octets came that are telemetry frames of `length` octets, one after another: what comes of each, as
+        `telemetry` gives it, when it is asked for. Take the `packets` of each, or at the end those of all. What is left
+        at the end is no frame. A ValueError for a length that is not in 16 to 2,048, and a LinkFault, 6 Memory."""
+        octets, length = _octets_of("octets", octets), _frame_length_of(length)
+        return (self.telemetry(octets[start:start + length]) for start in range(0, len(octets), length))
 
     def clcw(self, word: bytes) -> Heard:
         """A report came by itself, a CLCW of four octets as a front end hands it on. The sender gets it as it does that

@@ -5,7 +5,7 @@ import sys
 import threading
 
 from each import between
-from wanted import refuses
+from wanted import refuses, says
 
 COMMAND, OTHER = bytes.fromhex("1005c0000000aa"), bytes.fromhex("1005c0010001abac")
 
@@ -60,6 +60,75 @@ def decodes_of_own_kinds(it):
         own = type("Own", (kind,), {})
         found = own.decode(bytes.fromhex(octets))
         assert type(found if kind is it.Clcw else found[0]) is own
+
+
+# ---- Many frames. ----
+
+
+def frames_one_after_another(it):
+    """Frames and their faults come as each by itself, whatever the octets are, in order; the rest is the last."""
+    chance, commands = random.Random(1), [bytes.fromhex(one) for one in (
+        "0001080e00c41005c0000000aae75d", "3001080700008b9e", "30010809008200074f60", "3001080700008b9f")]
+    fault = it.TcFault(6)
+    assert [*it.TcFrame.decode_all(b"".join(commands))] == [
+        (it.TcFrame(scid=1, vcid=2, flags=3, map=4), COMMAND), (it.TcFrame(scid=1, vcid=2, kind=it.Kind.BC), b""),
+        (it.TcFrame(scid=1, vcid=2, kind=it.Kind.BC, command=1, vr=7), b""), (fault, commands[3])]
+    assert [*it.TcFrame.decode_all(b"")] == [*it.TcFrame.decode_all(b"", False)] == []
+    for digits, number in (("3001", 1), ("30010807", 1), ("3001080700", 5), ("3001080000008b9e", 5)):
+        rest = bytes.fromhex(digits)
+        assert [*it.TcFrame.decode_all(commands[1] + rest)][1:] == [(it.TcFault(number), rest)]
+    for checked in (True, False):
+        frames = [any_command(it, chance, checked) for _ in range(10_000)]
+        found = it.TcFrame.decode_all(bytearray(b"".join(frames)), checked)
+        for wanted, one in zip(frames, found):
+            assert one == decoded(it.TcFrame, it.TcFault, wanted, checked)
+        assert next(found, None) is None
+
+
+def any_command(it, chance, checked):
+    """A telecommand frame of any kind, one in eight with a wrong octet, but for those that declare its length."""
+    frame = it.TcFrame(chance.randrange(1024), chance.randrange(64), chance.randrange(3), chance.randrange(256),
+                       chance.randrange(4), chance.randrange(64), chance.randrange(2), chance.randrange(256))
+    octets = bytearray(frame.encode(chance.randbytes(chance.choice((1, 30, 1016))), checked))
+    if chance.randrange(8) == 0:
+        octets[chance.choice((0, 1, *range(4, len(octets))))] ^= 1 << chance.randrange(8)
+    return bytes(octets)
+
+
+def decoded(kind, fault, octets, *more):
+    """What a decode gives, or its fault and the octets."""
+    try:
+        return kind.decode(octets, *more)
+    except fault as why:
+        return why, octets
+
+
+def telemetry_one_after_another(it):
+    """What `take_all` and `telemetry_all` give is what each frame gives by itself: damaged and lost ones, and a rest."""
+    chance, builder, stream = random.Random(2), it.TmBuilder(1, 0, 64), []
+    for k in range(2000):
+        while builder.waiting < 200:
+            builder.queue(it.Packet(apid=k % 2047, count=k % 16384).encode(bytes(chance.choice((1, 20, 150)))))
+        frame = bytearray(builder.build(it.Clcw(vcid=2).encode()))
+        if chance.randrange(10) == 0:
+            frame[chance.randrange(64)] ^= 1
+        stream += [bytes(frame)] * (chance.randrange(10) > 0)
+    octets, one, other = b"".join(stream) + b"rest", it.TmExtractor(), it.TmExtractor()
+    found = [*one.take_all(octets, 64)]
+    for (frame, packets, lost), whole in zip(found, stream):
+        alone = decoded(it.TmFrame, it.TmFault, whole, 64)
+        assert frame == alone[0]
+        assert (packets, lost) == (([], None) if isinstance(frame, it.TmFault) else other.take(*alone))
+    assert found[len(stream):] == [(it.TmFault(1), [], None)] and one.dropped == other.dropped > 0
+    assert sum(len(packets) for _, packets, _ in found) > 1000
+    with it.Ground(scid=1, tm_vcid=0) as ground, it.Ground(scid=1, tm_vcid=0) as alone:
+        heard = [*ground.telemetry_all(memoryview(octets), 64)]
+        assert heard == [alone.telemetry(one) for one in (*stream, b"rest")] and heard[-1].fault == it.TmFault(1)
+        assert [*ground.packets()] == [*alone.packets()] == [packet for _, more, _ in found for packet in more]
+        for call in (one.take_all, ground.telemetry_all):
+            assert [*call(b"", 64)] == []
+            for length in (15, 2049):
+                says(ValueError, f"length: {length} is not in 16 to 2048", call, b"", length)
 
 
 # ---- Results. ----
@@ -162,5 +231,5 @@ def threads_that_take_turns(it):
     assert not wrong, wrong
 
 
-TESTS = (each_fault_of_each_decode, decodes_of_own_kinds, results_that_stay, frames_and_packets_that_stay,
-         calls_at_once, threads_that_take_turns)
+TESTS = (each_fault_of_each_decode, decodes_of_own_kinds, frames_one_after_another, telemetry_one_after_another,
+         results_that_stay, frames_and_packets_that_stay, calls_at_once, threads_that_take_turns)

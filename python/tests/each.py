@@ -230,6 +230,7 @@ def longest_frames(it):
         octets = frame.encode(DATA[:most], checked=checked)
         assert len(octets) == 1024 and octets[:6].hex() == "03ffffffffff" and octets[6:6 + most] == DATA[:most]
         assert it.TcFrame.decode(octets, checked=checked) == (frame, DATA[:most])
+        assert [*it.TcFrame.decode_all(octets * 100, checked=checked)] == [(frame, DATA[:most])] * 100
         assert it.TcFrame.declared(octets[:5], checked=checked) == 1024
         says(it.TcFault, "11 FieldRange", lambda: frame.encode(DATA[:most + 1], checked=checked))
     frame = it.TmFrame(scid=1023, vcid=7, mc_count=255, vc_count=255, pointer=2035, ocf=b"\xff\xfe\xfd\xfc")
@@ -246,6 +247,7 @@ def longest_frames(it):
 def longest_telemetry(it):
     packet, _ = packets(it)
     builder, extractor, found = it.TmBuilder(1023, 7, 2048, room=2 * len(packet)), it.TmExtractor(65542), []
+    stream = b""
     builder.queue(packet), builder.queue(packet)
     assert builder.waiting == 2 * 65542
     says(it.TmFault, "7 Memory", builder.queue, bytes.fromhex("0005c0000000aa"))
@@ -253,7 +255,12 @@ def longest_telemetry(it):
         octets = builder.build(b"\xff\xfe\xfd\xfc")
         assert len(octets) == 2048
         found += extractor.take(*it.TmFrame.decode(octets))[0]
+        stream += octets
     assert found == [packet] * 2
+    assert [one for _, more, _ in it.TmExtractor(65542).take_all(stream, 2048) for one in more] == found
+    with it.Ground(scid=1023, tm_vcid=7, frame_length=2048) as ground:
+        assert {heard.kind for heard in ground.telemetry_all(stream, 2048)} == {it.Arrived.TM}
+        assert [*ground.packets()] == found
     frame = it.TmFrame(vc_count=63, pointer=it.ONLY_IDLE)
     assert extractor.take(frame, bytes(2036)) == ([], 254)  # the last count was 64, of 65 frames
     assert extractor.dropped == 0
@@ -442,7 +449,8 @@ def each_wrong_argument(it):
                 says(TypeError, f"{own}: ", call, **{**given, own: value})
             tried += 1
             for value in (-1, 2**64) if "int" in kind else ():
-                says(ValueError if name in ("TmExtractor", "read_frames") else OverflowError,
+                is_own = name in ("TmExtractor", "TmExtractor.take_all", "Ground.telemetry_all", "read_frames")
+                says(ValueError if is_own else OverflowError,
                      f"{own}: {value} is not in ", call, **{**given, own: value})
     assert tried > 100, tried
     for one in (*owners(it)[:6], it.Config()):

@@ -4,3 +4,4 @@ mod SenderFields
 mod Described
 mod Builders
 mod Extractors
+mod FramesInOrder

@@ -1,6 +1,6 @@
 -- Telecommand frames as C has them.
-use Rattle.std.specs.Prelude.{◌≡◌, ℕ, List, length, take, drop, Bool, ◌==◌, nat_lt, if◌then◌else◌}
-use Rattle.std.specs.Prelude.{Result, Ok, Err}
+use Rattle.std.specs.Prelude.{◌≡◌, ℕ, zero, suc, ◌+◌, ◌/◌, ◌%◌, List, [], ◌∷◌, ◌++◌, length, take}
+use Rattle.std.specs.Prelude.{drop, Bool, ◌==◌, nat_lt, if◌then◌else◌, Result, Ok, Err}
 use Rattle.octets.specs.Outcome.{map_ok}
 use Rattle.tc_frame.specs.declared.frame.Command.TheVariants.{Unlock, SetVr}
 use Rattle.tc_frame.specs.Faults.{fault_row}
@@ -10,7 +10,7 @@ use Rattle.tc_frame.specs.Splitter.{check_if, total_at}
 use Rattle.tc_frame.specs.Encoding.{encode_answer}
 use Rattle.sedgechisel.specs.declared.command_frame.CommandFrame.{CommandFrame}
 use Rattle.sedgechisel.specs.declared.part.Part.{Part}
-use Rattle.sedgechisel.specs.Answers.{damaged, numbered, and_then, if_ok}
+use Rattle.sedgechisel.specs.Answers.{damaged, numbered, and_then, if_ok, status_of, left_by}
 
 -- ---- from fields and data to a frame
 
@@ -95,3 +95,44 @@ abbrev pub DescribesFrame : Bool → List ℕ → CommandFrame → Part → Type
 DescribesFrame checked octets f part =
     (view : FrameView) → frame_read checked octets ≡ Ok view
     → frame_described f (take part.count (drop part.from octets)) ≡ Ok view
+
+-- ---- many frames
+
+-- how many octets the whole frame has that octets begin with, and 0 for none
+abbrev pub len_within : Result ℕ ℕ → ℕ → ℕ
+len_within (Ok total) count = if nat_lt count total then 0 else total
+len_within (Err number) count = 0
+
+abbrev pub whole_len : Bool → List ℕ → ℕ
+whole_len checked octets = len_within (total_declared checked octets) (length octets)
+
+abbrev pub no_fields : CommandFrame
+no_fields =
+    record { scid = 0; vcid = 0; kind = 0; n = 0; flags = 0; map = 0; command = 0; vr = 0 }
+
+-- what is written of a frame of these octets
+abbrev pub record_with : ℕ → ℕ → CommandFrame → List ℕ
+record_with count fault f =
+    count % 256 ∷ count / 256 ∷ fault ∷ f.scid % 256 ∷ f.scid / 256 ∷ f.vcid ∷ f.kind ∷ f.n ∷ f.flags
+    ∷ f.map ∷ f.command ∷ f.vr ∷ []
+
+abbrev pub record_of : Bool → List ℕ → List ℕ
+record_of checked octets =
+    let read : Result FrameView ℕ = frame_read checked octets in
+    record_with (length octets) (status_of read) (left_by fields_of read no_fields)
+
+-- and of the frames from a place on, one after another, so many at most
+abbrev pub records_from : Bool → List ℕ → ℕ → ℕ → List ℕ
+records_from checked octets from zero = []
+records_from checked octets from (suc most) =
+    let count : ℕ = whole_len checked (drop from octets) in
+    if count == 0 then []
+    else record_of checked (take count (drop from octets))
+    ++ records_from checked octets (from + count) most
+
+-- where they end
+abbrev pub end_from : Bool → List ℕ → ℕ → ℕ → ℕ
+end_from checked octets from zero = from
+end_from checked octets from (suc most) =
+    let count : ℕ = whole_len checked (drop from octets) in
+    if count == 0 then from else end_from checked octets (from + count) most

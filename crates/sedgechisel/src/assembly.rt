@@ -1,6 +1,6 @@
 // Joining the segments of one MAP, in the caller's memory.
 
-ghost use Rattle.std.specs.Prelude.{◌≡◌, ◌+◌, ◌≤◌, ◌++◌, length, take, true, OnOk, OnErr, is_some, option_copied, if◌then◌else◌};
+ghost use Rattle.std.specs.Prelude.{◌≡◌, ◌+◌, ◌≤◌, ◌++◌, length, take, drop, true, OnOk, OnErr, is_some, option_copied, if◌then◌else◌};
 ghost use Rattle.sedgechisel.specs.Answers.{status_of};
 ghost use Rattle.sedgechisel.specs.Maps.{is_map, is_counted, part_of, limits_of, cell_for, cause_at, IsCauseNumber, closed, no_packets, outcome_described, taken_at, DescribesOutcome, next_packet, part_or, DescribesPackets};
 
@@ -196,6 +196,7 @@ fn joined(count: usize, fault: Option<Dropped>) -> TakenSegment
 pub(crate) fn add(count: usize, octets: &[u8], memory: &mut [u8]) -> usize
     requires room { count + length octets.now ≤ length memory.old }
     ensures joined { take result memory.new ≡ take count memory.old ++ octets.now }
+    ensures rest { drop result memory.new ≡ drop result memory.old }
     ensures count { result ≡ count + length octets.now }
     ensures room { length memory.new ≡ length memory.old }
 {

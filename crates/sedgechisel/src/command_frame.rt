@@ -1,13 +1,15 @@
 // Telecommand transfer frames.
 
-ghost use Rattle.std.specs.Prelude.{◌≡◌, length};
+ghost use Rattle.std.specs.Prelude.{◌≡◌, ◌≤◌, ◌*◌, ◌/◌, ◌%◌, ◌++◌, length, drop};
 ghost use Rattle.octets.specs.Outcome.{map_ok};
 ghost use Rattle.tc_frame.specs.Layout.{body_view, frame_view, segment_view};
 ghost use Rattle.tc_frame.specs.Splitter.{check_if};
 ghost use Rattle.tc_frame.specs.Encoding.{total_of, spelling};
 ghost use Rattle.sedgechisel.specs.Answers.{IsRead, IsSpelled, IsWritten};
 ghost use Rattle.sedgechisel.specs.CommandFrames.{segment_described, command_described, body_described, frame_described, fields_of, part_of, part_with, frame_read, frame_taken, total_declared, DescribesFrame};
+ghost use Rattle.sedgechisel.specs.CommandFrames.{no_fields, whole_len, record_of, records_from, end_from};
 
+use crate::assembly::add;
 use crate::numbers::DAMAGED;
 use crate::part::Part;
 use octets::Wire;
@@ -105,6 +107,107 @@ pub extern "C" fn sedge_tc_declared(octets: &[u8], checked: bool, total: &mut us
         Unchecked::extent(octets)
     };
     written!(declared, |count| *total = count)
+}
+
+/// Reads the frames that stand one after another in the octets, each as long as it declares (4.1.2.7), and writes a record
+/// of 12 octets of each to `out`, in order: the number of its octets, what `sedge_tc_decode` returns for it, and the scid,
+/// vcid, kind, n, flags, map, command and vr that it writes, or 0 for each where it refuses the frame. The number and the
+/// scid have two octets, the lower one first. The data of a Type-AD or a Type-BD frame begin 6 octets after its first.
+/// Stops where `out` has no room for a record, or where no whole frame follows: `sedge_tc_declared` says of the octets
+/// there whether their length is refused. Writes the number of octets of all these frames to `total`. Returns the number
+/// of frames.
+#[unsafe(no_mangle)]
+pub extern "C" fn sedge_tc_frames(
+    octets: &[u8],
+    checked: bool,
+    out: &mut [u8],
+    total: &mut usize,
+) -> usize
+    ensures records { let records = records_from checked octets.now 0 (length out.old / 12) in
+        out.new ≡ records ++ drop (length records) out.old }
+    ensures frames { 12 * result
+        ≡ length (records_from checked octets.now 0 (length out.old / 12)) }
+    ensures total { total.new ≡ end_from checked octets.now 0 (length out.old / 12) }
+{
+    let most = out.len() / 12;
+    let mut frames = 0;
+    let mut from = 0;
+    let mut at = 0;
+    'frames: while frames < most {
+        let count = whole_len(&octets[from..], checked);
+        if count == 0 {
+            *total = from;
+            return frames;
+        }
+        let record = record_of(&octets[from..from + count], checked);
+        at = add(at, &record, out);
+        frames += 1;
+        from += count;
+    }
+    *total = from;
+    frames
+}
+
+// How many octets the frame has that octets begin with, and 0 where they begin with no whole one.
+#[tactic(auto, using(crate::proofs::FramesInOrder::few_octets))]
+fn whole_len(octets: &[u8], checked: bool) -> usize
+    ensures count { result ≡ whole_len checked octets.now }
+    ensures within { result ≤ length octets.now }
+    ensures most { result ≤ 1024 }
+{
+    let mut total = 0;
+    if sedge_tc_declared(octets, checked, &mut total) == 0 && total <= octets.len() {
+        return total;
+    }
+    0
+}
+
+// What is written of a frame.
+fn record_of(octets: &[u8], checked: bool) -> [u8; 12]
+    requires { length octets.now ≤ 1024 }
+    ensures { result ≡ record_of checked octets.now }
+{
+    let mut frame = no_fields();
+    let mut payload = Part { from: 0, count: 0 };
+    let fault = sedge_tc_decode(octets, checked, &mut frame, &mut payload);
+    let scid = halves(frame.scid);
+    [
+        (octets.len() % 256) as u8,
+        (octets.len() / 256) as u8,
+        fault,
+        scid.0,
+        scid.1,
+        frame.vcid,
+        frame.kind,
+        frame.n,
+        frame.flags,
+        frame.map,
+        frame.command,
+        frame.vr,
+    ]
+}
+
+// The two octets of a number, the lower one first.
+fn halves(number: u16) -> (u8, u8)
+    ensures low { result.0 ≡ number % 256 }
+    ensures high { result.1 ≡ number / 256 }
+{
+    ((number % 256) as u8, (number / 256) as u8)
+}
+
+fn no_fields() -> CommandFrame
+    ensures { result ≡ no_fields }
+{
+    CommandFrame {
+        scid: 0,
+        vcid: 0,
+        kind: 0,
+        n: 0,
+        flags: 0,
+        map: 0,
+        command: 0,
+        vr: 0,
+    }
 }
 
 // ---- from fields and data to a frame

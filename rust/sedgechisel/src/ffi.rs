@@ -275,6 +275,9 @@ unsafe extern "C" {
         total: &mut usize,
     ) -> u8;
     fn sedge_tc_declared(octets: *const u8, count: usize, checked: bool, total: &mut usize) -> u8;
+    fn sedge_tc_frames(
+        octets: *const u8, count: usize, checked: bool, out: *mut u8, room: usize, total: &mut usize,
+    ) -> usize;
 
     fn sedge_packet_decode(octets: *const u8, count: usize, packet: &mut Packet, data: &mut Part) -> u8;
     fn sedge_packet_encode(
@@ -359,6 +362,10 @@ pub fn tc_encode(frame: &TcFrame, data: &[u8], checked: bool, out: &mut [u8], to
 
 pub fn tc_declared(octets: &[u8], checked: bool, total: &mut usize) -> u8 {
     unsafe { sedge_tc_declared(octets.as_ptr(), octets.len(), checked, total) }
+}
+
+pub fn tc_frames(octets: &[u8], checked: bool, out: &mut [u8], total: &mut usize) -> usize {
+    unsafe { sedge_tc_frames(octets.as_ptr(), octets.len(), checked, out.as_mut_ptr(), out.len(), total) }
 }
 
 pub fn packet_decode(octets: &[u8], packet: &mut Packet, data: &mut Part) -> u8 {

@@ -72,7 +72,7 @@ pub use nodes::{
     Received, Record, SimFault, Spacecraft,
 };
 pub use packet::{GapCheck, Packet, PacketFault, PacketKind, SequenceFlags};
-pub use tc::{Body, Command, Fecf, Segment, SegmentFlags, TcFault, TcFrame};
-pub use tm::{Pointer, TmFault, TmFrame};
+pub use tc::{Body, Command, Fecf, Segment, SegmentFlags, TcFault, TcFrame, TcFrames};
+pub use tm::{Pointer, TmFault, TmFrame, TmFrames};
 pub use tm_packets::{Extracted, TmBuilder, TmExtractor, TmPackets};
 pub use version::{version, Version};

@@ -2,6 +2,7 @@
 
 use crate::ffi;
 use crate::numbers::never;
+use core::iter::FusedIterator;
 
 faults! {
     /// Why a telecommand frame is refused (CCSDS 232.0-B-4).
@@ -127,6 +128,25 @@ impl<'a> TcFrame<'a> {
         Ok(Self { scid: frame.scid, vcid: frame.vcid, body })
     }
 
+    /// Reads the frames that stand one after another in the octets, each as long as it declares: each as
+    /// [`decode`](Self::decode) reads it, or its fault with its octets. Octets that are left after the last whole frame
+    /// come at the end, with 1 [`Short`](TcFault::Short) for fewer than 5, or 5 [`Length`](TcFault::Length); no frame
+    /// before has either.
+    ///
+    /// ```
+    /// use sedgechisel::{Fecf, TcFault, TcFrame};
+    ///
+    /// let octets = [0x30, 0x01, 0x08, 0x07, 0x00, 0x00, 0x06, 0xef, 0x30, 0x01];
+    /// let mut frames = TcFrame::decode_all(&octets, Fecf::Present);
+    /// assert_eq!(frames.next(), Some(Err((TcFault::Check, &octets[..8]))));
+    /// assert_eq!(frames.next(), Some(Err((TcFault::Short, &octets[8..]))));
+    /// assert_eq!(frames.next(), None);
+    /// ```
+    #[must_use]
+    pub fn decode_all(octets: &'a [u8], fecf: Fecf) -> TcFrames<'a> {
+        TcFrames { rest: octets, fecf }
+    }
+
     /// Writes the frame to the beginning of `out`, with or without its FECF, and returns its octets, 6 to 1,024.
     ///
     /// # Errors
@@ -174,6 +194,35 @@ impl Fecf {
         matches!(self, Self::Present)
     }
 }
+
+/// The frames that stand one after another in octets, by [`TcFrame::decode_all`].
+#[derive(Clone, Debug)]
+pub struct TcFrames<'a> {
+    rest: &'a [u8],
+    fecf: Fecf,
+}
+
+impl<'a> Iterator for TcFrames<'a> {
+    type Item = Result<TcFrame<'a>, (TcFault, &'a [u8])>;
+
+    fn next(&mut self) -> Option<Self::Item> {
+        if self.rest.is_empty() {
+            return None;
+        }
+        let all = core::mem::take(&mut self.rest);
+        match TcFrame::declared(all, self.fecf) {
+            Ok(total) if total <= all.len() => {
+                let (whole, rest) = all.split_at(total);
+                self.rest = rest;
+                Some(TcFrame::decode(whole, self.fecf).map_err(|fault| (fault, whole)))
+            }
+            Ok(_) => Some(Err((TcFault::Length, all))),
+            Err(fault) => Some(Err((fault, all))),
+        }
+    }
+}
+
+impl FusedIterator for TcFrames<'_> {}
 
 impl<'a> Segment<'a> {
     /// Puts the header into the frame, and returns the data.

@@ -2,6 +2,7 @@
 //! 4.1).
 
 use crate::ffi;
+use core::iter::FusedIterator;
 
 faults! {
     /// Why a telemetry frame is refused (CCSDS 132.0-B-3).
@@ -73,6 +74,28 @@ impl<'a> TmFrame<'a> {
         })
     }
 
+    /// Reads the frames of this length that stand one after another in the octets: each as [`decode`](Self::decode)
+    /// reads it, or its fault with its octets. Octets that are left at the end come last, with 1
+    /// [`Length`](TmFault::Length).
+    ///
+    /// ```
+    /// use sedgechisel::{TmExtractor, TmFault, TmFrame};
+    ///
+    /// let (octets, mut memory) = ([0; 40], [0; 4096]);
+    /// let mut extractor = TmExtractor::new(&mut memory);
+    /// for frame in TmFrame::decode_all(&octets, 20) {
+    ///     match frame {
+    ///         Ok(frame) => extractor.take(&frame)?.packets.for_each(|it| println!("{it:?}")),
+    ///         Err((fault, octets)) => assert_eq!((fault, octets.len()), (TmFault::Check, 20)),
+    ///     }
+    /// }
+    /// # Ok::<(), TmFault>(())
+    /// ```
+    #[must_use]
+    pub fn decode_all(octets: &'a [u8], length: usize) -> TmFrames<'a> {
+        TmFrames { rest: octets, length }
+    }
+
     /// Writes the frame and its FECF to the beginning of `out`, and returns its octets, 12 more than its data.
     ///
     /// # Errors
@@ -97,6 +120,25 @@ impl<'a> TmFrame<'a> {
         }
     }
 }
+
+/// The frames that stand one after another in octets, by [`TmFrame::decode_all`].
+#[derive(Clone, Debug)]
+pub struct TmFrames<'a> {
+    rest: &'a [u8],
+    length: usize,
+}
+
+impl<'a> Iterator for TmFrames<'a> {
+    type Item = Result<TmFrame<'a>, (TmFault, &'a [u8])>;
+
+    fn next(&mut self) -> Option<Self::Item> {
+        let (whole, rest) = self.rest.split_at(self.length.max(1).min(self.rest.len()));
+        self.rest = rest;
+        (!whole.is_empty()).then(|| TmFrame::decode(whole, self.length).map_err(|fault| (fault, whole)))
+    }
+}
+
+impl FusedIterator for TmFrames<'_> {}
 
 impl Pointer {
     fn from_raw(pointer: u16) -> Self {

@@ -362,3 +362,42 @@ fn unwritten_telemetry_frames() {
         assert_eq!(encoded(frame, 2048), Err(TmFault::FieldRange));
     }
 }
+
+/// An unlocking frame, the same with a wrong check, one that sets V(R), and one with data; each as it is read alone.
+#[test]
+fn frames_one_after_another() {
+    let spelled =
+        ["3001080700008b9e", "3001080700008b9f", "30010809008200074f60", "0001080e00c41005c0000000aae75d"];
+    let frames: Vec<Vec<u8>> = spelled.iter().map(|it| octets_of(it)).collect();
+    let octets = frames.concat();
+    let found: Vec<_> = TcFrame::decode_all(&octets, Fecf::Present).collect();
+    let alone = frames.iter().map(|it| TcFrame::decode(it, true).map_err(|fault| (fault, &it[..])));
+    assert!(found.iter().copied().eq(alone));
+    assert_eq!(found.iter().filter(|it| it.is_ok()).count(), 3);
+    assert_eq!(TcFrame::decode_all(&[], Fecf::Present).next(), None);
+    for (count, last) in
+        [(3, TcFault::Short), (7, TcFault::Length), (12, TcFault::Short), (40, TcFault::Length)]
+    {
+        assert_eq!(TcFrame::decode_all(&octets[..count], Fecf::Present).last().unwrap().unwrap_err().0, last);
+    }
+    let short = octets_of("3001080000008b9e");
+    let mut refused = TcFrame::decode_all(&short, Fecf::Present);
+    assert_eq!((refused.next(), refused.next()), (Some(Err((TcFault::Length, &short[..]))), None));
+}
+
+#[test]
+fn telemetry_frames_one_after_another() {
+    let mut octets = [0; 54];
+    for place in [0, 16, 32] {
+        TmFrame { vc_count: place as u8, ..IDLE }.encode(&mut octets[place..]).unwrap();
+    }
+    octets[20] ^= 1;
+    let found: Vec<_> = TmFrame::decode_all(&octets, 16).collect();
+    assert_eq!(found.len(), 4);
+    assert_eq!(found[0], TmFrame::decode(&octets[..16], 16).map_err(|it| (it, &octets[..16])));
+    assert_eq!(found[1], Err((TmFault::Check, &octets[16..32])));
+    assert_eq!(found[2].as_ref().unwrap().vc_count, 32);
+    assert_eq!(found[3], Err((TmFault::Length, &octets[48..])));
+    assert_eq!(TmFrame::decode_all(&[], 16).next(), None);
+    assert!(TmFrame::decode_all(&octets[..3], 0).all(|it| it.unwrap_err().0 == TmFault::Length));
+}
