@@ -37,6 +37,7 @@ const PLAIN = {
     'up lose': { kind: n.SEDGE_EVENT_UP_LOSE },
     'down deliver': { kind: n.SEDGE_EVENT_DOWN_DELIVER },
     'down lose': { kind: n.SEDGE_EVENT_DOWN_LOSE },
+    'down clcw': { kind: n.SEDGE_EVENT_DOWN_CLCW },
     'init none': { kind: n.SEDGE_EVENT_DIRECTIVE, directive: n.SEDGE_INIT_WITHOUT_CHECK },
     'init check': { kind: n.SEDGE_EVENT_DIRECTIVE, directive: n.SEDGE_INIT_WITH_CHECK },
     'init unlock': { kind: n.SEDGE_EVENT_DIRECTIVE, directive: n.SEDGE_INIT_UNLOCK },
@@ -59,6 +60,10 @@ export function eventOf(line) {
     if (Object.hasOwn(NUMBERED, first)) {
         const [directive, most] = NUMBERED[first], value = numberOf(last, most);
         return value === null ? null : { kind: n.SEDGE_EVENT_DIRECTIVE, directive, value, octets: NONE };
+    }
+    if (first === 'resume') {
+        const value = numberOf(last, 255);
+        return value === null ? null : { kind: n.SEDGE_EVENT_RESUME, value, octets: NONE };
     }
     const octets = octetsOf(last);
     if (Object.hasOwn(WITH_OCTETS, first)) return octets && { kind: WITH_OCTETS[first], octets };
@@ -127,8 +132,18 @@ export class Link {
             return `report ${digitsOf(word)}`;
         case n.SEDGE_REPLY_UP: return this.receivedLine(it.up);
         case n.SEDGE_REPLY_DOWN: return this.heardLine(it.down);
+        case n.SEDGE_REPLY_DOWN_CLCW: return this.wordLine(it.down);
+        case n.SEDGE_REPLY_RESUMED: return `resumed ${it.whole}`;
         default: return `packet ${it.map} ${digitsOf(this.octets())}`;
         }
+    }
+
+    // What became of a report that came by itself.
+    wordLine(it) {
+        const calls = this.calls;
+        if (it.report === 1) return `invalid ${it.word_fault} ${calls.sedge_clcw_fault_name(it.word_fault)}`;
+        if (it.report === 2) return 'foreign';
+        return it.alert === 0 ? 'ok' : `alert ${calls.sedge_alert_name(it.alert)}`;
     }
 
     receivedLine(it) {

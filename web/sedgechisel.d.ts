@@ -199,6 +199,7 @@ export interface sedge_sim {
 
 export interface sedge_reply {
     count: number;
+    whole: bigint;
     up: sedge_received;
     down: sedge_heard;
     report: sedge_clcw;

@@ -397,15 +397,17 @@ struct sedge_text sedge_sim_fault_name(uint8_t number);
 /* What the link answers to an event. */
 enum sedge_reply_kind {
     SEDGE_REPLY_DONE = 0,
-    SEDGE_REPLY_NOTHING = 1,  /* there was nothing to send or to take */
-    SEDGE_REPLY_LOST = 2,     /* the frame is lost */
-    SEDGE_REPLY_REFUSED = 3,  /* a node refused the call: by, fault */
-    SEDGE_REPLY_ALERT = 4,    /* the ground's sender has given up: alert */
-    SEDGE_REPLY_SENT = 5,     /* the ground sent a frame: count */
-    SEDGE_REPLY_REPORTED = 6, /* the spacecraft sent a frame with a report: report */
-    SEDGE_REPLY_UP = 7,       /* the spacecraft received: up */
-    SEDGE_REPLY_DOWN = 8,     /* the ground received: down */
-    SEDGE_REPLY_PACKET = 9    /* a packet was taken: map, count */
+    SEDGE_REPLY_NOTHING = 1,    /* there was nothing to send or to take */
+    SEDGE_REPLY_LOST = 2,       /* the frame is lost */
+    SEDGE_REPLY_REFUSED = 3,    /* a node refused the call: by, fault */
+    SEDGE_REPLY_ALERT = 4,      /* the ground's sender has given up: alert */
+    SEDGE_REPLY_SENT = 5,       /* the ground sent a frame: count */
+    SEDGE_REPLY_REPORTED = 6,   /* the spacecraft sent a frame with a report: report */
+    SEDGE_REPLY_UP = 7,         /* the spacecraft received: up */
+    SEDGE_REPLY_DOWN = 8,       /* the ground received: down */
+    SEDGE_REPLY_PACKET = 9,     /* a packet was taken: map, count */
+    SEDGE_REPLY_DOWN_CLCW = 10, /* the ground received a report by itself: down */
+    SEDGE_REPLY_RESUMED = 11    /* the ground has resumed: whole */
 };
 
 /* The part of a node that refused a call, and of which enum its number is. */
@@ -418,6 +420,7 @@ enum sedge_refused_by {
 /* A reply: its kind, then what that kind has; the rest is 0. */
 struct sedge_reply {
     size_t count;             /* the octets of the frame that was sent, or of the packet */
+    uint64_t whole;           /* how many submissions of the session that ended are on board whole */
     struct sedge_received up;
     struct sedge_heard down;
     struct sedge_clcw report;
@@ -444,7 +447,9 @@ enum sedge_event_kind {
     SEDGE_EVENT_TICK = 12,        /* a tick of the ground's clock passes */
     SEDGE_EVENT_TAKE = 13,        /* a packet of sequence-controlled frames is taken on board */
     SEDGE_EVENT_TAKE_BYPASS = 14, /* a packet that came past the sequence control is taken on board */
-    SEDGE_EVENT_TELEMETRY = 15    /* a packet is queued on board, to be sent as telemetry: octets */
+    SEDGE_EVENT_TELEMETRY = 15,   /* a packet is queued on board, to be sent as telemetry: octets */
+    SEDGE_EVENT_DOWN_CLCW = 16,   /* the first frame on its way down arrives, and its report alone reaches the ground */
+    SEDGE_EVENT_RESUME = 17       /* the ground goes on after an alert, by a report's value: value */
 };
 
 /* An event: its kind, then what that kind has; the rest is ignored. But octets is never null: for a kind without
@@ -453,7 +458,8 @@ struct sedge_event {
     uint8_t kind;          /* of sedge_event_kind */
     uint8_t map;           /* the MAP */
     uint8_t directive;     /* of sedge_directive */
-    uint16_t value;        /* the directive's, as of sedge_ground_directive */
+    uint16_t value;        /* the directive's, as of sedge_ground_directive; or that of a report, by which the ground
+                            * resumes, 0 to 255 */
     const uint8_t *octets; /* where they begin */
     size_t count;          /* the number of these */
 };
@@ -469,12 +475,13 @@ typedef char sedge_event_is_laid_out[offsetof(struct sedge_event, map) == 1 &&
                                          : -1];
 
 /* An event happens. Returns 0 and writes the reply; or a number of sedge_sim_fault, and nothing happens; or
- * SEDGE_NODE_NONE, also for a kind that is none, and where sedge_ground_directive answers it to the directive and the
- * value. No directive, loss, damage, tick or take answers SEDGE_SIM_MEMORY. What a node refuses is a reply. The octets
- * of a frame that was sent, and of a packet that was taken, stay to be read until the next event (sedge_sim_octets). */
+ * SEDGE_NODE_NONE, also for a kind that is none, where sedge_ground_directive answers it to the directive and the
+ * value, and for a value above 255 by which the ground is to resume. No directive, resumption, loss, damage, control
+ * word by itself, tick or take answers SEDGE_SIM_MEMORY. What a node refuses is a reply. The octets of a frame that was
+ * sent, and of a packet that was taken, stay to be read until the next event (sedge_sim_octets). */
 SEDGE_CHECK uint8_t sedge_sim_step(struct sedge_sim *sim, const struct sedge_event *event, struct sedge_reply *reply);
 
-/* An event with octets, with none, and that of a directive. */
+/* An event with octets, with none, that of a directive, and that the ground resumes. */
 static inline SEDGE_CHECK uint8_t sedge_sim_octets_event(struct sedge_sim *sim, uint8_t kind, uint8_t map,
                                                          const uint8_t *octets, size_t count,
                                                          struct sedge_reply *reply) {
@@ -488,6 +495,10 @@ static inline SEDGE_CHECK uint8_t sedge_sim_event(struct sedge_sim *sim, uint8_t
 static inline SEDGE_CHECK uint8_t sedge_sim_directive(struct sedge_sim *sim, uint8_t directive, uint16_t value,
                                                       struct sedge_reply *reply) {
     struct sedge_event event = {SEDGE_EVENT_DIRECTIVE, 0, directive, value, &directive, 0};
+    return sedge_sim_step(sim, &event, reply);
+}
+static inline SEDGE_CHECK uint8_t sedge_sim_resume(struct sedge_sim *sim, uint8_t value, struct sedge_reply *reply) {
+    struct sedge_event event = {SEDGE_EVENT_RESUME, 0, 0, value, &value, 0};
     return sedge_sim_step(sim, &event, reply);
 }
 
@@ -693,6 +704,8 @@ SEDGE_CHECK uint8_t sedge_sim_entry(struct sedge_sim *sim, uint8_t record, uint8
 #define SEDGE_REPLY_UP ((uint8_t)7)
 #define SEDGE_REPLY_DOWN ((uint8_t)8)
 #define SEDGE_REPLY_PACKET ((uint8_t)9)
+#define SEDGE_REPLY_DOWN_CLCW ((uint8_t)10)
+#define SEDGE_REPLY_RESUMED ((uint8_t)11)
 #define SEDGE_BY_NODE ((uint8_t)1)
 #define SEDGE_BY_SENDER ((uint8_t)2)
 #define SEDGE_BY_TELEMETRY ((uint8_t)3)
@@ -711,6 +724,8 @@ SEDGE_CHECK uint8_t sedge_sim_entry(struct sedge_sim *sim, uint8_t record, uint8
 #define SEDGE_EVENT_TAKE ((uint8_t)13)
 #define SEDGE_EVENT_TAKE_BYPASS ((uint8_t)14)
 #define SEDGE_EVENT_TELEMETRY ((uint8_t)15)
+#define SEDGE_EVENT_DOWN_CLCW ((uint8_t)16)
+#define SEDGE_EVENT_RESUME ((uint8_t)17)
 #define SEDGE_BEGUN_NOT ((uint8_t)0)
 #define SEDGE_BEGUN_WITHOUT_CHECK ((uint8_t)1)
 #define SEDGE_BEGUN_WITH_CHECK ((uint8_t)2)

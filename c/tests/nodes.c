@@ -628,13 +628,21 @@ static void link(void) {
     has_entry(&sim, SEDGE_RECEIVED, 0, 0, field, sizeof field);
     HAPPENS(sedge_sim_terminate(&sim, &reply), SEDGE_REPLY_ALERT);
     WANT(reply.alert == SEDGE_ALERT_TERMINATED);
+    HAPPENS(sedge_sim_resume(&sim, 9, &reply), SEDGE_REPLY_REFUSED);
+    WANT(reply.by == SEDGE_BY_NODE && reply.fault == SEDGE_NODE_NOT_KNOWN && reply.whole == 0);
+    HAPPENS(sedge_sim_resume(&sim, 8, &reply), SEDGE_REPLY_RESUMED);
+    WANT(reply.whole == 1 && reply.count == 0);
+    HAPPENS(sedge_sim_report(&sim, &reply), SEDGE_REPLY_REPORTED);
+    HAPPENS(sedge_sim_down_clcw(&sim, &reply), SEDGE_REPLY_DOWN_CLCW);
+    WANT(reply.down.kind == 4 && reply.down.report == 0 && reply.down.packets == 0 && reply.whole == 0);
+    WANT(sedge_sim_down_clcw(&sim, &reply) == SEDGE_SIM_NOTHING_IN_TRANSIT);
     sedge_sim_close(&sim);
     WANT(sim.link == NULL && live == 0);
 }
 
 /* By number and value: what names no directive or no event is refused, and changes nothing. */
 static void events_by_number(void) {
-    static const uint8_t none[] = {0, 16, 255};
+    static const uint8_t none[] = {0, 18, 255};
     struct sedge_ground ground = {0};
     struct sedge_sim sim = {0};
     struct sedge_reply reply = {0};
@@ -660,6 +668,8 @@ static void events_by_number(void) {
         event.kind = none[k];
         WANT(sedge_sim_step(&sim, &event, &reply) == SEDGE_NODE_NONE && reply.kind == 77);
     }
+    event.kind = SEDGE_EVENT_RESUME;
+    WANT(sedge_sim_step(&sim, &event, &reply) == SEDGE_NODE_NONE && reply.kind == 77);
     event.kind = SEDGE_EVENT_DIRECTIVE;
     HAPPENS(sedge_sim_step(&sim, &event, &reply), SEDGE_REPLY_REFUSED);
     WANT(reply.by == SEDGE_BY_SENDER && reply.fault == SEDGE_COP_WINDOW);

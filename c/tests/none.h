@@ -5,7 +5,7 @@
 #include <sedgechisel.h>
 
 #define LAST_DIRECTIVE SEDGE_SET_TIMER
-#define LAST_EVENT SEDGE_EVENT_TELEMETRY
+#define LAST_EVENT SEDGE_EVENT_RESUME
 
 /* Some directives carry an octet, and a value that is none names no directive of that number either. */
 static inline int is_no_directive(uint8_t number, uint16_t value) {

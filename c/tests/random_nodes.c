@@ -478,12 +478,15 @@ static uint8_t submits_to_link(uint8_t map, const uint8_t *octets, size_t count,
     return answer;
 }
 
-/* A directive to the link; a session that begins has no submissions. */
+/* A directive to the link, or that it resumes; a session that begins has no submissions. */
 static uint8_t directs_link(struct sedge_reply *reply) {
     struct sedge_sim_reading before = {.state = 0}, after = {.state = 0};
     uint8_t answer;
+    struct sedge_spacecraft_reading on_board = {.value = 0};
     sedge_sim_read(&sim, &before);
-    answer = directs(reply);
+    sedge_sim_spacecraft_read(&sim, &on_board);
+    answer = below(4) ? directs(reply)
+                      : sedge_sim_resume(&sim, (uint8_t)(below(4) ? on_board.value : below(256)), reply);
     sedge_sim_read(&sim, &after);
     if (before.state == SEDGE_FOP_S6 && after.state != SEDGE_FOP_S6) submitted = 0;
     return answer;
@@ -505,7 +508,7 @@ static uint8_t happens(struct sedge_reply *reply) {
     size_t count;
     uint8_t *octets = any_packets(1, &count), map = any_map(64);
     if (below(64) == 0) return happens_not(octets, count, reply);
-    switch (below(16)) {
+    switch (below(17)) {
     case 0: return directs_link(reply);
     case 1: return submits_to_link(map, octets, count, reply);
     case 2: return sedge_sim_bypass(&sim, map, octets, count, reply);
@@ -519,6 +522,7 @@ static uint8_t happens(struct sedge_reply *reply) {
     case 12: return below(4) ? sedge_sim_down_deliver(&sim, reply) : sedge_sim_down_lose(&sim, reply);
     case 13: return below(4) ? sedge_sim_take(&sim, reply) : sedge_sim_down_damage(&sim, octets, count, reply);
     case 14: return sedge_sim_take_bypass(&sim, reply);
+    case 15: return sedge_sim_down_clcw(&sim, reply);
     default: return sedge_sim_tick(&sim, reply);
     }
 }
@@ -582,7 +586,7 @@ static void links(void) {
     uint8_t answer = CALL(SEDGE_SIM_MEMORY, happens(&reply)), *out;
     WANT(sim.link == NULL ? answer == SEDGE_NODE_NONE || answer == 0
                           : answer == 0 || (answer >= SEDGE_SIM_MEMORY && answer <= SEDGE_SIM_NOT_DETECTABLE));
-    WANT(reply.kind <= SEDGE_REPLY_PACKET || reply.kind == 77);
+    WANT(reply.kind <= SEDGE_REPLY_RESUMED || reply.kind == 77);
     WANT(answer == 0 || reply.kind == 77);
     if (sim.link != NULL && answer == 0 && reply.kind != 77) {
         WANT((reply.count > 0) == (reply.kind == SEDGE_REPLY_SENT || reply.kind == SEDGE_REPLY_PACKET));

@@ -2,7 +2,8 @@
 from __future__ import annotations
 
 import ctypes
-from ctypes import POINTER, c_bool, c_char_p, c_size_t, c_uint8, c_uint16
+from ctypes import POINTER, c_bool, c_char_p, c_size_t, c_uint8, c_uint16, c_uint64
+from enum import IntEnum
 from typing import List, Optional, Tuple
 
 from ._calls import Alert, Clcw, Mode, State, _directive
@@ -24,7 +25,7 @@ class Begun(Numbers):
 
 _EVENTS = {name: kind for kind, name in enumerate((
     "submit", "bypass", "directive", "send", "up_deliver", "up_lose", "up_damage", "report", "down_deliver",
-    "down_lose", "down_damage", "tick", "take", "take_bypass", "telemetry"), 1)}
+    "down_lose", "down_damage", "tick", "take", "take_bypass", "telemetry", "down_clcw", "resume"), 1)}
 
 
 class _Event(ctypes.Structure):
@@ -33,9 +34,10 @@ class _Event(ctypes.Structure):
 
 
 class _Reply(ctypes.Structure):
-    _fields_ = [("count", c_size_t), ("up", _Received), ("down", _Heard), ("report", Clcw), ("kind", c_uint8),
-                ("by", c_uint8), ("fault", c_uint8), ("alert", c_uint8), ("map", c_uint8)]
+    _fields_ = [("count", c_size_t), ("whole", c_uint64), ("up", _Received), ("down", _Heard), ("report", Clcw),
+                ("kind", c_uint8), ("by", c_uint8), ("fault", c_uint8), ("alert", c_uint8), ("map", c_uint8)]
     count: int
+    whole: int
     up: _Received
     down: _Heard
     report: Clcw
@@ -94,7 +96,7 @@ class Link(Sender):
             return self._octets(self._event("send"))
 
     def up_deliver(self) -> Received:
-        """The first frame on its way up arrives; SimFault 7 where there is none, as of the five calls like it."""
+        """The first frame on its way up arrives; SimFault 7 where there is none, as of the six calls like it."""
         return self._event("up_deliver").up.value()
 
     def up_lose(self) -> None:
@@ -120,6 +122,16 @@ class Link(Sender):
     def down_damage(self, octets: bytes) -> Heard:
         """These octets arrive in its place, which are no frame; SimFault 8 where they are one."""
         return self._event("down_damage", 0, octets_of("octets", octets)).down.value()
+
+    def down_clcw(self) -> Heard:
+        """It arrives, and its report alone reaches the ground, as by `Ground.clcw`: telemetry is not touched."""
+        return self._event("down_clcw").down.value()
+
+    def resume(self, value: int) -> int:
+        """The ground goes on after an alert, as by `Ground.resume`: a session begins, by Unlock. Returns how many first
+        ones of the submissions of the session that ended are on board whole."""
+        within("value", c_uint8, value)
+        return self._event("resume", directive=(0, value)).whole
 
     def tick(self) -> Alert:
         """A tick of the ground's clock passes: the Alert."""

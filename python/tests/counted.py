@@ -165,8 +165,9 @@ class OverALink:
         return chance.choice((
             directives(it, chance, link), submits(it, chance, link), (link.send,), (link.send,), (link.report,),
             (link.up_deliver,) * 4 + (link.up_lose, lambda: link.up_damage(b"1")),
-            (link.down_deliver,) * 4 + (link.down_lose, lambda: link.down_damage(b"1")),
-            (link.take, link.take_bypass, link.tick), (lambda: link.telemetry(packets),)))
+            (link.down_deliver,) * 4 + (link.down_clcw, link.down_lose, lambda: link.down_damage(b"1")),
+            (link.take, link.take_bypass, link.tick, lambda: link.resume(link.control_word.value)),
+            (lambda: link.telemetry(packets),)))
 
     def shown(self):
         link = self.link

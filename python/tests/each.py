@@ -410,6 +410,9 @@ def longest_link(it):
         assert link.up_damage(DATA) == it.Received(it.Arrived.INVALID, fault=it.TcFault(5))
         assert link.down_damage(DATA) == it.Heard(it.Arrived.INVALID, fault=it.TmFault(1))
         assert link.up_lose() is None and link.down_lose() is None and link.tick() == it.Alert.NONE
+        link.report(), link.terminate()
+        assert link.down_clcw() == it.Heard(it.Arrived.CLCW, report=it.Report.USED)
+        assert (link.resume(64), link.begun, link.state) == (1, it.Begun.UNLOCK, it.State.S5)
 
 
 # ---- Arguments. ----

@@ -63,6 +63,17 @@ static void write_heard(const struct sedge_heard *it) {
     }
 }
 
+/* What became of a report that came by itself. */
+static void write_word(const struct sedge_heard *it) {
+    if (it->report == 1) {
+        write_fault("invalid", it->word_fault, sedge_clcw_fault_name(it->word_fault));
+    } else if (it->report == 2) {
+        printf("foreign\n");
+    } else {
+        printf(it->alert == 0 ? "ok\n" : "alert %s\n", sedge_alert_name(it->alert).text);
+    }
+}
+
 /* The octets that digits spell, in `octets`; their number. */
 static size_t octets_of(const char *digits) {
     size_t count = 0;

@@ -32,6 +32,8 @@ static void write_reply(const struct sedge_reply *reply) {
         break;
     case SEDGE_REPLY_UP: write_received(&reply->up); break;
     case SEDGE_REPLY_DOWN: write_heard(&reply->down); break;
+    case SEDGE_REPLY_DOWN_CLCW: write_word(&reply->down); break;
+    case SEDGE_REPLY_RESUMED: printf("resumed %llu\n", (unsigned long long)reply->whole); break;
     default: sprintf(word, "packet %d", reply->map); write_octets(word, reply->count);
     }
 }
@@ -58,6 +60,7 @@ static void shows(void) {
 
 static uint8_t directs(const char *word, const char *argument, unsigned number, struct sedge_reply *reply) {
     if (strcmp(word, "terminate") == 0) return sedge_sim_terminate(&sim, reply);
+    if (strcmp(word, "resume") == 0) return sedge_sim_resume(&sim, (uint8_t)number, reply);
     if (strcmp(word, "vs") == 0) return sedge_sim_set_vs(&sim, (uint8_t)number, reply);
     if (strcmp(word, "window") == 0) return sedge_sim_set_window(&sim, (uint8_t)number, reply);
     if (strcmp(word, "limit") == 0) return sedge_sim_set_limit(&sim, (uint8_t)number, reply);
@@ -72,6 +75,7 @@ static uint8_t moves(int is_up, char how, size_t count, struct sedge_reply *repl
     switch (how) {
     case 'e': return (is_up ? sedge_sim_up_deliver : sedge_sim_down_deliver)(&sim, reply);
     case 'o': return (is_up ? sedge_sim_up_lose : sedge_sim_down_lose)(&sim, reply);
+    case 'l': return sedge_sim_down_clcw(&sim, reply);
     default: return (is_up ? sedge_sim_up_damage : sedge_sim_down_damage)(&sim, octets, count, reply);
     }
 }

@@ -53,7 +53,14 @@ static void goes_down(const uint8_t *from, size_t count) {
     write_heard(&heard);
 }
 
-/* The first frame up or down arrives, or is lost, or these octets arrive in its place. */
+/* The control word of a telemetry frame, before its check, arrives by itself. */
+static void word_arrives(const struct frame *frame) {
+    struct sedge_heard heard;
+    if (sedge_ground_clcw(&ground, frame->octets + frame->count - 6, 4, &heard) != 0) give_up("word");
+    write_word(&heard);
+}
+
+/* The first frame up or down arrives, or is lost, or its report alone arrives, or these octets in its place. */
 static void moves(int is_up, char how, size_t count) {
     struct way *way = is_up ? &up : &down;
     struct sedge_tc_frame tc;
@@ -72,6 +79,8 @@ static void moves(int is_up, char how, size_t count) {
     frame = first_of(way);
     if (how == 'o') {
         printf("lost\n");
+    } else if (how == 'l') {
+        word_arrives(frame);
     } else {
         (is_up ? goes_up : goes_down)(how == 'a' ? octets : frame->octets, how == 'a' ? count : frame->count);
     }
@@ -109,6 +118,16 @@ static void takes(int is_bypass) {
     } else {
         sprintf(word, "packet %d", map);
         write_digits(word, packet, count);
+    }
+}
+
+static void resumes(uint8_t value) {
+    uint64_t whole;
+    uint8_t answer = sedge_ground_resume(&ground, value, &whole);
+    if (answer == 0) {
+        printf("resumed %llu\n", (unsigned long long)whole);
+    } else {
+        write_fault("refused", answer, sedge_link_fault_name(answer));
     }
 }
 
@@ -172,6 +191,8 @@ static void plays(const char *word, const char *one, const char *two) {
         takes(word[4] != 0);
     } else if (strcmp(word, "tick") == 0) {
         ticks();
+    } else if (strcmp(word, "resume") == 0) {
+        resumes((uint8_t)strtoul(one, NULL, 10));
     } else {
         directs(word, one, (unsigned)strtoul(strcmp(word, "init") == 0 ? two : one, NULL, 10));
     }

@@ -35,6 +35,12 @@ def heard_text(it):
     return f"gap={'-' if it.gap is None else it.gap} packets={it.packets} {alert_text(it.alert)}".rstrip()
 
 
+def clcw_text(it):
+    if it.report == sc.Report.USED:
+        return alert_text(it.alert)
+    return "foreign" if it.word_fault is None else f"invalid {it.word_fault.number} {it.word_fault.name}"
+
+
 class Nodes:
     """The two nodes, and lists of the frames on their way."""
 
@@ -79,6 +85,9 @@ class Nodes:
     def on_timer(self, number):
         self.ground.set_timer(int(number))
 
+    def on_resume(self, value):
+        return f"resumed {self.ground.resume(int(value))}"
+
     def on_send(self):
         frame = self.ground.pull()
         if frame is None:
@@ -96,6 +105,8 @@ class Nodes:
                           lambda octets: received_text(self.spacecraft.receive(octets)))
 
     def on_down(self, how, digits="-"):
+        if how == "clcw":
+            return self.moves(self.down, how, b"", None, lambda octets: clcw_text(self.ground.clcw(octets[-6:-2])))
         return self.moves(self.down, how, octets_of(digits), lambda octets: sc.TmFrame.decode(octets, self.length),
                           lambda octets: heard_text(self.ground.telemetry(octets)))
 
@@ -140,6 +151,8 @@ class Linked(Nodes):
     def on_down(self, how, digits="-"):
         if how == "lose":
             return self.link.down_lose() or "lost"
+        if how == "clcw":
+            return clcw_text(self.link.down_clcw())
         return heard_text(self.link.down_damage(octets_of(digits)) if how == "damage" else self.link.down_deliver())
 
     def on_show(self):

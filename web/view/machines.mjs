@@ -86,6 +86,8 @@ export class Machines {
         case n.SEDGE_EVENT_UP_DELIVER:
         case n.SEDGE_EVENT_UP_DAMAGE: return { farm: { event: this.receive(reply.up) } };
         case n.SEDGE_EVENT_REPORT: return { farm: { event: this.report(reply.report) } };
+        case n.SEDGE_EVENT_RESUME: return { fop: this.resume(event, reply) };
+        case n.SEDGE_EVENT_DOWN_CLCW:
         case n.SEDGE_EVENT_DOWN_DELIVER: return { fop: this.hear(reply.down, word) };
         case n.SEDGE_EVENT_TICK: return { fop: this.tick(reply) };
         case n.SEDGE_EVENT_TAKE: return { farm: this.take(reply) };
@@ -108,6 +110,13 @@ export class Machines {
         const fault = this.calls.sedge_fop_directive(this.fop, directive, value ?? 0);
         this.same(fault, reply.kind === n.SEDGE_REPLY_REFUSED ? reply.fault : 0, 'the answer to a directive');
         return { event: DIRECTIVES[directive], ...fault === 0 ? { part: 'the directives', rule: directive } : {} };
+    }
+
+    // V(S) is set to the value, and a session begins by Unlock.
+    resume({ value }, reply) {
+        if (reply.kind !== n.SEDGE_REPLY_RESUMED) return undefined;
+        this.direct({ directive: n.SEDGE_SET_VS, value }, reply);
+        return this.direct({ directive: n.SEDGE_INIT_UNLOCK }, reply);
     }
 
     // Takes what goes next; the rule of a pull by which it does.

@@ -5,7 +5,7 @@ import { Link, scriptOf } from '../link.mjs';
 import { Machines } from './machines.mjs';
 
 const UP = [n.SEDGE_EVENT_UP_DELIVER, n.SEDGE_EVENT_UP_LOSE, n.SEDGE_EVENT_UP_DAMAGE];
-const DOWN = [n.SEDGE_EVENT_DOWN_DELIVER, n.SEDGE_EVENT_DOWN_LOSE, n.SEDGE_EVENT_DOWN_DAMAGE];
+const DOWN = [n.SEDGE_EVENT_DOWN_DELIVER, n.SEDGE_EVENT_DOWN_CLCW, n.SEDGE_EVENT_DOWN_LOSE, n.SEDGE_EVENT_DOWN_DAMAGE];
 
 // The places, from 0, of the lines that are played: those that are neither skipped nor of the configuration.
 function playedLines(text) {

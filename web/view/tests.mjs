@@ -66,7 +66,8 @@ function checkFop({ line, event, before: { fop: was }, after: { fop: is }, rows:
 
 // The rows that a step took are those of what it was answered.
 function checkRows({ line, event, reply, rows, before, after }) {
-    const alert = reply.kind === n.SEDGE_REPLY_DOWN ? reply.down.alert : reply.alert;
+    const isHeard = [n.SEDGE_REPLY_DOWN, n.SEDGE_REPLY_DOWN_CLCW].includes(reply.kind);
+    const alert = isHeard ? reply.down.alert : reply.alert;
     if (alert) assert.ok(ALERTS[alert].includes(rows.fop.event), `${line}: ${rows.fop.event}`);
     if (event.kind === n.SEDGE_EVENT_UP_DELIVER && reply.up?.kind === n.SEDGE_RECEIVED_AD) {
         assert.ok(VERDICTS[reply.up.verdict].includes(rows.farm.event), `${line}: ${rows.farm.event}`);
@@ -85,7 +86,8 @@ function checkTransit({ line, reply, sent, gone, up, down }, was) {
     if (gone) assert.equal(way(gone).shift(), gone);
     assert.deepEqual({ up, down }, wanted, line);
     assert.equal(sent !== undefined, [n.SEDGE_REPLY_SENT, n.SEDGE_REPLY_REPORTED].includes(reply.kind));
-    assert.equal(gone !== undefined, [n.SEDGE_REPLY_LOST, n.SEDGE_REPLY_UP, n.SEDGE_REPLY_DOWN].includes(reply.kind));
+    const goes = [n.SEDGE_REPLY_LOST, n.SEDGE_REPLY_UP, n.SEDGE_REPLY_DOWN, n.SEDGE_REPLY_DOWN_CLCW];
+    assert.equal(gone !== undefined, goes.includes(reply.kind));
     if (reply.kind === n.SEDGE_REPLY_UP && reply.up.kind === n.SEDGE_RECEIVED_AD) assert.equal(gone.frame.n, reply.up.n);
 }
 

@@ -1,5 +1,6 @@
 -- The simulated link of a program in C.
 use Rattle.std.specs.Prelude.{ℕ, List, ◌≡◌, ◌≢◌, ◌⊎◌, [], length, option_map, false, ◌==◌}
+use Rattle.std.specs.Prelude.{nat_le}
 use Rattle.std.specs.Prelude.{if◌then◌else◌, slice_get, Option, Some, None, Result, Ok, Err, IfSome}
 use Rattle.simulated_link.specs.World.{World, new_world, world_step, submitted, delivered, accepted}
 use Rattle.std.specs.Option.{unwrap_or}
@@ -18,7 +19,7 @@ use Rattle.simulated_link.specs.declared.fault.SimFault.{SimFault}
 use Rattle.simulated_link.specs.Faults.{fault_row}
 use Rattle.simulated_link.specs.Events.{TakesNone}
 use Rattle.simulated_link.specs.Replies.{ReplyView, Done, Nothing, Lost, Refused, Alerted, Sent}
-use Rattle.simulated_link.specs.Replies.{Reported, Up, Down, Packet}
+use Rattle.simulated_link.specs.Replies.{Reported, Up, Down, DownClcw, Resumed, Packet}
 use Rattle.c_words.specs.Directives.{directive_named}
 use Rattle.sedgechisel_nodes.specs.declared.sim.events.KeptEvent.{KeptEvent}
 use Rattle.sedgechisel_nodes.specs.declared.sim.reply.KeptReply.{KeptReply}
@@ -26,7 +27,7 @@ use Rattle.sedgechisel_nodes.specs.declared.sim.readings.SimReading.{SimReading}
 use Rattle.sedgechisel_nodes.specs.Spacecraft.{no_received, received_kept}
 use Rattle.sedgechisel_nodes.specs.Calls.{closed}
 use Rattle.sedgechisel_nodes.specs.Ground.{mode_number}
-use Rattle.sedgechisel_nodes.specs.Heard.{no_heard, heard_kept, no_word}
+use Rattle.sedgechisel_nodes.specs.Heard.{no_heard, heard_kept, word_kept, no_word}
 use Rattle.cop1.specs.declared.vocabulary.Directive.TheVariants as directives
 use Rattle.nodes.specs.declared.event.Event.TheVariants as events
 
@@ -55,6 +56,7 @@ refused_by (Tm fault) = (3, (tm_row fault).0)
 abbrev pub no_reply : KeptReply
 no_reply = record {
   count = 0;
+  whole = 0;
   up = no_received;
   down = no_heard;
   report = no_word;
@@ -76,6 +78,8 @@ reply_kept (Sent octets) = record no_reply { kind = 5; count = length octets }
 reply_kept (Reported word) = record no_reply { kind = 6; report = word }
 reply_kept (Up received) = record no_reply { kind = 7; up = received_kept received }
 reply_kept (Down heard) = record no_reply { kind = 8; down = heard_kept heard }
+reply_kept (DownClcw heard) = record no_reply { kind = 10; down = word_kept heard }
+reply_kept (Resumed whole) = record no_reply { kind = 11; whole = whole }
 reply_kept (Packet p) = record no_reply { kind = 9; count = length p.octets; map = p.on_map }
 
 -- ---- events
@@ -100,6 +104,9 @@ abbrev pub IsReply : Result ReplyView SimFault → KeptReply → Type 0
 IsReply (Ok view) reply = reply ≡ reply_kept view
 IsReply (Err fault) reply = Unit {0}
 
+abbrev pub octet_in : ℕ → Option ℕ
+octet_in value = if nat_le value 255 then Some value else None
+
 -- the event that a struct has: its kind, and what an event of that kind has; the rest is ignored
 abbrev pub event_named : KeptEvent → Option Event
 event_named e =
@@ -118,6 +125,8 @@ event_named e =
     else if e.kind == 13 then Some events.Take
     else if e.kind == 14 then Some events.TakeBypass
     else if e.kind == 15 then Some (events.Telemetry e.octets)
+    else if e.kind == 16 then Some events.DownClcw
+    else if e.kind == 17 then option_map events.Resume (octet_in e.value)
     else None
 
 -- what a call with an event answers and writes, and the link before and after it

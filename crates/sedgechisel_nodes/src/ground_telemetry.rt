@@ -140,7 +140,7 @@ fn report_in(octets: &[u8], length: usize) -> Option<Clcw>
 }
 
 // A report that came by itself.
-fn kept_word(word: HeardClcw) -> KeptHeard
+pub(crate) fn kept_word(word: HeardClcw) -> KeptHeard
     ensures { result ≡ word_kept word }
 {
     let (report, word_fault) = kept_report(word.report);

@@ -54,6 +54,10 @@ macro_rules! calls {
             ["vs", vs] => done($ground.set_vs(number(vs))),
             ["window", window] => done($ground.set_window(number(window))),
             ["limit", limit] => done($ground.set_limit(number(limit))),
+            ["resume", value] => $ground
+                .resume(number(value))
+                .map(|it| format!("resumed {it}"))
+                .map_err(refused),
             ["timer", ticks] => done($ground.set_timer(number(ticks))),
             _ => panic!("{:?} is no event", $words),
         }
@@ -124,6 +128,16 @@ fn heard_text(heard: Heard) -> String {
     }
 }
 
+fn clcw_text(heard: HeardClcw) -> String {
+    match heard.report {
+        HeardReport::Used => heard
+            .alert
+            .map_or("ok".into(), |it| format!("alert {}", it.name())),
+        HeardReport::None(fault) => format!("invalid {} {}", fault.number(), fault.name()),
+        HeardReport::Other => "foreign".into(),
+    }
+}
+
 fn packet_text(taken: Option<(u8, Vec<u8>)>) -> String {
     taken.map_or("nothing".into(), |(map, packet)| format!("packet {map} {}", digits_of(&packet)))
 }
@@ -178,6 +192,11 @@ impl Ends for Nodes {
         let Some(octets) = arrived else {
             return Ok("lost".into());
         };
+        if how[0] == "clcw" {
+            let at = length - 6;
+            let word = [octets[at], octets[at + 1], octets[at + 2], octets[at + 3]];
+            return Ok(clcw_text(self.ground.clcw(&word)));
+        }
         self.ground.telemetry(&octets).map(heard_text).map_err(refused)
     }
 
@@ -214,6 +233,7 @@ impl Ends for Link {
         match *how {
             ["deliver"] => self.down_deliver().map(heard_text),
             ["lose"] => self.down_lose().map(|()| "lost".into()),
+            ["clcw"] => self.down_clcw().map(clcw_text),
             _ => self.down_damage(&octets_of(how[1])).map(heard_text),
         }
         .map_err(refused)

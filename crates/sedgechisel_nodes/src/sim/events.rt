@@ -1,7 +1,7 @@
 // The events of a simulated link of a program in C.
 
 ghost use Rattle.std.specs.Prelude.{◌≡◌};
-ghost use Rattle.sedgechisel_nodes.specs.Links.{event_named, IsStepCall};
+ghost use Rattle.sedgechisel_nodes.specs.Links.{event_named, octet_in, IsStepCall};
 
 use crate::answers::CLOSED;
 use crate::handles::SimHandle;
@@ -10,7 +10,7 @@ use c_words::directive_named;
 use std::alloc::Global;
 use tc_link::Event;
 
-/// An event: its kind, 1 to 15, then what that kind has; the rest is ignored. For C it is `struct sedge_event`.
+/// An event: its kind, 1 to 17, then what that kind has; the rest is ignored. For C it is `struct sedge_event`.
 #[repr(C)]
 #[derive(Clone, Copy)]
 pub struct KeptEvent<'a> {
@@ -20,7 +20,7 @@ pub struct KeptEvent<'a> {
     pub map: u8,
     /// Of `sedge_directive`.
     pub directive: u8,
-    /// The directive's, as of `sedge_ground_directive`.
+    /// The directive's, as of `sedge_ground_directive`; or that of a report, by which the ground resumes, 0 to 255.
     pub value: u16,
     /// Where they begin.
     pub octets: &'a [u8],
@@ -47,15 +47,28 @@ fn event_named<'a>(event: &KeptEvent<'a>) -> Option<Event<'a>>
         13 => Some(Event::Take),
         14 => Some(Event::TakeBypass),
         15 => Some(Event::Telemetry(octets)),
+        16 => Some(Event::DownClcw),
+        17 => Some(Event::Resume(octet_in(event.value)?)),
         _ => None,
     }
 }
 
+// The octet that a value is, if it is one.
+fn octet_in(value: u16) -> Option<u8>
+    ensures { result ≡ octet_in value }
+{
+    if value <= 255 {
+        Some(value as u8)
+    } else {
+        None
+    }
+}
+
 /// An event happens. Returns 0 and writes the reply; or a number of `sedge_sim_fault`, and nothing happens; or
-/// `SEDGE_NODE_NONE`, also for a kind that is none, and where `sedge_ground_directive` answers it to the directive and
-/// the value. No directive, loss, damage, tick or take answers `SEDGE_SIM_MEMORY`. What a node refuses is a reply. The
-/// octets of a frame that was sent, and of a packet that was taken, stay to be read until the next event
-/// (`sedge_sim_octets`).
+/// `SEDGE_NODE_NONE`, also for a kind that is none, where `sedge_ground_directive` answers it to the directive and the
+/// value, and for a value above 255 by which the ground is to resume. No directive, resumption, loss, damage, control
+/// word by itself, tick or take answers `SEDGE_SIM_MEMORY`. What a node refuses is a reply. The octets of a frame that
+/// was sent, and of a packet that was taken, stay to be read until the next event (`sedge_sim_octets`).
 #[unsafe(no_mangle)]
 #[must_use]
 pub extern "C" fn sedge_sim_step(

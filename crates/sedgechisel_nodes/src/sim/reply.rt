@@ -4,7 +4,7 @@ ghost use Rattle.std.specs.Prelude.{◌≡◌};
 ghost use Rattle.simulated_link.specs.Replies.{reply_view};
 ghost use Rattle.sedgechisel_nodes.specs.Links.{no_reply, refused_by, reply_kept, reply_octets};
 
-use crate::ground_telemetry::{KeptHeard, kept_heard, number_of_alert};
+use crate::ground_telemetry::{KeptHeard, kept_heard, kept_word, number_of_alert};
 use crate::spacecraft::{KeptReceived, kept_received};
 use clcw::Clcw;
 use std::alloc::Global;
@@ -16,6 +16,8 @@ use tc_link::{NodeFault, Reply};
 pub struct KeptReply {
     /// The octets of the frame that was sent, or of the packet.
     pub count: usize,
+    /// How many submissions of the session that ended are on board whole.
+    pub whole: u64,
     pub up: KeptReceived,
     pub down: KeptHeard,
     pub report: Clcw,
@@ -85,6 +87,14 @@ pub(crate) fn kept_reply(reply: &Reply) -> KeptReply
         Reply::Down(heard) => KeptReply {
             down: kept_heard(*heard),
             ..reply_of(8)
+        },
+        Reply::DownClcw(heard) => KeptReply {
+            down: kept_word(*heard),
+            ..reply_of(10)
+        },
+        Reply::Resumed(whole) => KeptReply {
+            whole: *whole,
+            ..reply_of(11)
         },
         Reply::Packet(map, octets) => KeptReply {
             map: *map,

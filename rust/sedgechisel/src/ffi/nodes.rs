@@ -51,6 +51,8 @@ pub const SEDGE_EVENT_TICK: u8 = 12;
 pub const SEDGE_EVENT_TAKE: u8 = 13;
 pub const SEDGE_EVENT_TAKE_BYPASS: u8 = 14;
 pub const SEDGE_EVENT_TELEMETRY: u8 = 15;
+pub const SEDGE_EVENT_DOWN_CLCW: u8 = 16;
+pub const SEDGE_EVENT_RESUME: u8 = 17;
 
 // enum sedge_reply_kind
 pub const SEDGE_REPLY_DONE: u8 = 0;
@@ -63,6 +65,8 @@ pub const SEDGE_REPLY_REPORTED: u8 = 6;
 pub const SEDGE_REPLY_UP: u8 = 7;
 pub const SEDGE_REPLY_DOWN: u8 = 8;
 pub const SEDGE_REPLY_PACKET: u8 = 9;
+pub const SEDGE_REPLY_DOWN_CLCW: u8 = 10;
+pub const SEDGE_REPLY_RESUMED: u8 = 11;
 
 // enum sedge_refused_by
 pub const SEDGE_BY_NODE: u8 = 1;
@@ -167,6 +171,7 @@ pub struct SpacecraftReading {
 #[derive(Clone, Copy, Debug, Default)]
 pub struct Reply {
     pub count: usize,
+    pub whole: u64,
     pub up: Received,
     pub down: Heard,
     pub report: Clcw,
@@ -362,6 +367,13 @@ pub fn sim_event(sim: &mut Sim, kind: u8, map: u8, octets: &[u8], reply: &mut Re
 pub fn sim_directive(sim: &mut Sim, directive: u8, value: u16, reply: &mut Reply) -> u8 {
     let kind = SEDGE_EVENT_DIRECTIVE;
     let event = Event { kind, map: 0, directive, value, octets: [].as_ptr(), count: 0 };
+    unsafe { sedge_sim_step(sim, &event, reply) }
+}
+
+/// The ground resumes by a report's value.
+pub fn sim_resume(sim: &mut Sim, value: u8, reply: &mut Reply) -> u8 {
+    let (kind, value) = (SEDGE_EVENT_RESUME, u16::from(value));
+    let event = Event { kind, map: 0, directive: 0, value, octets: [].as_ptr(), count: 0 };
     unsafe { sedge_sim_step(sim, &event, reply) }
 }
 

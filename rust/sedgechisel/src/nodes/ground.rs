@@ -76,6 +76,12 @@ impl HeardReport {
     }
 }
 
+impl HeardClcw {
+    pub(super) fn from_raw(heard: &raw::Heard) -> Self {
+        Self { report: HeardReport::from_raw(heard), alert: alert_of(heard.alert) }
+    }
+}
+
 impl Heard {
     pub(super) fn from_raw(heard: &raw::Heard) -> Self {
         match heard.kind {
@@ -209,7 +215,7 @@ impl Ground {
     pub fn clcw(&mut self, octets: &[u8; 4]) -> HeardClcw {
         let mut heard = raw::Heard::default();
         done(raw::ground_clcw(self.0.get(), octets, &mut heard));
-        HeardClcw { report: HeardReport::from_raw(&heard), alert: alert_of(heard.alert) }
+        HeardClcw::from_raw(&heard)
     }
 
     /// Begins to take packets out of telemetry anew, as after a restart of the spacecraft: a packet that is not finished

@@ -2,7 +2,7 @@
 
 use super::ground::alert_of;
 use super::spacecraft::word_of;
-use super::{room_for, Config, Heard, LinkFault, OpenFault, Received};
+use super::{room_for, Config, Heard, HeardClcw, LinkFault, OpenFault, Received};
 use crate::ffi::nodes as raw;
 use crate::numbers::{done, never};
 use crate::{Alert, Clcw, CopFault, FarmMode, FopState, Packet, TcFrame, TmFault};
@@ -250,6 +250,23 @@ impl Link {
     pub fn down_damage(&mut self, octets: &[u8]) -> Result<Heard, SimFault> {
         let reply = self.event(raw::SEDGE_EVENT_DOWN_DAMAGE, 0, octets)?;
         Ok(Heard::from_raw(&reply.down))
+    }
+
+    /// The first frame on its way down arrives, and its report alone reaches the ground, as by
+    /// [`Ground::clcw`](crate::Ground::clcw): telemetry is not touched.
+    pub fn down_clcw(&mut self) -> Result<HeardClcw, SimFault> {
+        let reply = self.event(raw::SEDGE_EVENT_DOWN_CLCW, 0, &[])?;
+        Ok(HeardClcw::from_raw(&reply.down))
+    }
+
+    /// [`Ground::resume`](crate::Ground::resume): a session begins, by Unlock.
+    pub fn resume(&mut self, value: u8) -> Result<u64, LinkFault> {
+        let mut reply = raw::Reply::default();
+        done(raw::sim_resume(self.0.get(), value, &mut reply));
+        match reply.kind {
+            raw::SEDGE_REPLY_REFUSED => Err(LinkFault::of(reply.fault)),
+            _ => Ok(reply.whole),
+        }
     }
 
     /// A tick of the ground's clock passes: the alert, if there is one.

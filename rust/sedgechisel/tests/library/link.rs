@@ -137,6 +137,33 @@ fn bypass_and_telemetry() {
     assert_eq!(link.down_deliver(), Ok(heard));
 }
 
+/// A report reaches the ground without its telemetry frame, whose packet is lost; and the ground goes on after an alert.
+#[test]
+fn reports_and_resumptions() {
+    let mut link = a_link(&Config::default());
+    assert_eq!(
+        (link.down_clcw(), link.resume(0)),
+        (Err(SimFault::NothingInTransit), Err(LinkFault::NotKnown))
+    );
+    link.init_without_check().unwrap();
+    link.submit(4, &octets_of(P0)).unwrap();
+    link.submit(4, &octets_of(P1)).unwrap();
+    assert!(link.send().unwrap().is_some() && link.send().unwrap().is_some());
+    link.up_deliver().unwrap();
+    link.up_lose().unwrap();
+    link.telemetry(&octets_of("0005C0000000AA")).unwrap();
+    link.report().unwrap();
+    let word = HeardClcw { report: HeardReport::Used, alert: None };
+    assert_eq!((link.down_clcw(), link.nn(), link.acknowledged()), (Ok(word), 1, 1));
+    link.report().unwrap();
+    let heard = Heard::Frame { gap: None, packets: 0, report: HeardReport::Used, alert: None };
+    assert_eq!(link.down_deliver(), Ok(heard));
+    link.terminate().unwrap();
+    assert_eq!((link.resume(3), link.resume(1)), (Err(LinkFault::NotKnown), Ok(1)));
+    assert_eq!((link.begun(), link.state(), link.vs()), (Some(Begun::Unlock), FopState::S5, 1));
+    assert_eq!((link.is_clean(), link.outstanding(), link.acknowledged()), (true, 0, 0));
+}
+
 /// What does not happen, and octets that arrive in place of a frame.
 #[test]
 fn events_that_do_not_happen() {

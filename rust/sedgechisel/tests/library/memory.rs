@@ -272,7 +272,7 @@ fn reported(spacecraft: &mut Twins<Spacecraft>, trial: &mut Trial) -> Vec<u8> {
 /// An event of the link, and at times what it has recorded.
 fn happens(link: &mut Twins<Link>, trial: &mut Trial) {
     let (map, octets) = (trial.any_map(), trial.any_packets(PacketKind::Telecommand));
-    match trial.chance.below(20) {
+    match trial.chance.below(22) {
         0 => directed!(trial, link),
         1..=4 => trial.both(link, |it| it.submit(map, &octets)),
         5 => trial.both(link, |it| it.bypass(map, &octets)),
@@ -287,6 +287,8 @@ fn happens(link: &mut Twins<Link>, trial: &mut Trial) {
         16 => drop(trial.shown(link, |it| it.tick().map(Alert::number))),
         17 => trial.both(link, |it| it.take()),
         18 => trial.both(link, |it| it.take_bypass()),
+        19 => trial.both(link, |it| it.down_clcw()),
+        20 => trial.both(link, |it| it.resume(it.control_word().value)),
         _ => {
             let packet = trial.any_packets(PacketKind::Telemetry);
             trial.both(link, |it| it.telemetry(&packet));
