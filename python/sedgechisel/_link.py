@@ -3,7 +3,6 @@ from __future__ import annotations
 
 import ctypes
 from ctypes import POINTER, c_bool, c_char_p, c_size_t, c_uint8, c_uint16, c_uint64
-from enum import IntEnum
 from typing import List, Optional, Tuple
 
 from ._calls import Alert, Clcw, Mode, State, _directive

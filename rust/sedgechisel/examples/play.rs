@@ -54,10 +54,9 @@ macro_rules! calls {
             ["vs", vs] => done($ground.set_vs(number(vs))),
             ["window", window] => done($ground.set_window(number(window))),
             ["limit", limit] => done($ground.set_limit(number(limit))),
-            ["resume", value] => $ground
-                .resume(number(value))
-                .map(|it| format!("resumed {it}"))
-                .map_err(refused),
+            ["resume", value] => {
+                $ground.resume(number(value)).map(|it| format!("resumed {it}")).map_err(refused)
+            }
             ["timer", ticks] => done($ground.set_timer(number(ticks))),
             _ => panic!("{:?} is no event", $words),
         }
@@ -130,9 +129,7 @@ fn heard_text(heard: Heard) -> String {
 
 fn clcw_text(heard: HeardClcw) -> String {
     match heard.report {
-        HeardReport::Used => heard
-            .alert
-            .map_or("ok".into(), |it| format!("alert {}", it.name())),
+        HeardReport::Used => heard.alert.map_or("ok".into(), |it| format!("alert {}", it.name())),
         HeardReport::None(fault) => format!("invalid {} {}", fault.number(), fault.name()),
         HeardReport::Other => "foreign".into(),
     }
