@@ -427,9 +427,10 @@ uint8_t sedge_tc_declared(const uint8_t *octets, size_t count, bool checked, siz
 /* Reads the frames that stand one after another in the octets, each as long as it declares (4.1.2.7), and writes a
  * record of 12 octets of each to out, in order: the number of its octets, what sedge_tc_decode returns for it, and the
  * scid, vcid, kind, n, flags, map, command and vr that it writes, or 0 for each where it refuses the frame. The number
- * and the scid have two octets, the lower one first. Data begin at the sixth octet of a frame. Stops where out has no
- * room for a record, or where no whole frame follows: sedge_tc_declared says of the octets there whether their length
- * is refused. Writes the number of octets of all these frames to total. Returns the number of frames. */
+ * and the scid have two octets, the lower one first. The data of a Type-AD or a Type-BD frame begin 6 octets after its
+ * first. Stops where out has no room for a record, or where no whole frame follows: sedge_tc_declared says of the
+ * octets there whether their length is refused. Writes the number of octets of all these frames to total. Returns the
+ * number of frames. */
 size_t sedge_tc_frames(const uint8_t *octets, size_t count, bool checked, uint8_t *out, size_t room, size_t *total);
 
 /* ---- Space packets of 7 to 65,542 octets (133.0-B-2, 4.1). ---- */
