@@ -113,8 +113,8 @@ no_fields =
 -- what is written of a frame of these octets
 abbrev pub record_with : ℕ → ℕ → CommandFrame → List ℕ
 record_with count fault f =
-    count % 256 ∷ count / 256 ∷ fault ∷ f.scid % 256 ∷ f.scid / 256 ∷ f.vcid ∷ f.kind ∷ f.n ∷ f.flags
-    ∷ f.map ∷ f.command ∷ f.vr ∷ []
+    count % 256 ∷ count / 256 ∷ fault ∷ f.scid % 256 ∷ f.scid / 256 ∷ f.vcid ∷ f.kind
+    ∷ f.n ∷ f.flags ∷ f.map ∷ f.command ∷ f.vr ∷ []
 
 abbrev pub record_of : Bool → List ℕ → List ℕ
 record_of checked octets =
