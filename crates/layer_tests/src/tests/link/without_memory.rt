@@ -45,7 +45,7 @@ static BOTH_WAYS: [Event<'static>; 8] = [
 ];
 
 // Each event that takes no memory, where there is nothing in transit too.
-static WITHOUT_MEMORY: [Event<'static>; 19] = [
+static WITHOUT_MEMORY: [Event<'static>; 21] = [
     Event::Directive(Directive::InitWithoutCheck),
     Event::Submit(4, &P0),
     Event::Send,
@@ -63,8 +63,10 @@ static WITHOUT_MEMORY: [Event<'static>; 19] = [
     Event::DownLose,
     Event::DownDamage(&P0),
     Event::DownLose,
+    Event::DownClcw,
     Event::Directive(Directive::SetWindow(128)),
     Event::Directive(Directive::Terminate),
+    Event::Resume(1),
 ];
 
 // Each refusal leaves the link as it was. A run goes on after it, and answers to each event.
@@ -86,7 +88,7 @@ fn sessions_without_memory(rt: HostRuntime) {
         (10, &ONE_FRAME_LOST[..], (S1, [3, 3, 3, 3, 3, 0])),
         (10, &BOTH_WAYS, (S6, [0; 6])),
         (10, &REFUSALS, (S5, [0; 6])),
-        (1, &WITHOUT_MEMORY, (S6, [1, 1, 1, 1, 0, 0])),
+        (1, &WITHOUT_MEMORY, (S5, [0; 6])),
     ] {
         let config = with_value(Parameter::Timer, timer);
         bear(&rt, rt.alloc(), config, events, records);
