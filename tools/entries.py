@@ -1,6 +1,6 @@
 """Reads files of entries: rows (rows/README.md), and the wrong bodies and controls of `wrong_bodies/` and `controls/`.
 
-An entry begins with `## NAME: ` and a sentence, which goes on to the next line where it is long. Lines of its own
+An entry begins with `## NAME: ` (of a wrong body `## CRATE/NAME: `) and a sentence, which goes on to the next line where it is long. Lines of its own
 follow, and an empty line stands before the next entry. An edit has lines `file:`, `old:` (a text that is in that file
 once) and `new:`, as in a file of `must-fail/`. `python3 tools/entries.py FOLDER [CRATE [NAME ..] ..]` writes wrong
 bodies as such files: for tools/wrong_bodies."""
@@ -21,7 +21,7 @@ def entries(path):
         if not head.endswith("."):
             head, lines = " ".join([head, *lines[:1]]), lines[1:]
         name, _, says = head.partition(": ")
-        if before or name in names or not re.fullmatch(r"\w+", name) or not says.endswith("."):
+        if before or name in names or not re.fullmatch(r"(\w+/)?\w+", name) or not says.endswith("."):
             raise ValueError(f"{path}: an entry has no name of its own, or no sentence: {head}")
         names.add(name)
         yield name, says, lines
@@ -41,24 +41,33 @@ def puts(lines):
             old = None
 
 
+def wrong_bodies(root="."):
+    """The wrong bodies that the gate leaves out: the lines of each by its crate and its name, which stand as CRATE/NAME."""
+    crates = {}
+    for path in sorted(glob.glob(f"{root}/wrong_bodies/*.edits")):
+        for name, _, lines in entries(path):
+            crate, _, name = name.partition("/")
+            crates.setdefault(crate, {})[name] = lines
+    return crates
+
+
 def main(folder, *words):
     """Writes a file CRATE/NAME.edit for each wrong body of these crates, or for those named after their crate."""
-    crates = {}
-    for word in words or [os.path.basename(it)[:-6] for it in glob.glob("wrong_bodies/*.edits")]:
-        if os.path.isfile(f"wrong_bodies/{word}.edits"):
+    every, crates = wrong_bodies(), {}
+    for word in words or every:
+        if word in every:
             crates[word] = named = []
         elif crates:
             named.append(word)
         else:
-            return f"tools/wrong_bodies: there is no wrong_bodies/{word}.edits"
+            return f"tools/wrong_bodies: wrong_bodies/ has none of a crate {word}"
     for crate, named in crates.items():
-        every = {name: lines for name, _, lines in entries(f"wrong_bodies/{crate}.edits")}
-        for name in named or every:
-            if name not in every:
-                return f"tools/wrong_bodies: there is no {name} in wrong_bodies/{crate}.edits"
+        for name in named or every[crate]:
+            if name not in every[crate]:
+                return f"tools/wrong_bodies: wrong_bodies/ has no {name} of {crate}"
             os.makedirs(f"{folder}/{crate}", exist_ok=True)
             with open(f"{folder}/{crate}/{name}.edit", "w", encoding="utf-8") as file:
-                file.write("\n".join([*every[name], ""]))
+                file.write("\n".join([*every[crate][name], ""]))
     return None
 
 

@@ -103,7 +103,7 @@ class Row:
 
 
 def is_named(row, name):
-    """Whether this folder, file or name is one of the row; that of rows/sim/room.rows is rows/sim/room/NAME."""
+    """Whether this folder, file or name is one of the row; that of rows/sim/lines.rows is rows/sim/lines/NAME."""
     place = os.path.relpath(name, ROOT).removesuffix(".rows")
     return f"{row.name}/".startswith(f"{place}/") or f"/{row.name}".endswith(f"/{name}")
 
