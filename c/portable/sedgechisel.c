@@ -564,6 +564,8 @@ static const unsigned char table_sedge_verdict_name[48] = {
 static uint32_t octets_frame_check_check(uint64_t p0, uint64_t p1);
 static void map_service_cutting_segment_count(uint64_t p0, uint64_t p1, uint64_t p2, uint64_t p3);
 static uint64_t map_service_cutting_group_len(uint64_t p0, uint64_t p1, uint64_t p2);
+static uint32_t sedgechisel_command_frame_sedge_tc_decode(uint64_t p0, uint64_t p1, uint32_t p2, uint64_t p3, uint64_t
+    p4);
 static void tm_link_decoding_fields_of(uint64_t p0, uint64_t p1, uint64_t p2, uint32_t p3, uint32_t p4);
 static void sedgechisel_telemetry_extractor_start(uint64_t p0, uint64_t p1, uint64_t p2, uint64_t p3, uint64_t p4,
     uint64_t p5, uint64_t p6, uint64_t p7, uint64_t p8);
@@ -585,6 +587,8 @@ static uint32_t sedge_farm_set_vr_at(uint64_t farm, uint32_t vr);
 static uint32_t sedge_farm_state_at(uint64_t farm);
 static uint32_t sedge_farm_unlock_at(uint64_t farm);
 static uint32_t sedge_fop_open_at(uint64_t fop, uint32_t width, uint32_t window, uint32_t limit, uint32_t timer);
+static void sedge_gap_check_open_at(uint64_t check);
+static uint32_t sedge_gap_check_see_at(uint64_t check, uint32_t apid, uint32_t count, uint64_t missing);
 static uint32_t sedge_map_count_at(uint64_t octets, uint64_t count, uint64_t limits, uint64_t segments);
 static void sedge_map_fault_name_at(uint64_t result, uint32_t fault);
 static uint32_t sedge_map_packet_at(uint64_t octets, uint64_t count, uint64_t packet);
@@ -621,6 +625,8 @@ static uint32_t sedge_fop_submit_at(uint64_t fop);
 static uint32_t sedge_fop_tick_at(uint64_t fop);
 static uint32_t sedge_tm_builder_build_at(uint64_t builder, uint64_t ocf, uint64_t ocf_count, uint64_t memory,
     uint64_t memory_count, uint64_t out, uint64_t room, uint64_t total);
+static uint64_t sedge_tc_frames_at(uint64_t octets, uint64_t count, uint32_t checked, uint64_t out, uint64_t room,
+    uint64_t total);
 static uint32_t sedge_accepted_beyond_at(uint32_t nn, uint32_t vs, uint32_t value, uint64_t accepted);
 static uint32_t sedge_fop_accepted_beyond_at(uint64_t fop, uint32_t value, uint64_t accepted);
 
@@ -791,6 +797,102 @@ static uint64_t map_service_cutting_group_len(uint64_t p0, uint64_t p1, uint64_t
 l4:;
     v4 = v6 + v5;
     return v4;
+}
+
+static uint32_t sedgechisel_command_frame_sedge_tc_decode(uint64_t p0, uint64_t p1, uint32_t p2, uint64_t p3, uint64_t
+    p4)
+{
+    uint32_t v6 = 0, v7 = 0, v8 = 0, v11 = 0, v12 = 0, v13 = 0, v14 = 0, v15 = 0, v16 = 0, t1;
+    uint64_t v9 = 0, v10 = 0;
+    if (p1 >= 5) {
+        v6 = get8(p0);
+        if (v6 <= 63) {
+            if ((v6 & 48) != 16) {
+                if ((v6 & 12) == 0) {
+                    v7 = 5;
+                    v8 = get8(p0 + 2);
+                    v9 = ((uint64_t)get8(p0 + 3) | ((((uint64_t)v8 & 255) << 8) & 768)) + 1;
+                    if (p1 != v9) return v7;
+                    v10 = (p2 != 0) ? 2ULL : 0ULL;
+                    if ((v10 | 5) > v9) return v7;
+                    v11 = get8(p0 + 1);
+                    if (p2 != 0) {
+                        v9 = p1 - 2;
+                        p2 = get16(p0 + v9);
+                        t1 = octets_frame_check_check(p0, v9);
+                        if ((((p2 << 8) | (p2 >> 8)) & 0xffff) != (t1 & 0xffff)) return 6;
+                    }
+                    p2 = get8(p0 + 4);
+                    if (v6 >= 32) {
+                        if ((p2 & 255) != 0) return 7;
+                    }
+                    p1 = p1 - v10;
+                    if ((v6 & 16) == 0) {
+                        if ((p1 - 7) < ~1ULL) goto l10;
+                        return 8;
+                    }
+                    p1 = p1 - 5;
+                    if (p1 > 3) return 9;
+                    v7 = 8;
+                    switch ((uint32_t)p1) {
+                    case 1:
+                        if (get8(p0 + 5) == 0) goto l12;
+                        return 9;
+                    case 2:
+                        return 9;
+                    case 3:
+                        v7 = 9;
+                        if (get8(p0 + 5) != 130) return v7;
+                        if (get8(p0 + 6) != 0) return v7;
+                        p2 = get8(p0 + 7);
+                        v12 = 1;
+                        goto l11;
+                    default:
+                        return v7;
+                    }
+                l12:;
+                    v12 = 0;
+                    p2 = 0;
+                l11:;
+                    v13 = 0;
+                    v14 = (v12 != 0) ? p2 : 0U;
+                    p1 = 0;
+                    p2 = 2;
+                    v15 = 0;
+                    v16 = 0;
+                    goto l9;
+                l10:;
+                    v12 = 0;
+                    v16 = (v6 < 32) ? p2 : 0U;
+                    p2 = v6 > 31;
+                    p1 = p1 - 6;
+                    v7 = get8(p0 + 5);
+                    v15 = v7 & 63;
+                    v13 = v7 >> 6;
+                    v14 = 0;
+                l9:;
+                    v7 = 0;
+                    put8(p3 + 9, 0);
+                    put8(p3 + 8, v14);
+                    put8(p3 + 7, v12);
+                    put8(p3 + 6, v15);
+                    put8(p3 + 5, v13);
+                    put8(p3 + 4, v16);
+                    put8(p3 + 3, p2);
+                    put8(p3 + 2, (v8 & 252) >> 2);
+                    put16(p3, ((v6 << 8) & 768) | v11);
+                    p2 = p2 == 2;
+                    put64(p4 + 8, (p2 != 0) ? 0ULL : p1);
+                    put64(p4, (p2 != 0) ? 0ULL : 6ULL);
+                    return v7;
+                }
+                return 4;
+            }
+            return 3;
+        }
+        return 2;
+    }
+    return 1;
 }
 
 static void tm_link_decoding_fields_of(uint64_t p0, uint64_t p1, uint64_t p2, uint32_t p3, uint32_t p4)
@@ -1496,6 +1598,28 @@ l2:;
     return v5;
 }
 
+static void sedge_gap_check_open_at(uint64_t check)
+{
+    fill(check, 255, 0x1000);
+    return;
+}
+
+static uint32_t sedge_gap_check_see_at(uint64_t check, uint32_t apid, uint32_t count, uint64_t missing)
+{
+    uint32_t v4 = 0;
+    v4 = 5;
+    if ((apid & 0xffff) > 0x7ff) return v4;
+    if ((count & 0xffff) > 0x3fff) return v4;
+    check = check + ((uint64_t)(apid << 1) & 0xfffe);
+    apid = get16(check);
+    put16(check, count);
+    v4 = 253;
+    if (apid > 0x3fff) return v4;
+    put16(missing, (count + ~apid) & 0x3fff);
+    v4 = 0;
+    return v4;
+}
+
 static uint32_t sedge_map_count_at(uint64_t octets, uint64_t count, uint64_t limits, uint64_t segments)
 {
     unsigned char frame_octets[48 + 15];
@@ -1645,7 +1769,7 @@ l2:;
     octets = k * v10;
     count = limits - octets;
     v8 = count > v10;
-    put8(flags, 0x3020001U >> (((k == 0) ? ((v8 != 0) ? 0U : 24U) : ((v8 != 0) ? 8U : 16U)) & 31));
+    put8(flags, (k == 0) ? ((v8 != 0) ? 1U : 3U) : ((v8 != 0) ? 0U : 2U));
     put64(data + 8, (v10 < count) ? v10 : count);
     put64(data, octets + v11);
     return v7 & 255;
@@ -1864,141 +1988,9 @@ static uint32_t sedge_tc_declared_at(uint64_t octets, uint64_t count, uint32_t c
 
 static uint32_t sedge_tc_decode_at(uint64_t octets, uint64_t count, uint32_t checked, uint64_t frame, uint64_t data)
 {
-    uint32_t v6 = 0, v7 = 0, v8 = 0, v11 = 0, v12 = 0, v13 = 0, v14 = 0, v15 = 0, v16 = 0, t1;
-    uint64_t v9 = 0, v10 = 0;
-    if (count >= 5) {
-        octets = some(octets);
-        v6 = get8(octets);
-        if (v6 <= 63) {
-            if ((v6 & 48) != 16) {
-                if ((v6 & 12) == 0) {
-                    v7 = 5;
-                    v8 = get8(octets + 2);
-                    v9 = ((uint64_t)get8(octets + 3) | ((((uint64_t)v8 & 255) << 8) & 768)) + 1;
-                    if (count != v9) return v7;
-                    v10 = ((checked & 1) != 0) ? 2ULL : 0ULL;
-                    if ((v10 | 5) > v9) return v7;
-                    v11 = get8(octets + 1);
-                    if ((checked & 1) != 0) {
-                        v9 = count - 2;
-                        checked = get16(octets + v9);
-                        t1 = octets_frame_check_check(octets, v9);
-                        if ((((checked << 8) | (checked >> 8)) & 0xffff) != (t1 & 0xffff)) return 6;
-                    }
-                    checked = get8(octets + 4);
-                    if (v6 >= 32) {
-                        if ((checked & 255) != 0) return 7;
-                    }
-                    count = count - v10;
-                    if ((v6 & 16) != 0) {
-                        count = count - 5;
-                        if (count > 3) goto l4;
-                        v7 = 8;
-                        switch ((uint32_t)count) {
-                        case 1:
-                            if (get8(octets + 5) != 0) goto l4;
-                            v7 = 0;
-                            v12 = 2;
-                            count = 0;
-                            octets = 0;
-                            v13 = 0;
-                            v14 = 0;
-                            goto l13;
-                        case 2:
-                            goto l4;
-                        case 3:
-                            v7 = 9;
-                            if (get8(octets + 5) != 130) return v7;
-                            if (get8(octets + 6) != 0) return v7;
-                            v15 = get8(octets + 7);
-                            v14 = 1;
-                            v7 = 0;
-                            v12 = 2;
-                            count = 0;
-                            octets = 0;
-                            v13 = 0;
-                            goto l12;
-                        default:
-                            return v7;
-                        }
-                    }
-                    if ((count - 7) > ~2ULL) return 8;
-                    count = count - 6;
-                    v7 = get8(octets + 5);
-                    v13 = v7 & 63;
-                    v16 = 0x3020001U >> (((v7 >> 3) & 24) & 31);
-                    if (v6 < 32) goto l2;
-                    v14 = 0;
-                    octets = 6;
-                    v12 = v16;
-                    v7 = 0;
-                    v15 = 0;
-                    checked = 0;
-                    switch ((uint32_t)((uint64_t)v16 & 255)) {
-                    case 1:
-                        goto l1;
-                    case 2:
-                    case 3:
-                        goto l18;
-                    default:
-                        v12 = 1;
-                        v7 = 1;
-                        goto l13;
-                    }
-                l18:;
-                    v12 = 1;
-                    v7 = v16;
-                l13:;
-                    v15 = 0;
-                l12:;
-                    checked = 0;
-                    goto l1;
-                }
-                return 4;
-            }
-            return 3;
-        }
-        return 2;
-    }
-    return 1;
-l4:;
-    v7 = 9;
-    return v7;
-l2:;
-    v14 = 0;
-    octets = 6;
-    v12 = 0;
-    v7 = 0;
-    v15 = 0;
-    switch ((uint32_t)((uint64_t)v16 & 255)) {
-    case 1:
-        goto l1;
-    case 2:
-    case 3:
-        goto l20;
-    default:
-        v7 = 1;
-        v12 = v16;
-        v15 = 0;
-        goto l1;
-    }
-l20:;
-    v12 = 0;
-    v7 = v16;
-    v15 = 0;
-l1:;
-    put8(frame + 9, 0);
-    put8(frame + 8, v15);
-    put8(frame + 7, v14);
-    put8(frame + 6, v13);
-    put8(frame + 5, v7);
-    put8(frame + 4, checked);
-    put8(frame + 3, v12);
-    put8(frame + 2, (v8 & 252) >> 2);
-    put16(frame, ((v6 << 8) & 768) | v11);
-    put64(data + 8, count);
-    put64(data, octets);
-    return 0;
+    uint32_t t1;
+    t1 = sedgechisel_command_frame_sedge_tc_decode(some(octets), count, checked & 1, frame, data);
+    return t1 & 255;
 }
 
 static void sedge_tc_fault_name_at(uint64_t result, uint32_t fault)
@@ -2562,27 +2554,16 @@ static uint32_t sedge_tc_encode_at(uint64_t frame, uint64_t data, uint64_t data_
         v10 = get8(frame + 5);
         if (v10 > 3) return v8;
         v11 = get8(frame + 4);
-        v12 = 1;
-        switch (v10) {
-        case 1:
-            v12 = 0;
-            goto l3;
-        case 2:
-        case 3:
-            v12 = v10;
-            goto l3;
-        default:
-            goto l3;
-        }
+        goto l3;
     case 1:
         goto l4;
     case 2:
+        v12 = 0;
         data_count = 0;
         v10 = get8(frame + 7);
         v11 = v10;
         data = 0;
         v13 = v10;
-        v12 = v10;
         switch (v10) {
         case 0:
             goto l2;
@@ -2601,13 +2582,14 @@ static uint32_t sedge_tc_encode_at(uint64_t frame, uint64_t data, uint64_t data_
         return v8;
     }
 l4:;
+    v11 = 0;
     v10 = get8(frame + 5);
     if (v10 > 3) return v8;
-    v12 = 0x3020001U >> (((v10 << 3) & 248) & 31);
-    v11 = 0;
 l3:;
     data = some(data);
-    v13 = get8(frame + 6);
+    v8 = get8(frame + 6);
+    v13 = v8 + (v10 << 6);
+    v12 = v8 > 63;
     v10 = 0;
 l2:;
     v8 = 11;
@@ -2620,12 +2602,11 @@ l2:;
     if (v9 == 2) {
         v8 = v11 & 255;
         v17 = ((v8 != 0) ? 4ULL : 2ULL) + (((checked & 1) != 0) ? 6ULL : 4ULL);
-        if (room >= v17) goto l12;
+        if (room >= v17) goto l10;
         return 10;
     }
     v10 = data_count == 0;
-    if (v10 != 0) return v8;
-    if ((v13 & 255) > 63) return v8;
+    if ((v10 | v12) != 0) return v8;
     v17 = data_count + (((checked & 1) != 0) ? 8ULL : 6ULL);
     if (v17 > 0x400) return v8;
     if (room >= v17) {
@@ -2634,9 +2615,8 @@ l2:;
         put16(frame + 2, (v8 << 8) | ((v8 & 0xff00) >> 8));
         v18 = frame + 6;
         room = v18 - data;
-        v8 = v13 | (0xc0800040U >> (((v12 & 255) << 3) & 31));
         if (v9 != 0) {
-            put8(frame + 5, v8);
+            put8(frame + 5, v13);
             put8(frame + 4, 0);
             if (room < data_count) {
                 v19 = data_count & 3;
@@ -2653,23 +2633,23 @@ l2:;
                         put8(data_count + 9, get8(v18 + 3));
                         room = room + 4;
                     } while (v20 != room);
-                    if (v19 == 0) goto l11;
+                    if (v19 == 0) goto l9;
                 }
                 data_count = data + room;
                 data = v16 + room + out + 6;
-            l23:;
+            l21:;
                 put8(data, get8(data_count));
                 data = data + 1;
                 data_count = data_count + 1;
                 v19 = v19 - 1;
-                if (v19 != 0) goto l23;
-                goto l11;
+                if (v19 != 0) goto l21;
+                goto l9;
             }
-            if (v10 != 0) goto l11;
+            if (v10 != 0) goto l9;
             copy(v18, data, data_count);
-            goto l11;
+            goto l9;
         }
-        put8(frame + 5, v8);
+        put8(frame + 5, v13);
         put8(frame + 4, v11);
         if (room < data_count) {
             v19 = data_count & 3;
@@ -2686,24 +2666,24 @@ l2:;
                     put8(data_count + 9, get8(v18 + 3));
                     room = room + 4;
                 } while (v20 != room);
-                if (v19 == 0) goto l11;
+                if (v19 == 0) goto l9;
             }
             data_count = data + room;
             data = v16 + room + out + 6;
-        l19:;
+        l17:;
             put8(data, get8(data_count));
             data = data + 1;
             data_count = data_count + 1;
             v19 = v19 - 1;
-            if (v19 != 0) goto l19;
-            goto l11;
+            if (v19 != 0) goto l17;
+            goto l9;
         }
-        if (v10 != 0) goto l11;
+        if (v10 != 0) goto l9;
         copy(v18, data, data_count);
-        goto l11;
+        goto l9;
     }
     return 10;
-l12:;
+l10:;
     v9 = 0;
     put8(frame + 4, 0);
     put16(frame, (v14 << 8) | ((v14 | 0x3000) >> 8));
@@ -2715,7 +2695,7 @@ l12:;
         v9 = 130;
     }
     put8(frame + 5, v9);
-l11:;
+l9:;
     if ((checked & 1) == 0) {
         put64(total, v17);
         return 0;
@@ -2731,8 +2711,8 @@ static uint32_t sedge_map_take_at(uint64_t map, uint32_t flags, uint64_t data, u
     uint64_t room, uint64_t taken)
 {
     unsigned char frame_octets[16 + 15];
-    uint32_t v8 = 0, v9 = 0, v10 = 0;
-    uint64_t v7 = 0, v11 = 0, v12 = 0, v13 = 0, v14 = 0, v15 = 0, v16 = 0, v17 = 0, v18 = 0, v19 = 0, v20 = 0;
+    uint32_t v8 = 0, v9 = 0, v10 = 0, v16 = 0;
+    uint64_t v7 = 0, v11 = 0, v12 = 0, v13 = 0, v14 = 0, v15 = 0, v17 = 0, v18 = 0, v19 = 0, v20 = 0, v21 = 0;
     v7 = aligned(frame_octets);
     v8 = 255;
     if ((flags & 255) > 3) return v8;
@@ -2749,19 +2729,19 @@ static uint32_t sedge_map_take_at(uint64_t map, uint32_t flags, uint64_t data, u
     v13 = memory + v12;
     v14 = (data == 0) ? 0x1000ULL : 0ULL;
     v15 = data + v14;
+    put16(v7 + 12, 0);
+    put32(v7 + 8, 0);
+    v16 = 2;
+    v8 = (v9 != 0) ? 2U : 0U;
+    room = (room < 0xffffffffULL) ? room : 0xffffffffULL;
     switch ((uint32_t)((uint64_t)flags & 255)) {
     case 1:
-        if (data_count > ((room < 0xffffffffULL) ? room : 0xffffffffULL)) {
-            put64(map, 0);
-            put8(map + 8, 0);
-            v8 = 5;
-            goto l4;
-        }
+        if (data_count > room) goto l5;
         if ((v13 - v15) < data_count) {
-            v17 = data_count & 3;
+            v18 = data_count & 3;
             v11 = 0;
             if (data_count >= 4) {
-                v18 = data_count & ~3ULL;
+                v20 = data_count & ~3ULL;
                 v11 = 0;
                 do {
                     room = v13 + v11;
@@ -2771,22 +2751,21 @@ static uint32_t sedge_map_take_at(uint64_t map, uint32_t flags, uint64_t data, u
                     put8(room + 2, get8(v19 + 2));
                     put8(room + 3, get8(v19 + 3));
                     v11 = v11 + 4;
-                } while (v18 != v11);
-                if (v17 == 0) goto l21;
+                } while (v20 != v11);
+                if (v18 == 0) goto l24;
             }
             room = memory + (v12 + v11);
             memory = data + (v14 + v11);
-        l25:;
+        l28:;
             put8(room, get8(memory));
             room = room + 1;
             memory = memory + 1;
-            v17 = v17 - 1;
-            if (v17 != 0) goto l25;
-            goto l21;
+            v18 = v18 - 1;
+            if (v18 != 0) goto l28;
+            goto l24;
         }
         if (data_count != 0) copy(v13, v15, data_count);
-    l21:;
-        v8 = (v9 != 0) ? 2U : 0U;
+    l24:;
         put64(map, data_count);
         put8(map + 8, 1);
         flags = 0;
@@ -2795,158 +2774,157 @@ static uint32_t sedge_map_take_at(uint64_t map, uint32_t flags, uint64_t data, u
         data_count = 0;
         goto l2;
     case 2:
-        if (v9 != 0) {
-            v16 = v11 + data_count;
-            if (v16 <= ((room < 0xffffffffULL) ? room : 0xffffffffULL)) {
-                v18 = v13 + v11;
-                if ((v18 - v15) < data_count) {
-                    v17 = data_count & 3;
-                    v19 = 0;
-                    if ((data_count - 1) >= 3) {
-                        v20 = data_count & ~3ULL;
-                        v19 = 0;
-                        do {
-                            room = v18 + v19;
-                            data_count = v15 + v19;
-                            put8(room, get8(data_count));
-                            put8(room + 1, get8(data_count + 1));
-                            put8(room + 2, get8(data_count + 2));
-                            put8(room + 3, get8(data_count + 3));
-                            v19 = v19 + 4;
-                        } while (v20 != v19);
-                        if (v17 == 0) goto l31;
-                    }
-                    room = data + (v14 + v19);
-                    data_count = memory + (v12 + v19 + v11);
-                l35:;
-                    put8(data_count, get8(room));
-                    data_count = data_count + 1;
-                    room = room + 1;
-                    v17 = v17 - 1;
-                    if (v17 != 0) goto l35;
-                    goto l31;
-                }
-                if (data_count != 0) copy(v18, v15, data_count);
-            l31:;
-                data_count = 0;
-                put64(map, 0);
-                flags = 0;
-                put8(map + 8, 0);
-                if (v16 >= 6) {
-                    v8 = get8(v13);
-                    if (v8 <= 31) {
-                        if ((v8 & 8) != 0) {
-                            if ((((v8 << 8) & 0x700) | get8(v13 + 1)) == 0x7ff) goto l37;
-                        }
-                        if (((((uint64_t)get8(v13 + 4) << 8) | (uint64_t)get8(v13 + 5)) + 7) == v16) {
-                            v8 = 0;
-                            put16(v7 + 12, 0);
-                            put32(v7 + 8, 0);
-                            flags = 1;
-                            data_count = v16;
-                            goto l2;
-                        }
-                    }
-                }
-            l37:;
-                put16(v7 + 12, 0);
-                put32(v7 + 8, 0);
-                v8 = 4;
-                goto l2;
-            }
-            goto l6;
-        }
-        v8 = 2;
-        goto l5;
+        goto l14;
     case 3:
-        put16(v7 + 12, 0);
-        put32(v7 + 8, 0);
-        data = (room < 0xffffffffULL) ? room : 0xffffffffULL;
         if (v10 == 1) {
-            v8 = 3;
-            if (data_count < 6) goto l5;
-            v10 = 0;
-            memory = data_count;
+            v16 = 3;
+            if (data_count < 6) goto l12;
+            v9 = 0;
+            data = data_count;
             do {
                 flags = get8(v15);
-                if (flags > 31) goto l5;
+                if (flags > 31) goto l12;
                 if ((flags & 8) != 0) {
-                    if ((((flags << 8) & 0x700) | get8(v15 + 1)) == 0x7ff) goto l5;
+                    if ((((flags << 8) & 0x700) | get8(v15 + 1)) == 0x7ff) goto l12;
                 }
-                room = (((uint64_t)get8(v15 + 4) << 8) | (uint64_t)get8(v15 + 5)) + 7;
-                if (memory < room) goto l5;
-                v15 = v15 + room;
-                v10 = v10 | (uint32_t)(room > data);
-                memory = memory - room;
-            } while (memory > 5);
-            flags = memory == 0;
-            v10 = flags & v10;
-            v8 = (flags != 0) ? ((v10 != 0) ? 4U : 0U) : 3U;
-            if (v10 != 0) goto l5;
-            if (memory == 0) goto l3;
-            goto l5;
+                memory = (((uint64_t)get8(v15 + 4) << 8) | (uint64_t)get8(v15 + 5)) + 7;
+                if (data < memory) goto l12;
+                v15 = v15 + memory;
+                v9 = v9 | (uint32_t)(memory > room);
+                data = data - memory;
+            } while (data > 5);
+            flags = data == 0;
+            v9 = flags & v9;
+            v16 = (flags != 0) ? ((v9 != 0) ? 4U : 0U) : 3U;
+            if (v9 != 0) goto l12;
+            if (data == 0) goto l3;
+            goto l12;
         }
-        if (data_count > data) goto l6;
-        v8 = 3;
-        if (data_count < 6) goto l5;
+        if (data_count > room) goto l13;
+        v16 = 3;
+        if (data_count < 6) goto l12;
         flags = get8(v15);
-        if (flags > 31) goto l5;
+        if (flags > 31) goto l12;
         if ((flags & 8) != 0) {
-            if ((((flags << 8) & 0x700) | get8(v15 + 1)) == 0x7ff) goto l5;
+            if ((((flags << 8) & 0x700) | get8(v15 + 1)) == 0x7ff) goto l12;
         }
-        if (((((uint64_t)get8(v15 + 4) << 8) | (uint64_t)get8(v15 + 5)) + 7) != data_count) goto l5;
+        if (((((uint64_t)get8(v15 + 4) << 8) | (uint64_t)get8(v15 + 5)) + 7) != data_count) goto l12;
         goto l3;
     default:
-        if (v9 != 0) {
-            v20 = v11 + data_count;
-            if (v20 > ((room < 0xffffffffULL) ? room : 0xffffffffULL)) goto l6;
-            v13 = v13 + v11;
-            if ((v13 - v15) < data_count) {
-                v17 = data_count & 3;
-                v19 = 0;
-                if ((data_count - 1) >= 3) {
-                    v18 = data_count & ~3ULL;
-                    v19 = 0;
-                    do {
-                        room = v13 + v19;
-                        data_count = v15 + v19;
-                        put8(room, get8(data_count));
-                        put8(room + 1, get8(data_count + 1));
-                        put8(room + 2, get8(data_count + 2));
-                        put8(room + 3, get8(data_count + 3));
-                        v19 = v19 + 4;
-                    } while (v18 != v19);
-                    if (v17 == 0) goto l26;
-                }
-                room = data + (v14 + v19);
-                data_count = memory + (v12 + v19 + v11);
-            l30:;
-                put8(data_count, get8(room));
-                data_count = data_count + 1;
-                room = room + 1;
-                v17 = v17 - 1;
-                if (v17 != 0) goto l30;
-                goto l26;
-            }
-            if (data_count != 0) copy(v13, v15, data_count);
-        l26:;
-            put64(map, v20);
-            flags = 0;
-            put32(v7 + 8, 0);
-            put16(v7 + 12, 0);
-            data_count = 0;
-            v8 = 0;
-            goto l2;
-        }
-        v8 = 2;
-        goto l5;
+        goto l15;
     }
-l6:;
-    v8 = 4;
+l15:;
+    if (v9 == 0) goto l12;
+    v17 = v11 + data_count;
+    if (v17 > room) goto l13;
+    v13 = v13 + v11;
+    if ((v13 - v15) >= data_count) goto l10;
+    v18 = data_count & 3;
+    v19 = 0;
+    if ((data_count - 1) >= 3) {
+        v20 = data_count & ~3ULL;
+        v19 = 0;
+        do {
+            room = v13 + v19;
+            data_count = v15 + v19;
+            put8(room, get8(data_count));
+            put8(room + 1, get8(data_count + 1));
+            put8(room + 2, get8(data_count + 2));
+            put8(room + 3, get8(data_count + 3));
+            v19 = v19 + 4;
+        } while (v20 != v19);
+        if (v18 == 0) goto l9;
+    }
+    room = data + (v14 + v19);
+    data_count = memory + (v12 + v19 + v11);
+l23:;
+    put8(data_count, get8(room));
+    data_count = data_count + 1;
+    room = room + 1;
+    v18 = v18 - 1;
+    if (v18 != 0) goto l23;
+    goto l9;
+l14:;
+    if (v9 == 0) goto l12;
+    v21 = v11 + data_count;
+    if (v21 <= room) {
+        v20 = v13 + v11;
+        if ((v20 - v15) < data_count) {
+            v18 = data_count & 3;
+            v19 = 0;
+            if ((data_count - 1) >= 3) {
+                v17 = data_count & ~3ULL;
+                v19 = 0;
+                do {
+                    room = v20 + v19;
+                    data_count = v15 + v19;
+                    put8(room, get8(data_count));
+                    put8(room + 1, get8(data_count + 1));
+                    put8(room + 2, get8(data_count + 2));
+                    put8(room + 3, get8(data_count + 3));
+                    v19 = v19 + 4;
+                } while (v17 != v19);
+                if (v18 == 0) goto l29;
+            }
+            room = data + (v14 + v19);
+            data_count = memory + (v12 + v19 + v11);
+        l33:;
+            put8(data_count, get8(room));
+            data_count = data_count + 1;
+            room = room + 1;
+            v18 = v18 - 1;
+            if (v18 != 0) goto l33;
+            goto l29;
+        }
+        if (data_count != 0) copy(v20, v15, data_count);
+    l29:;
+        data_count = 0;
+        put64(map, 0);
+        flags = 0;
+        put8(map + 8, 0);
+        if (v21 >= 6) {
+            v8 = get8(v13);
+            if (v8 <= 31) {
+                if ((v8 & 8) != 0) {
+                    if ((((v8 << 8) & 0x700) | get8(v13 + 1)) == 0x7ff) goto l35;
+                }
+                if (((((uint64_t)get8(v13 + 4) << 8) | (uint64_t)get8(v13 + 5)) + 7) == v21) {
+                    v8 = 0;
+                    put16(v7 + 12, 0);
+                    put32(v7 + 8, 0);
+                    flags = 1;
+                    data_count = v21;
+                    goto l2;
+                }
+            }
+        }
+    l35:;
+        put16(v7 + 12, 0);
+        put32(v7 + 8, 0);
+        v8 = 4;
+        goto l2;
+    }
+l13:;
+    v16 = 4;
+l12:;
+    put64(map, 0);
+    put8(map + 8, 0);
+    v8 = v16 + 1;
+    goto l4;
+l10:;
+    if (data_count != 0) copy(v13, v15, data_count);
+l9:;
+    put64(map, v17);
+    flags = 0;
+    put32(v7 + 8, 0);
+    put16(v7 + 12, 0);
+    data_count = 0;
+    v8 = 0;
+    goto l2;
 l5:;
     put64(map, 0);
     put8(map + 8, 0);
-    v8 = v8 + 1;
+    v8 = 5;
 l4:;
     flags = 0;
     put16(v7 + 12, 0);
@@ -2954,16 +2932,19 @@ l4:;
     data_count = 0;
     goto l2;
 l3:;
-    v8 = (v9 != 0) ? 2U : 0U;
     put64(map, 0);
     put8(map + 8, 0);
     flags = 2;
 l2:;
+    v9 = get16(v7 + 12);
+    put16(v7 + 4, v9);
+    v10 = get32(v7 + 8);
+    put32(v7, v10);
     put8(taken + 9, v8);
     put8(taken + 8, flags);
     put64(taken, data_count);
-    put32(taken + 10, get32(v7 + 8));
-    put16(taken + 14, get16(v7 + 12));
+    put32(taken + 10, v10);
+    put16(taken + 14, v9);
     v8 = 0;
     return v8;
 }
@@ -4544,6 +4525,106 @@ l31:;
     return v9;
 }
 
+static uint64_t sedge_tc_frames_at(uint64_t octets, uint64_t count, uint32_t checked, uint64_t out, uint64_t room,
+    uint64_t total)
+{
+    unsigned char frame_octets[32 + 15];
+    uint32_t v12 = 0, v13 = 0, v14 = 0;
+    uint64_t v6 = 0, v7 = 0, v8 = 0, v9 = 0, v10 = 0, v11 = 0;
+    v6 = aligned(frame_octets);
+    if (ordered64(v6) < 0x8000000000000010ULL) UNREACHABLE;
+    v7 = 0;
+    v8 = room / 12;
+    if (room < 12) {
+        out = 0;
+        put64(total, v7);
+        return out;
+    }
+    room = some(out);
+    v9 = some(octets);
+    if ((checked & 1) == 0) {
+        out = 0;
+        v7 = 0;
+    l6:;
+        v10 = count - v7;
+        if (v10 < 5) {
+            put64(total, v7);
+            return out;
+        }
+        v11 = v9 + v7;
+        octets = (((uint64_t)get8(v11 + 2) << 8) & 768) | (uint64_t)get8(v11 + 3);
+        if (octets < 4) {
+            put64(total, v7);
+            return out;
+        }
+        if (octets >= v10) {
+            put64(total, v7);
+            return out;
+        }
+        put64(v6 + 16, 0);
+        put16(v6 + 24, 0);
+        octets = octets + 1;
+        v12 = sedgechisel_command_frame_sedge_tc_decode(v11, octets, 0, v6 + 16, v6);
+        checked = get16(v6 + 16);
+        v13 = get32(v6 + 18);
+        v14 = get16(v6 + 22);
+        put8(room + 11, get8(v6 + 24));
+        put16(room + 9, v14);
+        put32(room + 5, v13);
+        put8(room + 4, checked >> 8);
+        put8(room + 3, checked);
+        put8(room + 2, v12 & 255);
+        put8(room + 1, (uint32_t)(octets >> 8));
+        put8(room, (uint32_t)octets);
+        room = room + 12;
+        v7 = octets + v7;
+        out = out + 1;
+        if (v8 != out) goto l6;
+        goto l4;
+    }
+    out = 0;
+    v7 = 0;
+    do {
+        v10 = count - v7;
+        if (v10 < 5) {
+            put64(total, v7);
+            return out;
+        }
+        v11 = v9 + v7;
+        octets = (((uint64_t)get8(v11 + 2) << 8) & 768) | (uint64_t)get8(v11 + 3);
+        if (octets < 6) {
+            put64(total, v7);
+            return out;
+        }
+        if (octets >= v10) {
+            put64(total, v7);
+            return out;
+        }
+        put64(v6 + 16, 0);
+        put16(v6 + 24, 0);
+        octets = octets + 1;
+        v12 = sedgechisel_command_frame_sedge_tc_decode(v11, octets, 1, v6 + 16, v6);
+        checked = get16(v6 + 16);
+        v13 = get32(v6 + 18);
+        v14 = get16(v6 + 22);
+        put8(room + 11, get8(v6 + 24));
+        put16(room + 9, v14);
+        put32(room + 5, v13);
+        put8(room + 4, checked >> 8);
+        put8(room + 3, checked);
+        put8(room + 2, v12 & 255);
+        put8(room + 1, (uint32_t)(octets >> 8));
+        put8(room, (uint32_t)octets);
+        room = room + 12;
+        v7 = octets + v7;
+        out = out + 1;
+    } while (v8 != out);
+l4:;
+    out = v8;
+    put64(total, v7);
+    return out;
+}
+
 static uint32_t sedge_accepted_beyond_at(uint32_t nn, uint32_t vs, uint32_t value, uint64_t accepted)
 {
     uint32_t v4 = 0, v5 = 0;
@@ -4751,6 +4832,16 @@ static void get_sedge_packet(uint64_t at, struct sedge_packet *it)
     it->kind = (uint8_t)get8(at + 4);
     it->secondary = (uint8_t)get8(at + 5);
     it->flags = (uint8_t)get8(at + 6);
+}
+
+static void put_sedge_gap_check(uint64_t at, const struct sedge_gap_check *it)
+{
+    copy(at, address(it->last), 2048);
+}
+
+static void get_sedge_gap_check(uint64_t at, struct sedge_gap_check *it)
+{
+    copy(address(it->last), at, 2048);
 }
 
 static void put_sedge_tm_frame(uint64_t at, const struct sedge_tm_frame *it)
@@ -5061,6 +5152,17 @@ uint8_t sedge_tc_declared(const uint8_t *octets, size_t count, bool checked, siz
     return answer;
 }
 
+size_t sedge_tc_frames(const uint8_t *octets, size_t count, bool checked, uint8_t *out, size_t room, size_t *total)
+{
+    unsigned char total_octets[8 + 15];
+    const uint64_t total_at = aligned(total_octets);
+    size_t answer;
+    put64(total_at, *total);
+    answer = (size_t)sedge_tc_frames_at(address(octets), count, checked, address(out), room, total_at);
+    *total = (size_t)get64(total_at);
+    return answer;
+}
+
 uint8_t sedge_packet_decode(const uint8_t *octets, size_t count, struct sedge_packet *packet, struct sedge_part *data)
 {
     unsigned char packet_octets[8 + 15];
@@ -5099,6 +5201,30 @@ uint8_t sedge_packet_declared(const uint8_t *octets, size_t count, size_t *total
     put64(total_at, *total);
     answer = (uint8_t)sedge_packet_declared_at(address(octets), count, total_at);
     *total = (size_t)get64(total_at);
+    return answer;
+}
+
+void sedge_gap_check_open(struct sedge_gap_check *check)
+{
+    unsigned char check_octets[4096 + 15];
+    const uint64_t check_at = aligned(check_octets);
+    put_sedge_gap_check(check_at, check);
+    sedge_gap_check_open_at(check_at);
+    get_sedge_gap_check(check_at, check);
+}
+
+uint8_t sedge_gap_check_see(struct sedge_gap_check *check, uint16_t apid, uint16_t count, uint16_t *missing)
+{
+    unsigned char check_octets[4096 + 15];
+    const uint64_t check_at = aligned(check_octets);
+    unsigned char missing_octets[2 + 15];
+    const uint64_t missing_at = aligned(missing_octets);
+    uint8_t answer;
+    put_sedge_gap_check(check_at, check);
+    put16(missing_at, *missing);
+    answer = (uint8_t)sedge_gap_check_see_at(check_at, apid, count, missing_at);
+    get_sedge_gap_check(check_at, check);
+    *missing = (uint16_t)get16(missing_at);
     return answer;
 }
 
