@@ -63,6 +63,11 @@ class Value:
         """Whether nothing that is written later changes it: a number, or a variable that is set once."""
         return self.number is not None or self.is_tight and not self.names and not self.reads and not self.contrary
 
+    def is_packed(self):
+        """Whether it may be several numbers in a variable that holds an address of the frame on another way: of an
+        address in a variable no octets are taken."""
+        return self.derived == {FRAME} and self.names == {self.text}
+
     def operand(self):
         if self.contrary:
             return f"(uint32_t)({self.text})"
@@ -512,7 +517,8 @@ class Translation:
         (value,) = self.pop(1)
         if value.derived != {FRAME} or kind != I32:
             self.no_address(value)
-        self.push(f"({C_TYPES[kind]}){value.operand()}", kind, value, tight=True, derived=value.derived)
+        derived = NOTHING if value.is_packed() else value.derived
+        self.push(f"({C_TYPES[kind]}){value.operand()}", kind, value, tight=True, derived=derived)
 
     @staticmethod
     def no_address(*values):
@@ -557,6 +563,8 @@ class Translation:
             if sign != "+" or index:
                 raise Refused(MISREAD)
             return self.stack.append(self.entry(segment, offset, other))
+        if a.is_packed() and b.number and sign in "&>>":
+            derived = NOTHING
         is_within = derived == {FRAME} and sign == "|" and not b.derived and (b.number or 16) < 16
         if derived and sign not in "+-" and not is_within:
             raise Refused(f"an address of the frame or of a constant meets {sign}")

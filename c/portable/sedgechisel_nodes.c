@@ -634,7 +634,7 @@ static const unsigned char constant_33[7] = {
 };
 
 /* Of nodes_config_Config_fault, sedge_config_fault_at. */
-static const unsigned char switch_table_sedge_config_fault_388[120] = {
+static const unsigned char switch_table_sedge_config_fault_392[120] = {
     4, 0, 0, 0, 0, 0, 0, 0, 4, 0, 0, 0, 0, 0, 0, 0, 7, 0, 0, 0, 0, 0, 0, 0, 5, 0, 0, 0, 0, 0, 0, 0, 6, 0, 0, 0, 0, 0,
     0, 0, 5, 0, 0, 0, 0, 0, 0, 0, 5, 0, 0, 0, 0, 0, 0, 0, 4, 0, 0, 0, 0, 0, 0, 0, 10, 0, 0, 0, 0, 0, 0, 0, 4, 0, 0, 0,
     0, 0, 0, 0, 11, 0, 0, 0, 0, 0, 0, 0, 12, 0, 0, 0, 0, 0, 0, 0, 11, 0, 0, 0, 0, 0, 0, 0, 12, 0, 0, 0, 0, 0, 0, 0, 8,
@@ -654,19 +654,19 @@ static const unsigned char switch_table_sedge_parameter_name[30] = {
 };
 
 /* Of sedge_parameter_name_at. */
-static const unsigned char switch_table_sedge_parameter_name_389[30] = {
+static const unsigned char switch_table_sedge_parameter_name_393[30] = {
     0, 0, 0, 0, 0, 0, 0, 0, 0, 0, 0, 0, 0, 0, 0, 0, 101, 116, 0, 0, 111, 116, 108, 111, 111, 116, 110, 103, 0, 0
 };
 
 /* Of sedge_parameter_name_at. */
-static const unsigned char switch_table_sedge_parameter_name_390[60] = {
+static const unsigned char switch_table_sedge_parameter_name_394[60] = {
     0, 0, 0, 0, 0, 0, 0, 0, 99, 105, 100, 0, 104, 0, 0, 0, 111, 119, 0, 0, 116, 0, 0, 0, 114, 0, 0, 0, 0, 0, 0, 0,
     112, 97, 99, 107, 0, 0, 0, 0, 121, 95, 115, 108, 115, 115, 95, 115, 101, 95, 115, 108, 101, 95, 108, 101, 107,
     105, 110, 103
 };
 
 /* Of sedge_parameter_name_at. */
-static const unsigned char switch_table_sedge_parameter_name_391[60] = {
+static const unsigned char switch_table_sedge_parameter_name_395[60] = {
     115, 99, 105, 100, 118, 99, 105, 100, 116, 109, 95, 118, 119, 105, 100, 116, 119, 105, 110, 100, 108, 105, 109,
     105, 116, 105, 109, 101, 112, 97, 114, 116, 109, 97, 120, 95, 109, 97, 112, 115, 114, 101, 97, 100, 98, 121, 112,
     97, 113, 117, 101, 117, 102, 114, 97, 109, 98, 108, 111, 99
@@ -685,7 +685,7 @@ static uint32_t core_cmp_slices_groups_equal_i8_31_core_cmp_numbers_U8PartialEq(
     p2);
 static void nodes_ground_node_Ground_of(uint64_t p0, uint64_t p1);
 static void sedgechisel_nodes_nodes_ground_node_Ground_Destruct_drop(uint64_t p0);
-static void nodes_spacecraft_Spacecraft_of(uint64_t p0, uint64_t p1);
+static void nodes_spacecraft_Spacecraft_restarted(uint64_t p0, uint64_t p1, uint32_t p2);
 static void std_alloc_vec_Vec_drop_b0c2e3ac61d256b1(uint64_t p0);
 static void sedgechisel_nodes_sedgechisel_nodes_sim_link_Link_Destruct_drop(uint64_t p0);
 static void sedgechisel_nodes_nodes_spacecraft_Spacecraft_Destruct_drop(uint64_t p0);
@@ -693,7 +693,6 @@ static void nodes_ground_node_Ground_advance(uint64_t p0);
 static void nodes_ground_node_Ground_refill(uint64_t p0);
 static void nodes_ground_node_Ground_bypass(uint64_t p0, uint64_t p1, uint32_t p2, uint64_t p3, uint64_t p4);
 static uint32_t std_alloc_vec_deque_VecDeque_grow_de4148db516017ec(uint64_t p0);
-static uint32_t std_alloc_vec_Vec_grow_amortized_2ad1318893ccf184(uint64_t p0, uint64_t p1);
 static uint32_t std_alloc_vec_Vec_grow_amortized_de4148db516017ec(uint64_t p0);
 static void nodes_ground_node_Ground_report(uint64_t p0, uint64_t p1, uint64_t p2);
 static void cop1_sender_Sender_move_on(uint64_t p0, uint64_t p1, uint32_t p2);
@@ -702,6 +701,7 @@ static void cop1_sender_Sender_ask_for_all(uint64_t p0, uint64_t p1, uint32_t p2
 static void cop1_fop_trim_trim_09dedc624c4eb86b(uint64_t p0, uint64_t p1, uint64_t p2);
 static void nodes_ground_node_Ground_directive(uint64_t p0, uint64_t p1, uint64_t p2);
 static void nodes_ground_node_Ground_peek(uint64_t p0, uint64_t p1);
+static void nodes_ground_node_Ground_resume(uint64_t p0, uint64_t p1, uint32_t p2);
 static void nodes_ground_node_Ground_prepare(uint64_t p0, uint64_t p1, uint32_t p2, uint64_t p3, uint64_t p4);
 static uint32_t std_alloc_vec_Vec_grow_amortized_07c4d1320351f897(uint64_t p0);
 static uint32_t nodes_ground_node_Ground_lack_of(uint64_t p0, uint64_t p1, uint64_t p2);
@@ -721,8 +721,9 @@ static uint32_t std_alloc_vec_Vec_grow_amortized_49bbd27f022ae39a(uint64_t p0, u
 static uint32_t std_alloc_vec_Vec_grow_amortized_1598ebf9113514c4(uint64_t p0, uint64_t p1);
 static uint32_t std_alloc_vec_Vec_grow_amortized_722da43a23cbcade(uint64_t p0);
 static void simulated_link_map_lists_append_on(uint64_t p0, uint32_t p1, uint64_t p2);
+static uint32_t simulated_link_world_World_is_idle(uint64_t p0);
+static void simulated_link_world_World_begin(uint64_t p0, uint64_t p1, uint32_t p2, uint32_t p3);
 static void tc_frame_encoding_encode(uint64_t p0, uint64_t p1, uint64_t p2, uint64_t p3);
-static void nodes_data_field_data_field_of(uint64_t p0, uint64_t p1);
 static uint32_t std_alloc_vec_deque_VecDeque_grow_1598ebf9113514c4(uint64_t p0);
 static void nodes_spacecraft_Spacecraft_prepare(uint64_t p0, uint64_t p1, uint64_t p2, uint64_t p3);
 static uint32_t smallvec_small_vec_SmallVec_reserve_one_444910b390f8755b(uint64_t p0);
@@ -742,6 +743,7 @@ static uint64_t sedge_parameter_name_at(uint64_t result, uint32_t number);
 static uint64_t sedge_sim_fault_name_at(uint64_t result, uint32_t number);
 static uint32_t sedge_sim_open_at(uint64_t config, uint64_t sim);
 static uint32_t sedge_spacecraft_open_at(uint64_t config, uint64_t spacecraft);
+static uint32_t sedge_spacecraft_open_kept_at(uint64_t config, uint64_t kept, uint64_t spacecraft);
 static uint32_t sedge_ground_advance_at(uint64_t ground);
 static uint32_t sedge_ground_bypass_at(uint64_t ground, uint32_t map, uint64_t octets, uint64_t count);
 static uint32_t sedge_ground_clcw_at(uint64_t ground, uint64_t octets, uint64_t count, uint64_t heard);
@@ -774,15 +776,15 @@ static uint32_t sedge_spacecraft_next_at(uint64_t spacecraft, uint64_t map, uint
 static uint32_t sedge_spacecraft_next_bypass_at(uint64_t spacecraft, uint64_t map, uint64_t count);
 static uint32_t sedge_spacecraft_read_at(uint64_t spacecraft, uint64_t read);
 static uint32_t sedge_spacecraft_receive_at(uint64_t spacecraft, uint64_t octets, uint64_t count, uint64_t received);
-static uint32_t sedge_spacecraft_report_at(uint64_t spacecraft, uint64_t out, uint64_t room, uint64_t count);
 static uint32_t sedge_spacecraft_telemetry_at(uint64_t spacecraft, uint64_t packet, uint64_t count);
+static uint32_t sedge_spacecraft_telemetry_frame_at(uint64_t spacecraft, uint64_t out, uint64_t room, uint64_t count);
 static uint32_t sedge_spacecraft_take_at(uint64_t spacecraft, uint64_t map, uint64_t out, uint64_t room, uint64_t
     count);
 static uint32_t sedge_spacecraft_take_bypass_at(uint64_t spacecraft, uint64_t map, uint64_t out, uint64_t room,
     uint64_t count);
 static uint32_t sedge_ground_accepted_beyond_at(uint64_t ground, uint32_t value, uint64_t accepted);
+static uint32_t sedge_ground_clcw_in_at(uint64_t ground, uint64_t octets, uint64_t count, uint64_t word);
 static uint32_t sedge_ground_known_on_board_at(uint64_t ground, uint32_t value, uint64_t whole);
-static uint32_t sedge_ground_report_at(uint64_t ground, uint64_t octets, uint64_t count, uint64_t report);
 static uint32_t sedge_sim_entry_length_at(uint64_t sim, uint32_t record, uint32_t map, uint64_t k, uint64_t count);
 static uint32_t sedge_ground_peek_at(uint64_t ground, uint64_t out, uint64_t room, uint64_t count);
 static uint32_t sedge_ground_pull_at(uint64_t ground, uint64_t out, uint64_t room, uint64_t count);
@@ -908,7 +910,7 @@ l1:;
     v18 = 0;
     if ((v19 & 1) != 0) {
         v13 = (uint64_t)get8(v16) << 3;
-        v18 = get64(v13 + address(switch_table_sedge_config_fault_388));
+        v18 = get64(v13 + address(switch_table_sedge_config_fault_392));
         v17 = address(switch_table_sedge_config_fault[v13 / 8]);
         v13 = 1;
     }
@@ -1473,79 +1475,86 @@ static void sedgechisel_nodes_nodes_ground_node_Ground_Destruct_drop(uint64_t p0
     return;
 }
 
-static void nodes_spacecraft_Spacecraft_of(uint64_t p0, uint64_t p1)
+static void nodes_spacecraft_Spacecraft_restarted(uint64_t p0, uint64_t p1, uint32_t p2)
 {
     unsigned char frame_octets[128 + 15];
-    uint32_t v3 = 0, v4 = 0, v5 = 0, v6 = 0, v13 = 0;
-    uint64_t v2 = 0, v7 = 0, v8 = 0, v9 = 0, v10 = 0, v11 = 0, v12 = 0, v14 = 0;
-    v2 = aligned(frame_octets);
-    fill(v2 + 46, 0, 78);
-    v3 = get32(p1 + 12);
-    if ((v3 & 255) == 0) UNREACHABLE;
-    if ((v3 & 1) != 0) UNREACHABLE;
-    v4 = get32(p1 + 60);
-    if ((v4 - 16) > 0x7f0) UNREACHABLE;
-    v5 = get32(p1);
-    if ((v5 & 0xffff) > 0x3ff) UNREACHABLE;
-    v6 = get32(p1 + 8);
-    if ((v6 & 255) >= 8) UNREACHABLE;
-    v7 = (uint64_t)get32(p1 + 48) + 170;
-    rattle_alloc_at(v2 + 24, v7 << 5, 8);
-    if (((uint32_t)get64(v2 + 24) & 1) == 0) {
+    uint32_t v4 = 0, v5 = 0, v6 = 0, v7 = 0, v8 = 0, v15 = 0;
+    uint64_t v3 = 0, v9 = 0, v10 = 0, v11 = 0, v12 = 0, v13 = 0, v14 = 0, v16 = 0;
+    v3 = aligned(frame_octets);
+    fill(v3 + 46, 0, 78);
+    v4 = get32(p1 + 12);
+    if ((v4 & 255) == 0) UNREACHABLE;
+    if ((v4 & 1) != 0) UNREACHABLE;
+    v5 = p2 >> 8;
+    if ((v5 & 255) >= 4) UNREACHABLE;
+    v6 = get32(p1);
+    if ((v6 & 0xffff) > 0x3ff) UNREACHABLE;
+    v7 = get32(p1 + 8);
+    if ((v7 & 255) > 7) UNREACHABLE;
+    v8 = get32(p1 + 60);
+    if ((v8 - 16) > 0x7f0) UNREACHABLE;
+    v9 = (uint64_t)get32(p1 + 48) + 170;
+    rattle_alloc_at(v3 + 24, v9 << 5, 8);
+    if (((uint32_t)get64(v3 + 24) & 1) == 0) {
         put16(p0, 0x501);
-        fill(p0 + 8, 0, 0x920);
+        fill(p0 + 8, 0, 0x940);
         return;
     }
-    v8 = get64(v2 + 32);
-    v9 = (uint64_t)get32(p1 + 52);
-    rattle_alloc_at(v2 + 8, v9 << 5, 8);
-    if (((uint32_t)get64(v2 + 8) & 1) == 0) {
-        rattle_dealloc_at(v8);
+    v10 = get64(v3 + 32);
+    v11 = (uint64_t)get32(p1 + 52);
+    rattle_alloc_at(v3 + 8, v11 << 5, 8);
+    if (((uint32_t)get64(v3 + 8) & 1) == 0) {
+        rattle_dealloc_at(v10);
         put16(p0, 0x501);
-        fill(p0 + 8, 0, 0x920);
+        fill(p0 + 8, 0, 0x940);
         return;
     }
-    v10 = get64(v2 + 16);
-    v11 = get64(p1 + 28);
-    v12 = get64(p1 + 40);
-    v13 = get32(p1 + 64);
-    v14 = v2 + 52;
-    copy(v14, p1, 72);
+    v12 = get64(v3 + 16);
+    v13 = get64(p1 + 28);
+    v14 = get64(p1 + 40);
+    v15 = get32(p1 + 64);
+    v16 = v3 + 52;
+    copy(v16, p1, 72);
     put16(p0, 0);
-    copy(p0 + 8, v14, 72);
-    put32(p0 + 81, 0);
-    put8(p0 + 80, v3);
-    put32(p0 + 84, 0);
-    put8(p0 + 104, v13 == 1);
-    put64(p0 + 96, v12);
-    put64(p0 + 88, v11);
-    fill(p0 + 105, 0, 0x807);
-    put64(p0 + 0x888, 0);
-    put64(p0 + 0x880, v7);
-    put64(p0 + 0x878, 0);
-    put64(p0 + 0x870, v8);
-    put64(p0 + 0x890, 0);
+    copy(p0 + 8, v16, 72);
+    put8(p0 + 104, v15 == 1);
+    put64(p0 + 96, v14);
+    put64(p0 + 88, v13);
+    put16(p0 + 86, 0);
+    put8(p0 + 85, v5);
+    put8(p0 + 84, 0);
+    put16(p0 + 82, 0);
+    put8(p0 + 81, p2);
+    put8(p0 + 80, v4);
+    fill(p0 + 105, 0, 0x827);
     put64(p0 + 0x8a8, 0);
     put64(p0 + 0x8a0, v9);
-    put64(p0 + 0x898, v10);
+    put64(p0 + 0x898, 0);
+    put64(p0 + 0x890, v10);
     put64(p0 + 0x8b0, 0);
-    put32(p0 + 0x8bb, 0);
-    put8(p0 + 0x8ba, v6);
-    put16(p0 + 0x8b8, v5);
-    put8(p0 + 0x8bf, 0);
     put64(p0 + 0x8c8, 0);
-    put64(p0 + 0x8c0, (uint64_t)v4);
+    put64(p0 + 0x8c0, v11);
+    put64(p0 + 0x8b8, v12);
     put64(p0 + 0x8d0, 0);
-    put64(p0 + 0x8f8, 0);
+    put32(p0 + 0x8db, 0);
+    put8(p0 + 0x8da, v7);
+    put16(p0 + 0x8d8, v6);
+    put8(p0 + 0x8df, 0);
+    put64(p0 + 0x8ea, 0);
+    put8(p0 + 0x8e9, p2 >> 24);
+    put8(p0 + 0x8e8, p2 >> 16);
+    put64(p0 + 0x8e0, (uint64_t)v8);
     put64(p0 + 0x8f0, 0);
-    put64(p0 + 0x8e8, 0);
-    put64(p0 + 0x8e0, 0);
-    put64(p0 + 0x8d8, v2 + 124);
-    put64(p0 + 0x908, 0);
-    put64(p0 + 0x910, 0);
+    put64(p0 + 0x8f8, v3 + 124);
     put64(p0 + 0x918, 0);
-    put64(p0 + 0x920, 0);
-    put64(p0 + 0x900, v2 + 124);
+    put64(p0 + 0x910, 0);
+    put64(p0 + 0x908, 0);
+    put64(p0 + 0x900, 0);
+    put64(p0 + 0x928, 0);
+    put64(p0 + 0x930, 0);
+    put64(p0 + 0x938, 0);
+    put64(p0 + 0x940, 0);
+    put64(p0 + 0x920, v3 + 124);
     return;
 }
 
@@ -1570,39 +1579,39 @@ static void std_alloc_vec_Vec_drop_b0c2e3ac61d256b1(uint64_t p0)
 
 static void sedgechisel_nodes_sedgechisel_nodes_sim_link_Link_Destruct_drop(uint64_t p0)
 {
-    unsigned char frame_octets[7744 + 15];
+    unsigned char frame_octets[7776 + 15];
     uint32_t v26 = 0;
     uint64_t v1 = 0, v2 = 0, v3 = 0, v4 = 0, v5 = 0, v6 = 0, v7 = 0, v8 = 0, v9 = 0, v10 = 0, v11 = 0, v12 = 0,
         v13 = 0, v14 = 0, v15 = 0, v16 = 0, v17 = 0, v18 = 0, v19 = 0, v20 = 0, v21 = 0, v22 = 0, v23 = 0, v24 = 0,
         v25 = 0;
     v1 = aligned(frame_octets);
-    v2 = get64(p0 + 6032);
-    v3 = get64(p0 + 6016);
-    v4 = get64(p0 + 6008);
-    v5 = get64(p0 + 6000);
-    v6 = get64(p0 + 5992);
-    v7 = get64(p0 + 5984);
-    v8 = get64(p0 + 5976);
-    v9 = get64(p0 + 5968);
-    v10 = get64(p0 + 5944);
-    v11 = get64(p0 + 5936);
-    v12 = get64(p0 + 5928);
-    v13 = get64(p0 + 2848);
-    v14 = get64(p0 + 2840);
-    v15 = get64(p0 + 2832);
-    v16 = get64(p0 + 2808);
-    v17 = get64(p0 + 2800);
-    v18 = get64(p0 + 2792);
-    v19 = get64(p0 + 2784);
-    v20 = get64(p0 + 2776);
-    v21 = get64(p0 + 2768);
-    v22 = get64(p0 + 2760);
-    v23 = get64(p0 + 2752);
-    v24 = get64(p0 + 2736);
-    v25 = get64(p0 + 2744);
-    copy(v1 + 0x790, p0 + 0xb28, 0x600);
-    copy(v1 + 400, p0 + 0x1128, 0x600);
-    copy(v1 + 0xd90, p0, 0xab0);
+    v2 = get64(p0 + 6064);
+    v3 = get64(p0 + 6048);
+    v4 = get64(p0 + 6040);
+    v5 = get64(p0 + 6032);
+    v6 = get64(p0 + 6024);
+    v7 = get64(p0 + 6016);
+    v8 = get64(p0 + 6008);
+    v9 = get64(p0 + 6000);
+    v10 = get64(p0 + 5976);
+    v11 = get64(p0 + 5968);
+    v12 = get64(p0 + 5960);
+    v13 = get64(p0 + 2880);
+    v14 = get64(p0 + 2872);
+    v15 = get64(p0 + 2864);
+    v16 = get64(p0 + 2840);
+    v17 = get64(p0 + 2832);
+    v18 = get64(p0 + 2824);
+    v19 = get64(p0 + 2816);
+    v20 = get64(p0 + 2808);
+    v21 = get64(p0 + 2800);
+    v22 = get64(p0 + 2792);
+    v23 = get64(p0 + 2784);
+    v24 = get64(p0 + 2768);
+    v25 = get64(p0 + 2776);
+    copy(v1 + 0x790, p0 + 0xb48, 0x600);
+    copy(v1 + 400, p0 + 0x1148, 0x600);
+    copy(v1 + 0xd90, p0, 0xad0);
     copy(v1, p0, 400);
     sedgechisel_nodes_nodes_ground_node_Ground_Destruct_drop(v1);
     sedgechisel_nodes_nodes_spacecraft_Spacecraft_Destruct_drop(v1 + 0xd90 + 400);
@@ -1646,7 +1655,7 @@ static void sedgechisel_nodes_sedgechisel_nodes_sim_link_Link_Destruct_drop(uint
         }
     }
     if (v18 != 0) rattle_dealloc_at(v20);
-    copy(v1 + 0x1840, v1 + 0x790, 0x600);
+    copy(v1 + 0x1860, v1 + 0x790, 0x600);
     if (v14 != 0) {
         p0 = v15 + 24;
         do {
@@ -1658,7 +1667,7 @@ static void sedgechisel_nodes_sedgechisel_nodes_sim_link_Link_Destruct_drop(uint
     if (v13 != 0) rattle_dealloc_at(v15);
     v16 = 0;
     do {
-        p0 = v1 + 0x1840 + (v16 * 24);
+        p0 = v1 + 0x1860 + (v16 * 24);
         v25 = get64(p0 + 16);
         v21 = get64(p0);
         v14 = get64(p0 + 8);
@@ -1715,7 +1724,7 @@ static void sedgechisel_nodes_sedgechisel_nodes_sim_link_Link_Destruct_drop(uint
                 v14 = get64(p0 + 32);
                 v16 = get64(p0 + 16);
                 v26 = get8(p0 + 8);
-                if (((1U << (v26 & 31)) & 479) == 0) {
+                if (((1U << (v26 & 31)) & 0x7df) == 0) {
                     if (v26 == 5) {
                         if (v14 != 0) goto l40;
                         goto l39;
@@ -1739,40 +1748,47 @@ static void sedgechisel_nodes_sedgechisel_nodes_sim_link_Link_Destruct_drop(uint
 static void sedgechisel_nodes_nodes_spacecraft_Spacecraft_Destruct_drop(uint64_t p0)
 {
     unsigned char frame_octets[2048 + 15];
+    uint32_t v17 = 0;
     uint64_t v1 = 0, v2 = 0, v3 = 0, v4 = 0, v5 = 0, v6 = 0, v7 = 0, v8 = 0, v9 = 0, v10 = 0, v11 = 0, v12 = 0,
-        v13 = 0, v14 = 0, v15 = 0;
+        v13 = 0, v14 = 0, v15 = 0, v16 = 0, v18 = 0;
     v1 = aligned(frame_octets);
-    v2 = get64(p0 + 2312);
-    v3 = get64(p0 + 2296);
-    v4 = get64(p0 + 2272);
-    v5 = get64(p0 + 2256);
-    v6 = get64(p0 + 2216);
-    v7 = get64(p0 + 2208);
-    v8 = get64(p0 + 2200);
-    v9 = get64(p0 + 2192);
-    v10 = get64(p0 + 2184);
-    v11 = get64(p0 + 2176);
-    v12 = get64(p0 + 2168);
-    v13 = get64(p0 + 2160);
-    v14 = get64(p0 + 2152);
+    v2 = get64(p0 + 2344);
+    v3 = get64(p0 + 2328);
+    v4 = get64(p0 + 2304);
+    v5 = get64(p0 + 2288);
+    v6 = get64(p0 + 2248);
+    v7 = get64(p0 + 2240);
+    v8 = get64(p0 + 2232);
+    v9 = get64(p0 + 2224);
+    v10 = get64(p0 + 2216);
+    v11 = get64(p0 + 2208);
+    v12 = get64(p0 + 2200);
+    v13 = get64(p0 + 2192);
+    v14 = get64(p0 + 2184);
+    v15 = get64(p0 + 2176);
+    v16 = get64(p0 + 2160);
+    v17 = get8(p0 + 2152);
     copy(v1, p0 + 104, 0x800);
     p0 = 0;
     do {
-        v15 = v1 + p0;
-        if (get8(v15) != 0) {
-            if (get64(v15 + 24) != 0) rattle_dealloc_at(get64(v15 + 8));
+        v18 = v1 + p0;
+        if (get8(v18) != 0) {
+            if (get64(v18 + 24) != 0) rattle_dealloc_at(get64(v18 + 8));
         }
         p0 = p0 + 32;
     } while (p0 != 0x800);
+    if ((v17 & 255) != 0) {
+        if (v15 != 0) rattle_dealloc_at(v16);
+    }
     if (v13 != 0) {
-        v15 = v13 - v10;
-        if (v11 < (v15 + v11)) {
+        v18 = v13 - v10;
+        if (v11 < (v18 + v11)) {
             p0 = ((v11 << 5) + v14) + 24;
             do {
                 if (get64(p0) != 0) rattle_dealloc_at(get64(p0 - 16));
                 p0 = p0 + 32;
-                v15 = v15 - 1;
-            } while (v15 != 0);
+                v18 = v18 - 1;
+            } while (v18 != 0);
         }
         if (v10 != 0) {
             p0 = v14 + 24;
@@ -1785,27 +1801,27 @@ static void sedgechisel_nodes_nodes_spacecraft_Spacecraft_Destruct_drop(uint64_t
     }
     if (v12 != 0) rattle_dealloc_at(v14);
     if (v7 != 0) {
-        v15 = (v6 < v8) ? 0ULL : v8;
-        p0 = v6 - v15;
+        v18 = (v6 < v8) ? 0ULL : v8;
+        p0 = v6 - v18;
         v10 = v8 - p0;
         v13 = (v10 < v7) ? v10 : v7;
         if (v8 != p0) {
-            p0 = (v9 + ((v6 << 5) - (v15 << 5))) + 24;
-            v15 = v13;
+            p0 = (v9 + ((v6 << 5) - (v18 << 5))) + 24;
+            v18 = v13;
             do {
                 if (get64(p0) != 0) rattle_dealloc_at(get64(p0 - 16));
                 p0 = p0 + 32;
-                v15 = v15 - 1;
-            } while (v15 != 0);
+                v18 = v18 - 1;
+            } while (v18 != 0);
         }
         if (v7 > v10) {
-            v15 = v7 - v13;
+            v18 = v7 - v13;
             p0 = v9 + 24;
             do {
                 if (get64(p0) != 0) rattle_dealloc_at(get64(p0 - 16));
                 p0 = p0 + 32;
-                v15 = v15 - 1;
-            } while (v15 != 0);
+                v18 = v18 - 1;
+            } while (v18 != 0);
         }
     }
     rattle_dealloc_at(v9);
@@ -2452,38 +2468,6 @@ l17:;
 l3:;
     v2 = 1;
     return v2;
-}
-
-static uint32_t std_alloc_vec_Vec_grow_amortized_2ad1318893ccf184(uint64_t p0, uint64_t p1)
-{
-    unsigned char frame_octets[32 + 15];
-    uint32_t v3 = 0;
-    uint64_t v2 = 0, v4 = 0, v5 = 0, v6 = 0;
-    v2 = aligned(frame_octets);
-    v3 = 0;
-    v4 = get64(p0 + 8);
-    if (p1 > ~v4) return v3;
-    p1 = v4 + p1;
-    p1 = (p1 > 8) ? p1 : 8ULL;
-    v5 = get64(p0 + 16);
-    v6 = v5 << 1;
-    v6 = (p1 > v6) ? p1 : v6;
-    p1 = (v5 < 0x4000000000000000ULL) ? v6 : p1;
-    if (p1 > 0x7fffffffffffffffULL) return v3;
-    if (v5 != 0) {
-        rattle_realloc_at(v2 + 16, get64(p0), v4, p1, 1);
-        if (((uint32_t)get64(v2 + 16) & 1) == 0) return v3;
-        v4 = get64(v2 + 24);
-        goto l2;
-    }
-    rattle_alloc_at(v2, v6, 1);
-    if (((uint32_t)get64(v2) & 1) == 0) return v3;
-    v4 = get64(v2 + 8);
-l2:;
-    put64(p0 + 16, p1);
-    put64(p0, v4);
-    v3 = 1;
-    return v3;
 }
 
 static uint32_t std_alloc_vec_Vec_grow_amortized_de4148db516017ec(uint64_t p0)
@@ -3151,6 +3135,69 @@ l1:;
     return;
 }
 
+static void nodes_ground_node_Ground_resume(uint64_t p0, uint64_t p1, uint32_t p2)
+{
+    unsigned char frame_octets[16 + 15];
+    uint32_t v4 = 0, v5 = 0, v7 = 0, v8 = 0;
+    uint64_t v3 = 0, v6 = 0, v9 = 0, v10 = 0, v11 = 0, v12 = 0, v13 = 0, v14 = 0, v15 = 0, v16 = 0, v17 = 0;
+    v3 = aligned(frame_octets);
+    v4 = get8(p1 + 75);
+    v5 = get8(p1 + 73);
+    put32(v3 + 8, 5);
+    v6 = 0;
+    v7 = 6;
+    v8 = 1;
+    if (v5 == 5) {
+        v8 = 1;
+        if (get8(p1 + 296) == 1) {
+            v5 = p2 - v4;
+            if (((get8(p1 + 74) - v4) & 255) >= (v5 & 255)) {
+                v9 = get64(p1 + 248);
+                v10 = get64(p1 + 264);
+                if (v10 == 0) {
+                    v6 = 0;
+                    goto l2;
+                }
+                v11 = (uint64_t)v5 & 255;
+                v6 = get64(p1 + 288);
+                v12 = v6 - v10;
+                v13 = v10 - v6;
+                v14 = get64(p1 + 256);
+                v6 = 0;
+                v15 = p1 + 280;
+                do {
+                    if (v6 < v13) {
+                        v16 = v14 + (get64(v15) << 3);
+                        v17 = v6;
+                        goto l5;
+                    }
+                    v17 = v12 + v6;
+                    v16 = v14;
+                l5:;
+                    v16 = get64(v16 + (v17 << 3));
+                    v16 = (v16 > 1) ? v16 : 1ULL;
+                    if (v11 < v16) goto l2;
+                    v11 = v11 - v16;
+                    v6 = v6 + 1;
+                } while (v10 != v6);
+                v6 = v10;
+            l2:;
+                put8(v3 + 9, p2);
+                nodes_ground_node_Ground_directive(v3 + 13, p1, v3 + 8);
+                put8(v3 + 8, 2);
+                nodes_ground_node_Ground_directive(v3 + 13, p1, v3 + 8);
+                v6 = v6 + v9;
+                v8 = 0;
+                v7 = 0;
+            }
+        }
+    }
+    put8(p0, v8);
+    put64(p0 + 8, v6);
+    put8(p0 + 1, v7);
+    return;
+}
+
 static void nodes_ground_node_Ground_prepare(uint64_t p0, uint64_t p1, uint32_t p2, uint64_t p3, uint64_t p4)
 {
     unsigned char frame_octets[144 + 15];
@@ -3362,7 +3409,7 @@ l7:;
         v11 = v22 + (v12 * 24);
         put32(v11 + 2, 0);
         put8(v11 + 1, p2);
-        put8(v11, 0);
+        put8(v11, 1);
         put16(v11 + 6, 0);
         put64(v11 + 16, v14);
         put64(v11 + 8, v24);
@@ -3380,7 +3427,7 @@ l7:;
                 v12 = get64(v5 + 72) + (v11 * 24);
                 put32(v12 + 2, 0);
                 put8(v12 + 1, p2);
-                put8(v12, 1);
+                put8(v12, 0);
                 put16(v12 + 6, 0);
                 put64(v12 + 16, v14);
                 put64(v12 + 8, v15);
@@ -5298,6 +5345,204 @@ l1:;
     return;
 }
 
+static uint32_t simulated_link_world_World_is_idle(uint64_t p0)
+{
+    unsigned char frame_octets[48 + 15];
+    uint32_t v2 = 0, v3 = 0, v4 = 0, v10 = 0, v11 = 0;
+    uint64_t v1 = 0, v5 = 0, v6 = 0, v7 = 0, v8 = 0, v9 = 0, v12 = 0;
+    v1 = aligned(frame_octets);
+    v2 = 0;
+    if (get64(p0 + 0xad8) != 0) return v2;
+    v3 = ((get8(p0 + 475) << 4) | (get8(p0 + 474) << 5)) | (get8(p0 + 476) << 3);
+    v4 = get8(p0 + 473);
+    v5 = get64(p0 + 0xaf8);
+    v6 = p0 + 60;
+    v7 = get64(p0 + 0xb00);
+    v8 = get64(p0 + 0xb18);
+    if (v7 == v8) {
+        p0 = v5;
+        v7 = v8;
+        v8 = 0;
+        goto l2;
+    }
+    v7 = v7 - v8;
+    p0 = v5 + (get64(p0 + 0xb10) * 24);
+l2:;
+    v9 = (uint64_t)get32(v6);
+    v10 = v4 & 255;
+    v11 = v3 & 255;
+    do {
+        if (v7 != 0) {
+            v7 = v7 - 1;
+            v6 = p0 + 24;
+            v12 = v5;
+            goto l5;
+        }
+        if (v8 == 0) {
+            v2 = 1;
+            return v2;
+        }
+        v8 = v8 - 1;
+        v12 = v5 + 24;
+        v7 = 0;
+        v6 = p0;
+        p0 = v5;
+    l5:;
+        v5 = get64(p0 + 8);
+        p0 = get64(p0);
+        put64(v1 + 40, 0);
+        put64(v1 + 32, 0);
+        put64(v1 + 24, 0);
+        put64(v1 + 16, 0);
+        put64(v1 + 8, 0);
+        put64(v1, 0);
+        tm_link_decoding_decode(v1, p0, v5, v9);
+        if (get8(v1) != 0) return v2;
+        v3 = get32(v1 + 40);
+        if ((v3 & 227) != 1) return v2;
+        v4 = v3 >> 16;
+        if ((((v3 >> 8) & 3) | (v4 & 1)) != 0) return v2;
+        if (v10 != (v3 >> 24)) return v2;
+        p0 = v6;
+        v5 = v12;
+    } while ((v4 & 248) == v11);
+    return v2;
+}
+
+static void simulated_link_world_World_begin(uint64_t p0, uint64_t p1, uint32_t p2, uint32_t p3)
+{
+    unsigned char frame_octets[7696 + 15];
+    uint32_t v5 = 0;
+    uint64_t v4 = 0, v6 = 0, v7 = 0, v8 = 0, v9 = 0;
+    v4 = aligned(frame_octets);
+    v5 = get32(p1);
+    fill(v4 + 0xc08, 0, 0x600);
+    fill(v4 + 8, 0, 0x600);
+    put8(p0 + 0xb28, 0);
+    put8(p0 + 0xb27, p3);
+    put8(p0 + 0xb26, p2);
+    put32(p0 + 0xb22, v5);
+    put16(p0 + 0xb20, 1);
+    p1 = p0 + 0xb38;
+    v6 = get64(p1);
+    if (v6 != 0) {
+        put64(p1, 0);
+        v7 = get64(p0 + 0xb40);
+        put64(p1 + 8, 0);
+        v8 = get64(p0 + 0xb30);
+        p1 = v8 + 24;
+        do {
+            if (get64(p1) != 0) rattle_dealloc_at(get64(p1 - 16));
+            p1 = p1 + 32;
+            v6 = v6 - 1;
+        } while (v6 != 0);
+        put64(p0 + 0xb40, v7);
+        put64(p0 + 0xb38, 0);
+        put64(p0 + 0xb30, v8);
+    }
+    fill(v4 + 0x1808, 0, 0x600);
+    v6 = 0;
+    do {
+        p1 = v4 + 0x1808 + v6;
+        put64(p1, v4 + 0x1e08);
+        put64(p1 + 8, 0);
+        put64(p1 + 16, 0);
+        put64(p1 + 32, 0);
+        put64(p1 + 40, 0);
+        put64(p1 + 56, 0);
+        put64(p1 + 64, 0);
+        put64(p1 + 80, 0);
+        put64(p1 + 88, 0);
+        put64(p1 + 24, v4 + 0x1e08);
+        put64(p1 + 48, v4 + 0x1e08);
+        put64(p1 + 72, v4 + 0x1e08);
+        v6 = v6 + 96;
+    } while (v6 != 0x600);
+    copy(v4 + 0x1208, v4 + 0x1808, 0x600);
+    p1 = p0 + 0xb48;
+    copy(v4 + 0x608, p1, 0x600);
+    copy(p1, v4 + 0x1208, 0x600);
+    v7 = 0;
+    do {
+        p1 = v4 + 0x608 + (v7 * 24);
+        v9 = get64(p1 + 16);
+        v8 = get64(p1);
+        v6 = get64(p1 + 8);
+        if (v6 != 0) {
+            p1 = v8;
+            do {
+                if (get64(p1 + 16) != 0) rattle_dealloc_at(get64(p1));
+                p1 = p1 + 24;
+                v6 = v6 - 1;
+            } while (v6 != 0);
+        }
+        if (v9 != 0) rattle_dealloc_at(v8);
+        v7 = v7 + 1;
+    } while (v7 != 64);
+    fill(v4 + 0x1808, 0, 0x600);
+    v6 = 0;
+    do {
+        p1 = v4 + 0x1808 + v6;
+        put64(p1, v4 + 0x1e08);
+        put64(p1 + 8, 0);
+        put64(p1 + 16, 0);
+        put64(p1 + 32, 0);
+        put64(p1 + 40, 0);
+        put64(p1 + 56, 0);
+        put64(p1 + 64, 0);
+        put64(p1 + 80, 0);
+        put64(p1 + 88, 0);
+        put64(p1 + 24, v4 + 0x1e08);
+        put64(p1 + 48, v4 + 0x1e08);
+        put64(p1 + 72, v4 + 0x1e08);
+        v6 = v6 + 96;
+    } while (v6 != 0x600);
+    copy(v4 + 0xc08, v4 + 0x1808, 0x600);
+    p1 = p0 + 0x1148;
+    copy(v4 + 8, p1, 0x600);
+    copy(p1, v4 + 0xc08, 0x600);
+    v7 = 0;
+    do {
+        p1 = v4 + 8 + (v7 * 24);
+        v9 = get64(p1 + 16);
+        v8 = get64(p1);
+        v6 = get64(p1 + 8);
+        if (v6 != 0) {
+            p1 = v8;
+            do {
+                if (get64(p1 + 16) != 0) rattle_dealloc_at(get64(p1));
+                p1 = p1 + 24;
+                v6 = v6 - 1;
+            } while (v6 != 0);
+        }
+        if (v9 != 0) rattle_dealloc_at(v8);
+        v7 = v7 + 1;
+    } while (v7 != 64);
+    p1 = p0 + 0x1750;
+    v6 = get64(p1);
+    if (v6 == 0) {
+        put64(p0 + 0x1760, 0);
+        put64(p0 + 0x1768, get64(p0 + 0x1778));
+        return;
+    }
+    put64(p1, 0);
+    v7 = get64(p0 + 0x1758);
+    put64(p1 + 8, 0);
+    v8 = get64(p0 + 0x1748);
+    p1 = v8;
+    do {
+        if (get64(p1 + 16) != 0) rattle_dealloc_at(get64(p1));
+        p1 = p1 + 24;
+        v6 = v6 - 1;
+    } while (v6 != 0);
+    put64(p0 + 0x1758, v7);
+    put64(p0 + 0x1750, 0);
+    put64(p0 + 0x1748, v8);
+    put64(p0 + 0x1760, 0);
+    put64(p0 + 0x1768, get64(p0 + 0x1778));
+    return;
+}
+
 static void tc_frame_encoding_encode(uint64_t p0, uint64_t p1, uint64_t p2, uint64_t p3)
 {
     uint32_t v5 = 0, v6 = 0, v7 = 0, v8 = 0;
@@ -5336,7 +5581,7 @@ static void tc_frame_encoding_encode(uint64_t p0, uint64_t p1, uint64_t p2, uint
             switch ((uint32_t)(uint64_t)get8(p1 + 8)) {
             case 1:
                 put8(p2 + 4, 0);
-                put8(p2 + 5, get8(p1 + 17) + (0xc0800040U >> ((get8(p1 + 16) << 3) & 31)));
+                put8(p2 + 5, (get8(p1 + 16) << 6) + get8(p1 + 17));
                 p3 = p2 + 6;
                 v10 = get64(p1 + 24);
                 p1 = get64(p1 + 32);
@@ -5374,7 +5619,7 @@ static void tc_frame_encoding_encode(uint64_t p0, uint64_t p1, uint64_t p2, uint
                 goto l7;
             default:
                 put8(p2 + 4, get8(p1 + 9));
-                put8(p2 + 5, get8(p1 + 17) + (0xc0800040U >> ((get8(p1 + 16) << 3) & 31)));
+                put8(p2 + 5, (get8(p1 + 16) << 6) + get8(p1 + 17));
                 p3 = p2 + 6;
                 v10 = get64(p1 + 24);
                 p1 = get64(p1 + 32);
@@ -5430,83 +5675,6 @@ l1:;
     put8(p0, v6);
     put64(p0 + 8, v4);
     put8(p0 + 1, v5);
-    return;
-}
-
-static void nodes_data_field_data_field_of(uint64_t p0, uint64_t p1)
-{
-    unsigned char frame_octets[48 + 15];
-    uint32_t t1;
-    uint64_t v2 = 0, v3 = 0, v4 = 0, v5 = 0, v6 = 0, v7 = 0, v8 = 0, v9 = 0, v10 = 0, v11 = 0, v12 = 0;
-    v2 = aligned(frame_octets);
-    v3 = 1;
-    v4 = v2 + 47;
-    v5 = p1 + 16;
-    v6 = get64(v5);
-    v7 = v6 + 1;
-    if (v7 != 0) {
-        if (v7 > 0x7fffffffffffffffULL) goto l2;
-        rattle_alloc_at(v2, v7, 1);
-        if (((uint32_t)get64(v2) & 1) == 0) goto l2;
-        v4 = get64(v2 + 8);
-    }
-    put8(v4, get8(p1 + 1) + (0xc0800040U >> ((get8(p1) << 3) & 31)));
-    put64(v2 + 32, v7);
-    put64(v2 + 16, v4);
-    put64(v2 + 24, 1);
-    v8 = get64(p1 + 8);
-    p1 = get64(v5);
-    if (p1 > v6) {
-        t1 = std_alloc_vec_Vec_grow_amortized_2ad1318893ccf184(v2 + 16, p1);
-        if (t1 == 0) goto l4;
-        v4 = get64(v2 + 16);
-        v7 = get64(v2 + 32);
-        v3 = get64(v2 + 24);
-    }
-    v9 = v3 + p1;
-    v10 = v4 + v3;
-    if ((v10 - v8) < p1) {
-        v11 = p1 & 3;
-        v5 = 0;
-        if (p1 >= 4) {
-            v12 = p1 & ~3ULL;
-            v5 = 0;
-            do {
-                p1 = v10 + v5;
-                v6 = v8 + v5;
-                put8(p1, get8(v6));
-                put8(p1 + 1, get8(v6 + 1));
-                put8(p1 + 2, get8(v6 + 2));
-                put8(p1 + 3, get8(v6 + 3));
-                v5 = v5 + 4;
-            } while (v12 != v5);
-            if (v11 == 0) goto l6;
-        }
-        p1 = v8 + v5;
-        v5 = v4 + (v3 + v5);
-    l10:;
-        put8(v5, get8(p1));
-        v5 = v5 + 1;
-        p1 = p1 + 1;
-        v11 = v11 - 1;
-        if (v11 != 0) goto l10;
-        goto l6;
-    }
-    if (p1 != 0) copy(v10, v8, p1);
-l6:;
-    put64(v2 + 32, v7);
-    put64(v2 + 24, v9);
-l4:;
-    put16(p0, 0);
-    put64(p0 + 8, get64(v2 + 16));
-    put64(p0 + 16, get64(v2 + 24));
-    put64(p0 + 24, get64(v2 + 32));
-    return;
-l2:;
-    put16(p0, 0x501);
-    put64(p0 + 8, 0);
-    put64(p0 + 16, 0);
-    put64(p0 + 24, 0);
     return;
 }
 
@@ -5837,7 +6005,7 @@ static void nodes_spacecraft_Spacecraft_prepare(uint64_t p0, uint64_t p1, uint64
                         v13 = p2 + 6;
                         v14 = get8(p2 + 5);
                         v5 = v14 & 63;
-                        v14 = 0x3020001U >> (((v14 >> 3) & 24) & 31);
+                        v14 = v14 >> 6;
                     l8:;
                         put32(v4 + 112, get32(v4 + 208));
                         put16(v4 + 116, get16(v4 + 212));
@@ -5854,23 +6022,23 @@ static void nodes_spacecraft_Spacecraft_prepare(uint64_t p0, uint64_t p1, uint64
                                     v12 = get8(p1 + 72);
                                     v34 = 0;
                                     v15 = 0;
-                                    if ((v14 & 255) != 3) goto l32;
-                                    if (((uint32_t)(get64(p1 + 40) >> ((uint64_t)v5 & 63)) & 1) == 0) goto l32;
-                                    if (v9 > (uint64_t)get32(p1 + 32)) goto l32;
+                                    if (v14 != 3) goto l37;
+                                    if (((uint32_t)(get64(p1 + 40) >> ((uint64_t)v5 & 63)) & 1) == 0) goto l37;
+                                    if (v9 > (uint64_t)get32(p1 + 32)) goto l37;
                                     v10 = 0;
                                     v14 = 0;
                                     v21 = 0;
                                     p1 = 0;
-                                    if (v9 < 6) goto l31;
+                                    if (v9 < 6) goto l36;
                                     v14 = get8(v13);
-                                    if (v14 > 31) goto l33;
-                                    if ((v14 & 8) == 0) goto l118;
-                                    if ((((v14 << 8) & 0x700) | get8(v13 + 1)) == 0x7ff) goto l33;
-                                l118:;
+                                    if (v14 > 31) goto l38;
+                                    if ((v14 & 8) == 0) goto l84;
+                                    if ((((v14 << 8) & 0x700) | get8(v13 + 1)) == 0x7ff) goto l38;
+                                l84:;
                                     if (((((uint64_t)get8(v13 + 4) << 8) | (uint64_t)get8(v13 + 5)) + 7) != v9) goto
-                                        l33;
+                                        l38;
                                     rattle_alloc_at(v4 + 72, v9, 1);
-                                    if (((uint32_t)get64(v4 + 72) & 1) != 0) goto l119;
+                                    if (((uint32_t)get64(v4 + 72) & 1) != 0) goto l85;
                                     v10 = 0;
                                     v34 = 0;
                                     v35 = 5;
@@ -5887,46 +6055,46 @@ static void nodes_spacecraft_Spacecraft_prepare(uint64_t p0, uint64_t p1, uint64
                                     v36 = 0;
                                     v21 = 0;
                                     p1 = 0;
-                                    goto l30;
-                                l119:;
+                                    goto l35;
+                                l85:;
                                     v21 = get64(v4 + 80);
-                                    if ((v21 - v13) >= v9) goto l122;
-                                    v27 = v9 & 3;
+                                    if ((v21 - v13) >= v9) goto l88;
+                                    v28 = v9 & 3;
                                     p1 = 0;
-                                    if ((v9 - 1) < 3) goto l123;
-                                    v28 = v9 & ~3ULL;
+                                    if ((v9 - 1) < 3) goto l89;
+                                    v23 = v9 & ~3ULL;
                                     p1 = 0;
                                     do {
                                         v34 = v21 + p1;
-                                        v31 = v13 + p1;
-                                        put8(v34, get8(v31));
-                                        put8(v34 + 1, get8(v31 + 1));
-                                        put8(v34 + 2, get8(v31 + 2));
-                                        put8(v34 + 3, get8(v31 + 3));
+                                        v33 = v13 + p1;
+                                        put8(v34, get8(v33));
+                                        put8(v34 + 1, get8(v33 + 1));
+                                        put8(v34 + 2, get8(v33 + 2));
+                                        put8(v34 + 3, get8(v33 + 3));
                                         p1 = p1 + 4;
-                                    } while (v28 != p1);
-                                    if (v27 == 0) goto l121;
-                                l123:;
-                                l125:;
+                                    } while (v23 != p1);
+                                    if (v28 == 0) goto l87;
+                                l89:;
+                                l91:;
                                     put8(v21 + p1, get8(v13 + p1));
                                     v34 = 1;
                                     p1 = p1 + 1;
                                     v10 = 1;
-                                    v27 = v27 - 1;
-                                    if (v27 != 0) goto l125;
-                                    goto l120;
-                                l122:;
-                                    if (v9 == 0) goto l121;
+                                    v28 = v28 - 1;
+                                    if (v28 != 0) goto l91;
+                                    goto l86;
+                                l88:;
+                                    if (v9 == 0) goto l87;
                                     copy(v21, v13, v9);
-                                l121:;
+                                l87:;
                                     v34 = 1;
                                     v10 = 1;
-                                l120:;
+                                l86:;
                                     v14 = v5;
                                     p1 = v9;
-                                    goto l31;
+                                    goto l36;
                                 case 2:
-                                    goto l35;
+                                    goto l40;
                                 default:
                                     v15 = 0;
                                     put32(v4 + 160, 0);
@@ -5948,41 +6116,41 @@ static void nodes_spacecraft_Spacecraft_prepare(uint64_t p0, uint64_t p1, uint64
                                     v6 = get8(p1 + 73);
                                     v12 = get8(p1 + 72);
                                     v11 = 5;
-                                    if ((get8(p1 + 74) & 1) != 0) goto l39;
-                                    if ((v10 & 255) == (v6 & 255)) goto l42;
+                                    if ((get8(p1 + 74) & 1) != 0) goto l44;
+                                    if ((v10 & 255) == (v6 & 255)) goto l47;
                                     v8 = 1;
                                     v5 = v10 - v6;
                                     v14 = (v12 >> 1) & 127;
-                                    if ((v5 & 255) < v14) goto l41;
-                                    if ((v5 & 255) > (~v14 & 255)) goto l40;
+                                    if ((v5 & 255) < v14) goto l46;
+                                    if ((v5 & 255) > (~v14 & 255)) goto l45;
                                     v11 = 4;
-                                    goto l39;
-                                l42:;
+                                    goto l44;
+                                l47:;
                                     v8 = 0;
-                                    if ((v7 & 1) == 0) goto l43;
+                                    if ((v7 & 1) == 0) goto l48;
                                     v7 = 1;
-                                    goto l39;
-                                l43:;
-                                    if (get64(p1 + 0x870) < (uint64_t)get32(p1 + 48)) goto l38;
+                                    goto l44;
+                                l48:;
+                                    if (get64(p1 + 0x890) < (uint64_t)get32(p1 + 48)) goto l43;
                                     v11 = 2;
                                     v7 = 1;
                                     v17 = 1;
-                                    goto l39;
-                                l41:;
-                                    if ((v7 & 1) == 0) goto l44;
+                                    goto l44;
+                                l46:;
+                                    if ((v7 & 1) == 0) goto l49;
                                     v8 = 0;
                                     v7 = 1;
-                                    goto l39;
-                                l44:;
+                                    goto l44;
+                                l49:;
                                     v17 = 1;
                                     v8 = 0;
                                     v7 = 0;
                                     v11 = 1;
-                                    goto l39;
-                                l40:;
+                                    goto l44;
+                                l45:;
                                     v11 = ((v7 & 1) != 0) ? 5U : 3U;
                                     v8 = 0;
-                                l39:;
+                                l44:;
                                     put8(v4 + 108, 0);
                                     put32(v4 + 104, 0);
                                     put32(v4 + 96, 0);
@@ -5991,156 +6159,327 @@ static void nodes_spacecraft_Spacecraft_prepare(uint64_t p0, uint64_t p1, uint64
                                     put16(v4 + 92, 0);
                                     v18 = 0;
                                     v19 = 2;
-                                    goto l34;
-                                l38:;
+                                    goto l39;
+                                l43:;
                                     v20 = 1;
                                     v15 = 0;
                                     v21 = (uint64_t)v5;
-                                    if (((uint32_t)(get64(p1 + 88) >> (v21 & 63)) & 1) != 0) goto l45;
+                                    if (((uint32_t)(get64(p1 + 88) >> (v21 & 63)) & 1) != 0) goto l50;
                                     v22 = v4 + 239;
                                     v23 = 0;
                                     v24 = 0;
                                     v25 = 1;
-                                    v26 = 0;
+                                    v26 = 1;
                                     v27 = 0;
                                     v28 = 0;
                                     v29 = 0;
-                                    v30 = 1;
+                                    v30 = 0;
                                     v31 = 0;
                                     v32 = 0;
                                     v33 = 0;
                                     v18 = 0;
                                     goto l20;
-                                l45:;
+                                l50:;
                                     v34 = 0;
                                     v21 = (p1 + (v21 << 5)) + 104;
                                     v6 = get8(v21);
-                                    if (v6 != 1) goto l46;
+                                    if (v6 != 1) goto l51;
                                     v34 = get64(v21 + 16);
-                                l46:;
-                                    switch ((uint32_t)((uint64_t)v14 & 255)) {
+                                l51:;
+                                    switch (v14) {
                                     case 1:
-                                        goto l60;
+                                        v33 = 0;
+                                        v8 = get32(p1 + 84);
+                                        v29 = (uint64_t)v8;
+                                        if (v9 <= v29) goto l118;
+                                        v25 = 1;
+                                        v24 = 4;
+                                        v22 = v4 + 239;
+                                        v23 = 1;
+                                        goto l23;
+                                    l118:;
+                                        if (v8 != 0) goto l120;
+                                        v28 = v4 + 239;
+                                        goto l119;
+                                    l120:;
+                                        rattle_alloc_at(v4 + 40, v29, 1);
+                                        if (((uint32_t)get64(v4 + 40) & 1) == 0) goto l26;
+                                        v28 = get64(v4 + 48);
+                                    l119:;
+                                        if ((v28 - v13) >= v9) goto l124;
+                                        v23 = v9 & 3;
+                                        v21 = 0;
+                                        if ((v9 - 1) < 3) goto l123;
+                                        v33 = v9 & ~3ULL;
+                                        v21 = 0;
+                                        do {
+                                            p1 = v28 + v21;
+                                            v34 = v13 + v21;
+                                            put8(p1, get8(v34));
+                                            put8(p1 + 1, get8(v34 + 1));
+                                            put8(p1 + 2, get8(v34 + 2));
+                                            put8(p1 + 3, get8(v34 + 3));
+                                            v21 = v21 + 4;
+                                        } while (v33 != v21);
+                                        if (v23 != 0) goto l123;
+                                        v22 = v4 + 239;
+                                        v23 = 2;
+                                        v33 = 0;
+                                        goto l121;
+                                    l124:;
+                                        if (v9 == 0) goto l126;
+                                        copy(v28, v13, v9);
+                                    l126:;
+                                        v22 = v4 + 239;
+                                        goto l122;
+                                    l123:;
+                                        p1 = v28 + v21;
+                                        v21 = v13 + v21;
+                                        do {
+                                            put8(p1, get8(v21));
+                                            p1 = p1 + 1;
+                                            v21 = v21 + 1;
+                                            v33 = 0;
+                                            v23 = v23 - 1;
+                                        } while (v23 != 0);
+                                        v22 = v4 + 239;
+                                    l122:;
+                                        v23 = 2;
+                                    l121:;
+                                        v32 = 0;
+                                        v31 = 0;
+                                        v30 = v9;
+                                        v24 = v6;
+                                        v25 = v6;
+                                        goto l21;
                                     case 2:
-                                        goto l59;
+                                        v25 = 1;
+                                        v22 = v4 + 239;
+                                        v23 = 1;
+                                        v33 = 0;
+                                        if (v6 == 0) goto l31;
+                                        if ((v34 + v9) > (uint64_t)get32(p1 + 84)) goto l24;
+                                        if (v6 != 1) UNREACHABLE;
+                                        v29 = get64(v21 + 8);
+                                        v21 = get64(v21 + 16);
+                                        v18 = 0;
+                                        put64(v4 + 200, 0);
+                                        put64(v4 + 192, 0);
+                                        put64(v4 + 184, 0);
+                                        put64(v4 + 176, 0);
+                                        put64(v4 + 168, 0);
+                                        v22 = v21 + v9;
+                                        if (v22 != 0) goto l101;
+                                        v26 = v4 + 239;
+                                        goto l100;
+                                    l101:;
+                                        if (v22 > 0x7fffffffffffffffULL) goto l26;
+                                        rattle_alloc_at(v4 + 56, v22, 1);
+                                        if (((uint32_t)get64(v4 + 56) & 1) == 0) goto l26;
+                                        v26 = get64(v4 + 64);
+                                    l100:;
+                                        put64(v4 + 216, 0);
+                                        put64(v4 + 208, v26);
+                                        put64(v4 + 224, v22);
+                                        if (v21 <= v22) goto l102;
+                                        t3 = std_alloc_vec_Vec_grow_amortized_a351ad16c7c032ee(v4 + 208, v21);
+                                        if (t3 == 0) goto l98;
+                                        v26 = get64(v4 + 208);
+                                        v22 = get64(v4 + 224);
+                                        v18 = get64(v4 + 216);
+                                    l102:;
+                                        v32 = v18 + v21;
+                                        v31 = v26 + v18;
+                                        if ((v31 - v29) >= v21) goto l104;
+                                        v28 = v21 & 3;
+                                        v34 = 0;
+                                        if (v21 < 4) goto l105;
+                                        v30 = v21 & ~3ULL;
+                                        v34 = 0;
+                                        do {
+                                            v21 = v31 + v34;
+                                            v33 = v29 + v34;
+                                            put8(v21, get8(v33));
+                                            put8(v21 + 1, get8(v33 + 1));
+                                            put8(v21 + 2, get8(v33 + 2));
+                                            put8(v21 + 3, get8(v33 + 3));
+                                            v34 = v34 + 4;
+                                        } while (v30 != v34);
+                                        if (v28 == 0) goto l103;
+                                    l105:;
+                                        v21 = v29 + v34;
+                                        v34 = v26 + (v18 + v34);
+                                    l107:;
+                                        put8(v34, get8(v21));
+                                        v34 = v34 + 1;
+                                        v21 = v21 + 1;
+                                        v28 = v28 - 1;
+                                        if (v28 != 0) goto l107;
+                                        goto l103;
+                                    l104:;
+                                        if (v21 == 0) goto l103;
+                                        copy(v31, v29, v21);
+                                    l103:;
+                                        put64(v4 + 216, v32);
+                                        put64(v4 + 224, v22);
+                                        if (v9 <= (v22 - v32)) goto l111;
+                                        t4 = std_alloc_vec_Vec_grow_amortized_a351ad16c7c032ee(v4 + 208, v9);
+                                        if (t4 == 0) goto l110;
+                                        v22 = get64(v4 + 224);
+                                        v32 = get64(v4 + 216);
+                                    l111:;
+                                        v30 = v32 + v9;
+                                        v18 = get64(v4 + 208);
+                                        v29 = v18 + v32;
+                                        if ((v29 - v13) >= v9) goto l113;
+                                        v28 = v9 & 3;
+                                        v34 = 0;
+                                        if ((v9 - 1) < 3) goto l114;
+                                        v31 = v9 & ~3ULL;
+                                        v34 = 0;
+                                        do {
+                                            v21 = v29 + v34;
+                                            v33 = v13 + v34;
+                                            put8(v21, get8(v33));
+                                            put8(v21 + 1, get8(v33 + 1));
+                                            put8(v21 + 2, get8(v33 + 2));
+                                            put8(v21 + 3, get8(v33 + 3));
+                                            v34 = v34 + 4;
+                                        } while (v31 != v34);
+                                        if (v28 == 0) goto l112;
+                                    l114:;
+                                        v21 = v13 + v34;
+                                        v34 = v18 + (v32 + v34);
+                                    l116:;
+                                        put8(v34, get8(v21));
+                                        v34 = v34 + 1;
+                                        v21 = v21 + 1;
+                                        v28 = v28 - 1;
+                                        if (v28 != 0) goto l116;
+                                        goto l112;
+                                    l113:;
+                                        if (v9 == 0) goto l112;
+                                        copy(v29, v13, v9);
+                                    l112:;
+                                        put64(v4 + 224, v22);
+                                        p1 = (uint64_t)get32(p1 + 84);
+                                        put64(v4 + 216, v30);
+                                        v21 = 0x401;
+                                        if (v30 > p1) goto l109;
+                                        v21 = 769;
+                                        if (v30 < 6) goto l109;
+                                        v6 = get8(v18);
+                                        if (v6 > 31) goto l109;
+                                        if ((v6 & 8) == 0) goto l117;
+                                        if ((((v6 << 8) & 0x700) | get8(v18 + 1)) == 0x7ff) goto l109;
+                                    l117:;
+                                        v21 = 0;
+                                        put64(v4 + 184, 0);
+                                        put64(v4 + 168, 0);
+                                        put64(v4 + 192, 0);
+                                        put64(v4 + 200, 0);
+                                        v34 = (uint64_t)get8(v18 + 4);
+                                        v33 = (uint64_t)get8(v18 + 5);
+                                        put64(v4 + 176, v4 + 239);
+                                        p1 = v4 + 168 + 8;
+                                        if (((v33 | (v34 << 8)) + 7) == v30) goto l96;
+                                        v21 = 769;
+                                        goto l108;
+                                    l110:;
+                                        if (get64(v4 + 224) == 0) goto l26;
+                                        goto l97;
+                                    l109:;
+                                        put64(v4 + 184, 0);
+                                        put64(v4 + 168, 0);
+                                        put64(v4 + 192, 0);
+                                        put64(v4 + 200, 0);
+                                        put64(v4 + 176, v4 + 239);
+                                        p1 = v4 + 176;
+                                    l108:;
+                                        if (v22 == 0) goto l95;
+                                        rattle_dealloc_at(v18);
+                                        goto l95;
+                                    l98:;
+                                        if (get64(v4 + 224) == 0) goto l26;
+                                    l97:;
+                                        rattle_dealloc_at(get64(v4 + 208));
+                                        goto l26;
+                                    l96:;
+                                        put64(p1 + 16, get64(v4 + 224));
+                                        put64(p1 + 8, get64(v4 + 216));
+                                        put64(p1, get64(v4 + 208));
+                                        put64(v4 + 200, 1);
+                                    l95:;
+                                        v24 = (uint32_t)(v21 >> 8);
+                                        v33 = get64(p1 + 24);
+                                        v32 = get64(p1 + 16);
+                                        v31 = get64(p1 + 8);
+                                        v22 = get64(v4 + 176);
+                                        v25 = (uint32_t)v21;
+                                        goto l22;
                                     case 3:
-                                        goto l62;
+                                        goto l52;
                                     default:
-                                        goto l61;
+                                        goto l32;
                                     }
-                                l62:;
-                                    v29 = (uint64_t)v6;
-                                    v27 = (uint64_t)get32(p1 + 84);
-                                    if (get8(p1 + 96) != 0) goto l63;
+                                l52:;
+                                    v26 = (uint64_t)v6;
+                                    v28 = (uint64_t)get32(p1 + 84);
+                                    if (get8(p1 + 96) != 0) goto l54;
                                     v25 = 1;
                                     v22 = v4 + 239;
-                                    v28 = 1;
-                                    if (v9 > v27) goto l24;
-                                    v31 = 0;
+                                    v23 = 1;
+                                    v33 = 0;
+                                    if (v9 > v28) goto l24;
                                     v24 = 3;
                                     if (v9 < 6) goto l23;
-                                    v31 = 0;
                                     v8 = get8(v13);
                                     if (v8 > 31) goto l23;
-                                    v28 = 1;
-                                    if ((v8 & 8) == 0) goto l64;
-                                    v31 = 0;
+                                    v23 = 1;
+                                    if ((v8 & 8) == 0) goto l55;
                                     if ((((v8 << 8) & 0x700) | get8(v13 + 1)) == 0x7ff) goto l23;
-                                l64:;
-                                    v31 = 0;
+                                l55:;
                                     v32 = 0;
-                                    v33 = 0;
-                                    v23 = 0;
-                                    v26 = 0;
-                                    v27 = 0;
+                                    v31 = 0;
+                                    v28 = 0;
+                                    v30 = 0;
+                                    v29 = 0;
                                     if (((((uint64_t)get8(v13 + 4) << 8) | (uint64_t)get8(v13 + 5)) + 7) != v9) goto
                                         l21;
                                     rattle_alloc_at(v4 + 24, v9, 1);
-                                    if (((uint32_t)get64(v4 + 24) & 1) != 0) goto l57;
+                                    if (((uint32_t)get64(v4 + 24) & 1) != 0) goto l53;
                                     goto l26;
-                                l63:;
-                                    v31 = 0;
+                                l54:;
                                     v25 = 1;
                                     v24 = 3;
                                     v22 = v4 + 239;
-                                    v28 = 1;
-                                    if (v9 < 6) goto l23;
+                                    v33 = 0;
+                                    if (v9 < 6) goto l27;
                                     v7 = 0;
                                     p1 = v13;
                                     v34 = v9;
                                     do {
                                         v8 = get8(p1);
-                                        if (v8 <= 31) goto l66;
-                                        v31 = 0;
-                                        v32 = 0;
-                                        v33 = 0;
-                                        v28 = 1;
-                                        goto l22;
-                                    l66:;
-                                        v28 = 1;
-                                        if ((v8 & 8) == 0) goto l67;
-                                        if ((((v8 << 8) & 0x700) | get8(p1 + 1)) == 0x7ff) goto l27;
-                                    l67:;
+                                        if (v8 > 31) goto l27;
+                                        v23 = 1;
+                                        if ((v8 & 8) == 0) goto l57;
+                                        if ((((v8 << 8) & 0x700) | get8(p1 + 1)) == 0x7ff) goto l23;
+                                    l57:;
                                         v21 = (((uint64_t)get8(p1 + 4) << 8) | (uint64_t)get8(p1 + 5)) + 7;
-                                        if (v34 < v21) goto l27;
+                                        if (v34 < v21) goto l23;
                                         p1 = p1 + v21;
-                                        v7 = v7 | (uint32_t)(v21 > v27);
+                                        v7 = v7 | (uint32_t)(v21 > v28);
                                         v34 = v34 - v21;
                                     } while (v34 > 5);
                                     v8 = v34 == 0;
                                     v7 = v8 & v7;
                                     v24 = (v8 != 0) ? ((v7 != 0) ? 4U : 0U) : 3U;
-                                    v31 = 0;
-                                    if (v7 == 0) goto l58;
-                                    goto l23;
-                                l61:;
-                                    v8 = get32(p1 + 84);
-                                    v23 = (uint64_t)v8;
-                                    if (v9 <= v23) goto l56;
-                                    v31 = 0;
-                                    v25 = 1;
-                                    v24 = 4;
-                                    v22 = v4 + 239;
-                                    v28 = 1;
-                                    goto l23;
-                                l60:;
-                                    v25 = 1;
-                                    v22 = v4 + 239;
-                                    v28 = 1;
-                                    if (v6 == 0) goto l28;
-                                    if ((v34 + v9) > (uint64_t)get32(p1 + 84)) goto l24;
-                                    v31 = 0;
-                                    v24 = 0;
-                                    v28 = 3;
+                                    if (v7 != 0) goto l23;
                                     v32 = 0;
-                                    v33 = 0;
-                                    v25 = 0;
-                                    goto l22;
-                                l59:;
-                                    v25 = 1;
-                                    v22 = v4 + 239;
-                                    v28 = 1;
-                                    if (v6 == 0) goto l28;
-                                    if ((v34 + v9) > (uint64_t)get32(p1 + 84)) goto l24;
-                                    if (v6 != 1) UNREACHABLE;
-                                    v23 = get64(v21 + 8);
-                                    v21 = get64(v21 + 16);
-                                    v18 = 0;
-                                    put64(v4 + 200, 0);
-                                    put64(v4 + 192, 0);
-                                    put64(v4 + 184, 0);
-                                    put64(v4 + 176, 0);
-                                    put64(v4 + 168, 0);
-                                    v22 = v21 + v9;
-                                    if (v22 != 0) goto l55;
-                                    v29 = v4 + 239;
-                                    goto l54;
-                                l58:;
-                                    v32 = 0;
-                                    v33 = 0;
-                                    v23 = 0;
-                                    v26 = 0;
-                                    v27 = 0;
+                                    v31 = 0;
+                                    v28 = 0;
+                                    v30 = 0;
+                                    v29 = 0;
                                     if (v34 != 0) goto l21;
                                     put64(v4 + 184, 0);
                                     put64(v4 + 168, 0);
@@ -6148,148 +6487,133 @@ static void nodes_spacecraft_Spacecraft_prepare(uint64_t p0, uint64_t p1, uint64
                                     put64(v4 + 200, 0);
                                     put64(v4 + 176, v4 + 239);
                                     v18 = v4 + 168 + 8;
-                                    v26 = v4 + 200;
+                                    v30 = v4 + 200;
                                     v32 = v4 + 184;
-                                    v33 = v9;
-                                    v27 = v13;
-                                    do {
-                                        v8 = get8(v27);
-                                        if (v8 > 31) goto l70;
-                                        if ((v8 & 8) == 0) goto l72;
-                                        if ((((v8 << 8) & 0x700) | get8(v27 + 1)) == 0x7ff) goto l70;
-                                    l72:;
-                                        p1 = (uint64_t)get8(v27 + 4) << 8;
-                                        v34 = (uint64_t)get8(v27 + 5);
-                                        v23 = (p1 | v34) + 7;
-                                        if (v33 < v23) goto l70;
-                                        rattle_alloc_at(v4 + 8, v23, 1);
-                                        if (((uint32_t)get64(v4 + 8) & 1) == 0) goto l69;
-                                        v28 = get64(v4 + 16);
-                                        if ((v28 - v27) >= v23) goto l74;
-                                        v31 = v23 & 3;
-                                        v21 = 0;
-                                        if ((v34 + p1 + 6) < 3) goto l75;
-                                        v22 = v23 & 0x1fffc;
-                                        v21 = 0;
-                                        do {
-                                            p1 = v28 + v21;
-                                            v34 = v27 + v21;
-                                            put8(p1, get8(v34));
-                                            put8(p1 + 1, get8(v34 + 1));
-                                            put8(p1 + 2, get8(v34 + 2));
-                                            put8(p1 + 3, get8(v34 + 3));
-                                            v21 = v21 + 4;
-                                        } while (v22 != v21);
-                                        if (v31 == 0) goto l73;
-                                    l75:;
-                                        p1 = v28 + v21;
-                                        v21 = v27 + v21;
-                                    l77:;
-                                        put8(p1, get8(v21));
-                                        p1 = p1 + 1;
-                                        v21 = v21 + 1;
-                                        v31 = v31 - 1;
-                                        if (v31 != 0) goto l77;
-                                        goto l73;
-                                    l74:;
-                                        if (v23 == 0) goto l73;
-                                        copy(v28, v27, v23);
-                                    l73:;
-                                        v8 = get8(v4 + 168);
-                                        if (get64((v8 != 0) ? v32 : v26) != ((v8 != 0) ? get64(v4 + 192) : 1ULL)) goto
-                                            l78;
-                                        t2 = smallvec_small_vec_SmallVec_reserve_one_444910b390f8755b(v4 + 168);
-                                        if ((t2 & 255) != 0) goto l68;
-                                        v8 = get8(v4 + 168);
-                                    l78:;
-                                        v33 = v33 - v23;
-                                        if ((v8 & 255) != 0) goto l80;
-                                        v21 = get64(v4 + 200);
-                                        p1 = v18 + (v21 * 24);
-                                        put64(p1 + 8, v23);
-                                        v34 = get64(p1 + 16);
-                                        put64(p1 + 16, v23);
-                                        v31 = get64(p1);
-                                        put64(p1, v28);
-                                        if (v34 == 0) goto l81;
-                                        rattle_dealloc_at(v31);
-                                    l81:;
-                                        put64(v4 + 200, v21 + 1);
-                                        goto l79;
-                                    l80:;
-                                        v21 = get64(v4 + 184);
-                                        p1 = get64(v4 + 176) + (v21 * 24);
-                                        put64(p1 + 16, v23);
-                                        put64(p1 + 8, v23);
-                                        put64(p1, v28);
-                                        put64(v4 + 184, v21 + 1);
-                                    l79:;
-                                        v27 = v27 + v23;
-                                    } while (v33 >= 6);
-                                l70:;
-                                    v33 = get64(v4 + 184);
-                                    v31 = get64(v4 + 200);
-                                    v8 = get8(v4 + 168);
-                                    v18 = ((v8 & 255) != 0) ? v33 : v31;
-                                    v30 = (v29 << 8) | v29;
-                                    v29 = (uint64_t)v8 & 255;
-                                    v32 = get64(v4 + 192);
-                                    v22 = get64(v4 + 176);
-                                    v28 = 1;
-                                    v23 = 0;
-                                    v24 = v6;
-                                    v25 = v6;
-                                    v26 = 0;
-                                    v27 = 0;
-                                    goto l20;
-                                l69:;
-                                    v9 = get64(v4 + 192);
-                                    p2 = get64(v4 + 176);
-                                    if (get8(v4 + 168) != 0) goto l82;
-                                    if (v9 == 0) goto l26;
-                                    goto l29;
-                                l82:;
-                                    p1 = get64(v4 + 184);
-                                    if (p1 == 0) goto l83;
-                                    p3 = p2;
-                                    do {
-                                        if (get64(p3 + 16) == 0) goto l85;
-                                        rattle_dealloc_at(get64(p3));
-                                    l85:;
-                                        p3 = p3 + 24;
-                                        p1 = p1 - 1;
-                                    } while (p1 != 0);
-                                l83:;
-                                    if (v9 == 0) goto l26;
-                                    goto l29;
-                                l68:;
-                                    rattle_dealloc_at(v28);
-                                    v9 = get64(v4 + 192);
-                                    p2 = get64(v4 + 176);
-                                    if (get8(v4 + 168) != 0) goto l86;
-                                    if (v9 == 0) goto l26;
-                                    goto l29;
-                                l86:;
-                                    p1 = get64(v4 + 184);
-                                    if (p1 == 0) goto l87;
-                                    p3 = p2;
-                                    do {
-                                        if (get64(p3 + 16) == 0) goto l89;
-                                        rattle_dealloc_at(get64(p3));
-                                    l89:;
-                                        p3 = p3 + 24;
-                                        p1 = p1 - 1;
-                                    } while (p1 != 0);
-                                l87:;
-                                    if (v9 == 0) goto l26;
-                                    goto l29;
-                                l57:;
-                                    v22 = get64(v4 + 32);
-                                    if ((v22 - v13) >= v9) goto l91;
-                                    v31 = v9 & 3;
+                                    v31 = v9;
+                                    v28 = v13;
+                                l59:;
+                                    v8 = get8(v28);
+                                    if (v8 > 31) goto l28;
+                                    if ((v8 & 8) == 0) goto l60;
+                                    if ((((v8 << 8) & 0x700) | get8(v28 + 1)) == 0x7ff) goto l28;
+                                l60:;
+                                    p1 = (uint64_t)get8(v28 + 4) << 8;
+                                    v34 = (uint64_t)get8(v28 + 5);
+                                    v29 = (p1 | v34) + 7;
+                                    if (v31 < v29) goto l28;
+                                    rattle_alloc_at(v4 + 8, v29, 1);
+                                    if (((uint32_t)get64(v4 + 8) & 1) == 0) goto l61;
+                                    v23 = get64(v4 + 16);
+                                    if ((v23 - v28) >= v29) goto l63;
+                                    v33 = v29 & 3;
                                     v21 = 0;
-                                    if ((v9 - 1) < 3) goto l92;
-                                    v27 = v9 & ~3ULL;
+                                    if ((v34 + p1 + 6) < 3) goto l64;
+                                    v22 = v29 & 0x1fffc;
+                                    v21 = 0;
+                                    do {
+                                        p1 = v23 + v21;
+                                        v34 = v28 + v21;
+                                        put8(p1, get8(v34));
+                                        put8(p1 + 1, get8(v34 + 1));
+                                        put8(p1 + 2, get8(v34 + 2));
+                                        put8(p1 + 3, get8(v34 + 3));
+                                        v21 = v21 + 4;
+                                    } while (v22 != v21);
+                                    if (v33 == 0) goto l62;
+                                l64:;
+                                    p1 = v23 + v21;
+                                    v21 = v28 + v21;
+                                l66:;
+                                    put8(p1, get8(v21));
+                                    p1 = p1 + 1;
+                                    v21 = v21 + 1;
+                                    v33 = v33 - 1;
+                                    if (v33 != 0) goto l66;
+                                    goto l62;
+                                l63:;
+                                    if (v29 == 0) goto l62;
+                                    copy(v23, v28, v29);
+                                l62:;
+                                    v8 = get8(v4 + 168);
+                                    if (get64((v8 != 0) ? v32 : v30) != ((v8 != 0) ? get64(v4 + 192) : 1ULL)) goto
+                                        l67;
+                                    t2 = smallvec_small_vec_SmallVec_reserve_one_444910b390f8755b(v4 + 168);
+                                    if ((t2 & 255) != 0) goto l58;
+                                    v8 = get8(v4 + 168);
+                                l67:;
+                                    v31 = v31 - v29;
+                                    if ((v8 & 255) != 0) goto l69;
+                                    v21 = get64(v4 + 200);
+                                    p1 = v18 + (v21 * 24);
+                                    put64(p1 + 8, v29);
+                                    v34 = get64(p1 + 16);
+                                    put64(p1 + 16, v29);
+                                    v33 = get64(p1);
+                                    put64(p1, v23);
+                                    if (v34 == 0) goto l70;
+                                    rattle_dealloc_at(v33);
+                                l70:;
+                                    put64(v4 + 200, v21 + 1);
+                                    goto l68;
+                                l69:;
+                                    v21 = get64(v4 + 184);
+                                    p1 = get64(v4 + 176) + (v21 * 24);
+                                    put64(p1 + 16, v29);
+                                    put64(p1 + 8, v29);
+                                    put64(p1, v23);
+                                    put64(v4 + 184, v21 + 1);
+                                l68:;
+                                    v28 = v28 + v29;
+                                    if (v31 >= 6) goto l59;
+                                    goto l28;
+                                l61:;
+                                    v9 = get64(v4 + 192);
+                                    p2 = get64(v4 + 176);
+                                    if (get8(v4 + 168) != 0) goto l71;
+                                    if (v9 == 0) goto l26;
+                                    goto l34;
+                                l71:;
+                                    p1 = get64(v4 + 184);
+                                    if (p1 == 0) goto l72;
+                                    p3 = p2;
+                                    do {
+                                        if (get64(p3 + 16) == 0) goto l74;
+                                        rattle_dealloc_at(get64(p3));
+                                    l74:;
+                                        p3 = p3 + 24;
+                                        p1 = p1 - 1;
+                                    } while (p1 != 0);
+                                l72:;
+                                    if (v9 == 0) goto l26;
+                                    goto l34;
+                                l58:;
+                                    rattle_dealloc_at(v23);
+                                    v9 = get64(v4 + 192);
+                                    p2 = get64(v4 + 176);
+                                    if (get8(v4 + 168) != 0) goto l75;
+                                    if (v9 == 0) goto l26;
+                                    goto l34;
+                                l75:;
+                                    p1 = get64(v4 + 184);
+                                    if (p1 == 0) goto l76;
+                                    p3 = p2;
+                                    do {
+                                        if (get64(p3 + 16) == 0) goto l78;
+                                        rattle_dealloc_at(get64(p3));
+                                    l78:;
+                                        p3 = p3 + 24;
+                                        p1 = p1 - 1;
+                                    } while (p1 != 0);
+                                l76:;
+                                    if (v9 == 0) goto l26;
+                                    goto l34;
+                                l53:;
+                                    v22 = get64(v4 + 32);
+                                    if ((v22 - v13) >= v9) goto l80;
+                                    v33 = v9 & 3;
+                                    v21 = 0;
+                                    if ((v9 - 1) < 3) goto l81;
+                                    v28 = v9 & ~3ULL;
                                     v21 = 0;
                                     do {
                                         p1 = v22 + v21;
@@ -6299,251 +6623,54 @@ static void nodes_spacecraft_Spacecraft_prepare(uint64_t p0, uint64_t p1, uint64
                                         put8(p1 + 2, get8(v34 + 2));
                                         put8(p1 + 3, get8(v34 + 3));
                                         v21 = v21 + 4;
-                                    } while (v27 != v21);
-                                    if (v31 == 0) goto l90;
-                                l92:;
+                                    } while (v28 != v21);
+                                    if (v33 == 0) goto l79;
+                                l81:;
                                     p1 = v22 + v21;
                                     v21 = v13 + v21;
-                                l94:;
+                                l83:;
                                     put8(p1, get8(v21));
                                     p1 = p1 + 1;
                                     v21 = v21 + 1;
-                                    v31 = v31 - 1;
-                                    if (v31 != 0) goto l94;
-                                    goto l90;
-                                l91:;
-                                    if (v9 == 0) goto l90;
+                                    v33 = v33 - 1;
+                                    if (v33 != 0) goto l83;
+                                    goto l79;
+                                l80:;
+                                    if (v9 == 0) goto l79;
                                     copy(v22, v13, v9);
-                                l90:;
-                                    v30 = (v29 << 8) | v29;
-                                    v28 = 1;
-                                    v23 = 0;
+                                l79:;
+                                    v26 = (v26 << 8) | v26;
+                                    v27 = 0;
+                                    v23 = 1;
                                     v24 = v6;
                                     v25 = v6;
-                                    v26 = 0;
-                                    v27 = 0;
+                                    v28 = 0;
                                     v29 = 0;
-                                    v31 = 1;
+                                    v30 = 0;
+                                    v31 = v9;
                                     v32 = v9;
-                                    v33 = v9;
+                                    v33 = 1;
                                     v18 = 1;
                                     goto l20;
-                                l56:;
-                                    if (v8 != 0) goto l96;
-                                    v27 = v4 + 239;
-                                    goto l95;
-                                l96:;
-                                    rattle_alloc_at(v4 + 40, v23, 1);
-                                    if (((uint32_t)get64(v4 + 40) & 1) == 0) goto l26;
-                                    v27 = get64(v4 + 48);
-                                l95:;
-                                    if ((v27 - v13) >= v9) goto l98;
-                                    v28 = v9 & 3;
-                                    p1 = 0;
-                                    if ((v9 - 1) < 3) goto l48;
-                                    v31 = v9 & ~3ULL;
-                                    p1 = 0;
-                                    do {
-                                        v21 = v27 + p1;
-                                        v34 = v13 + p1;
-                                        put8(v21, get8(v34));
-                                        put8(v21 + 1, get8(v34 + 1));
-                                        put8(v21 + 2, get8(v34 + 2));
-                                        put8(v21 + 3, get8(v34 + 3));
-                                        p1 = p1 + 4;
-                                    } while (v31 != p1);
-                                    if (v28 != 0) goto l48;
-                                    v22 = v4 + 239;
-                                    goto l97;
-                                l98:;
-                                    if (v9 == 0) goto l100;
-                                    copy(v27, v13, v9);
-                                l100:;
-                                    v22 = v4 + 239;
-                                l97:;
-                                    v28 = 2;
-                                    v31 = 0;
-                                    goto l47;
-                                l55:;
-                                    if (v22 > 0x7fffffffffffffffULL) goto l26;
-                                    rattle_alloc_at(v4 + 56, v22, 1);
-                                    if (((uint32_t)get64(v4 + 56) & 1) == 0) goto l26;
-                                    v29 = get64(v4 + 64);
-                                l54:;
-                                    put64(v4 + 216, 0);
-                                    put64(v4 + 208, v29);
-                                    put64(v4 + 224, v22);
-                                    if (v21 <= v22) goto l101;
-                                    t3 = std_alloc_vec_Vec_grow_amortized_a351ad16c7c032ee(v4 + 208, v21);
-                                    if (t3 == 0) goto l52;
-                                    v29 = get64(v4 + 208);
-                                    v22 = get64(v4 + 224);
-                                    v18 = get64(v4 + 216);
-                                l101:;
-                                    v32 = v18 + v21;
-                                    v33 = v29 + v18;
-                                    if ((v33 - v23) >= v21) goto l103;
-                                    v27 = v21 & 3;
-                                    v34 = 0;
-                                    if (v21 < 4) goto l104;
-                                    v26 = v21 & ~3ULL;
-                                    v34 = 0;
-                                    do {
-                                        v21 = v33 + v34;
-                                        v31 = v23 + v34;
-                                        put8(v21, get8(v31));
-                                        put8(v21 + 1, get8(v31 + 1));
-                                        put8(v21 + 2, get8(v31 + 2));
-                                        put8(v21 + 3, get8(v31 + 3));
-                                        v34 = v34 + 4;
-                                    } while (v26 != v34);
-                                    if (v27 == 0) goto l102;
-                                l104:;
-                                    v21 = v23 + v34;
-                                    v34 = v29 + (v18 + v34);
-                                l106:;
-                                    put8(v34, get8(v21));
-                                    v34 = v34 + 1;
-                                    v21 = v21 + 1;
-                                    v27 = v27 - 1;
-                                    if (v27 != 0) goto l106;
-                                    goto l102;
-                                l103:;
-                                    if (v21 == 0) goto l102;
-                                    copy(v33, v23, v21);
-                                l102:;
-                                    put64(v4 + 216, v32);
-                                    put64(v4 + 224, v22);
-                                    if (v9 <= (v22 - v32)) goto l110;
-                                    t4 = std_alloc_vec_Vec_grow_amortized_a351ad16c7c032ee(v4 + 208, v9);
-                                    if (t4 == 0) goto l109;
-                                    v22 = get64(v4 + 224);
-                                    v32 = get64(v4 + 216);
-                                l110:;
-                                    v26 = v32 + v9;
-                                    v18 = get64(v4 + 208);
-                                    v23 = v18 + v32;
-                                    if ((v23 - v13) >= v9) goto l112;
-                                    v27 = v9 & 3;
-                                    v34 = 0;
-                                    if ((v9 - 1) < 3) goto l113;
-                                    v33 = v9 & ~3ULL;
-                                    v34 = 0;
-                                    do {
-                                        v21 = v23 + v34;
-                                        v31 = v13 + v34;
-                                        put8(v21, get8(v31));
-                                        put8(v21 + 1, get8(v31 + 1));
-                                        put8(v21 + 2, get8(v31 + 2));
-                                        put8(v21 + 3, get8(v31 + 3));
-                                        v34 = v34 + 4;
-                                    } while (v33 != v34);
-                                    if (v27 == 0) goto l111;
-                                l113:;
-                                    v21 = v13 + v34;
-                                    v34 = v18 + (v32 + v34);
-                                l115:;
-                                    put8(v34, get8(v21));
-                                    v34 = v34 + 1;
-                                    v21 = v21 + 1;
-                                    v27 = v27 - 1;
-                                    if (v27 != 0) goto l115;
-                                    goto l111;
-                                l112:;
-                                    if (v9 == 0) goto l111;
-                                    copy(v23, v13, v9);
-                                l111:;
-                                    put64(v4 + 224, v22);
-                                    p1 = (uint64_t)get32(p1 + 84);
-                                    put64(v4 + 216, v26);
-                                    v21 = 0x401;
-                                    if (v26 > p1) goto l108;
-                                    v21 = 769;
-                                    if (v26 < 6) goto l108;
-                                    v6 = get8(v18);
-                                    if (v6 > 31) goto l108;
-                                    if ((v6 & 8) == 0) goto l116;
-                                    if ((((v6 << 8) & 0x700) | get8(v18 + 1)) == 0x7ff) goto l108;
-                                l116:;
-                                    v21 = 0;
-                                    put64(v4 + 184, 0);
-                                    put64(v4 + 168, 0);
-                                    put64(v4 + 192, 0);
-                                    put64(v4 + 200, 0);
-                                    v34 = (uint64_t)get8(v18 + 4);
-                                    v31 = (uint64_t)get8(v18 + 5);
-                                    put64(v4 + 176, v4 + 239);
-                                    p1 = v4 + 168 + 8;
-                                    if (((v31 | (v34 << 8)) + 7) == v26) goto l50;
-                                    v21 = 769;
-                                    goto l107;
-                                l109:;
-                                    if (get64(v4 + 224) == 0) goto l26;
-                                    goto l51;
-                                l108:;
-                                    put64(v4 + 184, 0);
-                                    put64(v4 + 168, 0);
-                                    put64(v4 + 192, 0);
-                                    put64(v4 + 200, 0);
-                                    put64(v4 + 176, v4 + 239);
-                                    p1 = v4 + 176;
-                                l107:;
-                                    if (v22 == 0) goto l49;
-                                    rattle_dealloc_at(v18);
-                                    goto l49;
-                                l52:;
-                                    if (get64(v4 + 224) == 0) goto l26;
-                                l51:;
-                                    rattle_dealloc_at(get64(v4 + 208));
-                                    goto l26;
-                                l50:;
-                                    put64(p1 + 16, get64(v4 + 224));
-                                    put64(p1 + 8, get64(v4 + 216));
-                                    put64(p1, get64(v4 + 208));
-                                    put64(v4 + 200, 1);
-                                l49:;
-                                    v24 = (uint32_t)(v21 >> 8);
-                                    v31 = get64(p1 + 24);
-                                    v32 = get64(p1 + 16);
-                                    v33 = get64(p1 + 8);
-                                    v22 = get64(v4 + 176);
-                                    v25 = (uint32_t)v21;
-                                    goto l22;
-                                l48:;
-                                    do {
-                                        put8(v27 + p1, get8(v13 + p1));
-                                        p1 = p1 + 1;
-                                        v31 = 0;
-                                        v28 = v28 - 1;
-                                    } while (v28 != 0);
-                                    v22 = v4 + 239;
-                                    v28 = 2;
-                                l47:;
-                                    v32 = 0;
-                                    v33 = 0;
-                                    v24 = v6;
-                                    v25 = v6;
-                                    v26 = v9;
-                                    goto l21;
                                 }
-                            l35:;
+                            l40:;
                                 v5 = get8(p1 + 77);
                                 v6 = get8(p1 + 73);
                                 v9 = p1 + 72;
                                 v15 = 0;
                                 if ((v10 & 255) != 0) {
                                     v8 = 1;
-                                    if ((get8(p1 + 74) & 1) == 0) goto l128;
+                                    if ((get8(p1 + 74) & 1) == 0) goto l94;
                                     v7 = get8(p1 + 75);
                                     v17 = get8(p1 + 76);
-                                    goto l126;
-                                l128:;
+                                    goto l92;
+                                l94:;
                                     v6 = v11;
                                 }
                                 v8 = 0;
                                 v7 = 0;
                                 v17 = 0;
-                            l126:;
+                            l92:;
                                 v12 = get8(v9);
                                 put8(v4 + 108, 0);
                                 put32(v4 + 104, 0);
@@ -6554,23 +6681,23 @@ static void nodes_spacecraft_Spacecraft_prepare(uint64_t p0, uint64_t p1, uint64
                                 v16 = (v5 + 1) & 3;
                                 v18 = 0;
                                 v19 = 4;
-                            l34:;
+                            l39:;
                                 v35 = 0;
                                 v25 = 0;
                                 v24 = 0;
                                 goto l25;
-                            l33:;
+                            l38:;
                                 v34 = 0;
-                            l32:;
+                            l37:;
                                 v10 = 0;
                                 v14 = 0;
                                 v21 = 0;
                                 p1 = 0;
-                            l31:;
+                            l36:;
                                 v16 = (v11 + 1) & 3;
                                 v36 = (uint64_t)v14;
                                 v35 = 0;
-                            l30:;
+                            l35:;
                                 v11 = 0;
                                 put8(v4 + 108, 0);
                                 put32(v4 + 104, 0);
@@ -6586,27 +6713,64 @@ static void nodes_spacecraft_Spacecraft_prepare(uint64_t p0, uint64_t p1, uint64
                                 v5 = 0;
                                 v13 = 0;
                                 v9 = 0;
+                                v26 = 0;
+                                v27 = 0;
+                                v22 = 0;
+                                v31 = 0;
+                                v32 = 0;
+                                v33 = 0;
+                                v23 = 0;
+                                v28 = 0;
                                 v30 = 0;
                                 v29 = 0;
-                                v22 = 0;
+                                goto l18;
+                            l34:;
+                                rattle_dealloc_at(p2);
+                                goto l26;
+                            l32:;
+                                v25 = 1;
+                                v22 = v4 + 239;
+                                v23 = 1;
                                 v33 = 0;
+                                if (v6 != 0) {
+                                    if ((v34 + v9) > (uint64_t)get32(p1 + 84)) goto l24;
+                                    v24 = 0;
+                                    v23 = 3;
+                                    v32 = 0;
+                                    v31 = 0;
+                                    v28 = 0;
+                                    v30 = 0;
+                                    v29 = 0;
+                                    v25 = 0;
+                                    goto l21;
+                                }
+                            l31:;
+                                v24 = 2;
+                                goto l23;
+                            l28:;
+                                v31 = get64(v4 + 184);
+                                v33 = get64(v4 + 200);
+                                v8 = get8(v4 + 168);
+                                v18 = ((v8 & 255) != 0) ? v31 : v33;
+                                v26 = (v26 << 8) | v26;
+                                v27 = (uint64_t)v8 & 255;
+                                v32 = get64(v4 + 192);
+                                v22 = get64(v4 + 176);
+                                v28 = 0;
+                                v23 = 1;
+                                v24 = v6;
+                                v25 = v6;
+                                v29 = 0;
+                                v30 = 0;
+                                goto l20;
+                            l27:;
                                 v32 = 0;
                                 v31 = 0;
                                 v28 = 0;
-                                v27 = 0;
-                                v26 = 0;
-                                v23 = 0;
-                                goto l18;
-                            l29:;
-                                rattle_dealloc_at(p2);
-                                goto l26;
-                            l28:;
-                                v31 = 0;
-                                v24 = 2;
-                                goto l23;
-                            l27:;
-                                v31 = 0;
-                                goto l23;
+                                v30 = 0;
+                                v29 = 0;
+                                v23 = 1;
+                                goto l21;
                             l26:;
                                 put8(v4 + 108, get8(v4 + 164));
                                 put32(v4 + 104, get32(v4 + 160));
@@ -6636,31 +6800,30 @@ static void nodes_spacecraft_Spacecraft_prepare(uint64_t p0, uint64_t p1, uint64
                                 v5 = 0;
                                 v13 = 0;
                                 v9 = 0;
+                                v26 = 0;
+                                v27 = 0;
+                                v22 = 0;
+                                v31 = 0;
+                                v32 = 0;
+                                v33 = 0;
+                                v23 = 0;
+                                v28 = 0;
                                 v30 = 0;
                                 v29 = 0;
-                                v22 = 0;
-                                v33 = 0;
-                                v32 = 0;
-                                v31 = 0;
-                                v28 = 0;
-                                v27 = 0;
-                                v26 = 0;
-                                v23 = 0;
                                 goto l19;
                             l24:;
-                                v31 = 0;
                                 v24 = 4;
                             l23:;
                                 v32 = 0;
-                                v33 = 0;
+                                v31 = 0;
                             l22:;
-                                v23 = 0;
-                                v26 = 0;
-                                v27 = 0;
-                            l21:;
-                                v30 = ((uint64_t)v24 << 8) | ((uint64_t)v25 & 255);
+                                v28 = 0;
+                                v30 = 0;
                                 v29 = 0;
-                                v18 = v31;
+                            l21:;
+                                v26 = ((uint64_t)v24 << 8) | ((uint64_t)v25 & 255);
+                                v27 = 0;
+                                v18 = v33;
                             l20:;
                                 v6 = v10 + 1;
                                 put8(v4 + 108, get8(v4 + 132));
@@ -6707,16 +6870,16 @@ static void nodes_spacecraft_Spacecraft_prepare(uint64_t p0, uint64_t p1, uint64
                                 put8(p0 + 48, v12);
                                 put64(p0 + 72, v13);
                                 put64(p0 + 80, v9);
-                                put64(p0 + 88, v30);
-                                put64(p0 + 96, v29);
+                                put64(p0 + 88, v26);
+                                put64(p0 + 96, v27);
                                 put64(p0 + 104, v22);
-                                put64(p0 + 112, v33);
+                                put64(p0 + 112, v31);
                                 put64(p0 + 120, v32);
-                                put64(p0 + 128, v31);
-                                put64(p0 + 136, v28);
-                                put64(p0 + 144, v27);
-                                put64(p0 + 152, v26);
-                                put64(p0 + 160, v23);
+                                put64(p0 + 128, v33);
+                                put64(p0 + 136, v23);
+                                put64(p0 + 144, v28);
+                                put64(p0 + 152, v30);
+                                put64(p0 + 160, v29);
                                 put64(p0 + 168, v34);
                                 put64(p0 + 176, v36);
                                 put64(p0 + 184, v21);
@@ -7090,40 +7253,20 @@ static void nodes_spacecraft_Spacecraft_commit(uint64_t p0, uint64_t p1, uint64_
         v24 = (p1 + (p2 << 5)) + 104;
         switch (v21) {
         case 1:
-            put64(v24 + 16, 0);
-            v21 = get8(v24);
-            put64(v24, 0);
-            p2 = v24 + 8;
-            v20 = get64(p2);
-            put64(p2, 0);
-            p2 = v24 + 24;
-            v18 = get64(p2);
-            put64(p2, 0);
-            if (v21 != 1) goto l2;
-            if (v18 == 0) goto l2;
-            rattle_dealloc_at(v20);
-            goto l2;
+            goto l6;
         case 2:
             put64(v24 + 16, v19);
             v21 = get8(v24);
             put64(v24, 1);
-            p2 = v24 + 24;
-            v23 = get64(p2);
-            put64(p2, v18);
-            p2 = v24 + 8;
-            v18 = get64(p2);
-            put64(p2, v20);
-            if (v21 != 1) goto l2;
-            if (v23 == 0) goto l2;
-            rattle_dealloc_at(v18);
-            goto l2;
-        case 3:
+            v23 = v24 + 24;
+            p2 = get64(v23);
+            put64(v23, v18);
+            v23 = v24 + 8;
+            v18 = get64(v23);
+            put64(v23, v20);
             goto l5;
-        default:
-            goto l2;
-        }
-    l5:;
-        if (get8(v24) == 1) {
+        case 3:
+            if (get8(v24) != 1) goto l2;
             v25 = get64(v24 + 24);
             p2 = v24 + 16;
             v26 = get64(p2);
@@ -7153,23 +7296,40 @@ static void nodes_spacecraft_Spacecraft_commit(uint64_t p0, uint64_t p1, uint64_
                         put8(p2 + 3, get8(v20 + 3));
                         v18 = v18 + 4;
                     } while (v22 != v18);
-                    if (v19 == 0) goto l9;
+                    if (v19 == 0) goto l10;
                 }
                 p2 = v23 + v18;
                 v18 = v28 + (v26 + v18);
-            l13:;
+            l14:;
                 put8(v18, get8(p2));
                 v18 = v18 + 1;
                 p2 = p2 + 1;
                 v19 = v19 - 1;
-                if (v19 != 0) goto l13;
-                goto l9;
+                if (v19 != 0) goto l14;
+                goto l10;
             }
             if (v22 != 0) copy(v29, v23, v22);
-        l9:;
+        l10:;
             put64(v24 + 24, v25);
             put64(v24 + 16, v27);
             put64(v24 + 8, v28);
+            goto l2;
+        default:
+            goto l2;
+        }
+    l6:;
+        put64(v24 + 16, 0);
+        v21 = get8(v24);
+        put64(v24, 0);
+        p2 = v24 + 8;
+        v18 = get64(p2);
+        put64(p2, 0);
+        v20 = v24 + 24;
+        p2 = get64(v20);
+        put64(v20, 0);
+    l5:;
+        if ((v21 & 255) == 1) {
+            if (p2 != 0) rattle_dealloc_at(v18);
         }
     l2:;
         p2 = get64(v3 + 55);
@@ -7184,11 +7344,11 @@ static void nodes_spacecraft_Spacecraft_commit(uint64_t p0, uint64_t p1, uint64_
             v21 = v21 == 0;
             v29 = v3 + 136;
             v16 = v3 + 31;
-            v26 = p1 + 0x880;
-            v28 = p1 + 0x878;
-            v24 = p1 + 0x888;
-            v23 = p1 + 0x870;
-            v25 = p1 + 0x868;
+            v26 = p1 + 0x8a0;
+            v28 = p1 + 0x898;
+            v24 = p1 + 0x8a8;
+            v23 = p1 + 0x890;
+            v25 = p1 + 0x888;
             p2 = 0;
             do {
                 put64(v3 + 120, p2 + 1);
@@ -7223,7 +7383,7 @@ static void nodes_spacecraft_Spacecraft_commit(uint64_t p0, uint64_t p1, uint64_
                     put64(p2 + 9, get64(v3 + 72));
                     put64(p2 + 17, get64(v3 + 80));
                     put64(p2 + 24, get64(v3 + 87));
-                    goto l16;
+                    goto l17;
                 }
                 p2 = p2 + (v20 << 5);
                 put64(p2 + 1, get64(v3 + 64));
@@ -7232,7 +7392,7 @@ static void nodes_spacecraft_Spacecraft_commit(uint64_t p0, uint64_t p1, uint64_
                 put64(p2 + 17, get64(v3 + 80));
                 put64(p2 + 24, get64(v3 + 87));
                 put64(v24, v20 + 1);
-            l16:;
+            l17:;
                 put64(v23, v18 + 1);
                 v15 = get8(v3 + 128);
                 v21 = v15 == 0;
@@ -7243,7 +7403,7 @@ static void nodes_spacecraft_Spacecraft_commit(uint64_t p0, uint64_t p1, uint64_
         v20 = get64(v3 + 152);
         v16 = get64(v3 + 136);
         if ((v15 & 255) == 0) {
-            if (v20 != 0) goto l18;
+            if (v20 != 0) goto l19;
             goto l1;
         }
         if (v18 != 0) {
@@ -7255,28 +7415,28 @@ static void nodes_spacecraft_Spacecraft_commit(uint64_t p0, uint64_t p1, uint64_
             } while (v18 != 0);
         }
         if (v20 == 0) goto l1;
-    l18:;
+    l19:;
         rattle_dealloc_at(v16);
     }
 l1:;
     if ((v8 & 255) == 1) {
-        p2 = get64(p1 + 0x898);
+        p2 = get64(p1 + 0x8b8);
         if (p2 == 0) {
             p2 = v4;
             v18 = v6;
-            goto l25;
+            goto l26;
         }
-        v23 = p1 + 0x8a8;
+        v23 = p1 + 0x8c8;
         v18 = get64(v23);
-        v16 = p1 + 0x8a0;
+        v16 = p1 + 0x8c0;
         v20 = get64(v16);
-        if (p2 > v20) goto l24;
+        if (p2 > v20) goto l25;
         v20 = v20 - 1;
         put64(v16, v20);
         v22 = v18 + 1;
         v22 = v22 - ((v22 < p2) ? 0ULL : p2);
         put64(v23, v22);
-        v23 = get64(p1 + 0x890);
+        v23 = get64(p1 + 0x8b0);
         v20 = v22 + v20;
         v20 = v23 + ((v20 - ((v20 < p2) ? 0ULL : p2)) << 5);
         put64(v20, v7);
@@ -7287,20 +7447,20 @@ l1:;
         p2 = get64(p2 + 24);
         put64(v20 + 24, v4);
         put64(v16, get64(v16) + 1);
-    l25:;
-        if (p2 == 0) goto l23;
+    l26:;
+        if (p2 == 0) goto l24;
         rattle_dealloc_at(v18);
-        goto l23;
-    l24:;
+        goto l24;
+    l25:;
         v18 = v18 + v20;
-        p2 = get64(p1 + 0x890) + ((v18 - ((v18 < p2) ? 0ULL : p2)) << 5);
+        p2 = get64(p1 + 0x8b0) + ((v18 - ((v18 < p2) ? 0ULL : p2)) << 5);
         put64(p2 + 24, v4);
         put64(p2 + 16, v5);
         put64(p2 + 8, v6);
         put64(p2, v7);
         put64(v16, get64(v16) + 1);
     }
-l23:;
+l24:;
     put16(p1 + 76, get16(v3 + 18));
     put32(p1 + 72, get32(v3 + 14));
     put8(p0 + 17, v9);
@@ -7314,222 +7474,222 @@ l23:;
 
 static uint64_t nodes_spacecraft_Spacecraft_report(uint64_t p0, uint64_t p1)
 {
-    uint32_t v2 = 0, v3 = 0, v7 = 0, v8 = 0, v13 = 0, t1;
-    uint64_t v4 = 0, v5 = 0, v6 = 0, v9 = 0, v10 = 0, v11 = 0, v12 = 0, v14 = 0, v15 = 0, v16 = 0, v17 = 0, v18 = 0,
-        v19 = 0, v20 = 0, v21 = 0, v22 = 0, v23 = 0, v24 = 0;
+    uint32_t v2 = 0, v3 = 0, v7 = 0, v8 = 0, v9 = 0, v14 = 0, t1;
+    uint64_t v4 = 0, v5 = 0, v6 = 0, v10 = 0, v11 = 0, v12 = 0, v13 = 0, v15 = 0, v16 = 0, v17 = 0, v18 = 0, v19 = 0,
+        v20 = 0, v21 = 0, v22 = 0, v23 = 0, v24 = 0, v25 = 0;
     v2 = get32(p0 + 4);
     if ((v2 & 192) != 0) UNREACHABLE;
     v3 = get8(p0 + 77);
     if ((v3 & 255) > 3) UNREACHABLE;
     t1 = ((((((get8(p0 + 75) << 4) | (v3 << 1)) | (get8(p0 + 74) << 5)) | (get8(p0 + 76) << 3)) & 254) << 16) | ((v2
         << 10) & 0xfc00);
-    v3 = (t1 | (get8(p0 + 73) << 24)) | 1;
+    v2 = (t1 | (get8(p0 + 73) << 24)) | 1;
     v4 = p1 + 6;
-    v5 = get64(p0 + 0x8b8);
+    v5 = get64(p0 + 0x8d8);
     v6 = v5 - 12;
-    v2 = get8(p0 + 0x8c0);
-    v7 = get8(p0 + 0x8b2);
-    v8 = get16(p0 + 0x8b0);
-    v9 = get64(p0 + 0x8e8);
-    v10 = get64(p0 + 0x8d8) - v9;
-    v11 = get64(p0 + 0x8c8);
-    if ((v10 | v11) == 0) {
+    v3 = get8(p0 + 0x8e1);
+    v7 = get8(p0 + 0x8e0);
+    v8 = get8(p0 + 0x8d2);
+    v9 = get16(p0 + 0x8d0);
+    v10 = get64(p0 + 0x908);
+    v11 = get64(p0 + 0x8f8) - v10;
+    v12 = get64(p0 + 0x8e8);
+    if ((v11 | v12) == 0) {
         if (v6 != 0) {
-            v12 = v5 - 13;
-            v13 = v12 == 0;
-            if (v13 == 0) {
-                if (v13 == 0) fill(v4, 85, v12);
+            v13 = v5 - 13;
+            v14 = v13 == 0;
+            if (v14 == 0) {
+                if (v14 == 0) fill(v4, 85, v13);
             }
-            put8(v4 + v12, 85);
+            put8(v4 + v13, 85);
         }
-        put8(p1 + 3, v2);
-        put8(p1 + 2, v2);
-        v2 = ((v7 & 255) << 1) + (v8 << 4);
-        put16(p1, ((v2 << 8) | ((v2 & 0xff00) >> 8)) | 256);
-        v2 = 0xfe1f;
+        put8(p1 + 3, v3);
+        put8(p1 + 2, v7);
+        v3 = ((v8 & 255) << 1) + (v9 << 4);
+        put16(p1, ((v3 << 8) | ((v3 & 0xff00) >> 8)) | 256);
+        v3 = 0xfe1f;
         goto l2;
     }
-    v14 = get64(p0 + 0x8d0);
-    v15 = v14 + v9;
-    v16 = (uint64_t)get32(p0 + 0x8f0);
-    v17 = (v6 < v11) ? v6 : v11;
-    v18 = v6 - v17;
-    v19 = v4 + v17;
-    v12 = address(constant_33 + 7) - v11;
-    if ((v4 - v12) < v17) {
-        v20 = v17 & 3;
-        v21 = 0;
-        if (v17 >= 4) {
-            v12 = address(constant_33) - v11;
-            v22 = v17 & ~3ULL;
-            v21 = 0;
+    v15 = get64(p0 + 0x8f0);
+    v16 = v15 + v10;
+    v17 = (uint64_t)get32(p0 + 0x910);
+    v18 = (v6 < v12) ? v6 : v12;
+    v19 = v6 - v18;
+    v20 = v4 + v18;
+    v13 = address(constant_33 + 7) - v12;
+    if ((v4 - v13) < v18) {
+        v21 = v18 & 3;
+        v22 = 0;
+        if (v18 >= 4) {
+            v13 = address(constant_33) - v12;
+            v23 = v18 & ~3ULL;
+            v22 = 0;
             do {
-                put32(p1 + v21 + 6, get32(v12 + v21 + 7));
-                v21 = v21 + 4;
-            } while (v22 != v21);
-            if (v20 == 0) goto l6;
+                put32(p1 + v22 + 6, get32(v13 + v22 + 7));
+                v22 = v22 + 4;
+            } while (v23 != v22);
+            if (v21 == 0) goto l6;
         }
-        v12 = v21 + p1 + 6;
-        v21 = v21 - v11 + address(constant_33 + 7);
+        v13 = v22 + p1 + 6;
+        v22 = v22 - v12 + address(constant_33 + 7);
     l10:;
-        put8(v12, get8(v21));
-        v12 = v12 + 1;
-        v21 = v21 + 1;
-        v20 = v20 - 1;
-        if (v20 != 0) goto l10;
+        put8(v13, get8(v22));
+        v13 = v13 + 1;
+        v22 = v22 + 1;
+        v21 = v21 - 1;
+        if (v21 != 0) goto l10;
         goto l6;
     }
-    if (v17 != 0) copy(v4, v12, v17);
+    if (v18 != 0) copy(v4, v13, v18);
 l6:;
-    v23 = (v18 < v10) ? v18 : v10;
-    v24 = v18 - v23;
-    if ((v19 - v15) < v23) {
-        v22 = v23 & 3;
-        v21 = 0;
-        if (v23 >= 4) {
-            v18 = p1 + v17;
-            v10 = v23 & ~3ULL;
-            v21 = 0;
+    v24 = (v19 < v11) ? v19 : v11;
+    v25 = v19 - v24;
+    if ((v20 - v16) < v24) {
+        v23 = v24 & 3;
+        v22 = 0;
+        if (v24 >= 4) {
+            v19 = p1 + v18;
+            v11 = v24 & ~3ULL;
+            v22 = 0;
             do {
-                v12 = v18 + v21;
-                v20 = v15 + v21;
-                put8(v12 + 6, get8(v20));
-                put8(v12 + 7, get8(v20 + 1));
-                put8(v12 + 8, get8(v20 + 2));
-                put8(v12 + 9, get8(v20 + 3));
-                v21 = v21 + 4;
-            } while (v10 != v21);
-            if (v22 == 0) goto l11;
+                v13 = v19 + v22;
+                v21 = v16 + v22;
+                put8(v13 + 6, get8(v21));
+                put8(v13 + 7, get8(v21 + 1));
+                put8(v13 + 8, get8(v21 + 2));
+                put8(v13 + 9, get8(v21 + 3));
+                v22 = v22 + 4;
+            } while (v11 != v22);
+            if (v23 == 0) goto l11;
         }
-        v12 = v14 + (v21 + v9);
-        v21 = v21 + v17 + p1 + 6;
+        v13 = v15 + (v22 + v10);
+        v22 = v22 + v18 + p1 + 6;
     l15:;
-        put8(v21, get8(v12));
-        v21 = v21 + 1;
-        v12 = v12 + 1;
-        v22 = v22 - 1;
-        if (v22 != 0) goto l15;
+        put8(v22, get8(v13));
+        v22 = v22 + 1;
+        v13 = v13 + 1;
+        v23 = v23 - 1;
+        if (v23 != 0) goto l15;
         goto l11;
     }
-    if (v23 != 0) copy(v19, v15, v23);
+    if (v24 != 0) copy(v20, v16, v24);
 l11:;
-    v12 = v19 + v23;
-    if (v24 <= 6) {
-        if ((v12 - address(constant_33)) < v24) {
-            v22 = v24 & 3;
-            v12 = 0;
-            v15 = v23 + v17;
-            if ((v5 - v15 - 13) >= 3) {
-                v21 = p1 + v15;
-                v20 = v24 & 4;
-                v12 = 0;
+    v13 = v20 + v24;
+    if (v25 <= 6) {
+        if ((v13 - address(constant_33)) < v25) {
+            v23 = v25 & 3;
+            v13 = 0;
+            v16 = v24 + v18;
+            if ((v5 - v16 - 13) >= 3) {
+                v22 = p1 + v16;
+                v21 = v25 & 4;
+                v13 = 0;
                 do {
-                    put32(v21 + v12 + 6, get32(v12 + address(constant_33)));
-                    v12 = v12 + 4;
-                } while (v20 != v12);
-                if (v22 == 0) goto l16;
+                    put32(v22 + v13 + 6, get32(v13 + address(constant_33)));
+                    v13 = v13 + 4;
+                } while (v21 != v13);
+                if (v23 == 0) goto l16;
             }
-            v21 = 0 - v22;
-            v20 = p1 + v15;
+            v22 = 0 - v23;
+            v21 = p1 + v16;
         l21:;
-            put8(v20 + v12 + 6, get8(v12 + address(constant_33)));
-            v12 = v12 + 1;
-            v21 = v21 + 1;
-            if (v21 != 0) goto l21;
+            put8(v21 + v13 + 6, get8(v13 + address(constant_33)));
+            v13 = v13 + 1;
+            v22 = v22 + 1;
+            if (v22 != 0) goto l21;
             goto l16;
         }
-        if (v24 == 0) goto l16;
-        copy(v12, address(constant_33), v24);
+        if (v25 == 0) goto l16;
+        copy(v13, address(constant_33), v25);
         goto l16;
     }
-    if ((v12 - address(constant_33)) <= 3) {
-        put32(v12, 0xc0ff07);
+    if ((v13 - address(constant_33)) <= 3) {
+        put32(v13, 0xc0ff07);
         goto l22;
     }
-    put32(v12, 0xc0ff07);
+    put32(v13, 0xc0ff07);
 l22:;
-    v21 = v12 + 6;
-    v13 = (uint32_t)v24 - 7;
-    put16(v12 + 4, (v13 << 8) | ((v13 & 0xff00) >> 8));
-    v12 = v24 - 7;
-    v13 = v12 == 0;
-    if (v13 == 0) {
-        if (v13 == 0) fill(v21, 85, v12);
+    v22 = v13 + 6;
+    v14 = (uint32_t)v25 - 7;
+    put16(v13 + 4, (v14 << 8) | ((v14 & 0xff00) >> 8));
+    v13 = v25 - 7;
+    v14 = v13 == 0;
+    if (v14 == 0) {
+        if (v14 == 0) fill(v22, 85, v13);
     }
-    put8(v21 + v12, 85);
+    put8(v22 + v13, 85);
 l16:;
-    put8(p1 + 3, v2);
-    put8(p1 + 2, v2);
-    v2 = ((v7 & 255) << 1) + (v8 << 4);
-    put16(p1, ((v2 << 8) | ((v2 & 0xff00) >> 8)) | 256);
-    v12 = v11 + v16;
-    v2 = (uint32_t)v12 + 0x1800;
-    v2 = (v12 < v6) ? ((v2 << 8) | ((v2 & 0xff00) >> 8)) : ~224U;
+    put8(p1 + 3, v3);
+    put8(p1 + 2, v7);
+    v3 = ((v8 & 255) << 1) + (v9 << 4);
+    put16(p1, ((v3 << 8) | ((v3 & 0xff00) >> 8)) | 256);
+    v13 = v12 + v17;
+    v3 = (uint32_t)v13 + 0x1800;
+    v3 = (v13 < v6) ? ((v3 << 8) | ((v3 & 0xff00) >> 8)) : ~224U;
 l2:;
-    put16(p1 + 4, v2);
-    put32(v4 + v6, v3);
-    v12 = v5 - 2;
-    v2 = octets_frame_check_check(p1, v12);
-    put16(p1 + v12, (v2 << 8) | ((v2 & 0xff00) >> 8));
-    v6 = get64(p0 + 0x8b8);
-    v12 = get64(p0 + 0x8e8);
-    v21 = get64(p0 + 0x8d8);
-    v20 = get64(p0 + 0x8c8);
-    if (v20 == 0) {
-        if (v21 == v12) {
-            v12 = p0 + 0x8c0;
-            put8(v12, get8(v12) + 1);
-            return v6;
-        }
+    put16(p1 + 4, v3);
+    put32(v4 + v6, v2);
+    v13 = v5 - 2;
+    v2 = octets_frame_check_check(p1, v13);
+    put16(p1 + v13, (v2 << 8) | ((v2 & 0xff00) >> 8));
+    v6 = get64(p0 + 0x8d8);
+    v13 = get64(p0 + 0x908);
+    v22 = get64(p0 + 0x8f8);
+    v21 = get64(p0 + 0x8e8);
+    if (v21 == 0) {
+        if (v22 == v13) goto l25;
     }
-    v22 = v21 - v12;
-    v21 = v6 - 12;
-    v15 = (v21 < v20) ? v21 : v20;
-    v21 = v21 - v15;
-    p1 = (v22 < v21) ? v22 : v21;
-    if (v21 <= v22) {
-        v20 = v20 - v15;
+    v23 = v22 - v13;
+    v22 = v6 - 12;
+    v16 = (v22 < v21) ? v22 : v21;
+    v22 = v22 - v16;
+    p1 = (v23 < v22) ? v23 : v22;
+    if (v22 <= v23) {
+        v21 = v21 - v16;
         goto l27;
     }
-    v20 = v21 - v22;
-    v20 = (v20 < 7) ? (v20 ^ 7) : 0ULL;
+    v21 = v22 - v23;
+    v21 = (v21 < 7) ? (v21 ^ 7) : 0ULL;
 l27:;
-    put64(p0 + 0x8e8, p1 + v12);
-    put64(p0 + 0x8c8, v20);
-    v2 = get32(p0 + 0x8f0);
-    v22 = (uint64_t)v2;
-    if (v21 > v22) {
-        v18 = p0 + 0x900;
-        v12 = get64(v18);
-        p1 = p0 + 0x918;
-        v15 = p0 + 0x910;
-        v10 = p0 + 0x8f8;
+    put64(p0 + 0x908, p1 + v13);
+    put64(p0 + 0x8e8, v21);
+    v2 = get32(p0 + 0x910);
+    v23 = (uint64_t)v2;
+    if (v22 > v23) {
+        v19 = p0 + 0x920;
+        v13 = get64(v19);
+        p1 = p0 + 0x938;
+        v16 = p0 + 0x930;
+        v11 = p0 + 0x918;
         do {
-            if (v12 == 0) {
+            if (v13 == 0) {
                 v2 = 0;
                 goto l29;
             }
-            if (v12 != get64(p1)) {
-                v20 = get64(v15);
+            if (v13 != get64(p1)) {
+                v21 = get64(v16);
                 goto l33;
             }
-            v20 = 0;
+            v21 = 0;
             put64(p1, 0);
         l33:;
-            v12 = v12 - 1;
-            put64(v18, v12);
-            put64(v15, v20 + 1);
-            v21 = v21 - v22;
-            v2 = get32(get64(v10) + (v20 << 2));
-            v20 = (uint64_t)v2;
-            v22 = v20;
-        } while (v21 > v20);
+            v13 = v13 - 1;
+            put64(v19, v13);
+            put64(v16, v21 + 1);
+            v22 = v22 - v23;
+            v2 = get32(get64(v11) + (v21 << 2));
+            v21 = (uint64_t)v2;
+            v23 = v21;
+        } while (v22 > v21);
     }
-    v2 = v2 - (uint32_t)v21;
+    v2 = v2 - (uint32_t)v22;
 l29:;
-    put32(p0 + 0x8f0, v2);
-    v12 = p0 + 0x8c0;
-    put8(v12, get8(v12) + 1);
+    put32(p0 + 0x910, v2);
+l25:;
+    v13 = p0 + 0x8e0;
+    put8(v13, get8(v13) + 1);
+    v13 = p0 + 0x8e1;
+    put8(v13, get8(v13) + 1);
     return v6;
 }
 
@@ -7568,13 +7728,13 @@ static void nodes_spacecraft_Spacecraft_telemetry(uint64_t p0, uint64_t p1, uint
         put8(p0, v4);
         return;
     }
-    v7 = p1 + 0x8d8;
+    v7 = p1 + 0x8f8;
     v8 = get64(v7);
-    v9 = get64(p1 + 0x8e8);
+    v9 = get64(p1 + 0x908);
     v10 = v8 - v9;
     if (v10 <= v9) {
         if (v8 != v9) {
-            v11 = get64(p1 + 0x8d0);
+            v11 = get64(p1 + 0x8f0);
             v12 = v10 & 3;
             v13 = 0;
             if ((v9 - v8) <= ~3ULL) {
@@ -7605,10 +7765,10 @@ static void nodes_spacecraft_Spacecraft_telemetry(uint64_t p0, uint64_t p1, uint
             put64(v7, v10);
             v8 = v10;
         }
-        put64(p1 + 0x8e8, 0);
+        put64(p1 + 0x908, 0);
     }
-    if (get64(p1 + 0x908) == get64(p1 + 0x900)) {
-        t1 = std_alloc_vec_deque_VecDeque_grow_ee377714b7165a56(p1 + 0x8f8);
+    if (get64(p1 + 0x928) == get64(p1 + 0x920)) {
+        t1 = std_alloc_vec_deque_VecDeque_grow_ee377714b7165a56(p1 + 0x918);
         if (t1 == 0) {
             v5 = 6;
             put8(p0 + 1, v5);
@@ -7617,23 +7777,23 @@ static void nodes_spacecraft_Spacecraft_telemetry(uint64_t p0, uint64_t p1, uint
         }
         v8 = get64(v7);
     }
-    v14 = get64(p1 + 0x8e0);
+    v14 = get64(p1 + 0x900);
     if (p3 > (v14 - v8)) {
-        t2 = std_alloc_vec_Vec_grow_amortized_5ff1a26cbddecd5f(p1 + 0x8d0, p3);
+        t2 = std_alloc_vec_Vec_grow_amortized_5ff1a26cbddecd5f(p1 + 0x8f0, p3);
         if (t2 == 0) {
             v5 = 6;
             put8(p0 + 1, v5);
             put8(p0, v4);
             return;
         }
-        v14 = get64(p1 + 0x8e0);
-        v8 = get64(p1 + 0x8d8);
+        v14 = get64(p1 + 0x900);
+        v8 = get64(p1 + 0x8f8);
     }
     v13 = 0;
     put64(v7, 0);
     put64(v7 + 8, 0);
     v15 = v8 + p3;
-    v7 = get64(p1 + 0x8d0);
+    v7 = get64(p1 + 0x8f0);
     v9 = v7 + v8;
     if ((v9 - p2) < p3) {
         v11 = p3 & ~3ULL;
@@ -7660,18 +7820,18 @@ static void nodes_spacecraft_Spacecraft_telemetry(uint64_t p0, uint64_t p1, uint
     }
     if (p3 != 0) copy(v9, p2, p3);
 l14:;
-    put64(p1 + 0x8e0, v14);
-    put64(p1 + 0x8d8, v15);
-    put64(p1 + 0x8d0, v7);
+    put64(p1 + 0x900, v14);
+    put64(p1 + 0x8f8, v15);
+    put64(p1 + 0x8f0, v7);
     v5 = (uint32_t)p3;
-    p2 = get64(p1 + 0x900);
-    p3 = get64(p1 + 0x908);
+    p2 = get64(p1 + 0x920);
+    p3 = get64(p1 + 0x928);
     if (p2 < p3) {
-        v13 = get64(p1 + 0x8f8);
-        v16 = p1 + 0x918;
+        v13 = get64(p1 + 0x918);
+        v16 = p1 + 0x938;
         v8 = get64(v16);
         v12 = p2 - v8;
-        v9 = get64(p1 + 0x910);
+        v9 = get64(p1 + 0x930);
         if (v12 >= (p3 - v9)) {
             put32(v13 + (v8 << 2), v5);
             put64(v16, v8 + 1);
@@ -7680,23 +7840,23 @@ l14:;
         put32(v13 + ((v12 + v9) << 2), v5);
         goto l19;
     }
-    p2 = p1 + 0x8f8;
+    p2 = p1 + 0x918;
     t3 = std_alloc_vec_deque_VecDeque_grow_ee377714b7165a56(p2);
     if (t3 == 0) goto l18;
     p3 = get64(p2);
-    p2 = get64(p1 + 0x900);
-    v8 = p1 + 0x918;
+    p2 = get64(p1 + 0x920);
+    v8 = p1 + 0x938;
     v13 = get64(v8);
     v16 = p2 - v13;
-    v12 = get64(p1 + 0x910);
-    if (v16 < (get64(p1 + 0x908) - v12)) {
+    v12 = get64(p1 + 0x930);
+    if (v16 < (get64(p1 + 0x928) - v12)) {
         put32(p3 + ((v12 + v16) << 2), v5);
         goto l19;
     }
     put32(p3 + (v13 << 2), v5);
     put64(v8, v13 + 1);
 l19:;
-    put64(p1 + 0x900, p2 + 1);
+    put64(p1 + 0x920, p2 + 1);
 l18:;
     v5 = 0;
     v4 = 0;
@@ -7910,7 +8070,7 @@ l2:;
 static uint32_t sedgechisel_nodes_spacecraft_take_taken(uint64_t p0, uint32_t p1, uint64_t p2, uint64_t p3, uint64_t
     p4, uint64_t p5)
 {
-    unsigned char frame_octets[2336 + 15];
+    unsigned char frame_octets[2368 + 15];
     uint32_t v8 = 0;
     uint64_t v6 = 0, v7 = 0, v9 = 0, v10 = 0, v11 = 0, v12 = 0, v13 = 0, v14 = 0, t1;
     v6 = aligned(frame_octets);
@@ -7921,16 +8081,16 @@ static uint32_t sedgechisel_nodes_spacecraft_take_taken(uint64_t p0, uint32_t p1
         return v8;
     }
     if (p1 != 0) {
-        if (get64(v7 + 0x8a0) == 0) goto l5;
-        v9 = get64(v7 + 0x8a8);
-        v10 = get64(v7 + 0x898);
-        v9 = get64(v7 + 0x890) + ((v9 - ((v9 < v10) ? 0ULL : v10)) << 5);
+        if (get64(v7 + 0x8c0) == 0) goto l5;
+        v9 = get64(v7 + 0x8c8);
+        v10 = get64(v7 + 0x8b8);
+        v9 = get64(v7 + 0x8b0) + ((v9 - ((v9 < v10) ? 0ULL : v10)) << 5);
         goto l6;
     }
-    v10 = get64(v7 + 0x870);
+    v10 = get64(v7 + 0x890);
     if (v10 == 0) goto l5;
-    v9 = get64(v7 + 0x868);
-    if (v10 != get64(v7 + 0x888)) v9 = v9 + (get64(v7 + 0x880) << 5);
+    v9 = get64(v7 + 0x888);
+    if (v10 != get64(v7 + 0x8a8)) v9 = v9 + (get64(v7 + 0x8a0) << 5);
 l6:;
     v8 = 252;
     v11 = get64(v9 + 16);
@@ -7974,36 +8134,36 @@ l5:;
 l4:;
     if (p1 != 0) {
         v8 = 0;
-        p4 = v7 + 0x8a0;
+        p4 = v7 + 0x8c0;
         v9 = get64(p4);
         if (v9 == 0) goto l3;
         put64(p4, v9 - 1);
-        p4 = v7 + 0x8a8;
+        p4 = v7 + 0x8c8;
         t1 = p4;
         p4 = get64(p4);
         v9 = p4 + 1;
-        v10 = get64(v7 + 0x898);
+        v10 = get64(v7 + 0x8b8);
         put64(t1, v9 - ((v9 < v10) ? 0ULL : v10));
-        p4 = get64(v7 + 0x890) + (p4 << 5);
+        p4 = get64(v7 + 0x8b0) + (p4 << 5);
         if (get64(p4 + 24) == 0) goto l3;
         p4 = get64(p4 + 8);
         goto l13;
     }
     v8 = 0;
-    p4 = get64(v7 + 0x870);
+    p4 = get64(v7 + 0x890);
     if (p4 == 0) goto l3;
-    v10 = v7 + 0x888;
+    v10 = v7 + 0x8a8;
     if (get64(v10) != p4) {
-        v9 = get64(v7 + 0x880);
+        v9 = get64(v7 + 0x8a0);
         goto l15;
     }
     v9 = 0;
     put64(v10, 0);
 l15:;
     v10 = p4 - 1;
-    put64(v7 + 0x870, v10);
-    put64(v7 + 0x880, v9 + 1);
-    p4 = get64(v7 + 0x868) + (v9 << 5);
+    put64(v7 + 0x890, v10);
+    put64(v7 + 0x8a0, v9 + 1);
+    p4 = get64(v7 + 0x888) + (v9 << 5);
     v9 = get64(p4 + 24);
     p4 = get64(p4 + 8);
     if (v10 < (uint64_t)get32(v7 + 48)) put8(v7 + 75, 0);
@@ -8015,7 +8175,7 @@ l3:;
     p4 = get64(p0);
     put64(p0, v7);
     if (p4 == 0) return v8;
-    copy(v6, p4, 0x920);
+    copy(v6, p4, 0x940);
     rattle_dealloc_at(p4);
     sedgechisel_nodes_nodes_spacecraft_Spacecraft_Destruct_drop(v6);
     return v8;
@@ -8055,7 +8215,7 @@ static uint32_t sedge_config_fault_at(uint64_t config)
     do {
         v4 = get8(config + address(constant_0 + 15));
         v5 = ((uint64_t)v4 & 255) << 3;
-        if (v2 == get64(v5 + address(switch_table_sedge_config_fault_388))) {
+        if (v2 == get64(v5 + address(switch_table_sedge_config_fault_392))) {
             v5 = address(switch_table_sedge_config_fault[v5 / 8]);
             if (get8(v3) == get8(v5)) {
                 if ((get8(v3 + 1) & 255) == (get8(v5 + 1) & 255)) {
@@ -8159,10 +8319,10 @@ static uint64_t sedge_parameter_name_at(uint64_t result, uint32_t number)
     }
     v5 = (uint64_t)number & 255;
     v6 = v5 << 2;
-    number = get32(v6 + address(switch_table_sedge_parameter_name_391));
-    v4 = get32(v6 + address(switch_table_sedge_parameter_name_390));
+    number = get32(v6 + address(switch_table_sedge_parameter_name_395));
+    v4 = get32(v6 + address(switch_table_sedge_parameter_name_394));
     v5 = v5 << 1;
-    v3 = get16(v5 + address(switch_table_sedge_parameter_name_389));
+    v3 = get16(v5 + address(switch_table_sedge_parameter_name_393));
     v2 = get16(v5 + address(switch_table_sedge_parameter_name));
 l1:;
     put64(result + 12, 0);
@@ -8215,261 +8375,267 @@ l1:;
 
 static uint32_t sedge_sim_open_at(uint64_t config, uint64_t sim)
 {
-    unsigned char frame_octets[39696 + 15];
+    unsigned char frame_octets[40688 + 15];
     uint32_t v3 = 0, v4 = 0, v16 = 0, v17 = 0;
     uint64_t v2 = 0, v5 = 0, v6 = 0, v7 = 0, v8 = 0, v9 = 0, v10 = 0, v11 = 0, v12 = 0, v13 = 0, v14 = 0, v15 = 0,
         v18 = 0, v19 = 0, v20 = 0, v21 = 0, v22 = 0, v23 = 0, v24 = 0, v25 = 0, v26 = 0, v27 = 0, v28 = 0, v29 = 0,
         v30 = 0, v31 = 0, v32 = 0, v33 = 0, v34 = 0, v35 = 0, v36 = 0, v37 = 0, v38 = 0, v39 = 0, v40 = 0, v41 = 0,
-        v42 = 0, v43 = 0, v44 = 0, v45 = 0, v46 = 0, v47 = 0;
+        v42 = 0, v43 = 0, v44 = 0, v45 = 0, v46 = 0, v47 = 0, v48 = 0;
     v2 = aligned(frame_octets);
-    fill(v2 + 0x1678, 0, 88);
-    put64(v2 + 5744, 0);
+    fill(v2 + 0x1690, 0, 88);
+    put64(v2 + 5768, 0);
+    put64(v2 + 5760, 0);
+    put64(v2 + 5752, 0);
     put64(v2 + 5736, 0);
-    put64(v2 + 5728, 0);
-    put64(v2 + 5712, 0);
-    put64(v2 + 5720, 0);
-    fill(v2 + 0x1608, 0, 72);
-    put32(v2 + 5635, 0);
+    put64(v2 + 5744, 0);
+    fill(v2 + 0x1620, 0, 72);
+    put32(v2 + 5659, 0);
+    put32(v2 + 5656, 0);
+    put64(v2 + 5640, 0);
+    put64(v2 + 5648, 0);
     put32(v2 + 5632, 0);
-    put64(v2 + 5616, 0);
-    put64(v2 + 5624, 0);
-    put32(v2 + 5608, 0);
-    put16(v2 + 5612, 0);
-    fill(v2 + 0xcc8, 0, 0x920);
-    put64(v2 + 3264, 0);
+    put16(v2 + 5636, 0);
+    fill(v2 + 0xcc0, 0, 0x940);
     put64(v2 + 3256, 0);
     put64(v2 + 3248, 0);
     put64(v2 + 3240, 0);
+    put64(v2 + 3232, 0);
+    put64(v2 + 3200, 0);
     put64(v2 + 3208, 0);
     put64(v2 + 3216, 0);
     put64(v2 + 3224, 0);
-    put64(v2 + 3232, 0);
-    put32(v2 + 3200, 0);
-    put16(v2 + 3204, 0);
     put32(v2 + 3192, 0);
-    put32(v2 + 3195, 0);
+    put16(v2 + 3196, 0);
+    put32(v2 + 3184, 0);
+    put32(v2 + 3187, 0);
+    put64(v2 + 3168, 0);
     put64(v2 + 3176, 0);
-    put64(v2 + 3184, 0);
-    fill(v2 + 0x668, 0, 0x600);
-    fill(v2 + 104, 0, 0x600);
-    put64(v2 + 96, 0);
+    fill(v2 + 0x660, 0, 0x600);
+    fill(v2 + 96, 0, 0x600);
     put64(v2 + 88, 0);
     put64(v2 + 80, 0);
     put64(v2 + 72, 0);
-    put64(v2 + 56, 0);
     put64(v2 + 64, 0);
-    put64(v2 + 40, 0);
     put64(v2 + 48, 0);
-    put64(v2 + 24, 0);
+    put64(v2 + 56, 0);
     put64(v2 + 32, 0);
-    nodes_config_Config_fault(v2 + 0x1660, config);
-    if (get8(v2 + 5728) == 1) {
+    put64(v2 + 40, 0);
+    put64(v2 + 16, 0);
+    put64(v2 + 24, 0);
+    nodes_config_Config_fault(v2 + 0x1678, config);
+    if (get8(v2 + 5752) == 1) {
         v3 = 254;
         return v3;
     }
-    put64(v2 + 17160, 0);
+    put64(v2 + 17248, 0);
+    put64(v2 + 17240, 0);
+    fill(v2 + 0x4310, 0, 72);
+    put32(v2 + 17163, 0);
+    put32(v2 + 17160, 0);
+    put64(v2 + 17144, 0);
     put64(v2 + 17152, 0);
-    fill(v2 + 0x42b8, 0, 72);
-    put32(v2 + 17075, 0);
-    put32(v2 + 17072, 0);
-    put64(v2 + 17056, 0);
-    put64(v2 + 17064, 0);
-    put32(v2 + 17048, 0);
-    put16(v2 + 17052, 0);
-    fill(v2 + 0x3978, 0, 0x920);
+    put32(v2 + 17136, 0);
+    put16(v2 + 17140, 0);
+    fill(v2 + 0x39b0, 0, 0x940);
+    put64(v2 + 14760, 0);
+    put64(v2 + 14752, 0);
+    put64(v2 + 14744, 0);
+    put64(v2 + 14736, 0);
     put64(v2 + 14704, 0);
-    put64(v2 + 14696, 0);
-    put64(v2 + 14688, 0);
-    put64(v2 + 14680, 0);
-    put64(v2 + 14648, 0);
-    put64(v2 + 14656, 0);
-    put64(v2 + 14664, 0);
+    put64(v2 + 14712, 0);
+    put64(v2 + 14720, 0);
+    put64(v2 + 14728, 0);
+    put32(v2 + 14696, 0);
+    put16(v2 + 14700, 0);
+    put32(v2 + 14688, 0);
+    put32(v2 + 14691, 0);
     put64(v2 + 14672, 0);
-    put32(v2 + 14640, 0);
-    put16(v2 + 14644, 0);
-    put32(v2 + 14632, 0);
-    put32(v2 + 14635, 0);
-    put64(v2 + 14616, 0);
-    put64(v2 + 14624, 0);
-    fill(v2 + 0x3318, 0, 0x600);
-    fill(v2 + 0x2d18, 0, 0x600);
-    put64(v2 + 11536, 0);
-    put64(v2 + 11528, 0);
-    fill(v2 + 0x2cc0, 0, 72);
-    put32(v2 + 11451, 0);
-    put32(v2 + 11448, 0);
-    put64(v2 + 11432, 0);
-    put64(v2 + 11440, 0);
-    put32(v2 + 11424, 0);
-    put16(v2 + 11428, 0);
-    fill(v2 + 0x2380, 0, 0x920);
+    put64(v2 + 14680, 0);
+    fill(v2 + 0x3350, 0, 0x600);
+    fill(v2 + 0x2d50, 0, 0x600);
+    put64(v2 + 11592, 0);
+    put64(v2 + 11584, 0);
+    fill(v2 + 0x2cf8, 0, 72);
+    put32(v2 + 11507, 0);
+    put32(v2 + 11504, 0);
+    put64(v2 + 11488, 0);
+    put64(v2 + 11496, 0);
+    put32(v2 + 11480, 0);
+    put16(v2 + 11484, 0);
+    fill(v2 + 0x2398, 0, 0x940);
+    put64(v2 + 9104, 0);
+    put64(v2 + 9096, 0);
+    put64(v2 + 9088, 0);
     put64(v2 + 9080, 0);
-    put64(v2 + 9072, 0);
-    put64(v2 + 9064, 0);
-    put64(v2 + 9056, 0);
-    put64(v2 + 9024, 0);
-    put64(v2 + 9032, 0);
-    put64(v2 + 9040, 0);
     put64(v2 + 9048, 0);
-    put32(v2 + 9016, 0);
-    put16(v2 + 9020, 0);
-    put32(v2 + 9008, 0);
-    put32(v2 + 9011, 0);
-    put64(v2 + 8992, 0);
-    put64(v2 + 9000, 0);
-    fill(v2 + 0x1d20, 0, 0x600);
-    fill(v2 + 0x1720, 0, 0x600);
+    put64(v2 + 9056, 0);
+    put64(v2 + 9064, 0);
+    put64(v2 + 9072, 0);
+    put32(v2 + 9040, 0);
+    put16(v2 + 9044, 0);
+    put32(v2 + 9032, 0);
+    put32(v2 + 9035, 0);
+    put64(v2 + 9016, 0);
+    put64(v2 + 9024, 0);
+    fill(v2 + 0x1d38, 0, 0x600);
+    fill(v2 + 0x1738, 0, 0x600);
+    put64(v2 + 5936, 0);
+    put64(v2 + 5928, 0);
+    put64(v2 + 5920, 0);
     put64(v2 + 5912, 0);
-    put64(v2 + 5904, 0);
     put64(v2 + 5896, 0);
-    put64(v2 + 5888, 0);
-    put64(v2 + 5872, 0);
+    put64(v2 + 5904, 0);
     put64(v2 + 5880, 0);
-    put64(v2 + 5856, 0);
+    put64(v2 + 5888, 0);
     put64(v2 + 5864, 0);
-    put64(v2 + 5840, 0);
-    put64(v2 + 5848, 0);
-    copy(v2 + 0x6f00, config, 72);
-    put64(v2 + 28408, 0);
-    put64(v2 + 28400, 0);
-    fill(v2 + 0x6ea8, 0, 72);
-    put32(v2 + 28323, 0);
-    put32(v2 + 28320, 0);
-    put64(v2 + 28304, 0);
-    put64(v2 + 28312, 0);
-    put32(v2 + 28296, 0);
-    put16(v2 + 28300, 0);
-    fill(v2 + 0x6568, 0, 0x920);
-    put64(v2 + 25952, 0);
-    put64(v2 + 25944, 0);
-    put64(v2 + 25936, 0);
-    put64(v2 + 25928, 0);
-    put64(v2 + 25896, 0);
-    put64(v2 + 25904, 0);
-    put64(v2 + 25912, 0);
-    put64(v2 + 25920, 0);
-    put32(v2 + 25888, 0);
-    put16(v2 + 25892, 0);
-    put32(v2 + 25880, 0);
-    put32(v2 + 25883, 0);
-    put64(v2 + 25864, 0);
-    put64(v2 + 25872, 0);
-    fill(v2 + 0x5f08, 0, 0x600);
-    fill(v2 + 0x5908, 0, 0x600);
-    put64(v2 + 22784, 0);
-    put64(v2 + 22776, 0);
-    fill(v2 + 0x58b0, 0, 72);
-    put32(v2 + 22699, 0);
-    put32(v2 + 22696, 0);
-    put64(v2 + 22680, 0);
-    put64(v2 + 22688, 0);
-    put32(v2 + 22672, 0);
-    put16(v2 + 22676, 0);
-    fill(v2 + 0x4f70, 0, 0x920);
+    put64(v2 + 5872, 0);
+    copy(v2 + 0x6f98, config, 72);
+    put64(v2 + 28560, 0);
+    put64(v2 + 28552, 0);
+    fill(v2 + 0x6f40, 0, 72);
+    put32(v2 + 28475, 0);
+    put32(v2 + 28472, 0);
+    put64(v2 + 28456, 0);
+    put64(v2 + 28464, 0);
+    put32(v2 + 28448, 0);
+    put16(v2 + 28452, 0);
+    fill(v2 + 0x65e0, 0, 0x940);
+    put64(v2 + 26072, 0);
+    put64(v2 + 26064, 0);
+    put64(v2 + 26056, 0);
+    put64(v2 + 26048, 0);
+    put64(v2 + 26016, 0);
+    put64(v2 + 26024, 0);
+    put64(v2 + 26032, 0);
+    put64(v2 + 26040, 0);
+    put32(v2 + 26008, 0);
+    put16(v2 + 26012, 0);
+    put32(v2 + 26000, 0);
+    put32(v2 + 26003, 0);
+    put64(v2 + 25984, 0);
+    put64(v2 + 25992, 0);
+    fill(v2 + 0x5f80, 0, 0x600);
+    fill(v2 + 0x5980, 0, 0x600);
+    put64(v2 + 22904, 0);
+    put64(v2 + 22896, 0);
+    fill(v2 + 0x5928, 0, 72);
+    put32(v2 + 22819, 0);
+    put32(v2 + 22816, 0);
+    put64(v2 + 22800, 0);
+    put64(v2 + 22808, 0);
+    put32(v2 + 22792, 0);
+    put16(v2 + 22796, 0);
+    fill(v2 + 0x4fc8, 0, 0x940);
+    put64(v2 + 20416, 0);
+    put64(v2 + 20408, 0);
+    put64(v2 + 20400, 0);
+    put64(v2 + 20392, 0);
+    put64(v2 + 20360, 0);
+    put64(v2 + 20368, 0);
+    put64(v2 + 20376, 0);
+    put64(v2 + 20384, 0);
+    put32(v2 + 20352, 0);
+    put16(v2 + 20356, 0);
+    put32(v2 + 20344, 0);
+    put32(v2 + 20347, 0);
     put64(v2 + 20328, 0);
-    put64(v2 + 20320, 0);
-    put64(v2 + 20312, 0);
-    put64(v2 + 20304, 0);
-    put64(v2 + 20272, 0);
-    put64(v2 + 20280, 0);
-    put64(v2 + 20288, 0);
-    put64(v2 + 20296, 0);
-    put32(v2 + 20264, 0);
-    put16(v2 + 20268, 0);
-    put32(v2 + 20256, 0);
-    put32(v2 + 20259, 0);
-    put64(v2 + 20240, 0);
-    put64(v2 + 20248, 0);
-    fill(v2 + 0x4910, 0, 0x600);
-    fill(v2 + 0x4310, 0, 0x600);
-    put64(v2 + 33664, 0);
-    put64(v2 + 33656, 0);
-    put64(v2 + 33648, 0);
-    nodes_config_Config_fault(v2 + 0x8370, v2 + 0x6f00);
-    if (get8(v2 + 33648) == 0) {
+    put64(v2 + 20336, 0);
+    fill(v2 + 0x4968, 0, 0x600);
+    fill(v2 + 0x4368, 0, 0x600);
+    put64(v2 + 34624, 0);
+    put64(v2 + 34616, 0);
+    put64(v2 + 34608, 0);
+    nodes_config_Config_fault(v2 + 0x8730, v2 + 0x6f98);
+    if (get8(v2 + 34608) == 0) {
         v4 = 0;
-        fill(v2 + 0x6f48, 0, 408);
-        fill(v2 + 0x8370, 0, 0x928);
-        fill(v2 + 0x76e0, 0, 0x600);
-        nodes_ground_node_Ground_of(v2 + 0x6f48, v2 + 0x6f00);
-        if (get8(v2 + 28488) == 0) {
-            v5 = get64(v2 + 28888);
-            v6 = get64(v2 + 28880);
-            v7 = get64(v2 + 28872);
-            v8 = get64(v2 + 28864);
-            v9 = get64(v2 + 28856);
-            v10 = get64(v2 + 28848);
-            v11 = get64(v2 + 28840);
-            v12 = get64(v2 + 28832);
-            v13 = get64(v2 + 28824);
-            v14 = get64(v2 + 28816);
-            v15 = get64(v2 + 28808);
-            v16 = get8(v2 + 28801);
-            v17 = get8(v2 + 28800);
-            v18 = get64(v2 + 28792);
-            v19 = get64(v2 + 28768);
-            v20 = get64(v2 + 28760);
-            v21 = get64(v2 + 28752);
-            v22 = get64(v2 + 28744);
-            v23 = get64(v2 + 28736);
-            v24 = get64(v2 + 28728);
-            v25 = get64(v2 + 28720);
-            v26 = get64(v2 + 28712);
-            v27 = get64(v2 + 28704);
-            v28 = get64(v2 + 28696);
-            v29 = get64(v2 + 28688);
-            v30 = get64(v2 + 28680);
-            v31 = get64(v2 + 28672);
-            v32 = get64(v2 + 28664);
-            v33 = get64(v2 + 28656);
-            v34 = get64(v2 + 28648);
-            v35 = get64(v2 + 28640);
-            v36 = get64(v2 + 28632);
-            v37 = get64(v2 + 28624);
-            v38 = get64(v2 + 28616);
-            v39 = get64(v2 + 28608);
-            v40 = get64(v2 + 28600);
-            v3 = get8(v2 + 28592);
-            v41 = get64(v2 + 28496);
-            nodes_spacecraft_Spacecraft_of(v2 + 0x8370, v2 + 0x6f00);
-            if (get8(v2 + 33648) != 0) {
+        fill(v2 + 0x7f28, 0, 408);
+        put16(v2 + 30180, 0);
+        put32(v2 + 30176, 0);
+        fill(v2 + 0x80c0, 0, 0x600);
+        fill(v2 + 0x6fe0, 0, 0x600);
+        nodes_ground_node_Ground_of(v2 + 0x7f28, v2 + 0x6f98);
+        if (get8(v2 + 32552) == 0) {
+            v5 = get64(v2 + 32952);
+            v6 = get64(v2 + 32944);
+            v7 = get64(v2 + 32936);
+            v8 = get64(v2 + 32928);
+            v9 = get64(v2 + 32920);
+            v10 = get64(v2 + 32912);
+            v11 = get64(v2 + 32904);
+            v12 = get64(v2 + 32896);
+            v13 = get64(v2 + 32888);
+            v14 = get64(v2 + 32880);
+            v15 = get64(v2 + 32872);
+            v16 = get8(v2 + 32865);
+            v17 = get8(v2 + 32864);
+            v18 = get64(v2 + 32856);
+            v19 = get64(v2 + 32832);
+            v20 = get64(v2 + 32824);
+            v21 = get64(v2 + 32816);
+            v22 = get64(v2 + 32808);
+            v23 = get64(v2 + 32800);
+            v24 = get64(v2 + 32792);
+            v25 = get64(v2 + 32784);
+            v26 = get64(v2 + 32776);
+            v27 = get64(v2 + 32768);
+            v28 = get64(v2 + 32760);
+            v29 = get64(v2 + 32752);
+            v30 = get64(v2 + 32744);
+            v31 = get64(v2 + 32736);
+            v32 = get64(v2 + 32728);
+            v33 = get64(v2 + 32720);
+            v34 = get64(v2 + 32712);
+            v35 = get64(v2 + 32704);
+            v36 = get64(v2 + 32696);
+            v37 = get64(v2 + 32688);
+            v38 = get64(v2 + 32680);
+            v39 = get64(v2 + 32672);
+            v40 = get64(v2 + 32664);
+            v3 = get8(v2 + 32656);
+            v41 = get64(v2 + 32560);
+            fill(v2 + 0x8730, 0, 0x948);
+            nodes_spacecraft_Spacecraft_restarted(v2 + 0x8730, v2 + 0x6f98, 0);
+            v4 = get8(v2 + 34608);
+            v42 = v2 + 0x75e6;
+            copy(v42, v2 + 0x8730 + 8, 0x940);
+            if (v4 != 0) {
                 if ((v3 & 255) == 1) {
                     if (v37 != 0) rattle_dealloc_at(v39);
                 }
                 if (v34 != 0) {
-                    v47 = (v33 < v35) ? 0ULL : v35;
-                    config = v33 - v47;
+                    v48 = (v33 < v35) ? 0ULL : v35;
+                    config = v33 - v48;
                     v41 = v35 - config;
                     v37 = (v41 < v34) ? v41 : v34;
                     if (v35 != config) {
-                        config = (v36 + ((v33 << 5) - (v47 << 5))) + 24;
-                        v47 = v37;
+                        config = (v36 + ((v33 << 5) - (v48 << 5))) + 24;
+                        v48 = v37;
                         do {
                             if (get64(config) != 0) rattle_dealloc_at(get64(config - 16));
                             config = config + 32;
-                            v47 = v47 - 1;
-                        } while (v47 != 0);
+                            v48 = v48 - 1;
+                        } while (v48 != 0);
                     }
                     if (v34 > v41) {
-                        v47 = v34 - v37;
+                        v48 = v34 - v37;
                         config = v36 + 24;
                         do {
                             if (get64(config) != 0) rattle_dealloc_at(get64(config - 16));
                             config = config + 32;
-                            v47 = v47 - 1;
-                        } while (v47 != 0);
+                            v48 = v48 - 1;
+                        } while (v48 != 0);
                     }
                 }
                 rattle_dealloc_at(v36);
                 if (v31 != 0) {
-                    v47 = v31 - v28;
-                    if (v29 < (v47 + v29)) {
+                    v48 = v31 - v28;
+                    if (v29 < (v48 + v29)) {
                         config = ((v29 << 5) + v32) + 24;
                         do {
                             if (get64(config) != 0) rattle_dealloc_at(get64(config - 16));
                             config = config + 32;
-                            v47 = v47 - 1;
-                        } while (v47 != 0);
+                            v48 = v48 - 1;
+                        } while (v48 != 0);
                     }
                     if (v28 != 0) {
                         config = v32 + 24;
@@ -8482,14 +8648,14 @@ static uint32_t sedge_sim_open_at(uint64_t config, uint64_t sim)
                 }
                 if (v30 != 0) rattle_dealloc_at(v32);
                 if (v26 != 0) {
-                    v47 = v26 - v23;
-                    if (v24 < (v47 + v24)) {
+                    v48 = v26 - v23;
+                    if (v24 < (v48 + v24)) {
                         config = ((v24 << 5) + v27) + 24;
                         do {
                             if (get64(config) != 0) rattle_dealloc_at(get64(config - 16));
                             config = config + 32;
-                            v47 = v47 - 1;
-                        } while (v47 != 0);
+                            v48 = v48 - 1;
+                        } while (v48 != 0);
                     }
                     if (v23 != 0) {
                         config = v27 + 24;
@@ -8504,14 +8670,14 @@ static uint32_t sedge_sim_open_at(uint64_t config, uint64_t sim)
                 if (v19 != 0) rattle_dealloc_at(v21);
                 if (v13 != 0) rattle_dealloc_at(v15);
                 if (v11 != 0) {
-                    v47 = v11 - v8;
-                    if (v9 < (v47 + v9)) {
+                    v48 = v11 - v8;
+                    if (v9 < (v48 + v9)) {
                         config = v12 + (v9 * 24);
                         do {
                             if (get64(config + 16) != 0) rattle_dealloc_at(get64(config));
                             config = config + 24;
-                            v47 = v47 - 1;
-                        } while (v47 != 0);
+                            v48 = v48 - 1;
+                        } while (v48 != 0);
                     }
                     if (v8 != 0) {
                         config = v12;
@@ -8533,45 +8699,45 @@ static uint32_t sedge_sim_open_at(uint64_t config, uint64_t sim)
                 }
                 if (v5 != 0) rattle_dealloc_at(v7);
                 v41 = 0;
-                put64(v2 + 22784, 0);
-                put64(v2 + 22776, 0);
+                put64(v2 + 22904, 0);
+                put64(v2 + 22896, 0);
                 v4 = 0;
-                fill(v2 + 0x58b0, 0, 72);
-                put32(v2 + 22699, 0);
-                put32(v2 + 22696, 0);
-                put64(v2 + 22680, 0);
-                put64(v2 + 22688, 0);
-                put32(v2 + 22672, 0);
-                put16(v2 + 22676, 0);
-                fill(v2 + 0x4f70, 0, 0x920);
+                fill(v2 + 0x5928, 0, 72);
+                put32(v2 + 22819, 0);
+                put32(v2 + 22816, 0);
+                put64(v2 + 22800, 0);
+                put64(v2 + 22808, 0);
+                put32(v2 + 22792, 0);
+                put16(v2 + 22796, 0);
+                fill(v2 + 0x4fc8, 0, 0x940);
+                put64(v2 + 20416, 0);
+                put64(v2 + 20408, 0);
+                put64(v2 + 20400, 0);
+                put64(v2 + 20392, 0);
+                put64(v2 + 20360, 0);
+                put64(v2 + 20368, 0);
+                put64(v2 + 20376, 0);
+                put64(v2 + 20384, 0);
+                put32(v2 + 20352, 0);
+                put16(v2 + 20356, 0);
+                put32(v2 + 20344, 0);
+                put32(v2 + 20347, 0);
                 put64(v2 + 20328, 0);
-                put64(v2 + 20320, 0);
-                put64(v2 + 20312, 0);
-                put64(v2 + 20304, 0);
-                put64(v2 + 20272, 0);
-                put64(v2 + 20280, 0);
-                put64(v2 + 20288, 0);
-                put64(v2 + 20296, 0);
-                put32(v2 + 20264, 0);
-                put16(v2 + 20268, 0);
-                put32(v2 + 20256, 0);
-                put32(v2 + 20259, 0);
-                put64(v2 + 20240, 0);
-                put64(v2 + 20248, 0);
-                fill(v2 + 0x4910, 0, 0x600);
-                fill(v2 + 0x4310, 0, 0x600);
+                put64(v2 + 20336, 0);
+                fill(v2 + 0x4968, 0, 0x600);
+                fill(v2 + 0x4368, 0, 0x600);
                 goto l7;
             }
-            v42 = v2 + 0x7082;
-            v43 = v2 + 0x7068;
-            v44 = v2 + 0x6fb1;
-            v45 = v2 + 0x6f48 + 32;
-            v46 = v2 + 0x6f48 + 16;
-            fill(v2 + 0x70e0, 0, 0x600);
-            v47 = 0;
+            v43 = v2 + 0x8062;
+            v44 = v2 + 0x8048;
+            v45 = v2 + 0x7f91;
+            v46 = v2 + 0x7f28 + 32;
+            v47 = v2 + 0x7f28 + 16;
+            fill(v2 + 0x8730, 0, 0x600);
+            v48 = 0;
             do {
-                config = v2 + 0x70e0 + v47;
-                put64(config, v2 + 0x9b08);
+                config = v2 + 0x8730 + v48;
+                put64(config, v2 + 0x9ee8);
                 put64(config + 8, 0);
                 put64(config + 16, 0);
                 put64(config + 32, 0);
@@ -8580,16 +8746,17 @@ static uint32_t sedge_sim_open_at(uint64_t config, uint64_t sim)
                 put64(config + 64, 0);
                 put64(config + 80, 0);
                 put64(config + 88, 0);
-                put64(config + 24, v2 + 0x9b08);
-                put64(config + 48, v2 + 0x9b08);
-                put64(config + 72, v2 + 0x9b08);
-                v47 = v47 + 96;
-            } while (v47 != 0x600);
-            fill(v2 + 0x7ce0, 0, 0x600);
-            v47 = 0;
+                put64(config + 24, v2 + 0x9ee8);
+                put64(config + 48, v2 + 0x9ee8);
+                put64(config + 72, v2 + 0x9ee8);
+                v48 = v48 + 96;
+            } while (v48 != 0x600);
+            copy(v2 + 0x80c0, v2 + 0x8730, 0x600);
+            fill(v2 + 0x8730, 0, 0x600);
+            v48 = 0;
             do {
-                config = v2 + 0x7ce0 + v47;
-                put64(config, v2 + 0x9b08);
+                config = v2 + 0x8730 + v48;
+                put64(config, v2 + 0x9ee8);
                 put64(config + 8, 0);
                 put64(config + 16, 0);
                 put64(config + 32, 0);
@@ -8598,69 +8765,69 @@ static uint32_t sedge_sim_open_at(uint64_t config, uint64_t sim)
                 put64(config + 64, 0);
                 put64(config + 80, 0);
                 put64(config + 88, 0);
-                put64(config + 24, v2 + 0x9b08);
-                put64(config + 48, v2 + 0x9b08);
-                put64(config + 72, v2 + 0x9b08);
-                v47 = v47 + 96;
-            } while (v47 != 0x600);
-            copy(v2 + 0x76e0, v2 + 0x7ce0, 0x600);
-            put64(v2 + 22776, get64(v46));
-            put64(v2 + 22784, get64(v46 + 8));
-            copy(v2 + 0x58b0, v45, 72);
-            put32(v2 + 22699, get32(v44 + 3));
-            put32(v2 + 22696, get32(v44));
-            put64(v2 + 22680, get64(v43));
-            put64(v2 + 22688, get64(v43 + 8));
-            put32(v2 + 22672, get32(v42));
-            put16(v2 + 22676, get16(v42 + 4));
-            copy(v2 + 0x4f70, v2 + 0x8378, 0x920);
+                put64(config + 24, v2 + 0x9ee8);
+                put64(config + 48, v2 + 0x9ee8);
+                put64(config + 72, v2 + 0x9ee8);
+                v48 = v48 + 96;
+            } while (v48 != 0x600);
+            copy(v2 + 0x6fe0, v2 + 0x8730, 0x600);
+            put64(v2 + 22896, get64(v47));
+            put64(v2 + 22904, get64(v47 + 8));
+            copy(v2 + 0x5928, v46, 72);
+            put32(v2 + 22819, get32(v45 + 3));
+            put32(v2 + 22816, get32(v45));
+            put64(v2 + 22800, get64(v44));
+            put64(v2 + 22808, get64(v44 + 8));
+            put32(v2 + 22792, get32(v43));
+            put16(v2 + 22796, get16(v43 + 4));
+            copy(v2 + 0x4fc8, v42, 0x940);
+            put64(v2 + 20416, 0);
+            put64(v2 + 20408, 0);
+            put64(v2 + 20400, 0);
+            put64(v2 + 20392, 0);
+            put64(v2 + 20360, 0);
+            put64(v2 + 20368, 0);
+            put64(v2 + 20376, 0);
+            put64(v2 + 20384, 0);
+            put32(v2 + 20352, 0);
+            put16(v2 + 20356, 0);
+            put32(v2 + 20344, 0);
+            put32(v2 + 20347, 0);
             put64(v2 + 20328, 0);
-            put64(v2 + 20320, 0);
-            put64(v2 + 20312, 0);
-            put64(v2 + 20304, 0);
-            put64(v2 + 20272, 0);
-            put64(v2 + 20280, 0);
-            put64(v2 + 20288, 0);
-            put64(v2 + 20296, 0);
-            put32(v2 + 20264, 0);
-            put16(v2 + 20268, 0);
-            put32(v2 + 20256, 0);
-            put32(v2 + 20259, 0);
-            put64(v2 + 20240, 0);
-            put64(v2 + 20248, 0);
-            copy(v2 + 0x4910, v2 + 0x70e0, 0x600);
-            copy(v2 + 0x4310, v2 + 0x76e0, 0x600);
-            v47 = v2 + 0x9b08;
+            put64(v2 + 20336, 0);
+            copy(v2 + 0x4968, v2 + 0x80c0, 0x600);
+            copy(v2 + 0x4368, v2 + 0x6fe0, 0x600);
+            v48 = v2 + 0x9ee8;
             v4 = 1;
             goto l6;
         }
         v41 = 0;
-        put64(v2 + 22784, 0);
-        put64(v2 + 22776, 0);
-        fill(v2 + 0x58b0, 0, 72);
-        put32(v2 + 22699, 0);
-        put32(v2 + 22696, 0);
-        put64(v2 + 22680, 0);
-        put64(v2 + 22688, 0);
-        put32(v2 + 22672, 0);
-        put16(v2 + 22676, 0);
-        fill(v2 + 0x4f70, 0, 0x920);
+        put64(v2 + 22904, 0);
+        put64(v2 + 22896, 0);
+        fill(v2 + 0x5928, 0, 72);
+        put32(v2 + 22819, 0);
+        put32(v2 + 22816, 0);
+        put64(v2 + 22800, 0);
+        put64(v2 + 22808, 0);
+        put32(v2 + 22792, 0);
+        put16(v2 + 22796, 0);
+        fill(v2 + 0x4fc8, 0, 0x940);
+        put64(v2 + 20416, 0);
+        put64(v2 + 20408, 0);
+        put64(v2 + 20400, 0);
+        put64(v2 + 20392, 0);
+        put64(v2 + 20360, 0);
+        put64(v2 + 20368, 0);
+        put64(v2 + 20376, 0);
+        put64(v2 + 20384, 0);
+        put32(v2 + 20352, 0);
+        put16(v2 + 20356, 0);
+        put32(v2 + 20344, 0);
+        put32(v2 + 20347, 0);
         put64(v2 + 20328, 0);
-        put64(v2 + 20320, 0);
-        put64(v2 + 20312, 0);
-        put64(v2 + 20304, 0);
-        put64(v2 + 20272, 0);
-        put64(v2 + 20280, 0);
-        put64(v2 + 20288, 0);
-        put64(v2 + 20296, 0);
-        put32(v2 + 20264, 0);
-        put16(v2 + 20268, 0);
-        put32(v2 + 20256, 0);
-        put32(v2 + 20259, 0);
-        put64(v2 + 20240, 0);
-        put64(v2 + 20248, 0);
-        fill(v2 + 0x4910, 0, 0x600);
-        fill(v2 + 0x4310, 0, 0x600);
+        put64(v2 + 20336, 0);
+        fill(v2 + 0x4968, 0, 0x600);
+        fill(v2 + 0x4368, 0, 0x600);
     l7:;
         v3 = 0;
         v40 = 0;
@@ -8699,63 +8866,63 @@ static uint32_t sedge_sim_open_at(uint64_t config, uint64_t sim)
         v7 = 0;
         v6 = 0;
         v5 = 0;
-        v47 = 0;
+        v48 = 0;
     l6:;
-        fill(v2 + 0x6f48, 0, 72);
-        put32(v2 + 33627, 0);
-        put32(v2 + 33624, 0);
-        put64(v2 + 33608, 0);
-        put64(v2 + 33616, 0);
-        put32(v2 + 33600, 0);
-        put16(v2 + 33604, 0);
-        fill(v2 + 0x8370, 0, 0x920);
-        put64(v2 + 33592, 0);
-        put64(v2 + 33584, 0);
-        put64(v2 + 33576, 0);
-        put64(v2 + 33568, 0);
-        put64(v2 + 33536, 0);
-        put64(v2 + 33544, 0);
-        put64(v2 + 33552, 0);
-        put64(v2 + 33560, 0);
-        put32(v2 + 33528, 0);
-        put16(v2 + 33532, 0);
-        put32(v2 + 33520, 0);
-        put32(v2 + 33523, 0);
-        put64(v2 + 33504, 0);
-        put64(v2 + 33512, 0);
-        fill(v2 + 0x7ce0, 0, 0x600);
-        fill(v2 + 0x76e0, 0, 0x600);
+        fill(v2 + 0x6fe0, 0, 72);
+        put32(v2 + 34587, 0);
+        put32(v2 + 34584, 0);
+        put64(v2 + 34568, 0);
+        put64(v2 + 34576, 0);
+        put32(v2 + 34560, 0);
+        put16(v2 + 34564, 0);
+        fill(v2 + 0x8730, 0, 0x940);
+        put64(v2 + 32576, 0);
+        put64(v2 + 32568, 0);
+        put64(v2 + 32560, 0);
+        put64(v2 + 32552, 0);
+        put64(v2 + 34528, 0);
+        put64(v2 + 34536, 0);
+        put64(v2 + 34544, 0);
+        put64(v2 + 34552, 0);
+        put32(v2 + 34520, 0);
+        put16(v2 + 34524, 0);
+        put32(v2 + 34512, 0);
+        put32(v2 + 34515, 0);
+        put64(v2 + 34496, 0);
+        put64(v2 + 34504, 0);
+        fill(v2 + 0x75e0, 0, 0x600);
+        fill(v2 + 0x80c0, 0, 0x600);
         if (v4 != 0) {
-            put64(v2 + 33640, get64(v2 + 22784));
-            put64(v2 + 33632, get64(v2 + 22776));
-            copy(v2 + 0x6f48, v2 + 0x58b0, 72);
-            put32(v2 + 33627, get32(v2 + 22699));
-            put32(v2 + 33624, get32(v2 + 22696));
-            put64(v2 + 33608, get64(v2 + 22680));
-            put64(v2 + 33616, get64(v2 + 22688));
-            put32(v2 + 33600, get32(v2 + 22672));
-            put16(v2 + 33604, get16(v2 + 22676));
-            copy(v2 + 0x8370, v2 + 0x4f70, 0x920);
-            put64(v2 + 33592, get64(v2 + 20328));
-            put64(v2 + 33584, get64(v2 + 20320));
-            put64(v2 + 33576, get64(v2 + 20312));
-            put64(v2 + 33568, get64(v2 + 20304));
-            put64(v2 + 33536, get64(v2 + 20272));
-            put64(v2 + 33544, get64(v2 + 20280));
-            put64(v2 + 33552, get64(v2 + 20288));
-            put64(v2 + 33560, get64(v2 + 20296));
-            put32(v2 + 33528, get32(v2 + 20264));
-            put16(v2 + 33532, get16(v2 + 20268));
-            put32(v2 + 33523, get32(v2 + 20259));
-            put32(v2 + 33520, get32(v2 + 20256));
-            put64(v2 + 33512, get64(v2 + 20248));
-            put64(v2 + 33504, get64(v2 + 20240));
-            copy(v2 + 0x7ce0, v2 + 0x4910, 0x600);
-            copy(v2 + 0x76e0, v2 + 0x4310, 0x600);
+            put64(v2 + 34600, get64(v2 + 22904));
+            put64(v2 + 34592, get64(v2 + 22896));
+            copy(v2 + 0x6fe0, v2 + 0x5928, 72);
+            put32(v2 + 34587, get32(v2 + 22819));
+            put32(v2 + 34584, get32(v2 + 22816));
+            put64(v2 + 34568, get64(v2 + 22800));
+            put64(v2 + 34576, get64(v2 + 22808));
+            put32(v2 + 34560, get32(v2 + 22792));
+            put16(v2 + 34564, get16(v2 + 22796));
+            copy(v2 + 0x8730, v2 + 0x4fc8, 0x940);
+            put64(v2 + 32576, get64(v2 + 20416));
+            put64(v2 + 32568, get64(v2 + 20408));
+            put64(v2 + 32560, get64(v2 + 20400));
+            put64(v2 + 32552, get64(v2 + 20392));
+            put64(v2 + 34528, get64(v2 + 20360));
+            put64(v2 + 34536, get64(v2 + 20368));
+            put64(v2 + 34544, get64(v2 + 20376));
+            put64(v2 + 34552, get64(v2 + 20384));
+            put32(v2 + 34520, get32(v2 + 20352));
+            put16(v2 + 34524, get16(v2 + 20356));
+            put32(v2 + 34515, get32(v2 + 20347));
+            put32(v2 + 34512, get32(v2 + 20344));
+            put64(v2 + 34504, get64(v2 + 20336));
+            put64(v2 + 34496, get64(v2 + 20328));
+            copy(v2 + 0x75e0, v2 + 0x4968, 0x600);
+            copy(v2 + 0x80c0, v2 + 0x4368, 0x600);
             goto l46;
         }
-        put64(v2 + 33640, get64(v2 + 22784));
-        put64(v2 + 33632, get64(v2 + 22776));
+        put64(v2 + 34600, get64(v2 + 22904));
+        put64(v2 + 34592, get64(v2 + 22896));
         v41 = v41 & 255;
         v3 = 0;
         v40 = 0;
@@ -8794,34 +8961,34 @@ static uint32_t sedge_sim_open_at(uint64_t config, uint64_t sim)
         v7 = 0;
         v6 = 0;
         v5 = 0;
-        v47 = 0;
+        v48 = 0;
     l46:;
-        put64(v2 + 28408, get64(v2 + 33640));
-        put64(v2 + 28400, get64(v2 + 33632));
-        copy(v2 + 0x6ea8, v2 + 0x6f48, 72);
-        put32(v2 + 28323, get32(v2 + 33627));
-        put32(v2 + 28320, get32(v2 + 33624));
-        put64(v2 + 28304, get64(v2 + 33608));
-        put64(v2 + 28312, get64(v2 + 33616));
-        put32(v2 + 28296, get32(v2 + 33600));
-        put16(v2 + 28300, get16(v2 + 33604));
-        copy(v2 + 0x6568, v2 + 0x8370, 0x920);
-        put64(v2 + 25952, get64(v2 + 33592));
-        put64(v2 + 25944, get64(v2 + 33584));
-        put64(v2 + 25936, get64(v2 + 33576));
-        put64(v2 + 25928, get64(v2 + 33568));
-        put64(v2 + 25896, get64(v2 + 33536));
-        put64(v2 + 25904, get64(v2 + 33544));
-        put64(v2 + 25912, get64(v2 + 33552));
-        put64(v2 + 25920, get64(v2 + 33560));
-        put32(v2 + 25888, get32(v2 + 33528));
-        put16(v2 + 25892, get16(v2 + 33532));
-        put32(v2 + 25883, get32(v2 + 33523));
-        put32(v2 + 25880, get32(v2 + 33520));
-        put64(v2 + 25864, get64(v2 + 33504));
-        put64(v2 + 25872, get64(v2 + 33512));
-        copy(v2 + 0x5f08, v2 + 0x7ce0, 0x600);
-        copy(v2 + 0x5908, v2 + 0x76e0, 0x600);
+        put64(v2 + 28560, get64(v2 + 34600));
+        put64(v2 + 28552, get64(v2 + 34592));
+        copy(v2 + 0x6f40, v2 + 0x6fe0, 72);
+        put32(v2 + 28475, get32(v2 + 34587));
+        put32(v2 + 28472, get32(v2 + 34584));
+        put64(v2 + 28456, get64(v2 + 34568));
+        put64(v2 + 28464, get64(v2 + 34576));
+        put32(v2 + 28448, get32(v2 + 34560));
+        put16(v2 + 28452, get16(v2 + 34564));
+        copy(v2 + 0x65e0, v2 + 0x8730, 0x940);
+        put64(v2 + 26072, get64(v2 + 32576));
+        put64(v2 + 26064, get64(v2 + 32568));
+        put64(v2 + 26056, get64(v2 + 32560));
+        put64(v2 + 26048, get64(v2 + 32552));
+        put64(v2 + 26016, get64(v2 + 34528));
+        put64(v2 + 26024, get64(v2 + 34536));
+        put64(v2 + 26032, get64(v2 + 34544));
+        put64(v2 + 26040, get64(v2 + 34552));
+        put32(v2 + 26008, get32(v2 + 34520));
+        put16(v2 + 26012, get16(v2 + 34524));
+        put32(v2 + 26003, get32(v2 + 34515));
+        put32(v2 + 26000, get32(v2 + 34512));
+        put64(v2 + 25984, get64(v2 + 34496));
+        put64(v2 + 25992, get64(v2 + 34504));
+        copy(v2 + 0x5f80, v2 + 0x75e0, 0x600);
+        copy(v2 + 0x5980, v2 + 0x80c0, 0x600);
         if (v4 != 0) goto l4;
     }
     v3 = 0;
@@ -8862,121 +9029,121 @@ static uint32_t sedge_sim_open_at(uint64_t config, uint64_t sim)
     v7 = 0;
     v6 = 0;
     v5 = 0;
-    v47 = 0;
+    v48 = 0;
     v42 = 0;
     v4 = 0;
     goto l3;
 l4:;
-    put64(v2 + 17160, get64(v2 + 28408));
-    put64(v2 + 17152, get64(v2 + 28400));
-    copy(v2 + 0x42b8, v2 + 0x6ea8, 72);
-    put32(v2 + 17075, get32(v2 + 28323));
-    put32(v2 + 17072, get32(v2 + 28320));
-    put64(v2 + 17056, get64(v2 + 28304));
-    put64(v2 + 17064, get64(v2 + 28312));
-    put32(v2 + 17048, get32(v2 + 28296));
-    put16(v2 + 17052, get16(v2 + 28300));
-    copy(v2 + 0x3978, v2 + 0x6568, 0x920);
-    put64(v2 + 14704, get64(v2 + 25952));
-    put64(v2 + 14696, get64(v2 + 25944));
-    put64(v2 + 14688, get64(v2 + 25936));
-    put64(v2 + 14680, get64(v2 + 25928));
-    put64(v2 + 14648, get64(v2 + 25896));
-    put64(v2 + 14656, get64(v2 + 25904));
-    put64(v2 + 14664, get64(v2 + 25912));
-    put64(v2 + 14672, get64(v2 + 25920));
-    put32(v2 + 14640, get32(v2 + 25888));
-    put16(v2 + 14644, get16(v2 + 25892));
-    put32(v2 + 14635, get32(v2 + 25883));
-    put32(v2 + 14632, get32(v2 + 25880));
-    put64(v2 + 14624, get64(v2 + 25872));
-    put64(v2 + 14616, get64(v2 + 25864));
-    copy(v2 + 0x3318, v2 + 0x5f08, 0x600);
-    copy(v2 + 0x2d18, v2 + 0x5908, 0x600);
-    put64(v2 + 11536, get64(v2 + 17160));
-    put64(v2 + 11528, get64(v2 + 17152));
-    copy(v2 + 0x2cc0, v2 + 0x42b8, 72);
-    put32(v2 + 11451, get32(v2 + 17075));
-    put32(v2 + 11448, get32(v2 + 17072));
-    put64(v2 + 11432, get64(v2 + 17056));
-    put64(v2 + 11440, get64(v2 + 17064));
-    put32(v2 + 11424, get32(v2 + 17048));
-    put16(v2 + 11428, get16(v2 + 17052));
-    copy(v2 + 0x2380, v2 + 0x3978, 0x920);
-    put64(v2 + 9080, get64(v2 + 14704));
-    put64(v2 + 9072, get64(v2 + 14696));
-    put64(v2 + 9064, get64(v2 + 14688));
-    put64(v2 + 9056, get64(v2 + 14680));
-    put64(v2 + 9024, get64(v2 + 14648));
-    put64(v2 + 9032, get64(v2 + 14656));
-    put64(v2 + 9040, get64(v2 + 14664));
-    put64(v2 + 9048, get64(v2 + 14672));
-    put32(v2 + 9016, get32(v2 + 14640));
-    put16(v2 + 9020, get16(v2 + 14644));
-    put32(v2 + 9011, get32(v2 + 14635));
-    put32(v2 + 9008, get32(v2 + 14632));
-    put64(v2 + 9000, get64(v2 + 14624));
-    put64(v2 + 8992, get64(v2 + 14616));
-    copy(v2 + 0x1d20, v2 + 0x3318, 0x600);
-    copy(v2 + 0x1720, v2 + 0x2d18, 0x600);
+    put64(v2 + 17248, get64(v2 + 28560));
+    put64(v2 + 17240, get64(v2 + 28552));
+    copy(v2 + 0x4310, v2 + 0x6f40, 72);
+    put32(v2 + 17163, get32(v2 + 28475));
+    put32(v2 + 17160, get32(v2 + 28472));
+    put64(v2 + 17144, get64(v2 + 28456));
+    put64(v2 + 17152, get64(v2 + 28464));
+    put32(v2 + 17136, get32(v2 + 28448));
+    put16(v2 + 17140, get16(v2 + 28452));
+    copy(v2 + 0x39b0, v2 + 0x65e0, 0x940);
+    put64(v2 + 14760, get64(v2 + 26072));
+    put64(v2 + 14752, get64(v2 + 26064));
+    put64(v2 + 14744, get64(v2 + 26056));
+    put64(v2 + 14736, get64(v2 + 26048));
+    put64(v2 + 14704, get64(v2 + 26016));
+    put64(v2 + 14712, get64(v2 + 26024));
+    put64(v2 + 14720, get64(v2 + 26032));
+    put64(v2 + 14728, get64(v2 + 26040));
+    put32(v2 + 14696, get32(v2 + 26008));
+    put16(v2 + 14700, get16(v2 + 26012));
+    put32(v2 + 14691, get32(v2 + 26003));
+    put32(v2 + 14688, get32(v2 + 26000));
+    put64(v2 + 14680, get64(v2 + 25992));
+    put64(v2 + 14672, get64(v2 + 25984));
+    copy(v2 + 0x3350, v2 + 0x5f80, 0x600);
+    copy(v2 + 0x2d50, v2 + 0x5980, 0x600);
+    put64(v2 + 11592, get64(v2 + 17248));
+    put64(v2 + 11584, get64(v2 + 17240));
+    copy(v2 + 0x2cf8, v2 + 0x4310, 72);
+    put32(v2 + 11507, get32(v2 + 17163));
+    put32(v2 + 11504, get32(v2 + 17160));
+    put64(v2 + 11488, get64(v2 + 17144));
+    put64(v2 + 11496, get64(v2 + 17152));
+    put32(v2 + 11480, get32(v2 + 17136));
+    put16(v2 + 11484, get16(v2 + 17140));
+    copy(v2 + 0x2398, v2 + 0x39b0, 0x940);
+    put64(v2 + 9104, get64(v2 + 14760));
+    put64(v2 + 9096, get64(v2 + 14752));
+    put64(v2 + 9088, get64(v2 + 14744));
+    put64(v2 + 9080, get64(v2 + 14736));
+    put64(v2 + 9048, get64(v2 + 14704));
+    put64(v2 + 9056, get64(v2 + 14712));
+    put64(v2 + 9064, get64(v2 + 14720));
+    put64(v2 + 9072, get64(v2 + 14728));
+    put32(v2 + 9040, get32(v2 + 14696));
+    put16(v2 + 9044, get16(v2 + 14700));
+    put32(v2 + 9035, get32(v2 + 14691));
+    put32(v2 + 9032, get32(v2 + 14688));
+    put64(v2 + 9024, get64(v2 + 14680));
+    put64(v2 + 9016, get64(v2 + 14672));
+    copy(v2 + 0x1d38, v2 + 0x3350, 0x600);
+    copy(v2 + 0x1738, v2 + 0x2d50, 0x600);
+    put64(v2 + 5936, 0);
+    put64(v2 + 5928, 0);
+    put64(v2 + 5920, 0);
     put64(v2 + 5912, 0);
-    put64(v2 + 5904, 0);
     put64(v2 + 5896, 0);
-    put64(v2 + 5888, 0);
-    put64(v2 + 5872, 0);
+    put64(v2 + 5904, 0);
     put64(v2 + 5880, 0);
-    put64(v2 + 5856, 0);
+    put64(v2 + 5888, 0);
     put64(v2 + 5864, 0);
-    put64(v2 + 5840, 0);
-    put64(v2 + 5848, 0);
+    put64(v2 + 5872, 0);
     v4 = 1;
-    v42 = v2 + 0x9b08;
+    v42 = v2 + 0x9ee8;
 l3:;
-    put64(v2 + 5720, get64(v2 + 11536));
-    put64(v2 + 5712, get64(v2 + 11528));
-    copy(v2 + 0x1608, v2 + 0x2cc0, 72);
-    put32(v2 + 5635, get32(v2 + 11451));
-    put32(v2 + 5632, get32(v2 + 11448));
-    put64(v2 + 5616, get64(v2 + 11432));
-    put64(v2 + 5624, get64(v2 + 11440));
-    put32(v2 + 5608, get32(v2 + 11424));
-    put16(v2 + 5612, get16(v2 + 11428));
-    copy(v2 + 0xcc8, v2 + 0x2380, 0x920);
-    put64(v2 + 3264, get64(v2 + 9080));
-    put64(v2 + 3256, get64(v2 + 9072));
-    put64(v2 + 3248, get64(v2 + 9064));
-    put64(v2 + 3240, get64(v2 + 9056));
-    put64(v2 + 3208, get64(v2 + 9024));
-    put64(v2 + 3216, get64(v2 + 9032));
-    put64(v2 + 3224, get64(v2 + 9040));
-    put64(v2 + 3232, get64(v2 + 9048));
-    put32(v2 + 3200, get32(v2 + 9016));
-    put16(v2 + 3204, get16(v2 + 9020));
-    put32(v2 + 3195, get32(v2 + 9011));
-    put32(v2 + 3192, get32(v2 + 9008));
-    put64(v2 + 3176, get64(v2 + 8992));
-    put64(v2 + 3184, get64(v2 + 9000));
-    copy(v2 + 0x668, v2 + 0x1d20, 0x600);
-    copy(v2 + 104, v2 + 0x1720, 0x600);
-    put64(v2 + 96, get64(v2 + 5912));
-    put64(v2 + 88, get64(v2 + 5904));
-    put64(v2 + 80, get64(v2 + 5896));
-    put64(v2 + 72, get64(v2 + 5888));
-    put64(v2 + 56, get64(v2 + 5872));
-    put64(v2 + 64, get64(v2 + 5880));
-    put64(v2 + 40, get64(v2 + 5856));
-    put64(v2 + 48, get64(v2 + 5864));
-    put64(v2 + 24, get64(v2 + 5840));
-    put64(v2 + 32, get64(v2 + 5848));
+    put64(v2 + 5744, get64(v2 + 11592));
+    put64(v2 + 5736, get64(v2 + 11584));
+    copy(v2 + 0x1620, v2 + 0x2cf8, 72);
+    put32(v2 + 5659, get32(v2 + 11507));
+    put32(v2 + 5656, get32(v2 + 11504));
+    put64(v2 + 5640, get64(v2 + 11488));
+    put64(v2 + 5648, get64(v2 + 11496));
+    put32(v2 + 5632, get32(v2 + 11480));
+    put16(v2 + 5636, get16(v2 + 11484));
+    copy(v2 + 0xcc0, v2 + 0x2398, 0x940);
+    put64(v2 + 3256, get64(v2 + 9104));
+    put64(v2 + 3248, get64(v2 + 9096));
+    put64(v2 + 3240, get64(v2 + 9088));
+    put64(v2 + 3232, get64(v2 + 9080));
+    put64(v2 + 3200, get64(v2 + 9048));
+    put64(v2 + 3208, get64(v2 + 9056));
+    put64(v2 + 3216, get64(v2 + 9064));
+    put64(v2 + 3224, get64(v2 + 9072));
+    put32(v2 + 3192, get32(v2 + 9040));
+    put16(v2 + 3196, get16(v2 + 9044));
+    put32(v2 + 3187, get32(v2 + 9035));
+    put32(v2 + 3184, get32(v2 + 9032));
+    put64(v2 + 3168, get64(v2 + 9016));
+    put64(v2 + 3176, get64(v2 + 9024));
+    copy(v2 + 0x660, v2 + 0x1d38, 0x600);
+    copy(v2 + 96, v2 + 0x1738, 0x600);
+    put64(v2 + 88, get64(v2 + 5936));
+    put64(v2 + 80, get64(v2 + 5928));
+    put64(v2 + 72, get64(v2 + 5920));
+    put64(v2 + 64, get64(v2 + 5912));
+    put64(v2 + 48, get64(v2 + 5896));
+    put64(v2 + 56, get64(v2 + 5904));
+    put64(v2 + 32, get64(v2 + 5880));
+    put64(v2 + 40, get64(v2 + 5888));
+    put64(v2 + 16, get64(v2 + 5864));
+    put64(v2 + 24, get64(v2 + 5872));
     if (v4 != 0) {
-        put64(v2 + 5760, get64(v2 + 5720));
-        put64(v2 + 5752, get64(v2 + 5712));
-        copy(v2 + 0x1688, v2 + 0x1608, 72);
-        rattle_alloc_at(v2 + 8, 0x1798, 8);
-        if (((uint32_t)get64(v2 + 8) & 1) != 0) {
-            config = get64(v2 + 16);
+        put64(v2 + 5784, get64(v2 + 5744));
+        put64(v2 + 5776, get64(v2 + 5736));
+        copy(v2 + 0x16a0, v2 + 0x1620, 72);
+        rattle_alloc_at(v2, 0x17b8, 8);
+        if (((uint32_t)get64(v2) & 1) != 0) {
+            config = get64(v2 + 8);
             put64(config, v41);
-            copy(config + 8, v2 + 0x1678, 88);
+            copy(config + 8, v2 + 0x1690, 88);
             put8(config + 96, v3);
             put64(config + 272, v19);
             put64(config + 264, v20);
@@ -9000,8 +9167,8 @@ l3:;
             put64(config + 120, v38);
             put64(config + 112, v39);
             put64(config + 104, v40);
-            put32(config + 97, get32(v2 + 5632));
-            put32(config + 100, get32(v2 + 5635));
+            put32(config + 97, get32(v2 + 5656));
+            put32(config + 100, get32(v2 + 5659));
             put64(config + 296, v18);
             put8(config + 305, v16);
             put8(config + 304, v17);
@@ -9016,137 +9183,137 @@ l3:;
             put64(config + 376, v7);
             put64(config + 384, v6);
             put64(config + 392, v5);
-            put64(config + 288, get64(v2 + 5624));
-            put64(config + 280, get64(v2 + 5616));
-            put32(config + 306, get32(v2 + 5608));
-            put16(config + 310, get16(v2 + 5612));
-            copy(config + 400, v2 + 0xcc8, 0x920);
-            put64(config + 2736, v47);
-            put64(config + 2776, v47);
-            put64(config + 2744, get64(v2 + 3240));
-            put64(config + 2752, get64(v2 + 3248));
-            put64(config + 2760, get64(v2 + 3256));
-            put64(config + 2768, get64(v2 + 3264));
-            put64(config + 2784, get64(v2 + 3208));
-            put64(config + 2792, get64(v2 + 3216));
-            put64(config + 2800, get64(v2 + 3224));
-            put64(config + 2808, get64(v2 + 3232));
+            put64(config + 288, get64(v2 + 5648));
+            put64(config + 280, get64(v2 + 5640));
+            put32(config + 306, get32(v2 + 5632));
+            put16(config + 310, get16(v2 + 5636));
+            copy(config + 400, v2 + 0xcc0, 0x940);
+            put64(config + 2768, v48);
+            put64(config + 2808, v48);
+            put64(config + 2776, get64(v2 + 3232));
+            put64(config + 2784, get64(v2 + 3240));
+            put64(config + 2792, get64(v2 + 3248));
+            put64(config + 2800, get64(v2 + 3256));
+            put64(config + 2816, get64(v2 + 3200));
+            put64(config + 2824, get64(v2 + 3208));
+            put64(config + 2832, get64(v2 + 3216));
+            put64(config + 2840, get64(v2 + 3224));
             v3 = 0;
-            put16(config + 2816, 0);
-            put8(config + 2824, 0);
-            put64(config + 2832, v47);
-            put32(config + 2818, get32(v2 + 3200));
-            put16(config + 2822, get16(v2 + 3204));
-            put32(config + 2825, get32(v2 + 3192));
-            put32(config + 2828, get32(v2 + 3195));
-            put64(config + 2840, get64(v2 + 3176));
-            put64(config + 2848, get64(v2 + 3184));
-            copy(config + 0xb28, v2 + 0x668, 0x600);
-            copy(config + 0x1128, v2 + 104, 0x600);
-            put64(config + 5928, v47);
-            put64(config + 5968, v47);
-            put64(config + 5992, v42);
-            put64(config + 5936, get64(v2 + 72));
-            put64(config + 5944, get64(v2 + 80));
-            put64(config + 5952, get64(v2 + 88));
-            put64(config + 5960, get64(v2 + 96));
-            put64(config + 5976, get64(v2 + 56));
-            put64(config + 5984, get64(v2 + 64));
-            put64(config + 6000, get64(v2 + 40));
+            put16(config + 2848, 0);
+            put8(config + 2856, 0);
+            put64(config + 2864, v48);
+            put32(config + 2850, get32(v2 + 3192));
+            put16(config + 2854, get16(v2 + 3196));
+            put32(config + 2857, get32(v2 + 3184));
+            put32(config + 2860, get32(v2 + 3187));
+            put64(config + 2872, get64(v2 + 3168));
+            put64(config + 2880, get64(v2 + 3176));
+            copy(config + 0xb48, v2 + 0x660, 0x600);
+            copy(config + 0x1148, v2 + 96, 0x600);
+            put64(config + 5960, v48);
+            put64(config + 6000, v48);
+            put64(config + 6024, v42);
+            put64(config + 5968, get64(v2 + 64));
+            put64(config + 5976, get64(v2 + 72));
+            put64(config + 5984, get64(v2 + 80));
+            put64(config + 5992, get64(v2 + 88));
             put64(config + 6008, get64(v2 + 48));
-            put64(config + 6016, v42);
-            put64(config + 6024, get64(v2 + 24));
+            put64(config + 6016, get64(v2 + 56));
             put64(config + 6032, get64(v2 + 32));
+            put64(config + 6040, get64(v2 + 40));
+            put64(config + 6048, v42);
+            put64(config + 6056, get64(v2 + 16));
+            put64(config + 6064, get64(v2 + 24));
             v6 = get64(sim);
             put64(sim, config);
             if (v6 == 0) return v3;
-            copy(v2 + 0x8370, v6, 0x1798);
+            copy(v2 + 0x8730, v6, 0x17b8);
             rattle_dealloc_at(v6);
-            sedgechisel_nodes_sedgechisel_nodes_sim_link_Link_Destruct_drop(v2 + 0x8370);
+            sedgechisel_nodes_sedgechisel_nodes_sim_link_Link_Destruct_drop(v2 + 0x8730);
             return v3;
         }
-        copy(v2 + 0x8370 + 8, v2 + 0x1678, 88);
-        put32(v2 + 33748, get32(v2 + 5635));
-        put32(v2 + 33745, get32(v2 + 5632));
-        put64(v2 + 33928, get64(v2 + 5616));
-        put64(v2 + 33936, get64(v2 + 5624));
-        put32(v2 + 33954, get32(v2 + 5608));
-        put16(v2 + 33958, get16(v2 + 5612));
-        copy(v2 + 0x8500, v2 + 0xcc8, 0x920);
-        put64(v2 + 36416, get64(v2 + 3264));
-        put64(v2 + 36408, get64(v2 + 3256));
-        put64(v2 + 36400, get64(v2 + 3248));
-        put64(v2 + 36392, get64(v2 + 3240));
-        put64(v2 + 36432, get64(v2 + 3208));
-        put64(v2 + 36440, get64(v2 + 3216));
-        put64(v2 + 36448, get64(v2 + 3224));
-        put64(v2 + 36456, get64(v2 + 3232));
-        put32(v2 + 36466, get32(v2 + 3200));
-        put16(v2 + 36470, get16(v2 + 3204));
-        put32(v2 + 36476, get32(v2 + 3195));
-        put32(v2 + 36473, get32(v2 + 3192));
-        put64(v2 + 36488, get64(v2 + 3176));
-        put64(v2 + 36496, get64(v2 + 3184));
-        copy(v2 + 0x8e98, v2 + 0x668, 0x600);
-        copy(v2 + 0x9498, v2 + 104, 0x600);
-        put64(v2 + 39608, get64(v2 + 96));
-        put64(v2 + 39600, get64(v2 + 88));
-        put64(v2 + 39592, get64(v2 + 80));
-        put64(v2 + 39584, get64(v2 + 72));
-        put64(v2 + 39624, get64(v2 + 56));
-        put64(v2 + 39632, get64(v2 + 64));
-        put64(v2 + 39648, get64(v2 + 40));
-        put64(v2 + 39656, get64(v2 + 48));
-        put64(v2 + 39672, get64(v2 + 24));
-        put64(v2 + 39680, get64(v2 + 32));
-        put64(v2 + 39664, v42);
-        put64(v2 + 39640, v42);
-        put64(v2 + 39616, v47);
-        put64(v2 + 39576, v47);
-        put64(v2 + 36480, v47);
-        put8(v2 + 36472, 0);
-        put16(v2 + 36464, 0);
-        put64(v2 + 36424, v47);
-        put64(v2 + 36384, v47);
-        put64(v2 + 34040, v5);
-        put64(v2 + 34032, v6);
-        put64(v2 + 34024, v7);
-        put64(v2 + 34016, v8);
-        put64(v2 + 34008, v9);
-        put64(v2 + 34000, v10);
-        put64(v2 + 33992, v11);
-        put64(v2 + 33984, v12);
-        put64(v2 + 33976, v13);
-        put64(v2 + 33968, v14);
-        put64(v2 + 33960, v15);
-        put8(v2 + 33953, v16);
-        put8(v2 + 33952, v17);
-        put64(v2 + 33944, v18);
-        put64(v2 + 33920, v19);
-        put64(v2 + 33912, v20);
-        put64(v2 + 33904, v21);
-        put64(v2 + 33896, v22);
-        put64(v2 + 33888, v23);
-        put64(v2 + 33880, v24);
-        put64(v2 + 33872, v25);
-        put64(v2 + 33864, v26);
-        put64(v2 + 33856, v27);
-        put64(v2 + 33848, v28);
-        put64(v2 + 33840, v29);
-        put64(v2 + 33832, v30);
-        put64(v2 + 33824, v31);
-        put64(v2 + 33816, v32);
-        put64(v2 + 33808, v33);
-        put64(v2 + 33800, v34);
-        put64(v2 + 33792, v35);
-        put64(v2 + 33784, v36);
-        put64(v2 + 33776, v37);
-        put64(v2 + 33768, v38);
-        put64(v2 + 33760, v39);
-        put64(v2 + 33752, v40);
-        put8(v2 + 33744, v3);
-        put64(v2 + 33648, v41);
-        sedgechisel_nodes_sedgechisel_nodes_sim_link_Link_Destruct_drop(v2 + 0x8370);
+        copy(v2 + 0x8730 + 8, v2 + 0x1690, 88);
+        put32(v2 + 34708, get32(v2 + 5659));
+        put32(v2 + 34705, get32(v2 + 5656));
+        put64(v2 + 34888, get64(v2 + 5640));
+        put64(v2 + 34896, get64(v2 + 5648));
+        put32(v2 + 34914, get32(v2 + 5632));
+        put16(v2 + 34918, get16(v2 + 5636));
+        copy(v2 + 0x88c0, v2 + 0xcc0, 0x940);
+        put64(v2 + 37408, get64(v2 + 3256));
+        put64(v2 + 37400, get64(v2 + 3248));
+        put64(v2 + 37392, get64(v2 + 3240));
+        put64(v2 + 37384, get64(v2 + 3232));
+        put64(v2 + 37424, get64(v2 + 3200));
+        put64(v2 + 37432, get64(v2 + 3208));
+        put64(v2 + 37440, get64(v2 + 3216));
+        put64(v2 + 37448, get64(v2 + 3224));
+        put32(v2 + 37458, get32(v2 + 3192));
+        put16(v2 + 37462, get16(v2 + 3196));
+        put32(v2 + 37468, get32(v2 + 3187));
+        put32(v2 + 37465, get32(v2 + 3184));
+        put64(v2 + 37480, get64(v2 + 3168));
+        put64(v2 + 37488, get64(v2 + 3176));
+        copy(v2 + 0x9278, v2 + 0x660, 0x600);
+        copy(v2 + 0x9878, v2 + 96, 0x600);
+        put64(v2 + 40600, get64(v2 + 88));
+        put64(v2 + 40592, get64(v2 + 80));
+        put64(v2 + 40584, get64(v2 + 72));
+        put64(v2 + 40576, get64(v2 + 64));
+        put64(v2 + 40616, get64(v2 + 48));
+        put64(v2 + 40624, get64(v2 + 56));
+        put64(v2 + 40640, get64(v2 + 32));
+        put64(v2 + 40648, get64(v2 + 40));
+        put64(v2 + 40664, get64(v2 + 16));
+        put64(v2 + 40672, get64(v2 + 24));
+        put64(v2 + 40656, v42);
+        put64(v2 + 40632, v42);
+        put64(v2 + 40608, v48);
+        put64(v2 + 40568, v48);
+        put64(v2 + 37472, v48);
+        put8(v2 + 37464, 0);
+        put16(v2 + 37456, 0);
+        put64(v2 + 37416, v48);
+        put64(v2 + 37376, v48);
+        put64(v2 + 35000, v5);
+        put64(v2 + 34992, v6);
+        put64(v2 + 34984, v7);
+        put64(v2 + 34976, v8);
+        put64(v2 + 34968, v9);
+        put64(v2 + 34960, v10);
+        put64(v2 + 34952, v11);
+        put64(v2 + 34944, v12);
+        put64(v2 + 34936, v13);
+        put64(v2 + 34928, v14);
+        put64(v2 + 34920, v15);
+        put8(v2 + 34913, v16);
+        put8(v2 + 34912, v17);
+        put64(v2 + 34904, v18);
+        put64(v2 + 34880, v19);
+        put64(v2 + 34872, v20);
+        put64(v2 + 34864, v21);
+        put64(v2 + 34856, v22);
+        put64(v2 + 34848, v23);
+        put64(v2 + 34840, v24);
+        put64(v2 + 34832, v25);
+        put64(v2 + 34824, v26);
+        put64(v2 + 34816, v27);
+        put64(v2 + 34808, v28);
+        put64(v2 + 34800, v29);
+        put64(v2 + 34792, v30);
+        put64(v2 + 34784, v31);
+        put64(v2 + 34776, v32);
+        put64(v2 + 34768, v33);
+        put64(v2 + 34760, v34);
+        put64(v2 + 34752, v35);
+        put64(v2 + 34744, v36);
+        put64(v2 + 34736, v37);
+        put64(v2 + 34728, v38);
+        put64(v2 + 34720, v39);
+        put64(v2 + 34712, v40);
+        put8(v2 + 34704, v3);
+        put64(v2 + 34608, v41);
+        sedgechisel_nodes_sedgechisel_nodes_sim_link_Link_Destruct_drop(v2 + 0x8730);
     }
     v3 = 6;
     return v3;
@@ -9154,44 +9321,88 @@ l3:;
 
 static uint32_t sedge_spacecraft_open_at(uint64_t config, uint64_t spacecraft)
 {
-    unsigned char frame_octets[4768 + 15];
+    unsigned char frame_octets[4832 + 15];
     uint32_t v3 = 0;
-    uint64_t v2 = 0, v4 = 0, v5 = 0;
+    uint64_t v2 = 0, v4 = 0;
     v2 = aligned(frame_octets);
-    fill(v2 + 16, 0, 0x928);
-    put64(v2 + 2448, 0);
-    put64(v2 + 2440, 0);
-    put64(v2 + 2432, 0);
-    nodes_config_Config_fault(v2 + 0x980, config);
-    if (get8(v2 + 2432) != 0) {
+    put64(v2 + 2472, 0);
+    put64(v2 + 2464, 0);
+    put64(v2 + 2456, 0);
+    nodes_config_Config_fault(v2 + 0x998, config);
+    if (get8(v2 + 2456) != 0) {
         v3 = 254;
         return v3;
     }
-    copy(v2 + 0x938, config, 72);
-    nodes_spacecraft_Spacecraft_of(v2 + 16, v2 + 0x938);
-    if (get8(v2 + 16) == 0) {
-        config = get64(v2 + 24);
-        rattle_alloc_at(v2, 0x920, 8);
-        v4 = v2 + 32;
-        if (((uint32_t)get64(v2) & 1) != 0) {
-            v5 = get64(v2 + 8);
-            put64(v5, config);
-            copy(v5 + 8, v4, 0x918);
+    copy(v2 + 0x950, config, 72);
+    fill(v2 + 0x998, 0, 0x948);
+    nodes_spacecraft_Spacecraft_restarted(v2 + 0x998, v2 + 0x950, 0);
+    config = get64(v2 + 2464);
+    v3 = get8(v2 + 2456);
+    copy(v2 + 24, v2 + 0x9a8, 0x938);
+    if (v3 == 0) {
+        rattle_alloc_at(v2 + 8, 0x940, 8);
+        if (((uint32_t)get64(v2 + 8) & 1) != 0) {
+            v4 = get64(v2 + 16);
+            put64(v4, config);
+            copy(v4 + 8, v2 + 24, 0x938);
             config = get64(spacecraft);
-            put64(spacecraft, v5);
+            put64(spacecraft, v4);
             v3 = 0;
             if (config == 0) return v3;
-            copy(v2 + 0x980, config, 0x920);
+            copy(v2 + 0x998, config, 0x940);
             rattle_dealloc_at(config);
-            sedgechisel_nodes_nodes_spacecraft_Spacecraft_Destruct_drop(v2 + 0x980);
+            sedgechisel_nodes_nodes_spacecraft_Spacecraft_Destruct_drop(v2 + 0x998);
             return v3;
         }
-        copy(v2 + 0x980 + 8, v4, 0x918);
-        put64(v2 + 2432, config);
-        sedgechisel_nodes_nodes_spacecraft_Spacecraft_Destruct_drop(v2 + 0x980);
+        copy(v2 + 0x998 + 8, v2 + 24, 0x938);
+        put64(v2 + 2456, config);
+        sedgechisel_nodes_nodes_spacecraft_Spacecraft_Destruct_drop(v2 + 0x998);
     }
     v3 = 6;
     return v3;
+}
+
+static uint32_t sedge_spacecraft_open_kept_at(uint64_t config, uint64_t kept, uint64_t spacecraft)
+{
+    unsigned char frame_octets[4832 + 15];
+    uint32_t v4 = 0, v5 = 0;
+    uint64_t v3 = 0, v6 = 0;
+    v3 = aligned(frame_octets);
+    fill(v3 + 16, 0, 0x948);
+    put64(v3 + 2480, 0);
+    put64(v3 + 2472, 0);
+    put64(v3 + 2464, 0);
+    nodes_config_Config_fault(v3 + 0x9a0, config);
+    v4 = 254;
+    if (get8(v3 + 2464) != 0) return v4;
+    copy(v3 + 0x958, config, 72);
+    v5 = get8(kept + 27);
+    if (v5 > 3) return v4;
+    nodes_spacecraft_Spacecraft_restarted(v3 + 16, v3 + 0x958, (((v5 << 8) | get8(kept + 28)) | (get8(kept + 30) <<
+        16)) | (get8(kept + 31) << 24));
+    v4 = 6;
+    if (get8(v3 + 16) != 0) return v4;
+    config = get64(v3 + 24);
+    rattle_alloc_at(v3, 0x940, 8);
+    kept = v3 + 32;
+    if (((uint32_t)get64(v3) & 1) != 0) {
+        v6 = get64(v3 + 8);
+        put64(v6, config);
+        copy(v6 + 8, kept, 0x938);
+        config = get64(spacecraft);
+        put64(spacecraft, v6);
+        v4 = 0;
+        if (config == 0) return v4;
+        copy(v3 + 0x9a0, config, 0x940);
+        rattle_dealloc_at(config);
+        sedgechisel_nodes_nodes_spacecraft_Spacecraft_Destruct_drop(v3 + 0x9a0);
+        return v4;
+    }
+    copy(v3 + 0x9a0 + 8, kept, 0x938);
+    put64(v3 + 2464, config);
+    sedgechisel_nodes_nodes_spacecraft_Spacecraft_Destruct_drop(v3 + 0x9a0);
+    v4 = 6;
+    return v4;
 }
 
 static uint32_t sedge_ground_advance_at(uint64_t ground)
@@ -9577,72 +9788,32 @@ l3:;
 
 static uint32_t sedge_ground_resume_at(uint64_t ground, uint32_t value, uint64_t whole)
 {
-    unsigned char frame_octets[416 + 15];
-    uint32_t v5 = 0, v6 = 0;
-    uint64_t v3 = 0, v4 = 0, v7 = 0, v8 = 0, v9 = 0, v10 = 0, v11 = 0, v12 = 0, v13 = 0, v14 = 0, v15 = 0, v16 = 0;
+    unsigned char frame_octets[400 + 15];
+    uint64_t v3 = 0, v4 = 0;
     v3 = aligned(frame_octets);
     v4 = get64(ground);
     put64(ground, 0);
     if (v4 == 0) {
-        v5 = 255;
-        return v5;
+        value = 255;
+        return value;
     }
-    v6 = get8(v4 + 75);
-    v5 = get8(v4 + 73);
-    put32(v3 + 16, 5);
-    if (v5 == 5) {
-        if (get8(v4 + 296) == 1) {
-            v5 = value - v6;
-            if (((get8(v4 + 74) - v6) & 255) >= (v5 & 255)) {
-                v7 = get64(v4 + 248);
-                v8 = get64(v4 + 264);
-                if (v8 == 0) {
-                    v9 = 0;
-                    goto l4;
-                }
-                v10 = (uint64_t)v5 & 255;
-                v9 = get64(v4 + 288);
-                v11 = v9 - v8;
-                v12 = v8 - v9;
-                v13 = get64(v4 + 256);
-                v9 = 0;
-                v14 = v4 + 280;
-                do {
-                    if (v9 < v12) {
-                        v15 = v13 + (get64(v14) << 3);
-                        v16 = v9;
-                        goto l7;
-                    }
-                    v16 = v11 + v9;
-                    v15 = v13;
-                l7:;
-                    v15 = get64(v15 + (v16 << 3));
-                    v15 = (v15 > 1) ? v15 : 1ULL;
-                    if (v10 < v15) goto l4;
-                    v10 = v10 - v15;
-                    v9 = v9 + 1;
-                } while (v8 != v9);
-                v9 = v8;
-            l4:;
-                put8(v3 + 17, value);
-                nodes_ground_node_Ground_directive(v3 + 13, v4, v3 + 16);
-                put8(v3 + 16, 2);
-                nodes_ground_node_Ground_directive(v3 + 13, v4, v3 + 16);
-                put64(whole, v9 + v7);
-                v9 = get64(ground);
-                put64(ground, v4);
-                v5 = 0;
-                if (v9 == 0) return v5;
-                copy(v3 + 16, v9, 400);
-                rattle_dealloc_at(v9);
-                sedgechisel_nodes_nodes_ground_node_Ground_Destruct_drop(v3 + 16);
-                return v5;
-            }
-        }
+    put64(v3 + 8, 0);
+    put64(v3, 0);
+    nodes_ground_node_Ground_resume(v3, v4, value);
+    if (get8(v3) == 0) {
+        put64(whole, get64(v3 + 8));
+        value = 0;
+        goto l3;
     }
+    value = get8(v3 + 1) + 1;
+l3:;
+    whole = get64(ground);
     put64(ground, v4);
-    v5 = 7;
-    return v5;
+    if (whole == 0) return value;
+    copy(v3, whole, 400);
+    rattle_dealloc_at(whole);
+    sedgechisel_nodes_nodes_ground_node_Ground_Destruct_drop(v3);
+    return value;
 }
 
 static uint32_t sedge_ground_submit_at(uint64_t ground, uint32_t map, uint64_t octets, uint64_t count)
@@ -9893,13 +10064,13 @@ static uint32_t sedge_ground_tick_at(uint64_t ground)
 
 static void sedge_sim_close_at(uint64_t sim)
 {
-    unsigned char frame_octets[6048 + 15];
+    unsigned char frame_octets[6080 + 15];
     uint64_t v1 = 0, v2 = 0;
     v1 = aligned(frame_octets);
     v2 = get64(sim);
     put64(sim, 0);
     if (v2 == 0) return;
-    copy(v1 + 8, v2, 0x1798);
+    copy(v1 + 8, v2, 0x17b8);
     rattle_dealloc_at(v2);
     sedgechisel_nodes_sedgechisel_nodes_sim_link_Link_Destruct_drop(v1 + 8);
     return;
@@ -9907,7 +10078,7 @@ static void sedge_sim_close_at(uint64_t sim)
 
 static uint32_t sedge_sim_count_at(uint64_t sim, uint32_t record, uint32_t map, uint64_t entries)
 {
-    unsigned char frame_octets[6048 + 15];
+    unsigned char frame_octets[6080 + 15];
     uint64_t v4 = 0, v5 = 0, v6 = 0;
     v4 = aligned(frame_octets);
     v5 = get64(sim);
@@ -9920,14 +10091,14 @@ static uint32_t sedge_sim_count_at(uint64_t sim, uint32_t record, uint32_t map, 
     switch ((record & 255) - 1) {
     case 0:
         if ((map & 255) > 63) goto l3;
-        v6 = get64((v5 + (((uint64_t)map & 255) * 24)) + 0xb30);
+        v6 = get64((v5 + (((uint64_t)map & 255) * 24)) + 0xb50);
         goto l3;
     case 1:
         if ((map & 255) > 63) goto l3;
-        v6 = get64((v5 + (((uint64_t)map & 255) * 24)) + 0x1130);
+        v6 = get64((v5 + (((uint64_t)map & 255) * 24)) + 0x1150);
         goto l3;
     case 2:
-        v6 = get64(v5 + 0x1730);
+        v6 = get64(v5 + 0x1750);
         goto l3;
     case 3:
         goto l4;
@@ -9935,14 +10106,14 @@ static uint32_t sedge_sim_count_at(uint64_t sim, uint32_t record, uint32_t map, 
         goto l3;
     }
 l4:;
-    v6 = get64(v5 + 0x1758) - get64(v5 + 0x1748);
+    v6 = get64(v5 + 0x1778) - get64(v5 + 0x1768);
 l3:;
     put64(entries, v6);
     v6 = get64(sim);
     put64(sim, v5);
     record = 0;
     if (v6 == 0) return record;
-    copy(v4 + 8, v6, 0x1798);
+    copy(v4 + 8, v6, 0x17b8);
     rattle_dealloc_at(v6);
     sedgechisel_nodes_sedgechisel_nodes_sim_link_Link_Destruct_drop(v4 + 8);
     return record;
@@ -9951,7 +10122,7 @@ l3:;
 static uint32_t sedge_sim_entry_at(uint64_t sim, uint32_t record, uint32_t map, uint64_t k, uint64_t out, uint64_t
     room, uint64_t count)
 {
-    unsigned char frame_octets[6048 + 15];
+    unsigned char frame_octets[6080 + 15];
     uint32_t v9 = 0;
     uint64_t v7 = 0, v8 = 0, v10 = 0, v11 = 0, v12 = 0, v13 = 0, v14 = 0, v15 = 0, v16 = 0;
     v7 = aligned(frame_octets);
@@ -9969,8 +10140,8 @@ static uint32_t sedge_sim_entry_at(uint64_t sim, uint32_t record, uint32_t map, 
             return v9;
         }
         v10 = v8 + (((uint64_t)map & 255) * 24);
-        v11 = get64(v10 + 0xb30);
-        v10 = get64(v10 + 0xb28);
+        v11 = get64(v10 + 0xb50);
+        v10 = get64(v10 + 0xb48);
         goto l5;
     case 1:
         if ((map & 255) > 63) {
@@ -9978,12 +10149,12 @@ static uint32_t sedge_sim_entry_at(uint64_t sim, uint32_t record, uint32_t map, 
             return v9;
         }
         v10 = v8 + (((uint64_t)map & 255) * 24);
-        v11 = get64(v10 + 0x1130);
-        v10 = get64(v10 + 0x1128);
+        v11 = get64(v10 + 0x1150);
+        v10 = get64(v10 + 0x1148);
         goto l5;
     case 2:
-        v11 = get64(v8 + 0x1730);
-        v10 = get64(v8 + 0x1728);
+        v11 = get64(v8 + 0x1750);
+        v10 = get64(v8 + 0x1748);
         goto l5;
     case 3:
         goto l6;
@@ -9992,9 +10163,9 @@ static uint32_t sedge_sim_entry_at(uint64_t sim, uint32_t record, uint32_t map, 
         return v9;
     }
 l6:;
-    v10 = get64(v8 + 0x1748);
-    v11 = get64(v8 + 0x1758) - v10;
-    v10 = get64(v8 + 0x1750) + (v10 * 24);
+    v10 = get64(v8 + 0x1768);
+    v11 = get64(v8 + 0x1778) - v10;
+    v10 = get64(v8 + 0x1770) + (v10 * 24);
 l5:;
     if (k >= v11) {
         put64(sim, v8);
@@ -10046,7 +10217,7 @@ l3:;
     put64(sim, v8);
     v9 = 0;
     if (k == 0) return v9;
-    copy(v7 + 8, k, 0x1798);
+    copy(v7 + 8, k, 0x17b8);
     rattle_dealloc_at(k);
     sedgechisel_nodes_sedgechisel_nodes_sim_link_Link_Destruct_drop(v7 + 8);
     return v9;
@@ -10054,7 +10225,7 @@ l3:;
 
 static uint32_t sedge_sim_ground_read_at(uint64_t sim, uint64_t read)
 {
-    unsigned char frame_octets[6048 + 15];
+    unsigned char frame_octets[6080 + 15];
     uint32_t v5 = 0, v6 = 0, v7 = 0, v17 = 0, v18 = 0, v19 = 0, v20 = 0, v21 = 0;
     uint64_t v2 = 0, v3 = 0, v4 = 0, v8 = 0, v9 = 0, v10 = 0, v11 = 0, v12 = 0, v13 = 0, v14 = 0, v15 = 0, v16 = 0;
     v2 = aligned(frame_octets);
@@ -10124,7 +10295,7 @@ l3:;
     v4 = get64(sim);
     put64(sim, v3);
     if (v4 == 0) return v5;
-    copy(v2 + 8, v4, 0x1798);
+    copy(v2 + 8, v4, 0x17b8);
     rattle_dealloc_at(v4);
     sedgechisel_nodes_sedgechisel_nodes_sim_link_Link_Destruct_drop(v2 + 8);
     return v5;
@@ -10132,7 +10303,7 @@ l3:;
 
 static uint32_t sedge_sim_octets_at(uint64_t sim, uint64_t out, uint64_t room, uint64_t count)
 {
-    unsigned char frame_octets[6048 + 15];
+    unsigned char frame_octets[6080 + 15];
     uint32_t v6 = 0;
     uint64_t v4 = 0, v5 = 0, v7 = 0, v8 = 0, v9 = 0, v10 = 0, v11 = 0, v12 = 0, v13 = 0, v14 = 0;
     v4 = aligned(frame_octets);
@@ -10142,7 +10313,7 @@ static uint32_t sedge_sim_octets_at(uint64_t sim, uint64_t out, uint64_t room, u
         v6 = 255;
         return v6;
     }
-    v7 = get64(v5 + 0x1788);
+    v7 = get64(v5 + 0x17a8);
     if (room < v7) {
         put64(sim, v5);
         v6 = 252;
@@ -10150,7 +10321,7 @@ static uint32_t sedge_sim_octets_at(uint64_t sim, uint64_t out, uint64_t room, u
     }
     v8 = (out == 0) ? 0x1000ULL : 0ULL;
     v9 = out + v8;
-    v10 = get64(v5 + 0x1780);
+    v10 = get64(v5 + 0x17a0);
     if ((v9 - v10) < v7) {
         v11 = v7 & 3;
         v12 = 0;
@@ -10185,7 +10356,7 @@ l4:;
     put64(sim, v5);
     v6 = 0;
     if (room == 0) return v6;
-    copy(v4 + 8, room, 0x1798);
+    copy(v4 + 8, room, 0x17b8);
     rattle_dealloc_at(room);
     sedgechisel_nodes_sedgechisel_nodes_sim_link_Link_Destruct_drop(v4 + 8);
     return v6;
@@ -10193,7 +10364,7 @@ l4:;
 
 static uint32_t sedge_sim_read_at(uint64_t sim, uint64_t read)
 {
-    unsigned char frame_octets[6048 + 15];
+    unsigned char frame_octets[6080 + 15];
     uint32_t v4 = 0, v5 = 0, v6 = 0, v7 = 0, v8 = 0, v11 = 0, v12 = 0, v13 = 0, v15 = 0;
     uint64_t v2 = 0, v3 = 0, v9 = 0, v10 = 0, v14 = 0;
     v2 = aligned(frame_octets);
@@ -10204,9 +10375,9 @@ static uint32_t sedge_sim_read_at(uint64_t sim, uint64_t read)
         return v4;
     }
     v5 = 1;
-    v6 = get8(v3 + 0xb00);
+    v6 = get8(v3 + 0xb20);
     if (v6 == 1) {
-        v7 = get8(v3 + 0xb02);
+        v7 = get8(v3 + 0xb22);
         switch ((uint32_t)((uint64_t)v7 & 255)) {
         case 1:
             v7 = 0;
@@ -10217,7 +10388,7 @@ static uint32_t sedge_sim_read_at(uint64_t sim, uint64_t read)
             v5 = 3;
             goto l3;
         case 3:
-            v7 = get8(v3 + 0xb03);
+            v7 = get8(v3 + 0xb23);
             v5 = 4;
             goto l3;
         case 4:
@@ -10237,11 +10408,11 @@ l3:;
     v8 = get8(v3 + 96);
     v9 = get64(v3 + 216);
     v10 = get64(v3 + 152);
-    v11 = get8(v3 + 0xb06);
-    v12 = get8(v3 + 0xb07);
+    v11 = get8(v3 + 0xb26);
+    v12 = get8(v3 + 0xb27);
     v13 = get8(v3 + 73);
-    v14 = get64(v3 + 0x1740);
-    v15 = get8(v3 + 0xb08);
+    v14 = get64(v3 + 0x1760);
+    v15 = get8(v3 + 0xb28);
     v4 = 0;
     put16(read + 22, 0);
     put8(read + 21, v15);
@@ -10256,7 +10427,7 @@ l3:;
     read = get64(sim);
     put64(sim, v3);
     if (read == 0) return v4;
-    copy(v2 + 8, read, 0x1798);
+    copy(v2 + 8, read, 0x17b8);
     rattle_dealloc_at(read);
     sedgechisel_nodes_sedgechisel_nodes_sim_link_Link_Destruct_drop(v2 + 8);
     return v4;
@@ -10264,9 +10435,9 @@ l3:;
 
 static uint32_t sedge_sim_spacecraft_read_at(uint64_t sim, uint64_t read)
 {
-    unsigned char frame_octets[6048 + 15];
-    uint32_t v4 = 0, v5 = 0, v6 = 0, v7 = 0, v11 = 0, v12 = 0, v13 = 0;
-    uint64_t v2 = 0, v3 = 0, v8 = 0, v9 = 0, v10 = 0;
+    unsigned char frame_octets[6080 + 15];
+    uint32_t v4 = 0, v5 = 0, v6 = 0, v7 = 0, v9 = 0, v10 = 0, v11 = 0, v12 = 0;
+    uint64_t v2 = 0, v3 = 0, v8 = 0, v13 = 0;
     v2 = aligned(frame_octets);
     v3 = get64(sim);
     put64(sim, 0);
@@ -10278,26 +10449,26 @@ static uint32_t sedge_sim_spacecraft_read_at(uint64_t sim, uint64_t read)
     v6 = get8(v3 + 475);
     v7 = get8(v3 + 474);
     v8 = (uint64_t)get32(v3 + 460);
-    v9 = get64(v3 + 0xa00);
-    v10 = get64(v3 + 0xa30);
-    v11 = get32(v3 + 404);
-    v12 = get8(v3 + 477);
-    v13 = get8(v3 + 473);
+    v9 = get16(v3 + 0xa70);
+    v10 = get8(v3 + 473);
+    v11 = get8(v3 + 477);
+    v12 = get32(v3 + 404);
+    v13 = get64(v3 + 0xa50);
+    put64(read + 8, get64(v3 + 0xa20));
+    put64(read + 16, v13);
     v4 = 0;
-    put16(read + 30, 0);
-    put8(read + 28, v13);
-    put8(read + 27, v12);
-    put8(read + 25, v11);
     put8(read + 24, 0);
-    put64(read + 16, v10);
-    put64(read + 8, v9);
+    put8(read + 25, v12);
+    put8(read + 27, v11);
+    put8(read + 28, v10);
+    put16(read + 30, v9);
     put64(read, v8);
     put8(read + 29, (v7 != 0) ? 2U : v6);
     put8(read + 26, ((v6 << 4) | (v7 << 5)) | (v5 << 3));
     read = get64(sim);
     put64(sim, v3);
     if (read == 0) return v4;
-    copy(v2 + 8, read, 0x1798);
+    copy(v2 + 8, read, 0x17b8);
     rattle_dealloc_at(read);
     sedgechisel_nodes_sedgechisel_nodes_sim_link_Link_Destruct_drop(v2 + 8);
     return v4;
@@ -10305,2025 +10476,2298 @@ static uint32_t sedge_sim_spacecraft_read_at(uint64_t sim, uint64_t read)
 
 static uint32_t sedge_sim_step_at(uint64_t sim, uint64_t event, uint64_t reply)
 {
-    unsigned char frame_octets[12432 + 15];
-    uint32_t v4 = 0, v5 = 0, v6 = 0, v7 = 0, v10 = 0, v11 = 0, v12 = 0, v13 = 0, v14 = 0, v15 = 0, v16 = 0, v23 = 0,
-        v24 = 0, v34 = 0, v35 = 0, v36 = 0, v37 = 0, v38 = 0, v39 = 0, v40 = 0, v41 = 0, v42 = 0, v43 = 0, t1, t2, t3,
-        t4, t5, t6, t7, t9, t12, t13, t14;
-    uint64_t v3 = 0, v8 = 0, v9 = 0, v17 = 0, v18 = 0, v19 = 0, v20 = 0, v21 = 0, v22 = 0, v25 = 0, v26 = 0, v27 = 0,
-        v28 = 0, v29 = 0, v30 = 0, v31 = 0, v32 = 0, v33 = 0, t10, t11;
+    unsigned char frame_octets[6608 + 15];
+    uint32_t v4 = 0, v5 = 0, v6 = 0, v9 = 0, v10 = 0, v11 = 0, v12 = 0, v13 = 0, v14 = 0, v15 = 0, v16 = 0, v23 = 0,
+        v24 = 0, v26 = 0, v27 = 0, v31 = 0, v32 = 0, v33 = 0, v34 = 0, v35 = 0, v36 = 0, v37 = 0, v43 = 0, v44 = 0,
+        v45 = 0, v46 = 0, v47 = 0, t2, t3, t4, t5, t6, t7, t8, t10, t14, t15, t16;
+    uint64_t v3 = 0, v7 = 0, v8 = 0, v17 = 0, v18 = 0, v19 = 0, v20 = 0, v21 = 0, v22 = 0, v25 = 0, v28 = 0, v29 = 0,
+        v30 = 0, v38 = 0, v39 = 0, v40 = 0, v41 = 0, v42 = 0, t11, t12, t17;
     v3 = aligned(frame_octets);
-    v4 = 3;
-    v5 = 1;
-    v6 = 0;
-    v7 = 255;
+    v4 = 1;
+    v5 = 0;
+    v6 = 255;
+    v7 = 0;
     v8 = 0;
     v9 = 0;
-    v10 = 0;
-    v11 = 1;
+    v10 = 1;
+    v11 = 0;
     v12 = 0;
-    v13 = 0;
-    switch (get8(event) - 1) {
+    v13 = get8(event);
+    switch (v13 - 1) {
     case 0:
-        v9 = get64(event + 16);
-        v8 = get64(event + 8);
-        v13 = get8(event + 1);
-        v6 = 0;
-        v10 = 0;
-        v11 = 1;
-        v12 = 0;
-        v4 = 0;
+        v8 = get64(event + 16);
+        v7 = get64(event + 8);
+        v12 = get8(event + 1);
+        v5 = 0;
+        v9 = 0;
+        v10 = 1;
+        v11 = 0;
+        v13 = 0;
         goto l2;
     case 1:
-        v9 = get64(event + 16);
-        v8 = get64(event + 8);
-        v13 = get8(event + 1);
-        v11 = 1;
-        v6 = 0;
-        v10 = 0;
-        v5 = 1;
-        v12 = 0;
+        v8 = get64(event + 16);
+        v7 = get64(event + 8);
+        v12 = get8(event + 1);
+        v10 = 1;
+        v5 = 0;
+        v9 = 0;
         v4 = 1;
+        v11 = 0;
+        v13 = 1;
         goto l2;
     case 2:
         v14 = get16(event + 4);
         v15 = v14 < 256;
         v16 = (v15 != 0) ? v14 : 256U;
-        v4 = 2;
-        v6 = 0;
+        v13 = 2;
+        v5 = 0;
+        v7 = 0;
         v8 = 0;
         v9 = 0;
-        v10 = 0;
-        v11 = 1;
+        v10 = 1;
+        v11 = 0;
         v12 = 0;
-        v13 = 0;
         switch (get8(event + 2) - 1) {
         case 0:
             goto l2;
         case 1:
-            v5 = 1;
-            v6 = 0;
+            v4 = 1;
+            v5 = 0;
+            v7 = 0;
             v8 = 0;
             v9 = 0;
             v10 = 0;
-            v11 = 0;
-            v12 = 1;
-            goto l3;
+            v11 = 1;
+            v12 = 0;
+            goto l2;
         case 2:
-            v12 = 2;
-            v6 = 0;
+            v11 = 2;
+            v5 = 0;
+            v7 = 0;
             v8 = 0;
             v9 = 0;
             v10 = 0;
-            v11 = 0;
-            v13 = 0;
-            v4 = 2;
+            v12 = 0;
+            v13 = 2;
             goto l2;
         case 3:
-            if (v15 == 0) return v7;
-            v6 = 0;
-            v12 = 3;
+            if (v15 == 0) return v6;
+            v5 = 0;
+            v11 = 3;
+            v7 = 0;
             v8 = 0;
-            v9 = 0;
-            v10 = v16;
-            v11 = 0;
-            goto l3;
+            v9 = v16;
+            v10 = 0;
+            v12 = 0;
+            goto l2;
         case 4:
-            v12 = 4;
-            v6 = 0;
+            v11 = 4;
+            v5 = 0;
+            v7 = 0;
             v8 = 0;
             v9 = 0;
-            v10 = 0;
-            goto l4;
+            goto l3;
         case 5:
-            if (v15 == 0) return v7;
-            v6 = 0;
-            v12 = 5;
-            goto l5;
-        case 6:
-            v6 = 0;
-            v12 = 6;
-            goto l5;
-        case 7:
-            v6 = 0;
-            v12 = 7;
-            goto l5;
-        case 8:
-            v12 = 8;
-            v10 = 0;
-            v8 = 0;
-            v9 = 0;
-            v6 = v14;
+            if (v15 == 0) return v6;
+            v5 = 0;
+            v11 = 5;
             goto l4;
+        case 6:
+            v5 = 0;
+            v11 = 6;
+            goto l4;
+        case 7:
+            v5 = 0;
+            v11 = 7;
+            goto l4;
+        case 8:
+            v11 = 8;
+            v9 = 0;
+            v7 = 0;
+            v8 = 0;
+            v5 = v14;
+            goto l3;
         default:
-            return v7;
+            return v6;
         }
     case 3:
-        goto l2;
     case 4:
-        v4 = 4;
-        goto l7;
     case 5:
-        v4 = 5;
-        goto l7;
-    case 6:
-        v9 = get64(event + 16);
-        v8 = get64(event + 8);
-        v4 = 6;
-        goto l8;
     case 7:
-        v4 = 7;
-        goto l7;
     case 8:
-        v4 = 8;
-        goto l7;
     case 9:
-        v4 = 9;
-        goto l7;
+        goto l2;
+    case 6:
+        v8 = get64(event + 16);
+        v7 = get64(event + 8);
+        v13 = 7;
+        goto l6;
     case 10:
-        v9 = get64(event + 16);
-        v8 = get64(event + 8);
-        v4 = 10;
-        goto l8;
+        v8 = get64(event + 16);
+        v7 = get64(event + 8);
+        v13 = 11;
+        goto l6;
     case 11:
-        v4 = 11;
+        v13 = 13;
         goto l7;
     case 12:
-        v4 = 12;
+        v13 = 14;
         goto l7;
     case 13:
-        v4 = 13;
+        v13 = 15;
         goto l7;
     case 14:
-        goto l9;
-    default:
-        return v7;
-    }
-l9:;
-    v9 = get64(event + 16);
-    v8 = get64(event + 8);
-    v4 = 14;
-l8:;
-    v6 = 0;
-    goto l6;
-l7:;
-    v6 = 0;
-    v8 = 0;
-    v9 = 0;
-l6:;
-    v10 = 0;
-    v11 = 1;
-    v12 = 0;
-    goto l3;
-l5:;
-    v8 = 0;
-    v9 = 0;
-    v10 = v16;
-l4:;
-    v11 = 0;
-    v5 = 0;
-l3:;
-    v13 = 0;
-l2:;
-    v17 = get64(sim);
-    put64(sim, 0);
-    if (v17 == 0) return v7;
-    v7 = 0;
-    put16(v3 + 188, 0);
-    put32(v3 + 184, 0);
-    switch (v4) {
-    case 1:
-        nodes_ground_node_Ground_bypass(v3 + 48, v17, v13, v8, v9);
-        v24 = 0;
-        v12 = get8(v3 + 49);
-        v7 = v12 == 5;
-        v13 = get8(v3 + 48);
-        v4 = v7 & (uint32_t)(v13 != 0);
-        v23 = (v13 != 0) ? ((v7 != 0) ? 0U : v12) : 0U;
-        v7 = (v13 != 0) ? ((v7 != 0) ? 0U : 3U) : 0U;
-        event = 0;
-        v20 = 0;
-        goto l55;
-    case 2:
-        put16(v3 + 6362, v6);
-        put8(v3 + 6361, v10);
-        put8(v3 + 6360, v12);
-        v4 = 0;
-        put16(v3 + 6336, 0);
-        put8(v3 + 6338, 0);
-        if (v11 == 0) {
-            if (v5 != 0) goto l60;
-            v7 = v12;
-            v6 = 0;
-            goto l59;
-        }
+        v8 = get64(event + 16);
+        v7 = get64(event + 8);
+        v13 = 16;
+        goto l6;
+    case 15:
+        v13 = 12;
+        goto l7;
+    case 16:
+        v6 = 255;
+        v12 = get16(event + 4);
+        if (v12 > 255) return v6;
+        v13 = 3;
+        v5 = 0;
+        v8 = 0;
         v7 = 0;
+        v9 = 0;
+        v10 = 1;
+        v11 = 0;
+        goto l2;
+    default:
+        return v6;
+    }
+l7:;
+    v5 = 0;
+    v7 = 0;
+    v8 = 0;
+    goto l5;
+l6:;
+    v5 = 0;
+l5:;
+    v9 = 0;
+    v10 = 1;
+    v11 = 0;
+    v12 = 0;
+    goto l2;
+l4:;
+    v7 = 0;
+    v8 = 0;
+    v9 = v16;
+l3:;
+    v10 = 0;
+    v4 = 0;
+    v12 = 0;
+l2:;
+    event = get64(sim);
+    put64(sim, 0);
+    v6 = 255;
+    if (event == 0) return v6;
+    v14 = 0;
+    put16(v3 + 228, 0);
+    put32(v3 + 224, 0);
+    switch (v13) {
+    case 1:
+        nodes_ground_node_Ground_bypass(v3 + 56, event, v12, v7, v8);
+        v24 = 0;
+        v11 = get8(v3 + 57);
+        v13 = v11 == 5;
+        v12 = get8(v3 + 56);
+        v6 = (v12 != 0) ? ((v13 != 0) ? 0U : 3U) : 0U;
+        if ((v13 & (uint32_t)(v12 != 0)) != 0) goto l48;
+        v23 = (v12 != 0) ? ((v13 != 0) ? 0U : v11) : 0U;
+        v21 = 0;
+        goto l49;
+    case 2:
+        put16(v3 + 530, v5);
+        put8(v3 + 529, v9);
+        put8(v3 + 528, v11);
         v6 = 0;
-        v4 = 0;
-        if (get8(v17 + 473) != get8(v17 + 74)) goto l59;
-        goto l60;
-    case 3:
-        put64(v3 + 1736, 0);
-        put64(v3 + 1728, 0);
-        nodes_ground_node_Ground_peek(v3 + 0x18f0, v17);
-        v7 = 1;
-        if (get8(v3 + 6384) != 1) goto l74;
-        put64(v3 + 4832, get64(v3 + 6424));
-        put64(v3 + 4824, get64(v3 + 6416));
-        put64(v3 + 4816, get64(v3 + 6408));
-        event = get64(v3 + 6400);
-        put64(v3 + 4808, event);
-        put64(v3 + 4800, get64(v3 + 6392));
-        v7 = (uint32_t)event;
-        if ((v7 & 255) == 2) {
-            event = (get8(v3 + 4809) != 0) ? 4ULL : 2ULL;
-            goto l109;
+        put16(v3 + 280, 0);
+        put8(v3 + 282, 0);
+        if (v10 == 0) {
+            if (v4 != 0) goto l54;
+            v13 = v11;
+            v12 = 0;
+            goto l53;
         }
-        event = get64(v3 + 4832) + 2;
-    l109:;
-        v25 = event + 6;
-        v4 = v25 == 0;
-        if (v4 != 0) {
-            v20 = 0;
-            v21 = v3 + 0x3088;
+        v13 = 0;
+        v12 = 0;
+        v6 = 0;
+        if (get8(event + 473) != get8(event + 74)) goto l53;
+        goto l54;
+    case 3:
+        put64(v3 + 528, 0);
+        put64(v3 + 536, 0);
+        put32(v3 + 280, 2);
+        v6 = 0;
+        if (get64(event + 0xad8) == 0) v6 = get64(event + 0xb00) == 0;
+        v13 = simulated_link_world_World_is_idle(event);
+        nodes_ground_node_Ground_resume(v3 + 528, event, v12);
+        if (get8(v3 + 528) == 0) {
+            v7 = get64(v3 + 536);
+            simulated_link_world_World_begin(event, v3 + 280, v6, v13);
+            v23 = 0;
+            v6 = 10;
             goto l111;
         }
-        if (v25 > 0x7fffffffffffffffULL) goto l61;
-        rattle_alloc_at(v3 + 72, v25, 1);
-        if (((uint32_t)get64(v3 + 72) & 1) == 0) goto l61;
-        v21 = get64(v3 + 80);
-        v8 = 0;
-        if (v25 != 1) {
-            v8 = event + 5;
-            if (v8 != 0) fill(v21, 0, v8);
-        }
-        put8(v21 + v8, 0);
-        v20 = v8 + 1;
+        v7 = 0;
+        v6 = 3;
+        v23 = get8(v3 + 529);
     l111:;
-        tc_frame_encoding_encode(v3 + 0x6c0, v3 + 0x18f8, v21, v20);
-        if (get8(v3 + 1728) != 0) UNREACHABLE;
-        v13 = v20 == 0;
-        if (v13 != 0) {
-            event = v3 + 0x3088;
-            goto l118;
+        v25 = v7 & 0xffffffffff000000ULL;
+        v24 = (uint32_t)(v7 >> 16);
+        v26 = (uint32_t)(v7 >> 8);
+        v27 = (uint32_t)v7;
+        v13 = 0;
+        v21 = 0;
+        v7 = 0;
+        v14 = 0;
+        goto l47;
+    case 4:
+        v25 = 0;
+        put64(v3 + 288, 0);
+        put64(v3 + 280, 0);
+        nodes_ground_node_Ground_peek(v3 + 528, event);
+        if (get8(v3 + 528) != 1) {
+            nodes_ground_node_Ground_advance(event);
+            v27 = 0;
+            v26 = 0;
+            v24 = 0;
+            v7 = 0;
+            v21 = 0;
+            goto l44;
         }
-        rattle_alloc_at(v3 + 56, v20, 1);
-        if (((uint32_t)get64(v3 + 56) & 1) == 0) {
-            if (v4 == 0) goto l115;
-            goto l61;
+        v25 = get64(v3 + 560);
+        v11 = get8(v3 + 553);
+        v10 = get8(v3 + 552);
+        v6 = get8(v3 + 545);
+        v17 = get64(v3 + 568);
+        v13 = get8(v3 + 544);
+        v7 = (v13 == 2) ? ((v6 != 0) ? 4ULL : 2ULL) : (v17 + 2);
+        v28 = v7 + 6;
+        v12 = v28 == 0;
+        if (v12 != 0) {
+            v7 = 0;
+            v18 = v3 + 0x19c8;
+            goto l113;
         }
-        event = get64(v3 + 64);
-    l118:;
-        if ((event - v21) < v20) {
-            v19 = v20 & 3;
-            v9 = 0;
-            if (v20 >= 4) {
-                v26 = v20 & ~3ULL;
-                v9 = 0;
-                do {
-                    v8 = event + v9;
-                    v22 = v21 + v9;
-                    put8(v8, get8(v22));
-                    put8(v8 + 1, get8(v22 + 1));
-                    put8(v8 + 2, get8(v22 + 2));
-                    put8(v8 + 3, get8(v22 + 3));
-                    v9 = v9 + 4;
-                } while (v26 != v9);
-                if (v19 == 0) goto l120;
-            }
-            v8 = event + v9;
-            v9 = v21 + v9;
-        l124:;
-            put8(v8, get8(v9));
-            v8 = v8 + 1;
-            v9 = v9 + 1;
-            v19 = v19 - 1;
-            if (v19 != 0) goto l124;
+        if (v28 > 0x7fffffffffffffffULL) goto l55;
+        rattle_alloc_at(v3 + 96, v28, 1);
+        if (((uint32_t)get64(v3 + 96) & 1) == 0) goto l55;
+        v18 = get64(v3 + 104);
+        v8 = 0;
+        if (v28 != 1) {
+            v8 = v7 + 5;
+            if (v8 != 0) fill(v18, 0, v8);
+        }
+        put8(v18 + v8, 0);
+        v7 = v8 + 1;
+    l113:;
+        tc_frame_encoding_encode(v3 + 280, v3 + 536, v18, v7);
+        if (get8(v3 + 280) != 0) UNREACHABLE;
+        v5 = v7 == 0;
+        if (v5 != 0) {
+            v20 = v3 + 0x19c8;
             goto l120;
         }
-        if (v13 == 0) copy(event, v21, v20);
+        rattle_alloc_at(v3 + 80, v7, 1);
+        if (((uint32_t)get64(v3 + 80) & 1) == 0) {
+            if (v12 == 0) goto l117;
+            goto l55;
+        }
+        v20 = get64(v3 + 88);
     l120:;
-        v12 = get8(v17 + 74);
-        v8 = 0;
-        put64(v3 + 3288, 0);
-        put64(v3 + 3280, 0);
-        put64(v3 + 3272, 0);
-        put64(v3 + 3264, 0);
+        if ((v20 - v18) < v7) {
+            v22 = v7 & 3;
+            v21 = 0;
+            if (v7 >= 4) {
+                v29 = v7 & ~3ULL;
+                v21 = 0;
+                do {
+                    v8 = v20 + v21;
+                    v19 = v18 + v21;
+                    put8(v8, get8(v19));
+                    put8(v8 + 1, get8(v19 + 1));
+                    put8(v8 + 2, get8(v19 + 2));
+                    put8(v8 + 3, get8(v19 + 3));
+                    v21 = v21 + 4;
+                } while (v29 != v21);
+                if (v22 == 0) goto l122;
+            }
+            v8 = v20 + v21;
+            v21 = v18 + v21;
+        l126:;
+            put8(v8, get8(v21));
+            v8 = v8 + 1;
+            v21 = v21 + 1;
+            v22 = v22 - 1;
+            if (v22 != 0) goto l126;
+            goto l122;
+        }
+        if (v5 == 0) copy(v20, v18, v7);
+    l122:;
+        v30 = 0;
         v22 = 0;
-        v9 = 0;
-        v12 = (v7 & 255) != 0 || (get8(v3 + 4809) & 255) != (v12 & 255);
-        if (v12 == 0) {
-            nodes_data_field_data_field_of(v3 + 0xcc0, v3 + 0x12d0);
-            if (get8(v3 + 3264) != 0) goto l116;
-            v8 = get64(v3 + 3288);
-            v22 = get64(v3 + 3280);
-            v9 = get64(v3 + 3272);
-        }
-        if (get64(v17 + 0xac0) == get64(v17 + 0xab8)) {
-            t1 = std_alloc_vec_deque_VecDeque_grow_1598ebf9113514c4(v17 + 0xab0);
-            if (t1 == 0) goto l126;
-        }
-        if (get64(v17 + 0x1738) != get64(v17 + 0x1730)) goto l114;
-        t2 = std_alloc_vec_Vec_grow_amortized_1598ebf9113514c4(v17 + 0x1728, 1);
-        if (t2 != 0) goto l114;
-    l126:;
-        if (v4 == 0) rattle_dealloc_at(v21);
-        if (v13 == 0) rattle_dealloc_at(event);
-        v7 = 0;
-        if ((v12 | (uint32_t)(v8 == 0)) != 0) goto l53;
-        rattle_dealloc_at(v9);
-        goto l53;
-    l116:;
-        if (v13 == 0) rattle_dealloc_at(event);
-        if (v4 != 0) goto l61;
-    l115:;
-        rattle_dealloc_at(v21);
-        goto l61;
-    l114:;
-        nodes_ground_node_Ground_advance(v17);
-        v19 = get64(v17 + 0xab0);
-        v26 = get64(v17 + 0xab8);
-        v18 = v17 + 0xad0;
-        v27 = get64(v18);
-        v28 = v26 - v27;
-        v29 = get64(v17 + 0xac8);
-        if (v28 < (get64(v17 + 0xac0) - v29)) {
-            v19 = v19 + ((v29 + v28) * 24);
-            put64(v19 + 16, v25);
-            put64(v19 + 8, v20);
-            put64(v19, v21);
-            goto l131;
-        }
-        v19 = v19 + (v27 * 24);
-        put64(v19 + 16, v25);
-        put64(v19 + 8, v20);
-        put64(v19, v21);
-        put64(v18, v27 + 1);
-    l131:;
-        put64(v17 + 0xab8, v26 + 1);
-        if (v12 == 0) {
-            v21 = v17 + 0x1730;
-            v26 = get64(v21);
-            v19 = get64(v17 + 0x1728) + (v26 * 24);
-            put64(v19 + 16, v8);
-            put64(v19 + 8, v22);
-            put64(v19, v9);
-            put64(v21, v26 + 1);
-        }
-        put16(v3 + 6388, 0);
-        put32(v3 + 6384, 0);
-        v9 = v20;
-        goto l51;
-    case 4:
-        event = 0;
-        put64(v3 + 192, 0);
-        put64(v3 + 200, 0);
-        put64(v3 + 208, 0);
-        v23 = 0;
-        fill(v3 + 0x18f0, 0, 208);
-        put64(v3 + 6376, 0);
-        put64(v3 + 6368, 0);
-        put64(v3 + 6360, 0);
-        put64(v3 + 6336, 0);
-        put64(v3 + 6344, 0);
-        put64(v3 + 6352, 0);
-        v4 = 1;
-        v8 = get64(v17 + 0xab8);
-        if (v8 != 0) {
-            event = get64(v17 + 0xab0);
-            if (v8 != get64(v17 + 0xad0)) event = event + (get64(v17 + 0xac8) * 24);
-            v25 = v17 + 400;
-            nodes_spacecraft_Spacecraft_prepare(v3 + 0x18f0, v25, get64(event), get64(event + 8));
-            event = 0;
-            v7 = 0;
-            if (get8(v3 + 6384) != 0) goto l62;
-            copy(v3 + 0x12c0, v3 + 0x18f0 + 8, 200);
-            v28 = 0;
-            put64(v3 + 3288, 0);
-            put64(v3 + 3280, 0);
-            put64(v3 + 3272, 0);
-            put64(v3 + 3264, 0);
-            v4 = get8(v3 + 4848);
-            if (v4 == 1) {
-                v12 = get8(v3 + 4888);
-                v18 = get64((v12 != 0) ? (v3 + 0x1328) : (v3 + 0x1338));
-                v13 = get8(v3 + 6449);
-                event = get64(v3 + 4896);
-                nodes_data_field_data_field_of(v3 + 0xcc0, v3 + 0x1930);
-                if (get8(v3 + 3264) == 0) {
-                    v29 = get64(v3 + 3288);
-                    v30 = get64(v3 + 3280);
-                    v31 = get64(v3 + 3272);
-                    if (v18 == 0) {
-                        v28 = v3 + 0x3088;
-                        v32 = 0;
-                        v21 = 0;
-                        goto l146;
-                    }
-                    if (v18 > 0x555555555555555ULL) goto l142;
-                    rattle_alloc_at(v3 + 104, v18 * 24, 8);
-                    if (((uint32_t)get64(v3 + 104) & 1) == 0) goto l142;
-                    v33 = (v12 != 0) ? event : (v3 + 0x1320);
-                    v32 = get64(v3 + 112);
-                    put64(v3 + 1744, v18);
-                    put64(v3 + 1736, 0);
-                    put64(v3 + 1728, v32);
-                    v21 = 0;
-                    v28 = 0;
+        v13 = v13 != 0 || (v6 & 255) != (get8(event + 74) & 255);
+        if (v13 == 0) {
+            v22 = v3 + 0x19c8;
+            v30 = v17 + 1;
+            if (v30 != 0) {
+                if (v30 > 0x7fffffffffffffffULL) goto l118;
+                rattle_alloc_at(v3 + 64, v30, 1);
+                if (((uint32_t)get64(v3 + 64) & 1) == 0) goto l118;
+                v22 = get64(v3 + 72);
+            }
+            put8(v22, (v10 << 6) + v11);
+            v8 = v22 + 1;
+            if ((v8 - v25) < v17) {
+                v29 = v17 & 3;
+                v8 = 0;
+                if (v17 >= 4) {
+                    v17 = v17 & ~3ULL;
+                    v8 = 0;
                     do {
-                        event = v33 + (v28 * 24);
-                        v19 = get64(event);
-                        v27 = get64(event + 8);
-                        v12 = v27 == 0;
-                        if (v12 != 0) {
-                            v22 = v3 + 0x3088;
-                            goto l149;
-                        }
-                        if (v27 > 0x7fffffffffffffffULL) goto l145;
-                        rattle_alloc_at(v3 + 88, v27, 1);
-                        if (((uint32_t)get64(v3 + 88) & 1) == 0) goto l145;
-                        v22 = get64(v3 + 96);
-                    l149:;
-                        if ((v22 - v19) < v27) {
-                            v20 = v27 & 3;
+                        v21 = v22 + v8;
+                        v19 = v25 + v8;
+                        put8(v21 + 1, get8(v19));
+                        put8(v21 + 2, get8(v19 + 1));
+                        put8(v21 + 3, get8(v19 + 2));
+                        put8(v21 + 4, get8(v19 + 3));
+                        v8 = v8 + 4;
+                    } while (v17 != v8);
+                    if (v29 == 0) goto l127;
+                }
+            l132:;
+                put8(v22 + v8 + 1, get8(v25 + v8));
+                v8 = v8 + 1;
+                v29 = v29 - 1;
+                if (v29 != 0) goto l132;
+                goto l127;
+            }
+            if (v17 != 0) copy(v8, v25, v17);
+        }
+    l127:;
+        if (get64(event + 0xae0) == get64(event + 0xad8)) {
+            t2 = std_alloc_vec_deque_VecDeque_grow_1598ebf9113514c4(event + 0xad0);
+            if (t2 == 0) goto l133;
+        }
+        if (get64(event + 0x1758) != get64(event + 0x1750)) goto l116;
+        t3 = std_alloc_vec_Vec_grow_amortized_1598ebf9113514c4(event + 0x1748, 1);
+        if (t3 != 0) goto l116;
+    l133:;
+        if (v12 == 0) rattle_dealloc_at(v18);
+        if (v5 == 0) rattle_dealloc_at(v20);
+        v6 = 0;
+        if ((v13 | (uint32_t)(v30 == 0)) != 0) goto l48;
+        rattle_dealloc_at(v22);
+        goto l48;
+    l118:;
+        if (v5 == 0) rattle_dealloc_at(v20);
+        if (v12 != 0) goto l55;
+    l117:;
+        rattle_dealloc_at(v18);
+        goto l55;
+    l116:;
+        nodes_ground_node_Ground_advance(event);
+        v8 = get64(event + 0xad0);
+        v21 = get64(event + 0xad8);
+        v25 = event + 0xaf0;
+        v19 = get64(v25);
+        v29 = v21 - v19;
+        v17 = get64(event + 0xae8);
+        if (v29 < (get64(event + 0xae0) - v17)) {
+            v8 = v8 + ((v17 + v29) * 24);
+            put64(v8 + 16, v28);
+            put64(v8 + 8, v7);
+            put64(v8, v18);
+            goto l138;
+        }
+        v8 = v8 + (v19 * 24);
+        put64(v8 + 16, v28);
+        put64(v8 + 8, v7);
+        put64(v8, v18);
+        put64(v25, v19 + 1);
+    l138:;
+        put64(event + 0xad8, v21 + 1);
+        if (v13 == 0) {
+            v21 = event + 0x1750;
+            v19 = get64(v21);
+            v8 = get64(event + 0x1748) + (v19 * 24);
+            put64(v8 + 16, v30);
+            put64(v8 + 8, v30);
+            put64(v8, v22);
+            put64(v21, v19 + 1);
+        }
+        v13 = 0;
+        put16(v3 + 532, 0);
+        put32(v3 + 528, 0);
+        v25 = v20 & 0xffffffffff000000ULL;
+        v24 = (uint32_t)(v20 >> 16);
+        v26 = (uint32_t)(v20 >> 8);
+        v27 = (uint32_t)v20;
+        v8 = 0;
+        v6 = 5;
+        v21 = v7;
+        v19 = v7;
+        v22 = 0;
+        v18 = 0;
+        v31 = 0;
+        v12 = 0;
+        v11 = 0;
+        v10 = 0;
+        v5 = 0;
+        v9 = 0;
+        v4 = 0;
+        v20 = 0;
+        v16 = 0;
+        v15 = 0;
+        v32 = 0;
+        v33 = 0;
+        v34 = 0;
+        v35 = 0;
+        v36 = 0;
+        v37 = 5;
+        goto l30;
+    case 5:
+        v25 = 0;
+        put64(v3 + 480, 0);
+        put64(v3 + 488, 0);
+        put64(v3 + 496, 0);
+        v27 = 0;
+        fill(v3 + 528, 0, 208);
+        put64(v3 + 272, 0);
+        put64(v3 + 264, 0);
+        put64(v3 + 256, 0);
+        put64(v3 + 232, 0);
+        put64(v3 + 240, 0);
+        put64(v3 + 248, 0);
+        v13 = 1;
+        v8 = get64(event + 0xad8);
+        if (v8 != 0) {
+            v7 = get64(event + 0xad0);
+            if (v8 != get64(event + 0xaf0)) v7 = v7 + (get64(event + 0xae8) * 24);
+            v30 = event + 400;
+            nodes_spacecraft_Spacecraft_prepare(v3 + 528, v30, get64(v7), get64(v7 + 8));
+            v6 = 0;
+            if (get8(v3 + 528) != 0) goto l59;
+            copy(v3 + 280, v3 + 528 + 8, 200);
+            v12 = get8(v3 + 328);
+            if (v12 == 1) {
+                v20 = get64(v3 + 376);
+                v5 = get8(v3 + 368);
+                v38 = get64((v5 != 0) ? (v3 + 384) : (v3 + 400));
+                v13 = get8(v3 + 337);
+                v22 = get64(v3 + 344);
+                v11 = get8(v3 + 336);
+                v7 = get64(v3 + 352);
+                v39 = v7 + 1;
+                v10 = v39 == 0;
+                if (v10 != 0) {
+                    v17 = v3 + 0x19c8;
+                    goto l149;
+                }
+                if (v39 > 0x7fffffffffffffffULL) goto l148;
+                rattle_alloc_at(v3 + 144, v39, 1);
+                if (((uint32_t)get64(v3 + 144) & 1) == 0) goto l148;
+                v17 = get64(v3 + 152);
+            l149:;
+                put8(v17, (v11 << 6) + v13);
+                v8 = v17 + 1;
+                if ((v8 - v22) < v7) {
+                    v19 = v7 & 3;
+                    v8 = 0;
+                    if (v7 >= 4) {
+                        v18 = v7 & ~3ULL;
+                        v8 = 0;
+                        do {
+                            v7 = v17 + v8;
+                            v21 = v22 + v8;
+                            put8(v7 + 1, get8(v21));
+                            put8(v7 + 2, get8(v21 + 1));
+                            put8(v7 + 3, get8(v21 + 2));
+                            put8(v7 + 4, get8(v21 + 3));
+                            v8 = v8 + 4;
+                        } while (v18 != v8);
+                        if (v19 == 0) goto l151;
+                    }
+                    v7 = v22 + v8;
+                    v8 = v8 + v17 + 1;
+                l155:;
+                    put8(v8, get8(v7));
+                    v8 = v8 + 1;
+                    v7 = v7 + 1;
+                    v19 = v19 - 1;
+                    if (v19 != 0) goto l155;
+                    goto l151;
+                }
+                if (v7 != 0) copy(v8, v22, v7);
+            l151:;
+                if (v38 == 0) {
+                    v40 = v3 + 0x19c8;
+                    v38 = 0;
+                    v29 = 0;
+                    goto l160;
+                }
+                if (v38 > 0x555555555555555ULL) goto l156;
+                rattle_alloc_at(v3 + 128, v38 * 24, 8);
+                if (((uint32_t)get64(v3 + 128) & 1) == 0) goto l156;
+                v41 = (v5 != 0) ? v20 : (v3 + 376);
+                v42 = get64(v3 + 136);
+                put64(v3 + 520, v38);
+                put64(v3 + 512, 0);
+                put64(v3 + 504, v42);
+                v29 = 0;
+                v40 = 0;
+                do {
+                    v7 = v41 + (v40 * 24);
+                    v18 = get64(v7);
+                    v28 = get64(v7 + 8);
+                    v11 = v28 == 0;
+                    if (v11 != 0) {
+                        v22 = v3 + 0x19c8;
+                        goto l163;
+                    }
+                    if (v28 > 0x7fffffffffffffffULL) goto l159;
+                    rattle_alloc_at(v3 + 112, v28, 1);
+                    if (((uint32_t)get64(v3 + 112) & 1) == 0) goto l159;
+                    v22 = get64(v3 + 120);
+                l163:;
+                    if ((v22 - v18) < v28) {
+                        v19 = v28 & 3;
+                        v8 = 0;
+                        if (v28 >= 4) {
+                            v20 = v28 & ~3ULL;
                             v8 = 0;
-                            if (v27 >= 4) {
-                                v26 = v27 & ~3ULL;
-                                v8 = 0;
-                                do {
-                                    event = v22 + v8;
-                                    v9 = v19 + v8;
-                                    put8(event, get8(v9));
-                                    put8(event + 1, get8(v9 + 1));
-                                    put8(event + 2, get8(v9 + 2));
-                                    put8(event + 3, get8(v9 + 3));
-                                    v8 = v8 + 4;
-                                } while (v26 != v8);
-                                if (v20 == 0) goto l151;
-                            }
-                            event = v22 + v8;
-                            v8 = v19 + v8;
-                        l155:;
-                            put8(event, get8(v8));
-                            event = event + 1;
-                            v8 = v8 + 1;
-                            v20 = v20 - 1;
-                            if (v20 != 0) goto l155;
-                            goto l151;
+                            do {
+                                v7 = v22 + v8;
+                                v21 = v18 + v8;
+                                put8(v7, get8(v21));
+                                put8(v7 + 1, get8(v21 + 1));
+                                put8(v7 + 2, get8(v21 + 2));
+                                put8(v7 + 3, get8(v21 + 3));
+                                v8 = v8 + 4;
+                            } while (v20 != v8);
+                            if (v19 == 0) goto l165;
                         }
-                        if (v12 == 0) copy(v22, v19, v27);
-                    l151:;
-                        if (get64(v3 + 1744) == v21) {
-                            t3 = std_alloc_vec_Vec_grow_amortized_1598ebf9113514c4(v3 + 0x6c0, 1);
-                            if (t3 == 0) goto l144;
-                            v32 = get64(v3 + 1728);
-                            v21 = get64(v3 + 1736);
-                        }
-                        event = v32 + (v21 * 24);
-                        put64(event + 16, v27);
-                        put64(event + 8, v27);
-                        put64(event, v22);
-                        v21 = v21 + 1;
-                        put64(v3 + 1736, v21);
-                        v28 = v28 + 1;
-                    } while (v28 != v18);
-                    v32 = get64(v3 + 1744);
-                    v28 = get64(v3 + 1728);
-                l146:;
-                    if (get64(v17 + 0x1760) == get64(v17 + 0x1758)) {
-                        t4 = std_alloc_vec_Vec_grow_amortized_1598ebf9113514c4(v17 + 0x1750, 1);
-                        if (t4 == 0) goto l157;
+                        v7 = v22 + v8;
+                        v8 = v18 + v8;
+                    l169:;
+                        put8(v7, get8(v8));
+                        v7 = v7 + 1;
+                        v8 = v8 + 1;
+                        v19 = v19 - 1;
+                        if (v19 != 0) goto l169;
+                        goto l165;
                     }
-                    event = v17 + 0x1128 + (((uint64_t)v13 & 255) * 24);
-                    if (v21 <= (get64(event + 16) - get64(event + 8))) goto l136;
-                    t5 = std_alloc_vec_Vec_grow_amortized_1598ebf9113514c4(event, v21);
-                    if (t5 != 0) goto l136;
-                l157:;
-                    if (v29 != 0) rattle_dealloc_at(v31);
-                    put64(v3 + 6376, v32);
-                    put64(v3 + 6368, v21);
-                    put64(v3 + 6360, v28);
-                    std_alloc_vec_Vec_drop_b0c2e3ac61d256b1(v3 + 0x18d8);
-                    v4 = 1;
-                    if (get8(v3 + 4848) != 1) goto l138;
-                    v9 = get64(v3 + 4952);
-                    v20 = get64(v3 + 4936);
-                    v13 = get8(v3 + 4928);
-                    event = get64(v3 + 4912);
-                    v8 = get64(v3 + 4896);
-                    if (get8(v3 + 4888) != 0) goto l140;
-                    if (event == 0) goto l139;
-                    rattle_dealloc_at(v8);
-                    goto l139;
-                l145:;
-                    v8 = get64(v3 + 1744);
-                    if (v21 != 0) {
-                        event = v32;
-                        do {
-                            if (get64(event + 16) != 0) rattle_dealloc_at(get64(event));
-                            event = event + 24;
-                            v21 = v21 - 1;
-                        } while (v21 != 0);
+                    if (v11 == 0) copy(v22, v18, v28);
+                l165:;
+                    if (get64(v3 + 520) == v29) {
+                        t4 = std_alloc_vec_Vec_grow_amortized_1598ebf9113514c4(v3 + 504, 1);
+                        if (t4 == 0) goto l158;
+                        v42 = get64(v3 + 504);
+                        v29 = get64(v3 + 512);
                     }
-                    if (v8 != 0) goto l143;
-                    goto l142;
-                l144:;
-                    if (v12 == 0) rattle_dealloc_at(v22);
-                    v9 = get64(v3 + 1744);
-                    v32 = get64(v3 + 1728);
-                    v8 = get64(v3 + 1736);
+                    v7 = v42 + (v29 * 24);
+                    put64(v7 + 16, v28);
+                    put64(v7 + 8, v28);
+                    put64(v7, v22);
+                    v29 = v29 + 1;
+                    put64(v3 + 512, v29);
+                    v40 = v40 + 1;
+                } while (v40 != v38);
+                v38 = get64(v3 + 520);
+                v40 = get64(v3 + 504);
+            l160:;
+                if (get64(event + 0x1780) == get64(event + 0x1778)) {
+                    t5 = std_alloc_vec_Vec_grow_amortized_1598ebf9113514c4(event + 0x1770, 1);
+                    if (t5 == 0) goto l171;
+                }
+                v7 = event + 0x1148 + (((uint64_t)v13 & 255) * 24);
+                if (v29 <= (get64(v7 + 16) - get64(v7 + 8))) goto l143;
+                t6 = std_alloc_vec_Vec_grow_amortized_1598ebf9113514c4(v7, v29);
+                if (t6 != 0) goto l143;
+            l171:;
+                if (v10 == 0) rattle_dealloc_at(v17);
+                put64(v3 + 272, v38);
+                put64(v3 + 264, v29);
+                put64(v3 + 256, v40);
+                std_alloc_vec_Vec_drop_b0c2e3ac61d256b1(v3 + 256);
+                v13 = 1;
+                if (get8(v3 + 328) != 1) goto l145;
+                v21 = get64(v3 + 432);
+                v19 = get64(v3 + 416);
+                v12 = get8(v3 + 408);
+                v7 = get64(v3 + 392);
+                v8 = get64(v3 + 376);
+                if (get8(v3 + 368) != 0) goto l147;
+                if (v7 == 0) goto l146;
+                rattle_dealloc_at(v8);
+                goto l146;
+            l159:;
+                v8 = get64(v3 + 520);
+                if (v29 != 0) {
+                    v7 = v42;
+                    do {
+                        if (get64(v7 + 16) != 0) rattle_dealloc_at(get64(v7));
+                        v7 = v7 + 24;
+                        v29 = v29 - 1;
+                    } while (v29 != 0);
+                }
+                if (v8 != 0) goto l157;
+                goto l156;
+            l158:;
+                if (v11 == 0) rattle_dealloc_at(v22);
+                v21 = get64(v3 + 520);
+                v42 = get64(v3 + 504);
+                v8 = get64(v3 + 512);
+                if (v8 != 0) {
+                    v7 = v42;
+                    do {
+                        if (get64(v7 + 16) != 0) rattle_dealloc_at(get64(v7));
+                        v7 = v7 + 24;
+                        v8 = v8 - 1;
+                    } while (v8 != 0);
+                }
+                if (v21 == 0) goto l156;
+            l157:;
+                rattle_dealloc_at(v42);
+            l156:;
+                if (v10 == 0) rattle_dealloc_at(v17);
+            l148:;
+                v13 = 1;
+                if (get8(v3 + 328) == 1) {
+                    v22 = get64(v3 + 432);
+                    v18 = get64(v3 + 416);
+                    v12 = get8(v3 + 408);
+                    v19 = get64(v3 + 392);
+                    v21 = get64(v3 + 376);
+                    if (get8(v3 + 368) == 0) {
+                        if (v19 != 0) goto l183;
+                        goto l182;
+                    }
+                    v8 = get64(v3 + 384);
                     if (v8 != 0) {
-                        event = v32;
+                        v7 = v21;
                         do {
-                            if (get64(event + 16) != 0) rattle_dealloc_at(get64(event));
-                            event = event + 24;
+                            if (get64(v7 + 16) != 0) rattle_dealloc_at(get64(v7));
+                            v7 = v7 + 24;
                             v8 = v8 - 1;
                         } while (v8 != 0);
                     }
-                    if (v9 == 0) goto l142;
-                l143:;
-                    rattle_dealloc_at(v32);
-                l142:;
-                    if (v29 != 0) rattle_dealloc_at(v31);
-                }
-                v4 = 1;
-                if (get8(v3 + 4848) == 1) {
-                    v22 = get64(v3 + 4952);
-                    v19 = get64(v3 + 4936);
-                    v13 = get8(v3 + 4928);
-                    v20 = get64(v3 + 4912);
-                    v9 = get64(v3 + 4896);
-                    if (get8(v3 + 4888) == 0) {
-                        if (v20 != 0) goto l169;
-                        goto l168;
-                    }
-                    v8 = get64(v3 + 4904);
-                    if (v8 != 0) {
-                        event = v9;
-                        do {
-                            if (get64(event + 16) != 0) rattle_dealloc_at(get64(event));
-                            event = event + 24;
-                            v8 = v8 - 1;
-                        } while (v8 != 0);
-                    }
-                    if (v20 == 0) goto l168;
-                l169:;
-                    rattle_dealloc_at(v9);
-                l168:;
-                    if ((v13 & 255) == 2) {
-                        if (v22 != 0) rattle_dealloc_at(v19);
+                    if (v19 == 0) goto l182;
+                l183:;
+                    rattle_dealloc_at(v21);
+                l182:;
+                    if ((v12 & 255) == 2) {
+                        if (v22 != 0) rattle_dealloc_at(v18);
                     }
                 }
-                event = 0;
-                if (get8(v3 + 4960) != 1) goto l62;
-                if (get64(v3 + 4992) == 0) goto l62;
-                rattle_dealloc_at(get64(v3 + 4976));
-                event = 0;
-                goto l62;
-            l140:;
-                v22 = get64(v3 + 4904);
-                put64(v3 + 6352, event);
-                put64(v3 + 6344, v22);
-                put64(v3 + 6336, v8);
-                std_alloc_vec_Vec_drop_b0c2e3ac61d256b1(v3 + 0x18c0);
-            l139:;
-                if ((v13 & 255) == 2) {
-                    if (v9 != 0) rattle_dealloc_at(v20);
+                if (get8(v3 + 440) != 1) goto l59;
+                if (get64(v3 + 472) == 0) goto l59;
+                rattle_dealloc_at(get64(v3 + 456));
+                v27 = 0;
+                goto l58;
+            l147:;
+                v22 = get64(v3 + 384);
+                put64(v3 + 248, v7);
+                put64(v3 + 240, v22);
+                put64(v3 + 232, v8);
+                std_alloc_vec_Vec_drop_b0c2e3ac61d256b1(v3 + 232);
+            l146:;
+                if ((v12 & 255) == 2) {
+                    if (v21 != 0) rattle_dealloc_at(v19);
                 }
-            l138:;
-                event = 0;
-                if (get8(v3 + 4960) != 1) goto l62;
-                if (get64(v3 + 4992) == 0) goto l62;
-                rattle_dealloc_at(get64(v3 + 4976));
-                event = 0;
-                goto l62;
+            l145:;
+                v7 = 0;
+                if (get8(v3 + 440) != 1) goto l60;
+                if (get64(v3 + 472) == 0) goto l60;
+                rattle_dealloc_at(get64(v3 + 456));
+                goto l60;
             }
             v13 = 0;
-            v21 = 0;
-            v32 = 0;
-            v31 = 0;
-            v30 = 0;
+            v40 = 0;
             v29 = 0;
-        l136:;
-            nodes_spacecraft_Spacecraft_commit(v3 + 192, v25, v3 + 0x12c0);
-            event = get64(v17 + 0xab8);
-            if (event != 0) {
-                v9 = v17 + 0xad0;
-                if (get64(v9) != event) {
-                    v8 = get64(v17 + 0xac8);
-                    goto l175;
+            v38 = 0;
+            v17 = 0;
+            v39 = 0;
+        l143:;
+            nodes_spacecraft_Spacecraft_commit(v3 + 480, v30, v3 + 280);
+            v7 = get64(event + 0xad8);
+            if (v7 != 0) {
+                v21 = event + 0xaf0;
+                if (get64(v21) != v7) {
+                    v8 = get64(event + 0xae8);
+                    goto l189;
                 }
                 v8 = 0;
-                put64(v9, 0);
-            l175:;
-                put64(v17 + 0xab8, event - 1);
-                put64(v17 + 0xac8, v8 + 1);
-                event = get64(v17 + 0xab0) + (v8 * 24);
-                if (get64(event + 16) != 0) rattle_dealloc_at(get64(event));
+                put64(v21, 0);
+            l189:;
+                put64(event + 0xad8, v7 - 1);
+                put64(event + 0xae8, v8 + 1);
+                v7 = get64(event + 0xad0) + (v8 * 24);
+                if (get64(v7 + 16) != 0) rattle_dealloc_at(get64(v7));
             }
-            if (v4 == 1) {
-                v8 = v17 + 0x1758;
-                v9 = get64(v8);
-                event = get64(v17 + 0x1750) + (v9 * 24);
-                put64(event + 16, v29);
-                put64(event + 8, v30);
-                put64(event, v31);
-                put64(v8, v9 + 1);
-                if (v21 != 0) {
-                    v22 = (v17 + (((uint64_t)v13 & 255) * 24)) + 0x1128;
-                    v19 = v22 + 8;
-                    v27 = get64(v19);
-                    v9 = 0;
-                    if (v21 != 1) {
-                        v29 = v21 & 1;
-                        v8 = v27 * 24;
-                        v18 = v21 & ~1ULL;
-                        v9 = 0;
-                        event = v28;
+            if (v12 == 1) {
+                v8 = event + 0x1778;
+                v21 = get64(v8);
+                v7 = get64(event + 0x1770) + (v21 * 24);
+                put64(v7 + 16, v39);
+                put64(v7 + 8, v39);
+                put64(v7, v17);
+                put64(v8, v21 + 1);
+                if (v29 != 0) {
+                    v22 = (event + (((uint64_t)v13 & 255) * 24)) + 0x1148;
+                    v18 = v22 + 8;
+                    v17 = get64(v18);
+                    v21 = 0;
+                    if (v29 != 1) {
+                        v39 = v29 & 1;
+                        v8 = v17 * 24;
+                        v30 = v29 & ~1ULL;
+                        v21 = 0;
+                        v7 = v40;
                         do {
-                            v21 = get64(event);
-                            v26 = get64(event + 8);
-                            v20 = get64(v22) + v8;
-                            put64(v20 + 16, get64(event + 16));
-                            put64(v20 + 8, v26);
-                            put64(v20, v21);
-                            v21 = v27 + v9;
-                            put64(v19, v21 + 1);
-                            v26 = get64(event + 24);
-                            v25 = get64(event + 32);
-                            v20 = get64(v22) + v8;
-                            put64(v20 + 40, get64(event + 40));
-                            put64(v20 + 32, v25);
-                            put64(v20 + 24, v26);
-                            put64(v19, v21 + 2);
-                            event = event + 48;
+                            v20 = get64(v7);
+                            v29 = get64(v7 + 8);
+                            v19 = get64(v22) + v8;
+                            put64(v19 + 16, get64(v7 + 16));
+                            put64(v19 + 8, v29);
+                            put64(v19, v20);
+                            v20 = v17 + v21;
+                            put64(v18, v20 + 1);
+                            v29 = get64(v7 + 24);
+                            v28 = get64(v7 + 32);
+                            v19 = get64(v22) + v8;
+                            put64(v19 + 40, get64(v7 + 40));
+                            put64(v19 + 32, v28);
+                            put64(v19 + 24, v29);
+                            put64(v18, v20 + 2);
+                            v7 = v7 + 48;
                             v8 = v8 + 48;
-                            v9 = v9 + 2;
-                        } while (v18 != v9);
-                        if (v29 == 0) goto l178;
-                        v27 = v27 + v9;
+                            v21 = v21 + 2;
+                        } while (v30 != v21);
+                        if (v39 == 0) goto l192;
+                        v17 = v17 + v21;
                     }
-                    event = v28 + (v9 * 24);
-                    v9 = get64(event);
-                    v20 = get64(event + 8);
-                    v8 = get64(v22) + (v27 * 24);
-                    put64(v8 + 16, get64(event + 16));
-                    put64(v8 + 8, v20);
-                    put64(v8, v9);
-                    put64(v19, v27 + 1);
+                    v7 = v40 + (v21 * 24);
+                    v21 = get64(v7);
+                    v19 = get64(v7 + 8);
+                    v8 = get64(v22) + (v17 * 24);
+                    put64(v8 + 16, get64(v7 + 16));
+                    put64(v8 + 8, v19);
+                    put64(v8, v21);
+                    put64(v18, v17 + 1);
                 }
-            l178:;
-                if (v32 != 0) rattle_dealloc_at(v28);
+            l192:;
+                if (v38 != 0) rattle_dealloc_at(v40);
             }
-            event = (uint64_t)get16(v3 + 192) | ((uint64_t)get8(v3 + 194) << 16);
-            v7 = 7;
-            v4 = 0;
-            v9 = (uint64_t)get16(v3 + 208);
-            v20 = get64(v3 + 200);
-            v24 = 0;
-            goto l54;
+            v6 = 7;
+            v13 = 0;
+            v21 = (uint64_t)get16(v3 + 496);
+            v7 = get64(v3 + 488);
+            v24 = get8(v3 + 482);
+            v26 = get8(v3 + 481);
+            v27 = get8(v3 + 480);
+            goto l57;
         }
-        v7 = 1;
-        goto l62;
-    case 5:
-        event = get64(v17 + 0xab8);
-        if (event != 0) {
-            v9 = v17 + 0xad0;
-            if (get64(v9) != event) {
-                v8 = get64(v17 + 0xac8);
-                goto l182;
-            }
-            v8 = 0;
-            put64(v9, 0);
-        l182:;
-            put64(v17 + 0xab8, event - 1);
-            put64(v17 + 0xac8, v8 + 1);
-            v7 = 2;
-            event = get64(v17 + 0xab0) + (v8 * 24);
-            if (get64(event + 16) == 0) goto l73;
-            rattle_dealloc_at(get64(event));
-            goto l73;
-        }
-        v7 = 1;
-        goto l53;
+        v6 = 1;
+        goto l58;
     case 6:
-        v20 = get64(v17 + 0xab8);
-        if (v20 != 0) {
-            if (v9 < 5) {
-                event = 0;
-                goto l185;
-            }
-            v7 = get8(v8);
-            if (v7 > 63) {
-                event = 256;
-                goto l185;
-            }
-            if ((v7 & 48) == 16) {
-                event = 512;
-                goto l185;
-            }
-            if ((v7 & 12) != 0) {
-                event = 768;
-                goto l185;
-            }
-            event = 0x400;
-            v22 = (((uint64_t)get8(v8 + 2) << 8) & 768) | (uint64_t)get8(v8 + 3);
-            if (v9 == (v22 + 1)) {
-                if (v22 >= 6) {
-                    event = v9 - 2;
-                    v4 = get16(v8 + event);
-                    t6 = octets_frame_check_check(v8, event);
-                    if ((((v4 << 8) | (v4 >> 8)) & 0xffff) != (t6 & 0xffff)) {
-                        event = 0x500;
-                        goto l185;
-                    }
-                    if (v7 >= 32) {
-                        if ((get8(v8 + 4) & 255) != 0) {
-                            event = 0x600;
-                            goto l185;
-                        }
-                    }
-                    if ((v7 & 16) != 0) {
-                        v9 = v9 - 7;
-                        if (v9 <= 3) {
-                            event = 0x700;
-                            switch ((uint32_t)v9) {
-                            case 1:
-                                goto l195;
-                            case 2:
-                                goto l194;
-                            case 3:
-                                event = 0x800;
-                                if (get8(v8 + 5) != 130) goto l185;
-                                if (get8(v8 + 6) != 0) goto l185;
-                                goto l63;
-                            default:
-                                goto l185;
-                            }
-                        l195:;
-                            if (get8(v8 + 5) == 0) goto l63;
-                        }
-                    l194:;
-                        event = 0x800;
-                        goto l185;
-                    }
-                    if ((v9 - 9) < ~1ULL) goto l63;
-                    event = 0x700;
-                }
-            }
-        l185:;
-            v9 = v17 + 0xad0;
-            if (get64(v9) != v20) {
-                v8 = get64(v17 + 0xac8);
+        v7 = get64(event + 0xad8);
+        if (v7 != 0) {
+            v21 = event + 0xaf0;
+            if (get64(v21) != v7) {
+                v8 = get64(event + 0xae8);
                 goto l196;
             }
             v8 = 0;
-            put64(v9, 0);
+            put64(v21, 0);
         l196:;
-            put64(v17 + 0xab8, v20 - 1);
-            put64(v17 + 0xac8, v8 + 1);
-            v8 = get64(v17 + 0xab0) + (v8 * 24);
-            if (get64(v8 + 16) != 0) rattle_dealloc_at(get64(v8));
-            put16(v3 + 6388, 0);
-            put32(v3 + 6384, 0);
-            v20 = 0;
-            v9 = 0;
-            goto l50;
+            put64(event + 0xad8, v7 - 1);
+            put64(event + 0xae8, v8 + 1);
+            v7 = get64(event + 0xad0) + (v8 * 24);
+            if (get64(v7 + 16) != 0) goto l79;
+            goto l61;
         }
-        v7 = 1;
-        goto l53;
+        v6 = 1;
+        goto l48;
     case 7:
-        put64(v3 + 3264, 0);
-        put64(v3 + 3272, 0);
-        put64(v3 + 3280, 0);
-        put64(v3 + 4800, 0);
-        put64(v3 + 4808, 0);
-        put64(v3 + 4816, 0);
-        put16(v3 + 4824, 0);
-        v7 = get32(v17 + 460);
-        event = (uint64_t)v7;
-        if (v7 == 0) {
-            v9 = v3 + 0x3088;
-            goto l199;
+        v21 = get64(event + 0xad8);
+        if (v21 != 0) {
+            if (v8 < 5) {
+                v26 = 0;
+                goto l199;
+            }
+            v6 = get8(v7);
+            if (v6 > 63) {
+                v26 = 1;
+                goto l199;
+            }
+            if ((v6 & 48) == 16) {
+                v26 = 2;
+                goto l199;
+            }
+            if ((v6 & 12) != 0) {
+                v26 = 3;
+                goto l199;
+            }
+            v26 = 4;
+            v19 = (((uint64_t)get8(v7 + 2) << 8) & 768) | (uint64_t)get8(v7 + 3);
+            if (v8 == (v19 + 1)) {
+                if (v19 >= 6) {
+                    v19 = v8 - 2;
+                    v13 = get16(v7 + v19);
+                    t7 = octets_frame_check_check(v7, v19);
+                    if ((((v13 << 8) | (v13 >> 8)) & 0xffff) != (t7 & 0xffff)) {
+                        v26 = 5;
+                        goto l199;
+                    }
+                    if (v6 >= 32) {
+                        if ((get8(v7 + 4) & 255) != 0) {
+                            v26 = 6;
+                            goto l199;
+                        }
+                    }
+                    if ((v6 & 16) != 0) {
+                        v8 = v8 - 7;
+                        if (v8 <= 3) {
+                            v26 = 7;
+                            switch ((uint32_t)v8) {
+                            case 1:
+                                goto l209;
+                            case 2:
+                                goto l208;
+                            case 3:
+                                v26 = 8;
+                                if (get8(v7 + 5) != 130) goto l199;
+                                if (get8(v7 + 6) != 0) goto l199;
+                                goto l62;
+                            default:
+                                goto l199;
+                            }
+                        l209:;
+                            if (get8(v7 + 5) == 0) goto l62;
+                        }
+                    l208:;
+                        v26 = 8;
+                        goto l199;
+                    }
+                    if ((v8 - 9) < ~1ULL) goto l62;
+                    v26 = 7;
+                }
+            }
+        l199:;
+            v8 = event + 0xaf0;
+            if (get64(v8) != v21) {
+                v7 = get64(event + 0xae8);
+                goto l210;
+            }
+            v7 = 0;
+            put64(v8, 0);
+        l210:;
+            put64(event + 0xad8, v21 - 1);
+            put64(event + 0xae8, v7 + 1);
+            v7 = get64(event + 0xad0) + (v7 * 24);
+            if (get64(v7 + 16) != 0) rattle_dealloc_at(get64(v7));
+            v24 = 0;
+            put16(v3 + 532, 0);
+            put32(v3 + 528, 0);
+            v21 = 0;
+            v7 = 0;
+            v25 = 0;
+            goto l35;
         }
-        rattle_alloc_at(v3 + 120, event, 1);
-        v4 = 1;
-        if (((uint32_t)get64(v3 + 120) & 1) == 0) {
-            event = 0;
-            put64(v3 + 3272, 0);
-            put64(v3 + 3264, 0);
-            v8 = v3 + 0xcc0;
+        v6 = 1;
+        goto l48;
+    case 8:
+        put64(v3 + 504, 0);
+        put64(v3 + 512, 0);
+        put64(v3 + 520, 0);
+        put64(v3 + 280, 0);
+        put64(v3 + 288, 0);
+        put64(v3 + 296, 0);
+        put16(v3 + 304, 0);
+        v6 = get32(event + 460);
+        v7 = (uint64_t)v6;
+        if (v6 == 0) {
+            v21 = v3 + 0x19c8;
+            goto l213;
+        }
+        rattle_alloc_at(v3 + 160, v7, 1);
+        v13 = 1;
+        if (((uint32_t)get64(v3 + 160) & 1) == 0) {
+            v8 = 0;
+            put64(v3 + 512, 0);
+            put64(v3 + 504, 0);
+            v7 = v3 + 504;
+            goto l64;
+        }
+        v21 = get64(v3 + 168);
+    l213:;
+        put64(v3 + 496, v7);
+        put64(v3 + 488, 0);
+        put64(v3 + 480, v21);
+        if (get64(event + 0xb08) == get64(event + 0xb00)) {
+            t8 = std_alloc_vec_deque_VecDeque_grow_1598ebf9113514c4(event + 0xaf8);
+            if (t8 == 0) {
+                v8 = 0;
+                put64(v3 + 512, 0);
+                put64(v3 + 504, 0);
+                v7 = v3 + 504;
+                v13 = 1;
+                if (v6 == 0) goto l64;
+                rattle_dealloc_at(v21);
+                goto l64;
+            }
+        }
+        v6 = get8(event + 473);
+        v13 = get8(event + 477);
+        v12 = get32(event + 404);
+        v11 = get8(event + 476);
+        v10 = get8(event + 475);
+        v5 = get8(event + 474);
+        fill(v3 + 528, 0, 0x800);
+        v10 = (v10 << 4) | (v5 << 5);
+        v11 = v11 << 3;
+        v19 = 0;
+        v8 = nodes_spacecraft_Spacecraft_report(event + 400, v3 + 528);
+        if (v8 > v7) {
+            t10 = std_alloc_vec_Vec_grow_amortized_49bbd27f022ae39a(v3 + 480, v8);
+            if (t10 == 0) goto l216;
+            v21 = get64(v3 + 480);
+            v7 = get64(v3 + 496);
+            v19 = get64(v3 + 488);
+        }
+        if (v8 != 0) copy(v21 + v19, v3 + 528, v8);
+        put64(v3 + 496, v7);
+        put64(v3 + 488, v19 + v8);
+    l216:;
+        v11 = v10 | v11;
+        v7 = get64(event + 0xaf8);
+        v8 = get64(event + 0xb00);
+        v19 = event + 0xb18;
+        v21 = get64(v19);
+        v22 = v8 - v21;
+        v18 = get64(event + 0xb10);
+        if (v22 < (get64(event + 0xb08) - v18)) {
+            v7 = v7 + ((v18 + v22) * 24);
+            put64(v7 + 16, get64(v3 + 496));
+            put64(v7 + 8, get64(v3 + 488));
+            put64(v7, get64(v3 + 480));
+            goto l219;
+        }
+        v7 = v7 + (v21 * 24);
+        put64(v7 + 16, get64(v3 + 496));
+        put64(v7 + 8, get64(v3 + 488));
+        put64(v7, get64(v3 + 480));
+        put64(v19, v21 + 1);
+    l219:;
+        put64(event + 0xb00, v8 + 1);
+        t11 = (((((uint64_t)v13 & 255) << 24) | (uint64_t)((v12 << 8) & 0xff00)) | ((uint64_t)v6 << 32)) |
+            (((uint64_t)v11 & 255) << 16);
+        v23 = (uint32_t)(t11 >> 8);
+        v7 = (v3 + 280) | 2;
+        v6 = 6;
+        v13 = 0;
+        v8 = get64(v3 + 282);
+        goto l63;
+    case 9:
+        v25 = 0;
+        put64(v3 + 552, 0);
+        put64(v3 + 544, 0);
+        put64(v3 + 536, 0);
+        put64(v3 + 528, 0);
+        v8 = get64(event + 0xb00);
+        if (v8 != 0) {
+            v7 = get64(event + 0xaf8);
+            if (v8 != get64(event + 0xb18)) v7 = v7 + (get64(event + 0xb10) * 24);
+            v6 = get8(event + 75);
+            v13 = get8(event + 73);
+            nodes_ground_node_Ground_telemetry(v3 + 528, event, get64(v7), get64(v7 + 8));
+            if (get8(v3 + 528) == 0) {
+                v21 = (uint64_t)get32(v3 + 552);
+                v7 = get64(v3 + 544);
+                v24 = get8(v3 + 538);
+                v26 = get8(v3 + 537);
+                v27 = get8(v3 + 536);
+                v8 = get64(event + 0xb00);
+                if (v8 != 0) {
+                    v22 = event + 0xb18;
+                    if (get64(v22) != v8) {
+                        v19 = get64(event + 0xb10);
+                        goto l225;
+                    }
+                    v19 = 0;
+                    put64(v22, 0);
+                l225:;
+                    put64(event + 0xb00, v8 - 1);
+                    put64(event + 0xb10, v19 + 1);
+                    v8 = get64(event + 0xaf8) + (v19 * 24);
+                    if (get64(v8 + 16) != 0) rattle_dealloc_at(get64(v8));
+                }
+                v8 = event + 0x1760;
+                put64(v8, get64(v8) + ((uint64_t)(get8(event + 75) - v6) & 255));
+                v6 = 1;
+                v8 = event + 0xb28;
+                if (get8(v8) == 0) v6 = ((v13 - 3) & 255) < 2 && get8(event + 73) == 0;
+                put8(v8, v6);
+                v6 = 8;
+                goto l56;
+            }
+            v6 = 0;
+            v27 = 0;
             goto l65;
         }
-        v9 = get64(v3 + 128);
-    l199:;
-        put64(v3 + 1744, event);
-        put64(v3 + 1736, 0);
-        put64(v3 + 1728, v9);
-        if (get64(v17 + 0xae8) == get64(v17 + 0xae0)) {
-            t7 = std_alloc_vec_deque_VecDeque_grow_1598ebf9113514c4(v17 + 0xad8);
-            if (t7 == 0) {
-                event = 0;
-                put64(v3 + 3272, 0);
-                put64(v3 + 3264, 0);
-                v8 = v3 + 0xcc0;
-                v4 = 1;
-                if (v7 == 0) goto l65;
-                rattle_dealloc_at(v9);
-                goto l65;
+        v27 = 0;
+        v6 = 1;
+        goto l65;
+    case 10:
+        goto l80;
+    case 11:
+        put64(v3 + 568, 0);
+        put64(v3 + 560, 0);
+        put64(v3 + 552, 0);
+        put64(v3 + 544, 0);
+        put64(v3 + 536, 0);
+        put64(v3 + 528, 0);
+        v26 = 0;
+        if (get64(event + 0xb00) == 0) {
+            v13 = 1;
+            v6 = 1;
+            goto l231;
+        }
+        tm_link_decoding_decode(v3 + 528, v7, v8, (uint64_t)get32(event + 60));
+        v13 = 1;
+        if (get8(v3 + 528) != 1) {
+            v6 = 2;
+            goto l231;
+        }
+        v6 = 8;
+        v13 = 0;
+        v26 = get8(v3 + 529);
+        v7 = get64(event + 0xb00);
+        if (v7 != 0) {
+            v21 = event + 0xb18;
+            if (get64(v21) != v7) {
+                v8 = get64(event + 0xb10);
+                goto l234;
             }
+            v8 = 0;
+            put64(v21, 0);
+        l234:;
+            put64(event + 0xb00, v7 - 1);
+            put64(event + 0xb10, v8 + 1);
+            v7 = get64(event + 0xaf8) + (v8 * 24);
+            if (get64(v7 + 16) != 0) rattle_dealloc_at(get64(v7));
         }
-        v7 = get8(v17 + 473);
-        v4 = get8(v17 + 477);
-        v13 = get32(v17 + 404);
-        v12 = get8(v17 + 476);
-        v11 = get8(v17 + 475);
-        v6 = get8(v17 + 474);
-        fill(v3 + 0x18f0, 0, 0x800);
-        v11 = (v11 << 4) | (v6 << 5);
-        v12 = v12 << 3;
-        v20 = 0;
-        v8 = nodes_spacecraft_Spacecraft_report(v17 + 400, v3 + 0x18f0);
-        if (v8 > event) {
-            t9 = std_alloc_vec_Vec_grow_amortized_49bbd27f022ae39a(v3 + 0x6c0, v8);
-            if (t9 == 0) goto l202;
-            v9 = get64(v3 + 1728);
-            event = get64(v3 + 1744);
-            v20 = get64(v3 + 1736);
+    l231:;
+        if (v13 != 0) goto l48;
+        v21 = 0;
+        v24 = 0;
+        v7 = 0;
+        v25 = 0;
+        v27 = 0;
+        goto l56;
+    case 12:
+        put64(v3 + 568, 0);
+        put64(v3 + 560, 0);
+        put64(v3 + 552, 0);
+        put64(v3 + 544, 0);
+        put64(v3 + 536, 0);
+        put64(v3 + 528, 0);
+        v8 = get64(event + 0xb00);
+        if (v8 == 0) {
+            v14 = 0;
+            v12 = 1;
+            v6 = 1;
+            v23 = 0;
+            v13 = 0;
+            v26 = 0;
+            goto l236;
         }
-        if (v8 != 0) copy(v9 + v20, v3 + 0x18f0, v8);
-        put64(v3 + 1744, event);
-        put64(v3 + 1736, v20 + v8);
-    l202:;
-        v12 = v11 | v12;
-        event = get64(v17 + 0xad8);
-        v8 = get64(v17 + 0xae0);
-        v20 = v17 + 0xaf8;
-        v9 = get64(v20);
-        v22 = v8 - v9;
-        v19 = get64(v17 + 0xaf0);
-        if (v22 < (get64(v17 + 0xae8) - v19)) {
-            event = event + ((v19 + v22) * 24);
-            put64(event + 16, get64(v3 + 1744));
-            put64(event + 8, get64(v3 + 1736));
-            put64(event, get64(v3 + 1728));
-            goto l205;
-        }
-        event = event + (v9 * 24);
-        put64(event + 16, get64(v3 + 1744));
-        put64(event + 8, get64(v3 + 1736));
-        put64(event, get64(v3 + 1728));
-        put64(v20, v9 + 1);
-    l205:;
-        put64(v17 + 0xae0, v8 + 1);
-        t10 = (((((uint64_t)v4 & 255) << 24) | (uint64_t)((v13 << 8) & 0xff00)) | ((uint64_t)v7 << 32)) |
-            (((uint64_t)v12 & 255) << 16);
-        v23 = (uint32_t)(t10 >> 8);
-        v8 = (v3 + 0x12c0) | 2;
-        v7 = 6;
-        v4 = 0;
-        event = get64(v3 + 4802);
-        goto l64;
-    case 8:
-        event = 0;
-        put64(v3 + 6408, 0);
-        put64(v3 + 6400, 0);
-        put64(v3 + 6392, 0);
-        put64(v3 + 6384, 0);
-        v4 = 1;
-        v8 = get64(v17 + 0xae0);
-        if (v8 != 0) {
-            event = get64(v17 + 0xad8);
-            if (v8 != get64(v17 + 0xaf8)) event = event + (get64(v17 + 0xaf0) * 24);
-            v7 = get8(v17 + 75);
-            v13 = get8(v17 + 73);
-            nodes_ground_node_Ground_telemetry(v3 + 0x18f0, v17, get64(event), get64(event + 8));
-            if (get8(v3 + 6384) == 0) {
-                v9 = (uint64_t)get32(v3 + 6408);
-                v20 = get64(v3 + 6400);
-                v8 = (uint64_t)get8(v3 + 6394);
-                v22 = (uint64_t)get8(v3 + 6393);
-                v19 = (uint64_t)get8(v3 + 6392);
-                event = get64(v17 + 0xae0);
-                if (event != 0) {
-                    v26 = v17 + 0xaf8;
-                    if (get64(v26) != event) {
-                        v21 = get64(v17 + 0xaf0);
-                        goto l211;
-                    }
-                    v21 = 0;
-                    put64(v26, 0);
-                l211:;
-                    put64(v17 + 0xae0, event - 1);
-                    put64(v17 + 0xaf0, v21 + 1);
-                    event = get64(v17 + 0xad8) + (v21 * 24);
-                    if (get64(event + 16) != 0) rattle_dealloc_at(get64(event));
-                }
-                event = v17 + 0x1740;
-                put64(event, get64(event) + ((uint64_t)(get8(v17 + 75) - v7) & 255));
-                v7 = 1;
-                event = v17 + 0xb08;
-                if (get8(event) == 0) v7 = ((v13 - 3) & 255) < 2 && get8(v17 + 73) == 0;
-                put8(event, v7);
-                event = ((v22 << 8) | v19) | (v8 << 16);
-                v7 = 8;
-                v4 = 0;
-                goto l66;
+        v7 = get64(event + 0xaf8);
+        if (v8 != get64(event + 0xb18)) v7 = v7 + (get64(event + 0xb10) * 24);
+        tm_link_decoding_decode(v3 + 528, get64(v7), get64(v7 + 8), (uint64_t)get32(event + 60));
+        v26 = get8(v3 + 529);
+        v13 = get32(v3 + 568);
+        v6 = get8(v3 + 528);
+        v7 = get64(event + 0xb00);
+        if (v7 != 0) {
+            v21 = event + 0xb18;
+            if (get64(v21) != v7) {
+                v8 = get64(event + 0xb10);
+                goto l240;
             }
-            event = 0;
+            v8 = 0;
+            put64(v21, 0);
+        l240:;
+            put64(event + 0xb00, v7 - 1);
+            put64(event + 0xb10, v8 + 1);
+            v7 = get64(event + 0xaf8) + (v8 * 24);
+            if (get64(v7 + 16) != 0) rattle_dealloc_at(get64(v7));
+        }
+        v12 = 0;
+        if ((v6 & 255) != 0) {
+            v6 = 8;
+            v14 = 0;
+            v23 = 0;
+            goto l242;
+        }
+        v6 = get8(event + 75);
+        v11 = get8(event + 73);
+        put32(v3 + 504, 0);
+        put32(v3 + 280, 0);
+        put16(v3 + 284, 0);
+        if (extend32(v13, 0x80) > 0x7fffffffU) {
+            put32(v3 + 281, 0);
+            put8(v3 + 280, 1);
+            put8(v3 + 285, 0);
+            goto l244;
+        }
+        if ((v13 & 255) >= 32) {
+            put16(v3 + 280, 257);
+            goto l244;
+        }
+        if ((v13 & 3) != 1) {
+            put16(v3 + 280, 513);
+            goto l244;
+        }
+        v10 = v13 >> 8;
+        if ((v10 & 3) != 0) {
+            put16(v3 + 280, 769);
+            goto l244;
+        }
+        v5 = v13 >> 16;
+        if ((v5 & 1) != 0) {
+            put16(v3 + 280, 769);
+            goto l244;
+        }
+        put8(v3 + 285, v13 >> 24);
+        put8(v3 + 283, v5 & 248);
+        put8(v3 + 284, (v5 >> 1) & 3);
+        put8(v3 + 282, (v10 & 252) >> 2);
+        put8(v3 + 281, (v13 & 252) >> 2);
+    l244:;
+        nodes_ground_node_Ground_report(v3 + 504, event, v3 + 280);
+        v14 = get32(v3 + 504);
+        v7 = event + 0x1760;
+        put64(v7, get64(v7) + ((uint64_t)(get8(event + 75) - v6) & 255));
+        v6 = 1;
+        v7 = event + 0xb28;
+        if (get8(v7) == 0) v6 = ((v11 - 3) & 255) < 2 && get8(event + 73) == 0;
+        put8(v7, v6);
+        v23 = v14 >> 8;
+        v26 = 0;
+        v6 = 9;
+    l242:;
+        v13 = v23 & 0xffff00;
+    l236:;
+        if (v12 != 0) goto l48;
+        v21 = 0;
+        v24 = 0;
+        v7 = 0;
+        v25 = 0;
+        v27 = 0;
+        goto l47;
+    case 13:
+        nodes_ground_node_Ground_tick(v3 + 176, event);
+        if (get8(v3 + 176) == 0) goto l72;
+        v14 = get8(v3 + 177);
+        v27 = 0;
+        put16(v3 + 532, 0);
+        put32(v3 + 528, 0);
+        v25 = 0;
+        v26 = 0;
+        v24 = 0;
+        v7 = 0;
+        v21 = 0;
+        goto l36;
+    case 14:
+        v13 = 0;
+        v7 = get64(event + 0xa20);
+        if (v7 != 0) {
+            v21 = event + 0xa38;
+            if (get64(v21) != v7) {
+                v8 = get64(event + 0xa30);
+                goto l252;
+            }
+            v8 = 0;
+            put64(v21, 0);
+        l252:;
+            v22 = v7 - 1;
+            put64(event + 0xa20, v22);
+            put64(event + 0xa30, v8 + 1);
+            v7 = get64(event + 0xa18) + (v8 << 5);
+            v19 = get64(v7 + 24);
+            v21 = get64(v7 + 16);
+            v8 = get64(v7 + 8);
+            v14 = get8(v7);
+            if (v22 < (uint64_t)get32(event + 448)) put8(event + 475, 0);
+            v6 = 11;
+            if (v19 <= v21) goto l68;
             v7 = 0;
+            if (v21 != 0) {
+                rattle_realloc_at(v3 + 184, v8, v21, v21, 1);
+                if (((uint32_t)get64(v3 + 184) & 1) == 0) goto l68;
+                v8 = get64(v3 + 192);
+                v7 = v21;
+                goto l67;
+            }
+            rattle_dealloc_at(v8);
+            v8 = v3 + 0x19c8;
+            v21 = 0;
             goto l67;
         }
-        v7 = 1;
+        v6 = 1;
+        v8 = 0;
+        v7 = 0;
+        v21 = 0;
+        v14 = 0;
         goto l67;
-    case 9:
-        event = get64(v17 + 0xae0);
-        if (event != 0) {
-            v9 = v17 + 0xaf8;
-            if (get64(v9) != event) {
-                v8 = get64(v17 + 0xaf0);
-                goto l215;
-            }
+    case 15:
+        v7 = event + 0xa50;
+        v8 = get64(v7);
+        if (v8 == 0) {
+            v6 = 1;
             v8 = 0;
-            put64(v9, 0);
-        l215:;
-            put64(v17 + 0xae0, event - 1);
-            put64(v17 + 0xaf0, v8 + 1);
-            v7 = 2;
-            event = get64(v17 + 0xad8) + (v8 * 24);
-            if (get64(event + 16) == 0) goto l73;
-            rattle_dealloc_at(get64(event));
-            goto l73;
+            v7 = 0;
+            v21 = 0;
+            goto l256;
         }
-        v7 = 1;
-        goto l53;
-    case 10:
-        v20 = 0;
-        put64(v3 + 6424, 0);
-        put64(v3 + 6416, 0);
-        put64(v3 + 6408, 0);
-        put64(v3 + 6400, 0);
-        put64(v3 + 6392, 0);
-        put64(v3 + 6384, 0);
-        if (get64(v17 + 0xae0) == 0) {
-            v4 = 1;
-            v7 = 1;
-            event = 0;
-            goto l217;
-        }
-        tm_link_decoding_decode(v3 + 0x18f0, v8, v9, (uint64_t)get32(v17 + 60));
-        v4 = 1;
-        if (get8(v3 + 6384) != 1) {
-            v7 = 2;
-            event = 0;
-            goto l217;
-        }
-        v8 = (uint64_t)get8(v3 + 6385);
-        event = get64(v17 + 0xae0);
-        if (event != 0) {
-            v22 = v17 + 0xaf8;
-            if (get64(v22) != event) {
-                v9 = get64(v17 + 0xaf0);
-                goto l221;
+        put64(v7, v8 - 1);
+        v7 = event + 0xa58;
+        t12 = v7;
+        v7 = get64(v7);
+        v8 = v7 + 1;
+        v21 = get64(event + 0xa48);
+        put64(t12, v8 - ((v8 < v21) ? 0ULL : v21));
+        v7 = get64(event + 0xa40) + (v7 << 5);
+        v8 = get64(v7 + 8);
+        v14 = get8(v7);
+        v6 = 11;
+        v21 = get64(v7 + 24);
+        v7 = get64(v7 + 16);
+        if (v21 > v7) {
+            if (v7 == 0) {
+                rattle_dealloc_at(v8);
+                v7 = 0;
+                v8 = v3 + 0x19c8;
+                v21 = 0;
+                goto l256;
             }
-            v9 = 0;
-            put64(v22, 0);
-        l221:;
-            put64(v17 + 0xae0, event - 1);
-            put64(v17 + 0xaf0, v9 + 1);
-            event = get64(v17 + 0xad8) + (v9 * 24);
-            if (get64(event + 16) != 0) rattle_dealloc_at(get64(event));
+            rattle_realloc_at(v3 + 200, v8, v7, v7, 1);
+            if (((uint32_t)get64(v3 + 200) & 1) != 0) {
+                v8 = get64(v3 + 208);
+                v21 = v7;
+            }
         }
-        event = v8 << 8;
-        v7 = 8;
-        v4 = 0;
-    l217:;
-        v23 = 0;
+    l256:;
+        v25 = v8 & 0xffffffffff000000ULL;
+        v24 = (uint32_t)(v8 >> 16);
+        v26 = (uint32_t)(v8 >> 8);
+        v27 = (uint32_t)v8;
+        v13 = 0;
+        goto l66;
+    case 16:
+        nodes_spacecraft_Spacecraft_telemetry(v3 + 216, event + 400, v7, v8);
+        if (get8(v3 + 216) == 0) goto l72;
+        v43 = get8(v3 + 217);
+        if ((v43 & 255) == 6) goto l55;
+        v27 = 0;
+        put16(v3 + 532, 0);
+        put32(v3 + 528, 0);
+        v25 = 0;
+        v14 = 2;
+        v26 = 0;
         v24 = 0;
-        goto l55;
-    case 11:
-        nodes_ground_node_Ground_tick(v3 + 136, v17);
-        if (get8(v3 + 136) == 0) goto l73;
-        v34 = get8(v3 + 137);
-        put16(v3 + 6388, 0);
-        put32(v3 + 6384, 0);
-        event = 0;
-        v20 = 0;
-        v9 = 0;
-        goto l49;
-    case 12:
-        event = get64(v17 + 0xa00);
-        if (event != 0) {
-            v9 = v17 + 0xa18;
-            if (get64(v9) != event) {
-                v8 = get64(v17 + 0xa10);
-                goto l224;
-            }
-            v8 = 0;
-            put64(v9, 0);
-        l224:;
-            v9 = event - 1;
-            put64(v17 + 0xa00, v9);
-            put64(v17 + 0xa10, v8 + 1);
-            v8 = get64(v17 + 0x9f8) + (v8 << 5);
-            v22 = get64(v8 + 24);
-            v20 = get64(v8 + 16);
-            event = get64(v8 + 8);
-            v35 = get8(v8);
-            if (v9 < (uint64_t)get32(v17 + 448)) put8(v17 + 475, 0);
-            if (v22 > v20) {
-                v9 = 0;
-                if (v20 != 0) {
-                    rattle_realloc_at(v3 + 144, event, v20, v20, 1);
-                    if (((uint32_t)get64(v3 + 144) & 1) != 0) goto l72;
-                    v9 = v22;
-                    goto l70;
-                }
-                rattle_dealloc_at(event);
-                event = v3 + 0x3088;
-                v20 = 0;
-                goto l70;
-            }
-            v9 = v22;
-            goto l70;
-        }
-        v7 = 1;
-        goto l73;
-    case 13:
-        event = v17 + 0xa30;
-        v8 = get64(event);
-        if (v8 != 0) {
-            put64(event, v8 - 1);
-            event = v17 + 0xa38;
-            t11 = event;
-            event = get64(event);
-            v8 = event + 1;
-            v9 = get64(v17 + 0xa28);
-            put64(t11, v8 - ((v8 < v9) ? 0ULL : v9));
-            v8 = get64(v17 + 0xa20) + (event << 5);
-            event = get64(v8 + 8);
-            v35 = get8(v8);
-            v9 = get64(v8 + 24);
-            v20 = get64(v8 + 16);
-            if (v9 <= v20) goto l70;
-            if (v20 != 0) {
-                rattle_realloc_at(v3 + 160, event, v20, v20, 1);
-                if (((uint32_t)get64(v3 + 160) & 1) == 0) goto l70;
-                event = get64(v3 + 168);
-                goto l71;
-            }
-            rattle_dealloc_at(event);
-            event = v3 + 0x3088;
-            v9 = 0;
-            v20 = 0;
-            goto l70;
-        }
-        v7 = 1;
-        goto l73;
-    case 14:
-        nodes_spacecraft_Spacecraft_telemetry(v3 + 176, v17 + 400, v8, v9);
-        if (get8(v3 + 176) == 0) goto l73;
-        v23 = get8(v3 + 177);
-        if ((v23 & 255) == 6) goto l61;
-        put16(v3 + 6388, 0);
-        put32(v3 + 6384, 0);
-        event = 0;
-        v34 = 2;
-        v20 = 0;
-        v9 = 0;
-        goto l48;
+        v7 = 0;
+        v21 = 0;
+        goto l46;
     default:
-        fill(v3 + 0x18f0, 0, 128);
-        put64(v3 + 1744, 0);
-        put64(v3 + 1736, 0);
-        put64(v3 + 1728, 0);
-        nodes_ground_node_Ground_prepare(v3 + 0x18f0, v17, v13, v8, v9);
-        if (get8(v3 + 6384) != 0) {
-            v7 = get8(v3 + 6385);
-            v4 = v7 == 5;
-            v23 = (v4 != 0) ? 0U : v7;
-            v7 = (v4 != 0) ? 0U : 3U;
-            goto l56;
+        fill(v3 + 528, 0, 128);
+        put64(v3 + 496, 0);
+        put64(v3 + 488, 0);
+        put64(v3 + 480, 0);
+        nodes_ground_node_Ground_prepare(v3 + 528, event, v12, v7, v8);
+        if (get8(v3 + 528) != 0) {
+            v6 = get8(v3 + 529);
+            v13 = v6 == 5;
+            v23 = (v13 != 0) ? 0U : v6;
+            v6 = (v13 != 0) ? 0U : 3U;
+            goto l50;
         }
-        copy(v3 + 0x12c0, v3 + 0x18f8, 120);
-        v4 = v9 == 0;
-        if (v4 != 0) {
-            v18 = v3 + 0x3088;
-            goto l92;
+        copy(v3 + 280, v3 + 536, 120);
+        v13 = v8 == 0;
+        if (v13 != 0) {
+            v17 = v3 + 0x19c8;
+            goto l93;
         }
-        if (v9 > 0x7fffffffffffffffULL) goto l90;
-        rattle_alloc_at(v3 + 32, v9, 1);
-        if (((uint32_t)get64(v3 + 32) & 1) == 0) goto l90;
-        v18 = get64(v3 + 40);
-    l92:;
-        if ((v18 - v8) < v9) {
-            v19 = v9 & 3;
-            v20 = 0;
-            if (v9 >= 4) {
-                v21 = v9 & ~3ULL;
-                v20 = 0;
+        if (v8 > 0x7fffffffffffffffULL) goto l91;
+        rattle_alloc_at(v3 + 40, v8, 1);
+        if (((uint32_t)get64(v3 + 40) & 1) == 0) goto l91;
+        v17 = get64(v3 + 48);
+    l93:;
+        if ((v17 - v7) < v8) {
+            v18 = v8 & 3;
+            v19 = 0;
+            if (v8 >= 4) {
+                v20 = v8 & ~3ULL;
+                v19 = 0;
                 do {
-                    event = v18 + v20;
-                    v22 = v8 + v20;
-                    put8(event, get8(v22));
-                    put8(event + 1, get8(v22 + 1));
-                    put8(event + 2, get8(v22 + 2));
-                    put8(event + 3, get8(v22 + 3));
-                    v20 = v20 + 4;
-                } while (v21 != v20);
-                if (v19 == 0) goto l58;
+                    v21 = v17 + v19;
+                    v22 = v7 + v19;
+                    put8(v21, get8(v22));
+                    put8(v21 + 1, get8(v22 + 1));
+                    put8(v21 + 2, get8(v22 + 2));
+                    put8(v21 + 3, get8(v22 + 3));
+                    v19 = v19 + 4;
+                } while (v20 != v19);
+                if (v18 == 0) goto l52;
             }
-            event = v18 + v20;
-            v8 = v8 + v20;
-        l97:;
-            put8(event, get8(v8));
-            event = event + 1;
-            v8 = v8 + 1;
-            v19 = v19 - 1;
-            if (v19 != 0) goto l97;
-            goto l58;
+            v21 = v17 + v19;
+            v7 = v7 + v19;
+        l98:;
+            put8(v21, get8(v7));
+            v21 = v21 + 1;
+            v7 = v7 + 1;
+            v18 = v18 - 1;
+            if (v18 != 0) goto l98;
+            goto l52;
         }
-        if (v4 != 0) goto l58;
-        copy(v18, v8, v9);
-        goto l58;
-    l90:;
-        if (get8(v3 + 4840) == 1) {
-            if (get64(v3 + 4864) != 0) rattle_dealloc_at(get64(v3 + 4848));
+        if (v13 != 0) goto l52;
+        copy(v17, v7, v8);
+        goto l52;
+    l91:;
+        if (get8(v3 + 320) == 1) {
+            if (get64(v3 + 344) != 0) rattle_dealloc_at(get64(v3 + 328));
         }
-        event = get64(v3 + 4904);
-        v9 = get64(v3 + 4888);
-        if (get8(v3 + 4872) != 0) {
-            v22 = get64(v3 + 4896);
-            v20 = get64(v3 + 4880);
-            if (v9 != 0) {
-                v8 = get64(v3 + 4912);
-                v9 = v9 - v8;
-                if (event < (v9 + event)) {
-                    event = ((event << 5) + v20) + 24;
+        v7 = get64(v3 + 384);
+        v21 = get64(v3 + 368);
+        if (get8(v3 + 352) != 0) {
+            v22 = get64(v3 + 376);
+            v19 = get64(v3 + 360);
+            if (v21 != 0) {
+                v8 = get64(v3 + 392);
+                v21 = v21 - v8;
+                if (v7 < (v21 + v7)) {
+                    v7 = ((v7 << 5) + v19) + 24;
                     do {
-                        if (get64(event) != 0) rattle_dealloc_at(get64(event - 16));
-                        event = event + 32;
-                        v9 = v9 - 1;
-                    } while (v9 != 0);
+                        if (get64(v7) != 0) rattle_dealloc_at(get64(v7 - 16));
+                        v7 = v7 + 32;
+                        v21 = v21 - 1;
+                    } while (v21 != 0);
                 }
                 if (v8 != 0) {
-                    event = v20 + 24;
+                    v7 = v19 + 24;
                     do {
-                        if (get64(event) != 0) rattle_dealloc_at(get64(event - 16));
-                        event = event + 32;
+                        if (get64(v7) != 0) rattle_dealloc_at(get64(v7 - 16));
+                        v7 = v7 + 32;
                         v8 = v8 - 1;
                     } while (v8 != 0);
                 }
             }
-            if (v22 == 0) goto l57;
-            goto l99;
+            if (v22 == 0) goto l51;
+            goto l100;
         }
-        if (event == 0) goto l57;
-        v20 = v9;
-    l99:;
-        rattle_dealloc_at(v20);
-        goto l57;
+        if (v7 == 0) goto l51;
+        v19 = v21;
+    l100:;
+        rattle_dealloc_at(v19);
+        goto l51;
     }
-l74:;
-    nodes_ground_node_Ground_advance(v17);
-l73:;
-    v36 = 0;
-    put16(v3 + 6388, 0);
-    put32(v3 + 6384, 0);
-    event = 0;
-    v20 = 0;
-    v9 = 0;
+l80:;
+    v7 = get64(event + 0xb00);
+    if (v7 == 0) {
+        v6 = 1;
+        goto l48;
+    }
+    v21 = event + 0xb18;
+    if (get64(v21) != v7) {
+        v8 = get64(event + 0xb10);
+        goto l229;
+    }
     v8 = 0;
-    v21 = 0;
-    goto l41;
+    put64(v21, 0);
+l229:;
+    put64(event + 0xb00, v7 - 1);
+    put64(event + 0xb10, v8 + 1);
+    v7 = get64(event + 0xaf8) + (v8 * 24);
+    if (get64(v7 + 16) == 0) goto l61;
+l79:;
+    rattle_dealloc_at(get64(v7));
+    goto l61;
 l72:;
-    event = get64(v3 + 152);
-l71:;
-    v9 = v20;
-l70:;
-    v36 = 0;
-    put16(v3 + 6388, 0);
-    put32(v3 + 6384, 0);
-    v8 = 0;
-    v7 = 9;
-    v21 = v20;
-    v22 = 0;
-    v4 = 0;
-    v37 = 0;
-    v13 = 0;
-    v12 = 0;
-    v11 = 0;
-    v6 = 0;
-    v10 = 0;
-    v19 = 0;
-    v5 = 0;
-    v14 = 0;
-    v16 = 0;
-    v15 = 0;
-    v38 = 0;
-    v39 = 0;
-    v40 = 0;
-    v41 = 0;
-    v42 = 0;
-    v43 = 0;
-    goto l32;
+    v25 = 0;
+    v27 = 0;
+    v26 = 0;
+    v24 = 0;
+    v7 = 0;
+    v21 = 0;
+    goto l45;
+l68:;
+    v7 = v21;
+    v21 = v19;
 l67:;
-    v20 = 0;
-    v9 = 0;
+    v25 = v8 & 0xffffffffff000000ULL;
+    v24 = (uint32_t)(v8 >> 16);
+    v26 = (uint32_t)(v8 >> 8);
+    v27 = (uint32_t)v8;
 l66:;
     v23 = 0;
-    v24 = 0;
-    goto l54;
+    goto l47;
 l65:;
+    v26 = 0;
+    v24 = 0;
     v7 = 0;
-    v23 = 0;
+    v21 = 0;
+    goto l48;
 l64:;
-    v24 = v23 >> 8;
-    v9 = get64(v8 + 16);
-    v20 = get64(v8 + 8);
-    goto l54;
-l63:;
-    v7 = 2;
-    goto l53;
-l62:;
-    v20 = 0;
-    v9 = 0;
-    v24 = 0;
-    goto l54;
-l61:;
-    v7 = 0;
-    goto l53;
-l60:;
     v6 = 0;
-    event = get64(v17 + 0xab8);
-    if (event == 0) v6 = get64(v17 + 0xae0) == 0;
-    v13 = get8(v17 + 473);
-    if (v11 != 0) {
-        v7 = 0;
-        if ((v13 & 255) != get8(v17 + 74)) {
-            v4 = 0;
-            goto l59;
-        }
-    }
-    v4 = 0;
-    if (event == 0) {
-        v7 = ((get8(v17 + 475) << 4) | (get8(v17 + 474) << 5)) | (get8(v17 + 476) << 3);
-        v9 = get64(v17 + 0xad8);
-        v20 = v17 + 60;
-        event = get64(v17 + 0xae0);
-        v19 = get64(v17 + 0xaf8);
-        if (event == v19) {
-            event = v9;
-            v8 = v19;
-            v19 = 0;
-            goto l234;
-        }
-        v8 = event - v19;
-        event = v9 + (get64(v17 + 0xaf0) * 24);
-    l234:;
-        v21 = (uint64_t)get32(v20);
-        v11 = v13 & 255;
-        v10 = v7 & 255;
-        do {
-            if (v8 != 0) {
-                v8 = v8 - 1;
-                v20 = event + 24;
-                v22 = v9;
-                goto l237;
-            }
-            if (v19 == 0) {
-                v4 = 1;
-                goto l233;
-            }
-            v19 = v19 - 1;
-            v22 = v9 + 24;
-            v8 = 0;
-            v20 = event;
-            event = v9;
-        l237:;
-            v9 = get64(event + 8);
-            event = get64(event);
-            put64(v3 + 6424, 0);
-            put64(v3 + 6416, 0);
-            put64(v3 + 6408, 0);
-            put64(v3 + 6400, 0);
-            put64(v3 + 6392, 0);
-            put64(v3 + 6384, 0);
-            tm_link_decoding_decode(v3 + 0x18f0, event, v9, v21);
-            if (get8(v3 + 6384) != 0) goto l233;
-            v7 = get32(v3 + 6424);
-            if ((v7 & 227) != 1) goto l233;
-            v13 = v7 >> 16;
-            if ((((v7 >> 8) & 3) | (v13 & 1)) != 0) goto l233;
-            if (v11 != (v7 >> 24)) goto l233;
-            event = v20;
-            v9 = v22;
-        } while ((v13 & 248) == v10);
-    }
-l233:;
-    v7 = v12;
-l59:;
-    nodes_ground_node_Ground_directive(v3 + 0x18c0, v17, v3 + 0x18d8);
-    v23 = get8(v3 + 6337);
-    if (get8(v3 + 6336) != 0) {
-        v34 = 1;
-        v7 = 3;
-        goto l240;
-    }
-    v13 = get8(v3 + 6338);
-    if (v7 <= 3) {
-        v7 = get32(v3 + 6360);
-        fill(v3 + 0xcc0, 0, 0x600);
-        fill(v3 + 192, 0, 0x600);
-        put8(v17 + 0xb08, 0);
-        put8(v17 + 0xb07, v4);
-        put8(v17 + 0xb06, v6);
-        put32(v17 + 0xb02, v7);
-        put16(v17 + 0xb00, 1);
-        event = v17 + 0xb18;
-        v8 = get64(event);
-        if (v8 != 0) {
-            v20 = get64(v17 + 0xb20);
-            v9 = get64(v17 + 0xb10);
-            put64(event + 8, 0);
-            put64(event, 0);
-            event = v9 + 24;
-            do {
-                if (get64(event) != 0) rattle_dealloc_at(get64(event - 16));
-                event = event + 32;
-                v8 = v8 - 1;
-            } while (v8 != 0);
-            put64(v17 + 0xb20, v20);
-            put64(v17 + 0xb18, 0);
-            put64(v17 + 0xb10, v9);
-        }
-        fill(v3 + 0x12c0, 0, 0x600);
-        v8 = 0;
-        do {
-            event = v3 + 0x12c0 + v8;
-            put64(event, v3 + 0x3088);
-            put64(event + 8, 0);
-            put64(event + 16, 0);
-            put64(event + 32, 0);
-            put64(event + 40, 0);
-            put64(event + 56, 0);
-            put64(event + 64, 0);
-            put64(event + 80, 0);
-            put64(event + 88, 0);
-            put64(event + 24, v3 + 0x3088);
-            put64(event + 48, v3 + 0x3088);
-            put64(event + 72, v3 + 0x3088);
-            v8 = v8 + 96;
-        } while (v8 != 0x600);
-        event = v17 + 0xb28;
-        copy(v3 + 0x6c0, event, 0x600);
-        copy(event, v3 + 0x12c0, 0x600);
-        v9 = 0;
-        do {
-            event = v3 + 0x6c0 + (v9 * 24);
-            v22 = get64(event + 16);
-            v20 = get64(event);
-            v8 = get64(event + 8);
-            if (v8 != 0) {
-                event = v20;
-                do {
-                    if (get64(event + 16) != 0) rattle_dealloc_at(get64(event));
-                    event = event + 24;
-                    v8 = v8 - 1;
-                } while (v8 != 0);
-            }
-            if (v22 != 0) rattle_dealloc_at(v20);
-            v9 = v9 + 1;
-        } while (v9 != 64);
-        fill(v3 + 0x18f0, 0, 0x600);
-        v8 = 0;
-        do {
-            event = v3 + 0x18f0 + v8;
-            put64(event, v3 + 0x3088);
-            put64(event + 8, 0);
-            put64(event + 16, 0);
-            put64(event + 32, 0);
-            put64(event + 40, 0);
-            put64(event + 56, 0);
-            put64(event + 64, 0);
-            put64(event + 80, 0);
-            put64(event + 88, 0);
-            put64(event + 24, v3 + 0x3088);
-            put64(event + 48, v3 + 0x3088);
-            put64(event + 72, v3 + 0x3088);
-            v8 = v8 + 96;
-        } while (v8 != 0x600);
-        copy(v3 + 0xcc0, v3 + 0x18f0, 0x600);
-        event = v17 + 0x1128;
-        copy(v3 + 192, event, 0x600);
-        copy(event, v3 + 0xcc0, 0x600);
-        v9 = 0;
-        do {
-            event = v3 + 192 + (v9 * 24);
-            v22 = get64(event + 16);
-            v20 = get64(event);
-            v8 = get64(event + 8);
-            if (v8 != 0) {
-                event = v20;
-                do {
-                    if (get64(event + 16) != 0) rattle_dealloc_at(get64(event));
-                    event = event + 24;
-                    v8 = v8 - 1;
-                } while (v8 != 0);
-            }
-            if (v22 != 0) rattle_dealloc_at(v20);
-            v9 = v9 + 1;
-        } while (v9 != 64);
-        event = v17 + 0x1730;
-        v8 = get64(event);
-        if (v8 != 0) {
-            v20 = get64(v17 + 0x1738);
-            v9 = get64(v17 + 0x1728);
-            put64(event + 8, 0);
-            put64(event, 0);
-            event = v9;
-            do {
-                if (get64(event + 16) != 0) rattle_dealloc_at(get64(event));
-                event = event + 24;
-                v8 = v8 - 1;
-            } while (v8 != 0);
-            put64(v17 + 0x1738, v20);
-            put64(v17 + 0x1730, 0);
-            put64(v17 + 0x1728, v9);
-        }
-        put64(v17 + 0x1740, 0);
-        put64(v17 + 0x1748, get64(v17 + 0x1758));
-    }
-    v4 = v23 & 255;
     v23 = 0;
-    v7 = (v4 != 0) ? 4U : 0U;
-    v34 = (v4 != 0) ? v13 : 0U;
-l240:;
-    v24 = 0;
-    v9 = 0;
-    v20 = 0;
-    event = 0;
-    goto l52;
-l58:;
-    v7 = get8(v3 + 4840) == 1;
-    v29 = (v7 != 0) ? get64(v3 + 4856) : 1ULL;
-    if (v29 == 0) {
-        v8 = v3 + 0x3088;
-        v20 = 0;
-        v25 = 0;
-        goto l268;
-    }
-    if (v29 > 0x555555555555555ULL) goto l261;
-    event = get64(v3 + 4848);
-    rattle_alloc_at(v3 + 16, v29 * 24, 8);
-    if (((uint32_t)get64(v3 + 16) & 1) == 0) goto l261;
-    v30 = (v7 != 0) ? event : (v3 + 0x12d8);
-    v31 = get64(v3 + 24);
-    put64(v3 + 3280, v29);
-    put64(v3 + 3272, 0);
-    put64(v3 + 3264, v31);
+l63:;
+    if (v13 != 0) goto l48;
+    v25 = v8 & 0xffffffffff000000ULL;
+    v13 = v23 & ~255U;
+    v24 = (uint32_t)(v8 >> 16);
+    v26 = (uint32_t)(v8 >> 8);
+    v21 = get64(v7 + 16);
+    v7 = get64(v7 + 8);
+    v27 = (uint32_t)v8;
+    v14 = 0;
+    goto l47;
+l62:;
+    v6 = 2;
+    goto l48;
+l61:;
     v25 = 0;
-    v28 = 0;
+    v27 = 0;
+    v26 = 0;
+    v24 = 0;
+    v7 = 0;
+    v21 = 0;
+    goto l31;
+l60:;
+    v27 = 0;
+    v26 = 0;
+    v24 = 0;
+    v21 = 0;
+    goto l57;
+l59:;
+    v27 = 0;
+l58:;
+    v26 = 0;
+    v24 = 0;
+    v7 = 0;
+    v21 = 0;
+l57:;
+    if (v13 != 0) goto l48;
+l56:;
+    v13 = 0;
+    v23 = 0;
+    v14 = 0;
+    goto l47;
+l55:;
+    v6 = 0;
+    goto l48;
+l54:;
+    v12 = 0;
+    if (get64(event + 0xad8) == 0) v12 = get64(event + 0xb00) == 0;
+    if (v10 != 0) {
+        v13 = 0;
+        if (get8(event + 473) != get8(event + 74)) {
+            v6 = 0;
+            goto l53;
+        }
+    }
+    v6 = simulated_link_world_World_is_idle(event);
+    v13 = v11;
+l53:;
+    nodes_ground_node_Ground_directive(v3 + 280, event, v3 + 528);
+    v23 = get8(v3 + 281);
+    if (get8(v3 + 280) != 0) {
+        v14 = 1;
+        v6 = 3;
+        goto l261;
+    }
+    v11 = get8(v3 + 282);
+    if (v13 <= 3) simulated_link_world_World_begin(event, v3 + 528, v12, v6);
+    v13 = v23 & 255;
+    v23 = 0;
+    v6 = (v13 != 0) ? 4U : 0U;
+    v14 = (v13 != 0) ? v11 : 0U;
+l261:;
+    v24 = 0;
+    v21 = 0;
+    v7 = 0;
+    v25 = 0;
+    v26 = 0;
+    v27 = 0;
+    v13 = 0;
+    goto l47;
+l52:;
+    v6 = get8(v3 + 320) == 1;
+    v40 = (v6 != 0) ? get64(v3 + 336) : 1ULL;
+    if (v40 == 0) {
+        v21 = v3 + 0x19c8;
+        v19 = 0;
+        v29 = 0;
+        goto l271;
+    }
+    if (v40 > 0x555555555555555ULL) goto l264;
+    v7 = get64(v3 + 328);
+    rattle_alloc_at(v3 + 24, v40 * 24, 8);
+    if (((uint32_t)get64(v3 + 24) & 1) == 0) goto l264;
+    v38 = (v6 != 0) ? v7 : (v3 + 304);
+    v39 = get64(v3 + 32);
+    put64(v3 + 520, v40);
+    put64(v3 + 512, 0);
+    put64(v3 + 504, v39);
+    v29 = 0;
+    v30 = 0;
     do {
-        event = v30 + (v28 << 4);
-        v21 = get64(event);
-        v27 = get64(event + 8);
-        v7 = v27 == 0;
-        if (v7 != 0) {
-            v19 = v3 + 0x3088;
-            goto l271;
+        v7 = v38 + (v30 << 4);
+        v20 = get64(v7);
+        v28 = get64(v7 + 8);
+        v6 = v28 == 0;
+        if (v6 != 0) {
+            v18 = v3 + 0x19c8;
+            goto l274;
         }
-        if (v27 > 0x7fffffffffffffffULL) goto l267;
-        rattle_alloc_at(v3, v27, 1);
-        if (((uint32_t)get64(v3) & 1) == 0) goto l267;
-        v19 = get64(v3 + 8);
-    l271:;
-        if ((v19 - v21) < v27) {
-            v22 = v27 & 3;
-            v8 = 0;
-            if (v27 >= 4) {
-                v26 = v27 & ~3ULL;
-                v8 = 0;
+        if (v28 > 0x7fffffffffffffffULL) goto l270;
+        rattle_alloc_at(v3 + 8, v28, 1);
+        if (((uint32_t)get64(v3 + 8) & 1) == 0) goto l270;
+        v18 = get64(v3 + 16);
+    l274:;
+        if ((v18 - v20) < v28) {
+            v22 = v28 & 3;
+            v21 = 0;
+            if (v28 >= 4) {
+                v25 = v28 & ~3ULL;
+                v21 = 0;
                 do {
-                    event = v19 + v8;
-                    v20 = v21 + v8;
-                    put8(event, get8(v20));
-                    put8(event + 1, get8(v20 + 1));
-                    put8(event + 2, get8(v20 + 2));
-                    put8(event + 3, get8(v20 + 3));
-                    v8 = v8 + 4;
-                } while (v26 != v8);
-                if (v22 == 0) goto l273;
+                    v7 = v18 + v21;
+                    v19 = v20 + v21;
+                    put8(v7, get8(v19));
+                    put8(v7 + 1, get8(v19 + 1));
+                    put8(v7 + 2, get8(v19 + 2));
+                    put8(v7 + 3, get8(v19 + 3));
+                    v21 = v21 + 4;
+                } while (v25 != v21);
+                if (v22 == 0) goto l276;
             }
-            event = v19 + v8;
-            v8 = v21 + v8;
-        l277:;
-            put8(event, get8(v8));
-            event = event + 1;
-            v8 = v8 + 1;
+            v7 = v18 + v21;
+            v21 = v20 + v21;
+        l280:;
+            put8(v7, get8(v21));
+            v7 = v7 + 1;
+            v21 = v21 + 1;
             v22 = v22 - 1;
-            if (v22 != 0) goto l277;
-            goto l273;
+            if (v22 != 0) goto l280;
+            goto l276;
         }
-        if (v7 == 0) copy(v19, v21, v27);
-    l273:;
-        if (get64(v3 + 3280) == v25) {
-            t12 = std_alloc_vec_Vec_grow_amortized_1598ebf9113514c4(v3 + 0xcc0, 1);
-            if (t12 == 0) {
-                if (v7 == 0) rattle_dealloc_at(v19);
-                v9 = get64(v3 + 3280);
-                v31 = get64(v3 + 3264);
-                v8 = get64(v3 + 3272);
+        if (v6 == 0) copy(v18, v20, v28);
+    l276:;
+        if (get64(v3 + 520) == v29) {
+            t14 = std_alloc_vec_Vec_grow_amortized_1598ebf9113514c4(v3 + 504, 1);
+            if (t14 == 0) {
+                if (v6 == 0) rattle_dealloc_at(v18);
+                v21 = get64(v3 + 520);
+                v39 = get64(v3 + 504);
+                v8 = get64(v3 + 512);
                 if (v8 != 0) {
-                    event = v31;
+                    v7 = v39;
                     do {
-                        if (get64(event + 16) != 0) rattle_dealloc_at(get64(event));
-                        event = event + 24;
+                        if (get64(v7 + 16) != 0) rattle_dealloc_at(get64(v7));
+                        v7 = v7 + 24;
                         v8 = v8 - 1;
                     } while (v8 != 0);
                 }
-                if (v9 != 0) goto l262;
-                goto l261;
+                if (v21 != 0) goto l265;
+                goto l264;
             }
-            v31 = get64(v3 + 3264);
-            v25 = get64(v3 + 3272);
+            v39 = get64(v3 + 504);
+            v29 = get64(v3 + 512);
         }
-        event = v31 + (v25 * 24);
-        put64(event + 16, v27);
-        put64(event + 8, v27);
-        put64(event, v19);
-        v25 = v25 + 1;
-        put64(v3 + 3272, v25);
-        v28 = v28 + 1;
-    } while (v28 != v29);
-    v20 = get64(v3 + 3280);
-    v8 = get64(v3 + 3264);
-l268:;
-    if (get64(v17 + 0xb20) == get64(v17 + 0xb18)) {
-        t13 = std_alloc_vec_Vec_grow_amortized_722da43a23cbcade(v17 + 0xb10);
-        if (t13 == 0) goto l265;
+        v7 = v39 + (v29 * 24);
+        put64(v7 + 16, v28);
+        put64(v7 + 8, v28);
+        put64(v7, v18);
+        v29 = v29 + 1;
+        put64(v3 + 512, v29);
+        v30 = v30 + 1;
+    } while (v30 != v40);
+    v19 = get64(v3 + 520);
+    v21 = get64(v3 + 504);
+l271:;
+    if (get64(event + 0xb40) == get64(event + 0xb38)) {
+        t15 = std_alloc_vec_Vec_grow_amortized_722da43a23cbcade(event + 0xb30);
+        if (t15 == 0) goto l268;
     }
-    v22 = v17 + 0xb28;
-    event = v22 + (((uint64_t)v13 & 255) * 24);
-    if (v25 > (get64(event + 16) - get64(event + 8))) {
-        t14 = std_alloc_vec_Vec_grow_amortized_1598ebf9113514c4(event, v25);
-        if (t14 == 0) goto l264;
+    v22 = event + 0xb48;
+    v7 = v22 + (((uint64_t)v12 & 255) * 24);
+    if (v29 > (get64(v7 + 16) - get64(v7 + 8))) {
+        t16 = std_alloc_vec_Vec_grow_amortized_1598ebf9113514c4(v7, v29);
+        if (t16 == 0) goto l267;
     }
-    nodes_ground_node_Ground_commit(v17, v3 + 0x12c0);
-    v4 = 0;
-    v19 = v17 + 0xb18;
-    v21 = get64(v19);
-    event = get64(v17 + 0xb10) + (v21 << 5);
-    put32(event + 1, 0);
-    put8(event, v13);
-    put32(event + 4, 0);
-    put64(event + 24, v9);
-    put64(event + 16, v9);
-    put64(event + 8, v18);
-    put64(v19, v21 + 1);
-    put64(v3 + 1744, v20);
-    put64(v3 + 1736, v25);
-    put64(v3 + 1728, v8);
-    simulated_link_map_lists_append_on(v22, v13, v3 + 0x6c0);
-    v7 = 0;
+    nodes_ground_node_Ground_commit(event, v3 + 280);
+    v13 = 0;
+    v18 = event + 0xb38;
+    v20 = get64(v18);
+    v7 = get64(event + 0xb30) + (v20 << 5);
+    put32(v7 + 1, 0);
+    put8(v7, v12);
+    put32(v7 + 4, 0);
+    put64(v7 + 24, v8);
+    put64(v7 + 16, v8);
+    put64(v7 + 8, v17);
+    put64(v18, v20 + 1);
+    put64(v3 + 496, v19);
+    put64(v3 + 488, v29);
+    put64(v3 + 480, v21);
+    simulated_link_map_lists_append_on(v22, v12, v3 + 480);
+    v6 = 0;
     v23 = 0;
-    goto l56;
-l267:;
-    v8 = get64(v3 + 3280);
-    if (v25 != 0) {
-        event = v31;
+    goto l50;
+l270:;
+    v8 = get64(v3 + 520);
+    if (v29 != 0) {
+        v7 = v39;
         do {
-            if (get64(event + 16) != 0) rattle_dealloc_at(get64(event));
-            event = event + 24;
-            v25 = v25 - 1;
-        } while (v25 != 0);
+            if (get64(v7 + 16) != 0) rattle_dealloc_at(get64(v7));
+            v7 = v7 + 24;
+            v29 = v29 - 1;
+        } while (v29 != 0);
     }
-    if (v8 == 0) goto l261;
-    goto l262;
-l265:;
-    if (v25 == 0) goto l263;
-l264:;
-    event = v8;
+    if (v8 == 0) goto l264;
+    goto l265;
+l268:;
+    if (v29 == 0) goto l266;
+l267:;
+    v7 = v21;
     do {
-        if (get64(event + 16) != 0) rattle_dealloc_at(get64(event));
-        event = event + 24;
-        v25 = v25 - 1;
-    } while (v25 != 0);
-l263:;
-    if (v20 != 0) rattle_dealloc_at(v8);
-    if (v4 == 0) rattle_dealloc_at(v18);
-    if (get8(v3 + 4840) == 1) {
-        if (get64(v3 + 4864) != 0) rattle_dealloc_at(get64(v3 + 4848));
+        if (get64(v7 + 16) != 0) rattle_dealloc_at(get64(v7));
+        v7 = v7 + 24;
+        v29 = v29 - 1;
+    } while (v29 != 0);
+l266:;
+    if (v19 != 0) rattle_dealloc_at(v21);
+    if (v13 == 0) rattle_dealloc_at(v17);
+    if (get8(v3 + 320) == 1) {
+        if (get64(v3 + 344) != 0) rattle_dealloc_at(get64(v3 + 328));
     }
-    event = get64(v3 + 4904);
-    v9 = get64(v3 + 4888);
-    if (get8(v3 + 4872) != 0) {
-        v22 = get64(v3 + 4896);
-        v20 = get64(v3 + 4880);
-        if (v9 != 0) {
-            v8 = get64(v3 + 4912);
-            v9 = v9 - v8;
-            if (event < (v9 + event)) {
-                event = ((event << 5) + v20) + 24;
+    v7 = get64(v3 + 384);
+    v21 = get64(v3 + 368);
+    if (get8(v3 + 352) != 0) {
+        v22 = get64(v3 + 376);
+        v19 = get64(v3 + 360);
+        if (v21 != 0) {
+            v8 = get64(v3 + 392);
+            v21 = v21 - v8;
+            if (v7 < (v21 + v7)) {
+                v7 = ((v7 << 5) + v19) + 24;
                 do {
-                    if (get64(event) != 0) rattle_dealloc_at(get64(event - 16));
-                    event = event + 32;
-                    v9 = v9 - 1;
-                } while (v9 != 0);
+                    if (get64(v7) != 0) rattle_dealloc_at(get64(v7 - 16));
+                    v7 = v7 + 32;
+                    v21 = v21 - 1;
+                } while (v21 != 0);
             }
             if (v8 != 0) {
-                event = v20 + 24;
+                v7 = v19 + 24;
                 do {
-                    if (get64(event) != 0) rattle_dealloc_at(get64(event - 16));
-                    event = event + 32;
+                    if (get64(v7) != 0) rattle_dealloc_at(get64(v7 - 16));
+                    v7 = v7 + 32;
                     v8 = v8 - 1;
                 } while (v8 != 0);
             }
         }
-        if (v22 == 0) goto l57;
-        rattle_dealloc_at(v20);
-        goto l57;
+        if (v22 == 0) goto l51;
+        rattle_dealloc_at(v19);
+        goto l51;
     }
-    if (event == 0) goto l57;
-    rattle_dealloc_at(v9);
-    goto l57;
-l262:;
-    rattle_dealloc_at(v31);
-l261:;
-    if (v4 == 0) rattle_dealloc_at(v18);
-    if (get8(v3 + 4840) == 1) {
-        if (get64(v3 + 4864) != 0) rattle_dealloc_at(get64(v3 + 4848));
+    if (v7 == 0) goto l51;
+    rattle_dealloc_at(v21);
+    goto l51;
+l265:;
+    rattle_dealloc_at(v39);
+l264:;
+    if (v13 == 0) rattle_dealloc_at(v17);
+    if (get8(v3 + 320) == 1) {
+        if (get64(v3 + 344) != 0) rattle_dealloc_at(get64(v3 + 328));
     }
-    event = get64(v3 + 4904);
-    v9 = get64(v3 + 4888);
-    if (get8(v3 + 4872) == 0) {
-        if (event == 0) goto l57;
-        rattle_dealloc_at(v9);
-        goto l57;
+    v7 = get64(v3 + 384);
+    v21 = get64(v3 + 368);
+    if (get8(v3 + 352) == 0) {
+        if (v7 == 0) goto l51;
+        rattle_dealloc_at(v21);
+        goto l51;
     }
-    v22 = get64(v3 + 4896);
-    v20 = get64(v3 + 4880);
-    if (v9 != 0) {
-        v8 = get64(v3 + 4912);
-        v9 = v9 - v8;
-        if (event < (v9 + event)) {
-            event = ((event << 5) + v20) + 24;
+    v22 = get64(v3 + 376);
+    v19 = get64(v3 + 360);
+    if (v21 != 0) {
+        v8 = get64(v3 + 392);
+        v21 = v21 - v8;
+        if (v7 < (v21 + v7)) {
+            v7 = ((v7 << 5) + v19) + 24;
             do {
-                if (get64(event) != 0) rattle_dealloc_at(get64(event - 16));
-                event = event + 32;
-                v9 = v9 - 1;
-            } while (v9 != 0);
+                if (get64(v7) != 0) rattle_dealloc_at(get64(v7 - 16));
+                v7 = v7 + 32;
+                v21 = v21 - 1;
+            } while (v21 != 0);
         }
         if (v8 != 0) {
-            event = v20 + 24;
+            v7 = v19 + 24;
             do {
-                if (get64(event) != 0) rattle_dealloc_at(get64(event - 16));
-                event = event + 32;
+                if (get64(v7) != 0) rattle_dealloc_at(get64(v7 - 16));
+                v7 = v7 + 32;
                 v8 = v8 - 1;
             } while (v8 != 0);
         }
     }
-    if (v22 != 0) rattle_dealloc_at(v20);
-l57:;
-    v7 = 0;
-    v4 = 1;
+    if (v22 != 0) rattle_dealloc_at(v19);
+l51:;
+    v6 = 0;
+    v13 = 1;
     v23 = 0;
-l56:;
-    event = 0;
-    v24 = 0;
-    v20 = 0;
-l55:;
-    v9 = 0;
-l54:;
-    if (v4 == 0) {
-        v34 = 0;
-        goto l52;
-    }
-l53:;
-    v7 = v7 + 6;
-    goto l31;
-l52:;
-    v36 = 0;
-    put16(v3 + 6388, 0);
-    put32(v3 + 6384, 0);
+l50:;
+    if (v13 != 0) goto l48;
     v21 = 0;
+    v24 = 0;
+l49:;
+    v7 = 0;
+    v25 = 0;
+    v26 = 0;
+    v27 = 0;
+    v13 = 0;
+    v14 = 0;
+    goto l47;
+l48:;
+    v6 = v6 + 6;
+    goto l27;
+l47:;
+    v31 = 0;
+    put16(v3 + 532, 0);
+    put32(v3 + 528, 0);
+    v43 = v13 | (v23 & 255);
+    v29 = (uint64_t)v43;
+    v28 = v29 >> 16;
+    v17 = v29 >> 8;
     v8 = 0;
+    v19 = v7;
     v22 = 0;
-    v4 = 0;
-    v37 = 0;
+    v18 = 0;
     v13 = 0;
     v12 = 0;
     v11 = 0;
-    v6 = 0;
     v10 = 0;
-    v19 = 0;
     v5 = 0;
-    v14 = 0;
+    v9 = 0;
+    v4 = 0;
+    v20 = 0;
     v16 = 0;
     v15 = 0;
-    v38 = 0;
-    v39 = 0;
-    v40 = 0;
-    v41 = 0;
-    v42 = 0;
-    v43 = 0;
+    v32 = 0;
+    v33 = 0;
+    v34 = 0;
     v35 = 0;
-    switch (v7) {
+    v36 = 0;
+    v37 = v6;
+    v44 = 0;
+    v45 = 0;
+    v46 = 0;
+    v47 = 0;
+    switch (v6) {
+    case 1:
+        goto l44;
+    case 2:
+        goto l31;
     case 3:
-        goto l48;
+        goto l46;
     case 4:
-        goto l49;
+        goto l36;
     case 5:
-        goto l51;
+        goto l28;
     case 6:
-        v8 = ((((uint64_t)v23 & 255) << 8) | ((uint64_t)v24 << 16)) | ((uint64_t)v34 & 255);
-        v7 = 6;
-        goto l41;
-    case 7:
-        goto l50;
-    case 8:
-        v23 = (uint32_t)(event >> 8);
-        v5 = 2;
-        v8 = 0;
-        v7 = 8;
-        v21 = 0;
+        t17 = (((v29 << 8) & 0xff00000000ULL) | ((((uint64_t)v23 & 255) << 8) | ((uint64_t)v14 & 255))) | ((v28 << 24)
+            & 0xff000000ULL);
+        v8 = t17 | ((v17 << 16) & 0xff0000);
+        v19 = 0;
+        v6 = 6;
         v22 = 0;
-        v4 = 0;
-        v37 = 0;
+        v18 = 0;
         v13 = 0;
         v12 = 0;
         v11 = 0;
-        v6 = 0;
         v10 = 0;
-        v19 = 0;
-        v14 = 0;
+        v5 = 0;
+        v9 = 0;
+        v4 = 0;
+        v20 = 0;
         v16 = 0;
         v15 = 0;
-        v38 = 0;
-        v39 = 0;
-        v40 = 0;
-        v41 = 0;
-        v42 = 0;
-        v43 = 0;
+        v32 = 0;
+        v33 = 0;
+        v34 = 0;
         v35 = 0;
-        switch ((uint32_t)(event & 255)) {
-        case 1:
-            goto l32;
-        case 2:
-            v37 = 0;
-            v4 = v23 & 255;
-            v15 = (v4 != 0) ? (uint32_t)(event >> 16) : 0U;
-            v40 = ((v9 & 0xff0000) == 0) ? 0U : ((uint32_t)(v9 >> 24) + 1);
-            v38 = (uint32_t)v9;
-            v39 = ((v38 & 255) == 1) ? ((uint32_t)(v9 >> 8) + 1) : 0U;
-            v16 = v4 == 0;
-            v5 = 3;
-            v21 = 0;
-            v8 = 0;
-            v22 = 0;
-            v36 = 0;
-            v4 = 0;
-            v13 = 0;
-            v12 = 0;
-            v11 = 0;
-            v6 = 0;
-            v10 = 0;
-            v19 = v20;
-            v14 = 0;
-            goto l35;
-        default:
-            v5 = 1;
-            v14 = v23 + 1;
-            v8 = 0;
-            v21 = 0;
-            v22 = 0;
-            v4 = 0;
-            v37 = 0;
-            v13 = 0;
-            v12 = 0;
-            v11 = 0;
-            v6 = 0;
-            v10 = 0;
-            v19 = 0;
-            goto l36;
-        }
-    default:
-        goto l32;
-    }
-l51:;
-    v36 = 0;
-    v8 = 0;
-    v7 = 5;
-    v21 = v20;
-    goto l41;
-l50:;
-    v24 = (uint32_t)(event >> 16);
-    v23 = (uint32_t)(event >> 8);
-    v37 = 0;
-    v36 = 2;
-    v8 = 0;
-    v7 = 7;
-    v21 = 0;
-    v22 = 0;
-    v4 = 0;
-    v13 = 0;
-    v12 = 0;
-    v11 = 0;
-    v6 = 0;
-    v10 = 0;
-    v19 = 0;
-    v5 = 0;
-    v14 = 0;
-    v16 = 0;
-    v15 = 0;
-    v38 = 0;
-    v39 = 0;
-    v40 = 0;
-    v41 = 0;
-    v42 = 0;
-    v43 = 0;
-    v35 = 0;
-    switch ((uint32_t)(event & 255)) {
-    case 1:
-        goto l32;
-    case 2:
-        v4 = 0;
-        v12 = ((v9 & 255) == 0) ? 0U : ((uint32_t)(v9 >> 8) + 1);
-        v36 = 3;
+        v36 = 0;
+        v37 = 6;
+        goto l30;
+    case 7:
+        v13 = 2;
         v8 = 0;
-        v21 = 0;
-        v22 = v20;
-        v37 = v23;
-        v13 = v24;
-        goto l39;
-    case 3:
-        v11 = v23 & 1;
-        v36 = 4;
-        v8 = 0;
-        v21 = 0;
+        v6 = 7;
+        v19 = 0;
         v22 = 0;
-        v4 = 0;
-        v13 = 0;
+        v18 = 0;
         v12 = 0;
-        goto l38;
-    case 4:
+        v11 = 0;
+        v10 = 0;
+        v5 = 0;
+        v9 = 0;
         v4 = 0;
-        v13 = v23 & 255;
-        v10 = (v13 != 0) ? v24 : 0U;
-        v6 = v13 != 0;
-        v36 = 5;
+        v20 = 0;
+        v16 = 0;
+        v15 = 0;
+        v32 = 0;
+        v33 = 0;
+        v34 = 0;
+        v35 = 0;
+        v36 = 0;
+        v37 = 7;
+        v44 = 0;
+        v45 = 0;
+        v46 = 0;
+        v47 = 0;
+        switch ((uint32_t)((uint64_t)v27 & 255)) {
+        case 1:
+            goto l28;
+        case 2:
+            v31 = 0;
+            v10 = ((v21 & 255) == 0) ? 0U : ((uint32_t)(v21 >> 8) + 1);
+            v13 = 3;
+            v8 = 0;
+            v27 = 2;
+            v19 = 0;
+            v22 = 0;
+            v18 = v7;
+            v12 = v26;
+            v11 = v24;
+            goto l34;
+        case 3:
+            v5 = v26 & 1;
+            v13 = 4;
+            v8 = 0;
+            v27 = 3;
+            v19 = 0;
+            v22 = 0;
+            v18 = 0;
+            v12 = 0;
+            v11 = 0;
+            v10 = 0;
+            goto l33;
+        case 4:
+            v31 = 0;
+            v13 = v26 & 255;
+            v4 = (v13 != 0) ? v24 : 0U;
+            v9 = v13 != 0;
+            v13 = 5;
+            v8 = 0;
+            v27 = 4;
+            v19 = 0;
+            v22 = 0;
+            v18 = 0;
+            v12 = 0;
+            v11 = 0;
+            v10 = 0;
+            v5 = 0;
+            goto l32;
+        default:
+            goto l35;
+        }
+    case 8:
+        v16 = 2;
         v8 = 0;
-        v21 = 0;
+        v6 = 8;
+        v19 = 0;
         v22 = 0;
-        v37 = 0;
+        v18 = 0;
         v13 = 0;
         v12 = 0;
         v11 = 0;
-        goto l37;
-    default:
-        v36 = 1;
-        v4 = v23 + 1;
-        v8 = 0;
-        v21 = 0;
-        v22 = 0;
-        goto l40;
-    }
-l49:;
-    v43 = v34 + 1;
-    v36 = 0;
-    v8 = 0;
-    v7 = 4;
-    v21 = 0;
-    v22 = 0;
-    v4 = 0;
-    v37 = 0;
-    v13 = 0;
-    v12 = 0;
-    v11 = 0;
-    v6 = 0;
-    v10 = 0;
-    v19 = 0;
-    v5 = 0;
-    v14 = 0;
-    v16 = 0;
-    v15 = 0;
-    v38 = 0;
-    v39 = 0;
-    v40 = 0;
-    v41 = 0;
-    v42 = 0;
-    goto l33;
-l48:;
-    v42 = v23 + 1;
-    v41 = v34 + 1;
-    v36 = 0;
-    v8 = 0;
-    v7 = 3;
-    v21 = 0;
-    v22 = 0;
-    v4 = 0;
-    v37 = 0;
-    v13 = 0;
-    v12 = 0;
-    v11 = 0;
-    v6 = 0;
-    v10 = 0;
-    v19 = 0;
-    v5 = 0;
-    v14 = 0;
-    v16 = 0;
-    v15 = 0;
-    v38 = 0;
-    v39 = 0;
-    v40 = 0;
-    goto l34;
-l41:;
-    v22 = 0;
-    v4 = 0;
-    v37 = 0;
-l40:;
-    v13 = 0;
-    v12 = 0;
-l39:;
-    v11 = 0;
-l38:;
-    v6 = 0;
-    v10 = 0;
-l37:;
-    v19 = 0;
-    v5 = 0;
-    v14 = 0;
-l36:;
-    v16 = 0;
-    v15 = 0;
-    v38 = 0;
-    v39 = 0;
-    v40 = 0;
-l35:;
-    v41 = 0;
-    v42 = 0;
-l34:;
-    v43 = 0;
-l33:;
-    v35 = 0;
-l32:;
-    put16(v3 + 188, get16(v3 + 6388));
-    put32(v3 + 184, get32(v3 + 6384));
-    put8(reply + 44, (uint32_t)(v8 >> 32));
-    put32(reply + 40, (uint32_t)v8);
-    put8(reply + 49, v35);
-    put8(reply + 48, v43);
-    put8(reply + 47, v42);
-    put8(reply + 46, v41);
-    put8(reply + 45, v7);
-    put8(reply + 39, 0);
-    put8(reply + 38, v40);
-    put8(reply + 37, v39);
-    put8(reply + 36, v38);
-    put8(reply + 35, v15);
-    put8(reply + 34, v16);
-    put8(reply + 33, v14);
-    put8(reply + 32, v5);
-    put64(reply + 24, v19);
-    put8(reply + 23, v10);
-    put8(reply + 22, v6);
-    put8(reply + 21, v11);
-    put8(reply + 20, v12);
-    put8(reply + 19, v13);
-    put8(reply + 18, v37);
-    put8(reply + 17, v4);
-    put8(reply + 16, v36);
-    put64(reply + 8, v22);
-    put64(reply, v21);
-    put16(reply + 54, get16(v3 + 188));
-    put32(reply + 50, get32(v3 + 184));
-    if (((1U << (v7 & 31)) & 479) != 0) {
-        event = v3 + 0x3088;
-        v20 = 0;
+        v10 = 0;
+        v5 = 0;
         v9 = 0;
+        v4 = 0;
+        v20 = 0;
+        v15 = 0;
+        v32 = 0;
+        v33 = 0;
+        v34 = 0;
+        v35 = 0;
+        v36 = 0;
+        v37 = 8;
+        v44 = 0;
+        v45 = 0;
+        v46 = 0;
+        v47 = 0;
+        switch ((uint32_t)((uint64_t)v27 & 255)) {
+        case 1:
+            goto l28;
+        case 2:
+            v13 = 0;
+            v36 = ((v21 & 0xff0000) == 0) ? 0U : ((uint32_t)(v21 >> 24) + 1);
+            v34 = (uint32_t)v21;
+            v35 = ((v34 & 255) == 1) ? ((uint32_t)(v21 >> 8) + 1) : 0U;
+            v12 = v26 & 255;
+            v33 = (v12 != 0) ? v24 : 0U;
+            v32 = v12 == 0;
+            v16 = 3;
+            v8 = 0;
+            v27 = 2;
+            v19 = 0;
+            v22 = 0;
+            v18 = 0;
+            v31 = 0;
+            v12 = 0;
+            v11 = 0;
+            v10 = 0;
+            v5 = 0;
+            v9 = 0;
+            v4 = 0;
+            v20 = v7;
+            v15 = 0;
+            goto l37;
+        default:
+            v16 = 1;
+            v15 = v26 + 1;
+            v8 = 0;
+            v27 = 0;
+            v19 = 0;
+            v22 = 0;
+            v18 = 0;
+            v13 = 0;
+            v31 = 0;
+            v12 = 0;
+            v11 = 0;
+            v10 = 0;
+            v5 = 0;
+            v9 = 0;
+            v4 = 0;
+            v20 = 0;
+            v32 = 0;
+            v33 = 0;
+            v34 = 0;
+            v35 = 0;
+            v36 = 0;
+            goto l37;
+        }
+    case 9:
+        v13 = 0;
+        v36 = (((uint32_t)v17 & 255) != 0) ? ((uint32_t)v28 + 1) : 0U;
+        v35 = ((v14 & 255) == 1) ? (v43 + 1) : 0U;
+        v37 = 10;
+        v16 = 4;
+        v8 = 0;
+        v6 = 9;
+        v19 = 0;
+        v22 = 0;
+        v18 = 0;
+        v31 = 0;
+        v12 = 0;
+        v11 = 0;
+        v10 = 0;
+        v5 = 0;
+        v9 = 0;
+        v4 = 0;
+        v20 = 0;
+        v15 = 0;
+        v32 = 0;
+        v33 = 0;
+        v34 = v14;
+        goto l30;
+    case 10:
+        v22 = (((((uint64_t)v24 & 255) << 16) + v25) + (((uint64_t)v26 & 255) << 8)) + ((uint64_t)v27 & 255);
+        v37 = 11;
+        v8 = 0;
+        v6 = 10;
+        v19 = 0;
+        v18 = 0;
+        v13 = 0;
+        v12 = 0;
+        v11 = 0;
+        v10 = 0;
+        v5 = 0;
+        v9 = 0;
+        v4 = 0;
+        v20 = 0;
+        v16 = 0;
+        v15 = 0;
+        v32 = 0;
+        v33 = 0;
+        v34 = 0;
+        v35 = 0;
+        v36 = 0;
+        goto l30;
+    case 11:
+        v37 = 9;
+        v18 = 0;
+        v8 = 0;
+        v19 = v7;
+        v22 = 0;
+        v13 = 0;
+        v12 = 0;
+        v11 = 0;
+        v10 = 0;
+        v5 = 0;
+        v9 = 0;
+        v4 = 0;
+        v20 = 0;
+        v16 = 0;
+        v15 = 0;
+        v32 = 0;
+        v33 = 0;
+        v34 = 0;
+        v35 = 0;
+        v36 = 0;
+        v44 = 0;
+        v45 = 0;
+        v46 = 0;
+        v47 = v14;
+        goto l28;
+    default:
+        goto l45;
     }
-    put64(v17 + 0x1788, v20);
-    reply = v17 + 0x1790;
-    v8 = get64(reply);
-    put64(reply, v9);
-    reply = v17 + 0x1780;
-    v9 = get64(reply);
-    put64(reply, event);
-    v7 = 0;
-    if (v8 != 0) rattle_dealloc_at(v9);
+l46:;
+    v45 = v43 + 1;
+    v44 = v14 + 1;
+    v13 = 0;
+    v8 = 0;
+    v6 = 3;
+    v19 = 0;
+    v22 = 0;
+    v18 = 0;
+    v31 = 0;
+    v12 = 0;
+    v11 = 0;
+    v10 = 0;
+    v5 = 0;
+    v9 = 0;
+    v4 = 0;
+    v20 = 0;
+    v16 = 0;
+    v15 = 0;
+    v32 = 0;
+    v33 = 0;
+    v34 = 0;
+    v35 = 0;
+    v36 = 0;
+    v37 = 3;
+    goto l29;
+l45:;
+    v6 = 0;
+    put16(v3 + 532, 0);
+    put32(v3 + 528, 0);
+    v8 = 0;
+    v19 = 0;
+    v22 = 0;
+    v18 = 0;
+    v13 = 0;
+    v31 = 0;
+    v12 = 0;
+    v11 = 0;
+    v10 = 0;
+    v5 = 0;
+    v9 = 0;
+    v4 = 0;
+    v20 = 0;
+    v16 = 0;
+    v15 = 0;
+    v32 = 0;
+    v33 = 0;
+    v34 = 0;
+    v35 = 0;
+    v36 = 0;
+    v37 = 0;
+    goto l30;
+l44:;
+    v13 = 0;
+    put16(v3 + 532, 0);
+    put32(v3 + 528, 0);
+    v8 = 0;
+    v6 = 1;
+    v19 = 0;
+    v22 = 0;
+    v18 = 0;
+    v31 = 0;
+    v12 = 0;
+    v11 = 0;
+    v10 = 0;
+    v5 = 0;
+    v9 = 0;
+    v4 = 0;
+    v20 = 0;
+    v16 = 0;
+    v15 = 0;
+    v32 = 0;
+    v33 = 0;
+    v34 = 0;
+    v35 = 0;
+    v36 = 0;
+    v37 = 1;
+    goto l30;
+l37:;
+    v37 = 8;
+    goto l30;
+l36:;
+    v46 = v14 + 1;
+    v13 = 0;
+    v8 = 0;
+    v6 = 4;
+    v19 = 0;
+    v22 = 0;
+    v18 = 0;
+    v31 = 0;
+    v12 = 0;
+    v11 = 0;
+    v10 = 0;
+    v5 = 0;
+    v9 = 0;
+    v4 = 0;
+    v20 = 0;
+    v16 = 0;
+    v15 = 0;
+    v32 = 0;
+    v33 = 0;
+    v34 = 0;
+    v35 = 0;
+    v36 = 0;
+    v37 = 4;
+    v44 = 0;
+    v45 = 0;
+    v47 = 0;
+    goto l28;
+l35:;
+    v13 = 1;
+    v31 = v26 + 1;
+    v8 = 0;
+    v27 = 0;
+    v6 = 7;
+    v19 = 0;
+    v22 = 0;
+    v18 = 0;
+    v12 = 0;
+    v11 = 0;
+    v10 = 0;
+l34:;
+    v5 = 0;
+l33:;
+    v9 = 0;
+    v4 = 0;
+l32:;
+    v20 = 0;
+    v16 = 0;
+    v15 = 0;
+    v32 = 0;
+    v33 = 0;
+    v34 = 0;
+    v35 = 0;
+    v36 = 0;
+    v37 = 7;
+    goto l30;
 l31:;
-    event = get64(sim);
-    put64(sim, v17);
-    if (event == 0) return v7;
-    copy(v3 + 0x18f0, event, 0x1798);
-    rattle_dealloc_at(event);
-    sedgechisel_nodes_sedgechisel_nodes_sim_link_Link_Destruct_drop(v3 + 0x18f0);
-    return v7;
+    v13 = 0;
+    put16(v3 + 532, 0);
+    put32(v3 + 528, 0);
+    v8 = 0;
+    v6 = 2;
+    v19 = 0;
+    v22 = 0;
+    v18 = 0;
+    v31 = 0;
+    v12 = 0;
+    v11 = 0;
+    v10 = 0;
+    v5 = 0;
+    v9 = 0;
+    v4 = 0;
+    v20 = 0;
+    v16 = 0;
+    v15 = 0;
+    v32 = 0;
+    v33 = 0;
+    v34 = 0;
+    v35 = 0;
+    v36 = 0;
+    v37 = 2;
+l30:;
+    v44 = 0;
+    v45 = 0;
+l29:;
+    v46 = 0;
+    v47 = 0;
+l28:;
+    put16(v3 + 228, get16(v3 + 532));
+    put32(v3 + 224, get32(v3 + 528));
+    put8(reply + 52, (uint32_t)(v8 >> 32));
+    put32(reply + 48, (uint32_t)v8);
+    put8(reply + 57, v47);
+    put8(reply + 56, v46);
+    put8(reply + 55, v45);
+    put8(reply + 54, v44);
+    put8(reply + 53, v37);
+    put8(reply + 47, 0);
+    put8(reply + 46, v36);
+    put8(reply + 45, v35);
+    put8(reply + 44, v34);
+    put8(reply + 43, v33);
+    put8(reply + 42, v32);
+    put8(reply + 41, v15);
+    put8(reply + 40, v16);
+    put64(reply + 32, v20);
+    put8(reply + 31, v4);
+    put8(reply + 30, v9);
+    put8(reply + 29, v5);
+    put8(reply + 28, v10);
+    put8(reply + 27, v11);
+    put8(reply + 26, v12);
+    put8(reply + 25, v31);
+    put8(reply + 24, v13);
+    put64(reply + 16, v18);
+    put64(reply + 8, v22);
+    put64(reply, v19);
+    put16(reply + 62, get16(v3 + 228));
+    put32(reply + 58, get32(v3 + 224));
+    reply = (((((uint64_t)v26 & 255) << 8) | ((uint64_t)v27 & 255)) + v25) + (((uint64_t)v24 & 255) << 16);
+    if (((1U << (v6 & 31)) & 0x7df) != 0) {
+        reply = v3 + 0x19c8;
+        v7 = 0;
+        v21 = 0;
+    }
+    put64(event + 0x17a8, v7);
+    v7 = event + 0x17b0;
+    v8 = get64(v7);
+    put64(v7, v21);
+    v7 = event + 0x17a0;
+    v21 = get64(v7);
+    put64(v7, reply);
+    v6 = 0;
+    if (v8 != 0) rattle_dealloc_at(v21);
+l27:;
+    reply = get64(sim);
+    put64(sim, event);
+    if (reply == 0) return v6;
+    copy(v3 + 528, reply, 0x17b8);
+    rattle_dealloc_at(reply);
+    sedgechisel_nodes_sedgechisel_nodes_sim_link_Link_Destruct_drop(v3 + 528);
+    return v6;
 }
 
 static uint32_t sedge_sim_submission_at(uint64_t sim, uint64_t k, uint64_t map, uint64_t out, uint64_t room, uint64_t
     count)
 {
-    unsigned char frame_octets[6048 + 15];
+    unsigned char frame_octets[6080 + 15];
     uint32_t v8 = 0;
     uint64_t v6 = 0, v7 = 0, v9 = 0, v10 = 0, v11 = 0, v12 = 0, v13 = 0, v14 = 0, v15 = 0;
     v6 = aligned(frame_octets);
@@ -12333,12 +12777,12 @@ static uint32_t sedge_sim_submission_at(uint64_t sim, uint64_t k, uint64_t map, 
         v8 = 255;
         return v8;
     }
-    if (k >= get64(v7 + 0xb18)) {
+    if (k >= get64(v7 + 0xb38)) {
         v8 = 253;
         put64(sim, v7);
         return v8;
     }
-    k = get64(v7 + 0xb10) + (k << 5);
+    k = get64(v7 + 0xb30) + (k << 5);
     v9 = get64(k + 16);
     if (room < v9) {
         v8 = 252;
@@ -12384,7 +12828,7 @@ l5:;
     put64(sim, v7);
     v8 = 0;
     if (k == 0) return v8;
-    copy(v6 + 8, k, 0x1798);
+    copy(v6 + 8, k, 0x17b8);
     rattle_dealloc_at(k);
     sedgechisel_nodes_sedgechisel_nodes_sim_link_Link_Destruct_drop(v6 + 8);
     return v8;
@@ -12392,7 +12836,7 @@ l5:;
 
 static uint32_t sedge_sim_submission_length_at(uint64_t sim, uint64_t k, uint64_t map, uint64_t count)
 {
-    unsigned char frame_octets[6048 + 15];
+    unsigned char frame_octets[6080 + 15];
     uint32_t v6 = 0;
     uint64_t v4 = 0, v5 = 0, v7 = 0;
     v4 = aligned(frame_octets);
@@ -12402,12 +12846,12 @@ static uint32_t sedge_sim_submission_length_at(uint64_t sim, uint64_t k, uint64_
         v6 = 255;
         return v6;
     }
-    if (k >= get64(v5 + 0xb18)) {
+    if (k >= get64(v5 + 0xb38)) {
         put64(sim, v5);
         v6 = 253;
         return v6;
     }
-    k = get64(v5 + 0xb10) + (k << 5);
+    k = get64(v5 + 0xb30) + (k << 5);
     v7 = get64(k + 16);
     put8(map, get8(k));
     put64(count, v7);
@@ -12415,7 +12859,7 @@ static uint32_t sedge_sim_submission_length_at(uint64_t sim, uint64_t k, uint64_
     put64(sim, v5);
     v6 = 0;
     if (k == 0) return v6;
-    copy(v4 + 8, k, 0x1798);
+    copy(v4 + 8, k, 0x17b8);
     rattle_dealloc_at(k);
     sedgechisel_nodes_sedgechisel_nodes_sim_link_Link_Destruct_drop(v4 + 8);
     return v6;
@@ -12423,7 +12867,7 @@ static uint32_t sedge_sim_submission_length_at(uint64_t sim, uint64_t k, uint64_
 
 static uint32_t sedge_sim_submissions_at(uint64_t sim, uint64_t count)
 {
-    unsigned char frame_octets[6048 + 15];
+    unsigned char frame_octets[6080 + 15];
     uint32_t v4 = 0;
     uint64_t v2 = 0, v3 = 0;
     v2 = aligned(frame_octets);
@@ -12433,12 +12877,12 @@ static uint32_t sedge_sim_submissions_at(uint64_t sim, uint64_t count)
         v4 = 255;
         return v4;
     }
-    put64(count, get64(v3 + 0xb18));
+    put64(count, get64(v3 + 0xb38));
     count = get64(sim);
     put64(sim, v3);
     v4 = 0;
     if (count == 0) return v4;
-    copy(v2 + 8, count, 0x1798);
+    copy(v2 + 8, count, 0x17b8);
     rattle_dealloc_at(count);
     sedgechisel_nodes_sedgechisel_nodes_sim_link_Link_Destruct_drop(v2 + 8);
     return v4;
@@ -12446,13 +12890,13 @@ static uint32_t sedge_sim_submissions_at(uint64_t sim, uint64_t count)
 
 static void sedge_spacecraft_close_at(uint64_t spacecraft)
 {
-    unsigned char frame_octets[2336 + 15];
+    unsigned char frame_octets[2368 + 15];
     uint64_t v1 = 0, v2 = 0;
     v1 = aligned(frame_octets);
     v2 = get64(spacecraft);
     put64(spacecraft, 0);
     if (v2 == 0) return;
-    copy(v1, v2, 0x920);
+    copy(v1, v2, 0x940);
     rattle_dealloc_at(v2);
     sedgechisel_nodes_nodes_spacecraft_Spacecraft_Destruct_drop(v1);
     return;
@@ -12460,7 +12904,7 @@ static void sedge_spacecraft_close_at(uint64_t spacecraft)
 
 static uint32_t sedge_spacecraft_next_at(uint64_t spacecraft, uint64_t map, uint64_t count)
 {
-    unsigned char frame_octets[2336 + 15];
+    unsigned char frame_octets[2368 + 15];
     uint32_t v6 = 0;
     uint64_t v3 = 0, v4 = 0, v5 = 0, v7 = 0, v8 = 0;
     v3 = aligned(frame_octets);
@@ -12471,10 +12915,10 @@ static uint32_t sedge_spacecraft_next_at(uint64_t spacecraft, uint64_t map, uint
         v6 = 255;
         return v6;
     }
-    v7 = get64(v4 + 0x870);
+    v7 = get64(v4 + 0x890);
     if (v7 != 0) {
-        v8 = get64(v4 + 0x868);
-        if (v7 != get64(v4 + 0x888)) v8 = v8 + (get64(v4 + 0x880) << 5);
+        v8 = get64(v4 + 0x888);
+        if (v7 != get64(v4 + 0x8a8)) v8 = v8 + (get64(v4 + 0x8a0) << 5);
         v5 = get64(v8 + 16);
         put8(map, get8(v8));
     }
@@ -12483,7 +12927,7 @@ static uint32_t sedge_spacecraft_next_at(uint64_t spacecraft, uint64_t map, uint
     put64(spacecraft, v4);
     v6 = 0;
     if (v5 == 0) return v6;
-    copy(v3, v5, 0x920);
+    copy(v3, v5, 0x940);
     rattle_dealloc_at(v5);
     sedgechisel_nodes_nodes_spacecraft_Spacecraft_Destruct_drop(v3);
     return v6;
@@ -12491,7 +12935,7 @@ static uint32_t sedge_spacecraft_next_at(uint64_t spacecraft, uint64_t map, uint
 
 static uint32_t sedge_spacecraft_next_bypass_at(uint64_t spacecraft, uint64_t map, uint64_t count)
 {
-    unsigned char frame_octets[2336 + 15];
+    unsigned char frame_octets[2368 + 15];
     uint32_t v6 = 0;
     uint64_t v3 = 0, v4 = 0, v5 = 0, v7 = 0;
     v3 = aligned(frame_octets);
@@ -12502,10 +12946,10 @@ static uint32_t sedge_spacecraft_next_bypass_at(uint64_t spacecraft, uint64_t ma
         v6 = 255;
         return v6;
     }
-    if (get64(v4 + 0x8a0) != 0) {
-        v5 = get64(v4 + 0x8a8);
-        v7 = get64(v4 + 0x898);
-        v7 = get64(v4 + 0x890) + ((v5 - ((v5 < v7) ? 0ULL : v7)) << 5);
+    if (get64(v4 + 0x8c0) != 0) {
+        v5 = get64(v4 + 0x8c8);
+        v7 = get64(v4 + 0x8b8);
+        v7 = get64(v4 + 0x8b0) + ((v5 - ((v5 < v7) ? 0ULL : v7)) << 5);
         v5 = get64(v7 + 16);
         put8(map, get8(v7));
     }
@@ -12514,7 +12958,7 @@ static uint32_t sedge_spacecraft_next_bypass_at(uint64_t spacecraft, uint64_t ma
     put64(spacecraft, v4);
     v6 = 0;
     if (v5 == 0) return v6;
-    copy(v3, v5, 0x920);
+    copy(v3, v5, 0x940);
     rattle_dealloc_at(v5);
     sedgechisel_nodes_nodes_spacecraft_Spacecraft_Destruct_drop(v3);
     return v6;
@@ -12522,9 +12966,9 @@ static uint32_t sedge_spacecraft_next_bypass_at(uint64_t spacecraft, uint64_t ma
 
 static uint32_t sedge_spacecraft_read_at(uint64_t spacecraft, uint64_t read)
 {
-    unsigned char frame_octets[2336 + 15];
-    uint32_t v4 = 0, v5 = 0, v6 = 0, v7 = 0, v11 = 0, v12 = 0, v13 = 0;
-    uint64_t v2 = 0, v3 = 0, v8 = 0, v9 = 0, v10 = 0;
+    unsigned char frame_octets[2368 + 15];
+    uint32_t v4 = 0, v5 = 0, v6 = 0, v7 = 0, v9 = 0, v10 = 0, v11 = 0, v12 = 0;
+    uint64_t v2 = 0, v3 = 0, v8 = 0, v13 = 0;
     v2 = aligned(frame_octets);
     v3 = get64(spacecraft);
     put64(spacecraft, 0);
@@ -12536,26 +12980,26 @@ static uint32_t sedge_spacecraft_read_at(uint64_t spacecraft, uint64_t read)
     v6 = get8(v3 + 75);
     v7 = get8(v3 + 74);
     v8 = (uint64_t)get32(v3 + 60);
-    v9 = get64(v3 + 0x870);
-    v10 = get64(v3 + 0x8a0);
-    v11 = get32(v3 + 4);
-    v12 = get8(v3 + 77);
-    v13 = get8(v3 + 73);
+    v9 = get16(v3 + 0x8e0);
+    v10 = get8(v3 + 73);
+    v11 = get8(v3 + 77);
+    v12 = get32(v3 + 4);
+    v13 = get64(v3 + 0x8c0);
+    put64(read + 8, get64(v3 + 0x890));
+    put64(read + 16, v13);
     v4 = 0;
-    put16(read + 30, 0);
-    put8(read + 28, v13);
-    put8(read + 27, v12);
-    put8(read + 25, v11);
     put8(read + 24, 0);
-    put64(read + 16, v10);
-    put64(read + 8, v9);
+    put8(read + 25, v12);
+    put8(read + 27, v11);
+    put8(read + 28, v10);
+    put16(read + 30, v9);
     put64(read, v8);
     put8(read + 29, (v7 != 0) ? 2U : v6);
     put8(read + 26, ((v6 << 4) | (v7 << 5)) | (v5 << 3));
     read = get64(spacecraft);
     put64(spacecraft, v3);
     if (read == 0) return v4;
-    copy(v2, read, 0x920);
+    copy(v2, read, 0x940);
     rattle_dealloc_at(read);
     sedgechisel_nodes_nodes_spacecraft_Spacecraft_Destruct_drop(v2);
     return v4;
@@ -12563,7 +13007,7 @@ static uint32_t sedge_spacecraft_read_at(uint64_t spacecraft, uint64_t read)
 
 static uint32_t sedge_spacecraft_receive_at(uint64_t spacecraft, uint64_t octets, uint64_t count, uint64_t received)
 {
-    unsigned char frame_octets[2368 + 15];
+    unsigned char frame_octets[2400 + 15];
     uint32_t v6 = 0, v7 = 0, v8 = 0, v9 = 0, v10 = 0, v11 = 0, v12 = 0, v13 = 0, v14 = 0, v15 = 0;
     uint64_t v4 = 0, v5 = 0;
     v4 = aligned(frame_octets);
@@ -12653,15 +13097,40 @@ l3:;
     received = get64(spacecraft);
     put64(spacecraft, v5);
     if (received == 0) return v6;
-    copy(v4 + 32, received, 0x920);
+    copy(v4 + 32, received, 0x940);
     rattle_dealloc_at(received);
     sedgechisel_nodes_nodes_spacecraft_Spacecraft_Destruct_drop(v4 + 32);
     return v6;
 }
 
-static uint32_t sedge_spacecraft_report_at(uint64_t spacecraft, uint64_t out, uint64_t room, uint64_t count)
+static uint32_t sedge_spacecraft_telemetry_at(uint64_t spacecraft, uint64_t packet, uint64_t count)
 {
-    unsigned char frame_octets[2336 + 15];
+    unsigned char frame_octets[2384 + 15];
+    uint32_t v5 = 0, v6 = 0;
+    uint64_t v3 = 0, v4 = 0;
+    v3 = aligned(frame_octets);
+    v4 = get64(spacecraft);
+    put64(spacecraft, 0);
+    if (v4 == 0) {
+        v5 = 255;
+        return v5;
+    }
+    nodes_spacecraft_Spacecraft_telemetry(v3 + 8, v4, some(packet), count);
+    packet = get64(spacecraft);
+    v5 = get8(v3 + 8);
+    v6 = get8(v3 + 9);
+    put64(spacecraft, v4);
+    v5 = (v5 != 0) ? (v6 + 1) : 0U;
+    if (packet == 0) return v5;
+    copy(v3 + 16, packet, 0x940);
+    rattle_dealloc_at(packet);
+    sedgechisel_nodes_nodes_spacecraft_Spacecraft_Destruct_drop(v3 + 16);
+    return v5;
+}
+
+static uint32_t sedge_spacecraft_telemetry_frame_at(uint64_t spacecraft, uint64_t out, uint64_t room, uint64_t count)
+{
+    unsigned char frame_octets[2368 + 15];
     uint32_t v6 = 0;
     uint64_t v4 = 0, v5 = 0;
     v4 = aligned(frame_octets);
@@ -12684,35 +13153,10 @@ static uint32_t sedge_spacecraft_report_at(uint64_t spacecraft, uint64_t out, ui
     room = get64(spacecraft);
     put64(spacecraft, v5);
     if (room == 0) return v6;
-    copy(v4, room, 0x920);
+    copy(v4, room, 0x940);
     rattle_dealloc_at(room);
     sedgechisel_nodes_nodes_spacecraft_Spacecraft_Destruct_drop(v4);
     return v6;
-}
-
-static uint32_t sedge_spacecraft_telemetry_at(uint64_t spacecraft, uint64_t packet, uint64_t count)
-{
-    unsigned char frame_octets[2352 + 15];
-    uint32_t v5 = 0, v6 = 0;
-    uint64_t v3 = 0, v4 = 0;
-    v3 = aligned(frame_octets);
-    v4 = get64(spacecraft);
-    put64(spacecraft, 0);
-    if (v4 == 0) {
-        v5 = 255;
-        return v5;
-    }
-    nodes_spacecraft_Spacecraft_telemetry(v3 + 8, v4, some(packet), count);
-    packet = get64(spacecraft);
-    v5 = get8(v3 + 8);
-    v6 = get8(v3 + 9);
-    put64(spacecraft, v4);
-    v5 = (v5 != 0) ? (v6 + 1) : 0U;
-    if (packet == 0) return v5;
-    copy(v3 + 16, packet, 0x920);
-    rattle_dealloc_at(packet);
-    sedgechisel_nodes_nodes_spacecraft_Spacecraft_Destruct_drop(v3 + 16);
-    return v5;
 }
 
 static uint32_t sedge_spacecraft_take_at(uint64_t spacecraft, uint64_t map, uint64_t out, uint64_t room, uint64_t
@@ -12759,6 +13203,51 @@ static uint32_t sedge_ground_accepted_beyond_at(uint64_t ground, uint32_t value,
     rattle_dealloc_at(accepted);
     sedgechisel_nodes_nodes_ground_node_Ground_Destruct_drop(v3);
     return v5;
+}
+
+static uint32_t sedge_ground_clcw_in_at(uint64_t ground, uint64_t octets, uint64_t count, uint64_t word)
+{
+    unsigned char frame_octets[400 + 15];
+    uint32_t v6 = 0, v8 = 0;
+    uint64_t v4 = 0, v5 = 0, v7 = 0;
+    v4 = aligned(frame_octets);
+    v5 = get64(ground);
+    put64(ground, 0);
+    if (v5 == 0) {
+        v6 = 255;
+        return v6;
+    }
+    v7 = (uint64_t)get32(v5 + 60);
+    put64(v4 + 40, 0);
+    put64(v4 + 32, 0);
+    put64(v4 + 24, 0);
+    put64(v4 + 16, 0);
+    put64(v4 + 8, 0);
+    put64(v4, 0);
+    tm_link_decoding_decode(v4, some(octets), count, v7);
+    if (get8(v4) == 0) {
+        v6 = get32(v4 + 40);
+        if ((v6 & 224) == 0) {
+            if ((v6 & 3) == 1) {
+                v8 = v6 >> 16;
+                if ((((v6 >> 8) & 3) | (v8 & 1)) == 0) goto l4;
+            }
+        }
+    }
+    v6 = 253;
+    goto l3;
+l4:;
+    put8(word, (v6 & 252) >> 2);
+    put32(word + 1, ((((v6 >> 10) & 63) | (v6 & 0xff000000U)) | ((v6 >> 1) & 0x30000)) | ((v8 << 8) & 0xf800));
+    v6 = 0;
+l3:;
+    octets = get64(ground);
+    put64(ground, v5);
+    if (octets == 0) return v6;
+    copy(v4, octets, 400);
+    rattle_dealloc_at(octets);
+    sedgechisel_nodes_nodes_ground_node_Ground_Destruct_drop(v4);
+    return v6;
 }
 
 static uint32_t sedge_ground_known_on_board_at(uint64_t ground, uint32_t value, uint64_t whole)
@@ -12827,54 +13316,9 @@ l3:;
     return value;
 }
 
-static uint32_t sedge_ground_report_at(uint64_t ground, uint64_t octets, uint64_t count, uint64_t report)
-{
-    unsigned char frame_octets[400 + 15];
-    uint32_t v6 = 0, v8 = 0;
-    uint64_t v4 = 0, v5 = 0, v7 = 0;
-    v4 = aligned(frame_octets);
-    v5 = get64(ground);
-    put64(ground, 0);
-    if (v5 == 0) {
-        v6 = 255;
-        return v6;
-    }
-    v7 = (uint64_t)get32(v5 + 60);
-    put64(v4 + 40, 0);
-    put64(v4 + 32, 0);
-    put64(v4 + 24, 0);
-    put64(v4 + 16, 0);
-    put64(v4 + 8, 0);
-    put64(v4, 0);
-    tm_link_decoding_decode(v4, some(octets), count, v7);
-    if (get8(v4) == 0) {
-        v6 = get32(v4 + 40);
-        if ((v6 & 224) == 0) {
-            if ((v6 & 3) == 1) {
-                v8 = v6 >> 16;
-                if ((((v6 >> 8) & 3) | (v8 & 1)) == 0) goto l4;
-            }
-        }
-    }
-    v6 = 253;
-    goto l3;
-l4:;
-    put8(report, (v6 & 252) >> 2);
-    put32(report + 1, ((((v6 >> 10) & 63) | (v6 & 0xff000000U)) | ((v6 >> 1) & 0x30000)) | ((v8 << 8) & 0xf800));
-    v6 = 0;
-l3:;
-    octets = get64(ground);
-    put64(ground, v5);
-    if (octets == 0) return v6;
-    copy(v4, octets, 400);
-    rattle_dealloc_at(octets);
-    sedgechisel_nodes_nodes_ground_node_Ground_Destruct_drop(v4);
-    return v6;
-}
-
 static uint32_t sedge_sim_entry_length_at(uint64_t sim, uint32_t record, uint32_t map, uint64_t k, uint64_t count)
 {
-    unsigned char frame_octets[6048 + 15];
+    unsigned char frame_octets[6080 + 15];
     uint64_t v5 = 0, v6 = 0, v7 = 0, v8 = 0;
     v5 = aligned(frame_octets);
     v6 = get64(sim);
@@ -12891,8 +13335,8 @@ static uint32_t sedge_sim_entry_length_at(uint64_t sim, uint32_t record, uint32_
             return record;
         }
         v7 = v6 + (((uint64_t)map & 255) * 24);
-        v8 = get64(v7 + 0xb30);
-        v7 = get64(v7 + 0xb28);
+        v8 = get64(v7 + 0xb50);
+        v7 = get64(v7 + 0xb48);
         goto l5;
     case 1:
         if ((map & 255) > 63) {
@@ -12901,12 +13345,12 @@ static uint32_t sedge_sim_entry_length_at(uint64_t sim, uint32_t record, uint32_
             return record;
         }
         v7 = v6 + (((uint64_t)map & 255) * 24);
-        v8 = get64(v7 + 0x1130);
-        v7 = get64(v7 + 0x1128);
+        v8 = get64(v7 + 0x1150);
+        v7 = get64(v7 + 0x1148);
         goto l5;
     case 2:
-        v8 = get64(v6 + 0x1730);
-        v7 = get64(v6 + 0x1728);
+        v8 = get64(v6 + 0x1750);
+        v7 = get64(v6 + 0x1748);
         goto l5;
     case 3:
         goto l6;
@@ -12916,9 +13360,9 @@ static uint32_t sedge_sim_entry_length_at(uint64_t sim, uint32_t record, uint32_
         return record;
     }
 l6:;
-    v7 = get64(v6 + 0x1748);
-    v8 = get64(v6 + 0x1758) - v7;
-    v7 = get64(v6 + 0x1750) + (v7 * 24);
+    v7 = get64(v6 + 0x1768);
+    v8 = get64(v6 + 0x1778) - v7;
+    v7 = get64(v6 + 0x1770) + (v7 * 24);
 l5:;
     if (k < v8) goto l3;
     put64(sim, v6);
@@ -12930,7 +13374,7 @@ l3:;
     put64(sim, v6);
     record = 0;
     if (k == 0) return record;
-    copy(v5 + 8, k, 0x1798);
+    copy(v5 + 8, k, 0x17b8);
     rattle_dealloc_at(k);
     sedgechisel_nodes_sedgechisel_nodes_sim_link_Link_Destruct_drop(v5 + 8);
     return record;
@@ -13164,6 +13608,8 @@ static void put_sedge_spacecraft_reading(uint64_t at, const struct sedge_spacecr
     put8(at + 27, it->farm_b);
     put8(at + 28, it->value);
     put8(at + 29, it->state);
+    put8(at + 30, it->mc_count);
+    put8(at + 31, it->vc_count);
 }
 
 static void get_sedge_spacecraft_reading(uint64_t at, struct sedge_spacecraft_reading *it)
@@ -13177,6 +13623,8 @@ static void get_sedge_spacecraft_reading(uint64_t at, struct sedge_spacecraft_re
     it->farm_b = (uint8_t)get8(at + 27);
     it->value = (uint8_t)get8(at + 28);
     it->state = (uint8_t)get8(at + 29);
+    it->mc_count = (uint8_t)get8(at + 30);
+    it->vc_count = (uint8_t)get8(at + 31);
 }
 
 static void put_sedge_sim(uint64_t at, const struct sedge_sim *it)
@@ -13192,65 +13640,67 @@ static void get_sedge_sim(uint64_t at, struct sedge_sim *it)
 static void put_sedge_reply(uint64_t at, const struct sedge_reply *it)
 {
     put64(at, it->count);
-    put64(at + 8, it->up.ready);
-    put8(at + 16, it->up.kind);
-    put8(at + 17, it->up.fault);
-    put8(at + 18, it->up.n);
-    put8(at + 19, it->up.verdict);
-    put8(at + 20, it->up.dropped);
-    copy(at + 21, address(&it->up.kept), 1);
-    put8(at + 22, it->up.command);
-    put8(at + 23, it->up.vr);
-    put64(at + 24, it->down.packets);
-    put8(at + 32, it->down.kind);
-    put8(at + 33, it->down.fault);
-    put8(at + 34, it->down.first);
-    put8(at + 35, it->down.missing);
-    put8(at + 36, it->down.report);
-    put8(at + 37, it->down.word_fault);
-    put8(at + 38, it->down.alert);
-    put8(at + 40, it->report.status);
-    put8(at + 41, it->report.vcid);
-    put8(at + 42, it->report.flags);
-    put8(at + 43, it->report.farm_b);
-    put8(at + 44, it->report.value);
-    put8(at + 45, it->kind);
-    put8(at + 46, it->by);
-    put8(at + 47, it->fault);
-    put8(at + 48, it->alert);
-    put8(at + 49, it->map);
+    put64(at + 8, it->whole);
+    put64(at + 16, it->up.ready);
+    put8(at + 24, it->up.kind);
+    put8(at + 25, it->up.fault);
+    put8(at + 26, it->up.n);
+    put8(at + 27, it->up.verdict);
+    put8(at + 28, it->up.dropped);
+    copy(at + 29, address(&it->up.kept), 1);
+    put8(at + 30, it->up.command);
+    put8(at + 31, it->up.vr);
+    put64(at + 32, it->down.packets);
+    put8(at + 40, it->down.kind);
+    put8(at + 41, it->down.fault);
+    put8(at + 42, it->down.first);
+    put8(at + 43, it->down.missing);
+    put8(at + 44, it->down.report);
+    put8(at + 45, it->down.word_fault);
+    put8(at + 46, it->down.alert);
+    put8(at + 48, it->report.status);
+    put8(at + 49, it->report.vcid);
+    put8(at + 50, it->report.flags);
+    put8(at + 51, it->report.farm_b);
+    put8(at + 52, it->report.value);
+    put8(at + 53, it->kind);
+    put8(at + 54, it->by);
+    put8(at + 55, it->fault);
+    put8(at + 56, it->alert);
+    put8(at + 57, it->map);
 }
 
 static void get_sedge_reply(uint64_t at, struct sedge_reply *it)
 {
     it->count = (size_t)get64(at);
-    it->up.ready = (size_t)get64(at + 8);
-    it->up.kind = (uint8_t)get8(at + 16);
-    it->up.fault = (uint8_t)get8(at + 17);
-    it->up.n = (uint8_t)get8(at + 18);
-    it->up.verdict = (uint8_t)get8(at + 19);
-    it->up.dropped = (uint8_t)get8(at + 20);
-    copy(address(&it->up.kept), at + 21, 1);
-    it->up.command = (uint8_t)get8(at + 22);
-    it->up.vr = (uint8_t)get8(at + 23);
-    it->down.packets = (size_t)get64(at + 24);
-    it->down.kind = (uint8_t)get8(at + 32);
-    it->down.fault = (uint8_t)get8(at + 33);
-    it->down.first = (uint8_t)get8(at + 34);
-    it->down.missing = (uint8_t)get8(at + 35);
-    it->down.report = (uint8_t)get8(at + 36);
-    it->down.word_fault = (uint8_t)get8(at + 37);
-    it->down.alert = (uint8_t)get8(at + 38);
-    it->report.status = (uint8_t)get8(at + 40);
-    it->report.vcid = (uint8_t)get8(at + 41);
-    it->report.flags = (uint8_t)get8(at + 42);
-    it->report.farm_b = (uint8_t)get8(at + 43);
-    it->report.value = (uint8_t)get8(at + 44);
-    it->kind = (uint8_t)get8(at + 45);
-    it->by = (uint8_t)get8(at + 46);
-    it->fault = (uint8_t)get8(at + 47);
-    it->alert = (uint8_t)get8(at + 48);
-    it->map = (uint8_t)get8(at + 49);
+    it->whole = get64(at + 8);
+    it->up.ready = (size_t)get64(at + 16);
+    it->up.kind = (uint8_t)get8(at + 24);
+    it->up.fault = (uint8_t)get8(at + 25);
+    it->up.n = (uint8_t)get8(at + 26);
+    it->up.verdict = (uint8_t)get8(at + 27);
+    it->up.dropped = (uint8_t)get8(at + 28);
+    copy(address(&it->up.kept), at + 29, 1);
+    it->up.command = (uint8_t)get8(at + 30);
+    it->up.vr = (uint8_t)get8(at + 31);
+    it->down.packets = (size_t)get64(at + 32);
+    it->down.kind = (uint8_t)get8(at + 40);
+    it->down.fault = (uint8_t)get8(at + 41);
+    it->down.first = (uint8_t)get8(at + 42);
+    it->down.missing = (uint8_t)get8(at + 43);
+    it->down.report = (uint8_t)get8(at + 44);
+    it->down.word_fault = (uint8_t)get8(at + 45);
+    it->down.alert = (uint8_t)get8(at + 46);
+    it->report.status = (uint8_t)get8(at + 48);
+    it->report.vcid = (uint8_t)get8(at + 49);
+    it->report.flags = (uint8_t)get8(at + 50);
+    it->report.farm_b = (uint8_t)get8(at + 51);
+    it->report.value = (uint8_t)get8(at + 52);
+    it->kind = (uint8_t)get8(at + 53);
+    it->by = (uint8_t)get8(at + 54);
+    it->fault = (uint8_t)get8(at + 55);
+    it->alert = (uint8_t)get8(at + 56);
+    it->map = (uint8_t)get8(at + 57);
 }
 
 static void put_sedge_event(uint64_t at, const struct sedge_event *it)
@@ -13474,14 +13924,14 @@ uint8_t sedge_ground_forget_telemetry(struct sedge_ground *ground)
     return answer;
 }
 
-uint8_t sedge_ground_report(struct sedge_ground *ground, const uint8_t *octets, size_t count, struct sedge_clcw
-    *report)
+uint8_t sedge_ground_clcw_in(struct sedge_ground *ground, const uint8_t *octets, size_t count, struct sedge_clcw
+    *word)
 {
     unsigned char ground_octets[8 + 15];
     const uint64_t ground_at = aligned(ground_octets);
     uint8_t answer;
     put_sedge_ground(ground_at, ground);
-    answer = (uint8_t)sedge_ground_report_at(ground_at, address(octets), count, address(report));
+    answer = (uint8_t)sedge_ground_clcw_in_at(ground_at, address(octets), count, address(word));
     get_sedge_ground(ground_at, ground);
     return answer;
 }
@@ -13695,7 +14145,8 @@ uint8_t sedge_spacecraft_telemetry(struct sedge_spacecraft *spacecraft, const ui
     return answer;
 }
 
-uint8_t sedge_spacecraft_report(struct sedge_spacecraft *spacecraft, uint8_t *out, size_t room, size_t *count)
+uint8_t sedge_spacecraft_telemetry_frame(struct sedge_spacecraft *spacecraft, uint8_t *out, size_t room, size_t
+    *count)
 {
     unsigned char spacecraft_octets[8 + 15];
     const uint64_t spacecraft_at = aligned(spacecraft_octets);
@@ -13704,7 +14155,7 @@ uint8_t sedge_spacecraft_report(struct sedge_spacecraft *spacecraft, uint8_t *ou
     uint8_t answer;
     put_sedge_spacecraft(spacecraft_at, spacecraft);
     put64(count_at, *count);
-    answer = (uint8_t)sedge_spacecraft_report_at(spacecraft_at, address(out), room, count_at);
+    answer = (uint8_t)sedge_spacecraft_telemetry_frame_at(spacecraft_at, address(out), room, count_at);
     get_sedge_spacecraft(spacecraft_at, spacecraft);
     *count = (size_t)get64(count_at);
     return answer;
@@ -13722,6 +14173,24 @@ uint8_t sedge_spacecraft_read(struct sedge_spacecraft *spacecraft, struct sedge_
     answer = (uint8_t)sedge_spacecraft_read_at(spacecraft_at, read_at);
     get_sedge_spacecraft(spacecraft_at, spacecraft);
     get_sedge_spacecraft_reading(read_at, read);
+    return answer;
+}
+
+uint8_t sedge_spacecraft_open_kept(const struct sedge_config *config, const struct sedge_spacecraft_reading *kept,
+    struct sedge_spacecraft *spacecraft)
+{
+    unsigned char config_octets[72 + 15];
+    const uint64_t config_at = aligned(config_octets);
+    unsigned char kept_octets[32 + 15];
+    const uint64_t kept_at = aligned(kept_octets);
+    unsigned char spacecraft_octets[8 + 15];
+    const uint64_t spacecraft_at = aligned(spacecraft_octets);
+    uint8_t answer;
+    put_sedge_config(config_at, config);
+    put_sedge_spacecraft_reading(kept_at, kept);
+    put_sedge_spacecraft(spacecraft_at, spacecraft);
+    answer = (uint8_t)sedge_spacecraft_open_kept_at(config_at, kept_at, spacecraft_at);
+    get_sedge_spacecraft(spacecraft_at, spacecraft);
     return answer;
 }
 
@@ -13761,7 +14230,7 @@ uint8_t sedge_sim_step(struct sedge_sim *sim, const struct sedge_event *event, s
     const uint64_t sim_at = aligned(sim_octets);
     unsigned char event_octets[24 + 15];
     const uint64_t event_at = aligned(event_octets);
-    unsigned char reply_octets[56 + 15];
+    unsigned char reply_octets[64 + 15];
     const uint64_t reply_at = aligned(reply_octets);
     uint8_t answer;
     put_sedge_sim(sim_at, sim);

@@ -26,9 +26,7 @@ pub struct KeptEvent<'a> {
     pub octets: &'a [u8],
 }
 
-// The event, by the order of `Event`. (Inlined, its fields would share a variable with addresses, which
-// tools/portable_c tells apart.)
-#[inline(never)]
+// The event, by the order of `Event`.
 fn event_named<'a>(event: &KeptEvent<'a>) -> Option<Event<'a>>
     ensures { result ≡ event_named event.now }
 {
