@@ -68,7 +68,7 @@ function nodes() {
     assert.deepEqual([board.value, board.ready, board.bypassed], [1, 0, 0]);
     sedge.sedge_spacecraft_close(spacecraft);
     assert.equal(sedge.sedge_spacecraft_open_kept(DEFAULTS, board, spacecraft), n.SEDGE_NODE_OK);
-    assert.equal(sedge.sedge_spacecraft_report(spacecraft, out, count), n.SEDGE_NODE_OK);
+    assert.equal(sedge.sedge_spacecraft_telemetry_frame(spacecraft, out, count), n.SEDGE_NODE_OK);
     assert.equal(sedge.sedge_ground_telemetry(ground, out.subarray(0, count.value), heard), n.SEDGE_NODE_OK);
     assert.deepEqual([heard.first, heard.missing], [0, 0]);
     sedge.sedge_ground_close(ground);

@@ -4836,12 +4836,12 @@ static void get_sedge_packet(uint64_t at, struct sedge_packet *it)
 
 static void put_sedge_gap_check(uint64_t at, const struct sedge_gap_check *it)
 {
-    copy(at, address(it->last), 2048);
+    for (uint64_t k = 0; k < 2048; k++) put16(at + 2 * k, it->last[k]);
 }
 
 static void get_sedge_gap_check(uint64_t at, struct sedge_gap_check *it)
 {
-    copy(address(it->last), at, 2048);
+    for (uint64_t k = 0; k < 2048; k++) it->last[k] = (uint16_t)get16(at + 2 * k);
 }
 
 static void put_sedge_tm_frame(uint64_t at, const struct sedge_tm_frame *it)

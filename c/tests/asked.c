@@ -11,7 +11,7 @@
 
 /* The octets of a ground and of a spacecraft, of a place in a list of segments or of packets on board, of one in the
  * list of submissions, and of the extractor's packet; and how many segments may be sent and not acknowledged. */
-enum { GROUND = 400, SPACECRAFT = 2336, PLACE = 32, NUMBER = 8, EXTRACTOR = 65542, FRAME = 1016, SENT = 127 };
+enum { GROUND = 400, SPACECRAFT = 2368, PLACE = 32, NUMBER = 8, EXTRACTOR = 65542, FRAME = 1016, SENT = 127 };
 
 static int failures;
 

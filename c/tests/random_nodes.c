@@ -605,8 +605,8 @@ static void links(void) {
 
 int main(int count, char **words) {
     static void (*const kinds[])(void) = {submits, submits, pulls, pulls, receives, receives, takes, takes,
-                                          reports, hears, hears_words, telemetry, clocks, resumes, links, links, links,
-                                          links};
+                                          reports, hears, hears_words, telemetry, clocks, resumes, resumes, links,
+                                          links, links, links};
     unsigned long left;
     uint32_t stay = 500;
     if (count != 2 || make_regions() != 0) return 2;

@@ -20,7 +20,7 @@
 #include <string.h>
 
 /* The octets of a node, and of what it keeps for each packet, segment or number of a list. */
-enum { GROUND = 400, SPACECRAFT = 2336 };
+enum { GROUND = 400, SPACECRAFT = 2368 };
 enum { UNIT = 16, PLACE = 32, COUNT = 8, CUT = 24, SLICE = 16, PACKET = 24, NUMBER = 4 };
 /* The longest packet; the most segments that are sent and not acknowledged; the most data of a frame, and packets in
  * them; the places on board past the ready slots; and the sizes that a list of places may have. */

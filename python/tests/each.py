@@ -225,6 +225,8 @@ def longest_frames(it):
     _, command = packets(it)
     assert it.Packet.decode(command) == (it.Packet(2046, 16383, 1, 1, 3), DATA)
     assert it.Packet.declared(command[:6]) == len(command) == 65542 and command[:6].hex() == "1ffeffffffff"
+    gaps = it.GapCheck()
+    assert [gaps.see(2047, count) for count in (16383, 16383, 0)] == [None, 16383, 0]
     frame = it.TcFrame(scid=1023, vcid=63, kind=it.Kind.AD, n=255, flags=it.Segment.ALONE, map=63)
     for checked, most in ((True, 1016), (False, 1018)):
         octets = frame.encode(DATA[:most], checked=checked)
@@ -352,6 +354,8 @@ def longest_nodes(it):
         frames = [ground.pull(), *ground.frames()]
         assert (ground.unsent, ground.due, ground.ticks, ground.count) == (0, 0, 65535, 1)
         assert [len(frame) for frame in frames] == [1024] * 64 + [526] and ground.pull() is None
+        kept = it.KeptNumbers(vr=255, farm_b=1, mc_count=1, vc_count=1)
+        assert board.kept_numbers == kept
         accepted = {"kind": it.Arrived.AD, "verdict": it.Verdict.ACCEPTED}
         assert [board.receive(frame) for frame in frames] == [
             it.Received(n=(255 + k) % 256, ready=k // 64, **accepted) for k in range(65)]

@@ -118,9 +118,10 @@ def is_name_of(member, case):
 # The calls of each class have this prefix, and those of no class none.
 PREFIXES = {"Clcw": "clcw", "Farm": "farm", "Fop": "fop", "TcFrame": "tc", "Packet": "packet", "TmFrame": "tm",
             "TmBuilder": "tm_builder", "TmExtractor": "tm_extractor", "Map": "map", "Config": "config",
-            "Ground": "ground", "Spacecraft": "spacecraft", "Link": "sim", "Sender": "sender"}
+            "Ground": "ground", "Spacecraft": "spacecraft", "Link": "sim", "Sender": "sender", "GapCheck": "gap_check"}
 # Methods that make other calls than the one of their own name, and what these are.
 OTHERS = {
+    "GapCheck.__init__": "gap_check_open", "Spacecraft._open": "spacecraft_open_kept config_fault",
     "Farm.__init__": "farm_open", "Farm.mode": "farm_state", "Fop.__init__": "fop_open",
     "TmBuilder.__init__": "tm_builder_open", "TmExtractor._taken": "tm_extractor_frame tm_packet",
     "_frames_in": "tc_frames",
@@ -145,6 +146,7 @@ BY = {
     "Ground._shown": "_read state vs nn", "Spacecraft._shown": "_read state value", "Spacecraft.mode": "_read state",
     **{f"Spacecraft.{name}": f"_read {name}" for name in ("frame_length", "ready", "bypassed")},
     "Spacecraft.control_word": "_read status vcid flags farm_b value",
+    "Spacecraft.kept_numbers": "_read value farm_b mc_count vc_count",
     **{f"Link.{name}": f"_read {name}" for name in ("state", "outstanding", "acknowledged", "begun", "clean", "idle",
                                                     "confirmed")},
     "Link._shown": "_read state outstanding acknowledged",
@@ -159,11 +161,11 @@ BY = {
 NONE = {"TmFrame.__init__", "TmFrame.ocf", "TmBuilder.waiting", "TmExtractor.__init__", "TmExtractor.dropped",
         "TmExtractor._begun", "TmExtractor.take", "TmExtractor.take_all", "TmExtractor._all_of", "TcFrame.decode_all",
         "Ground.telemetry_all", "Map.__init__", "Clcw.__init__", "TcFrame.__init__", "Packet.__init__", "Config.__init__",
-        "Spacecraft._taken", "Link._taken", "Sender._direct"}
+        "Spacecraft.__init__", "Spacecraft._taken", "Link._taken", "Sender._direct"}
 # Methods that read a struct, of which another one gives a field.
 READS = ("_read", "_read_ground", "_read_spacecraft")
 # What a method keeps for itself, wherever it does.
-KEPT = {"room", "longest", "blocking"}
+KEPT = {"room", "longest", "blocking", "kept"}
 
 
 def functions(module):
@@ -214,7 +216,7 @@ def methods_and_their_calls(it):
         owner, _, own = name.rpartition(".")
         prefix = "directive" if own in it._calls._DIRECTIVES else PREFIXES.get(owner)
         default = f"{prefix}_{own}" if prefix else own
-        if owner in ("Handle", "_Struct", "_Part", "_Heard", "_Renamed") or (not owner and default not in known):
+        if owner in ("Handle", "_Struct", "_Part", "_Heard", "_Renamed", "KeptNumbers") or (not owner and default not in known):
             assert made == OTHERS.get(name, ""), f"{name} calls {made}"
         elif name in BY:
             assert reads_in(function) == BY[name] and not made, f"{name} reads {reads_in(function)}"

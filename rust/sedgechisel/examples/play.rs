@@ -130,8 +130,9 @@ fn heard_text(heard: Heard) -> String {
 fn clcw_text(heard: HeardClcw) -> String {
     match heard.report {
         HeardReport::Used => heard.alert.map_or("ok".into(), |it| format!("alert {}", it.name())),
-        HeardReport::None(fault) => format!("invalid {} {}", fault.number(), fault.name()),
-        HeardReport::Other => "foreign".into(),
+        HeardReport::Refused(fault) => format!("invalid {} {}", fault.number(), fault.name()),
+        HeardReport::OtherChannel => "foreign".into(),
+        other => panic!("{other:?} has no line"),
     }
 }
 

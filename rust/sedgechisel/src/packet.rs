@@ -136,8 +136,12 @@ impl GapCheck {
     }
 
     /// Sees a packet of this APID with this count: how many are missing before it, (count - last - 1) modulo 16,384, or
-    /// nothing for the first of its APID. Refused with 5 [`FieldRange`](PacketFault::FieldRange), for an APID above
-    /// 2,047 or a count above 16,383; nothing is seen then.
+    /// nothing for the first of its APID.
+    ///
+    /// # Errors
+    ///
+    /// Refused with 5 [`FieldRange`](PacketFault::FieldRange), for an APID above 2,047 or a count above 16,383; nothing
+    /// is seen then.
     pub fn see(&mut self, apid: u16, count: u16) -> Result<Option<u16>, PacketFault> {
         let mut missing = 0;
         match ffi::sedge_gap_check_see(&mut self.0, apid, count, &mut missing) {

@@ -254,12 +254,20 @@ impl Link {
 
     /// The first frame on its way down arrives, and its report alone reaches the ground, as by
     /// [`Ground::clcw`](crate::Ground::clcw): telemetry is not touched.
+    ///
+    /// # Errors
+    ///
+    /// Refused with 7 [`NothingInTransit`](SimFault::NothingInTransit) if there is none.
     pub fn down_clcw(&mut self) -> Result<HeardClcw, SimFault> {
         let reply = self.event(raw::SEDGE_EVENT_DOWN_CLCW, 0, &[])?;
         Ok(HeardClcw::from_raw(&reply.down))
     }
 
     /// [`Ground::resume`](crate::Ground::resume): a session begins, by Unlock.
+    ///
+    /// # Errors
+    ///
+    /// Refused with 7 [`NotKnown`](LinkFault::NotKnown), as that call is.
     pub fn resume(&mut self, value: u8) -> Result<u64, LinkFault> {
         let mut reply = raw::Reply::default();
         done(raw::sim_resume(self.0.get(), value, &mut reply));
