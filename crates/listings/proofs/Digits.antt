@@ -5,7 +5,7 @@ use Rattle.std.proofs.Common.{length-take-le, length-drop, take-add, take-take, 
 use Rattle.std.proofs.Common.{take-append-drop, subst, inl, inr}
 use Rattle.std.specs.Prelude.{◌/◌, ◌%◌, ◌^◌, ◌*◌, ◌-◌, ◌&&◌, nat_lt, if◌then◌else◌}
 use Rattle.std.proofs.lemmas.Bool.{and_parts, eqb-true, ltb-true, cases_lt, lt-ltb, le-ltb}
-use Rattle.std.proofs.lemmas.List.{drop-drop, drop-take, take_rest}
+use Rattle.std.proofs.lemmas.List.{drop-drop, drop-take, take_more, take_rest}
 use Rattle.listings.specs.declared.parts.TheConstants.{OCTETS}
 use Rattle.std.proofs.lemmas.Fmt.{decimal_digit, decimal_step, length-decimal-le}
 use Rattle.listings.specs.Text.{four_digits}
@@ -198,15 +198,21 @@ octet_entry j k same lt =
     subst (λ l. IsEntry l k) (sym all) (subst (IsEntry (drop (4 * j) OCTETS)) same
     (is_entry-is (drop (4 * j) OCTETS) j (omega arith) holds))
 
+-- of N octets that are put, the first n
+pub front_put : (before after octets : List ℕ) (at n N : ℕ) → at ≤ length before → n ≤ N
+    → take (at + N) after ≡ take at before ++ take N octets → take (at + n) after ≡ take at before ++ take n octets
+front_put before after octets at n N within few put =
+    sym (take-take (at + n) (at + N) after (omega arith)) ∙ ap (take (at + n)) put
+    ∙ take_past at n (take at before) (take N octets) (length-take-le at before within)
+    ∙ ap (λ l. take at before ++ l) (take-take n N octets few)
+
 -- of three places that are put, as many as are digits
 pub digits_put : (before after entry : List ℕ) (at k : ℕ) → at ≤ length before
     → take (at + 4) after ≡ take at before ++ take 4 entry → get_or entry 3 0 ≤ 3
     → take (get_or entry 3 0) entry ≡ decimal k → take (at + get_or entry 3 0) after ≡ take at before ++ decimal k
 digits_put before after entry at k within put few digits =
-    let n = get_or entry 3 0 in
-    sym (take-take (at + n) (at + 4) after (omega arith)) ∙ ap (take (at + n)) put
-    ∙ take_past at n (take at before) (take 4 entry) (length-take-le at before within)
-    ∙ ap (λ l. take at before ++ l) (take-take n 4 entry (omega arith) ∙ digits)
+    front_put before after entry at (get_or entry 3 0) 4 within (omega arith) put
+    ∙ ap (λ l. take at before ++ l) digits
 
 -- the last two of three digits
 pub last_two : (entry : List ℕ) (x : ℕ) → x < 100 → take (get_or entry 3 0) entry ≡ decimal (x + 100)
@@ -216,3 +222,46 @@ last_two entry x lt digits count =
     let rest : (x + 100) % 100 ≡ x = omega arith in
     sym (drop-take 1 2 entry) ∙ ap (λ n. drop 1 (take n entry)) (sym (count ∙ ap length three))
     ∙ ap (drop 1) (digits ∙ three) ∙ ap two_digits rest
+
+-- ---- the next number
+
+pub some_digit : (n : ℕ) → n < 2 ^ 64 → 1 ≤ length (decimal n)
+some_digit n small =
+    elim (cases_lt n 10) [
+      | inl few ↦ omega (arith, ap length (decimal_digit n few))
+      | inr more ↦ omega (arith, one_more n more small)
+    ]
+
+last_digit : (xs ys : List ℕ) (x y : ℕ) → xs ++ (x ∷ []) ≡ ys ++ (y ∷ []) → (xs ≡ ys) × (x ≡ y)
+last_digit xs ys x y same =
+    let long : length xs ≡ length ys =
+    omega (arith, ap length same, length-append xs (x ∷ []), length-append ys (y ∷ [])) in
+    let front : xs ≡ ys =
+    sym (take_at xs (x ∷ []) (length ys) long) ∙ ap (take (length ys)) same ∙ take_at ys (y ∷ []) (length ys) refl in
+    let back : (x ∷ []) ≡ (y ∷ []) =
+    sym (drop_at xs (x ∷ []) (length ys) long) ∙ ap (drop (length ys)) same ∙ drop_at ys (y ∷ []) (length ys) refl in
+    (front, ap (λ l. get_or l 0 0) back)
+
+-- the next number has another last digit, unless that is 9
+pub next_digit : (n : ℕ) (ds : List ℕ) (len : ℕ) → n + 1 < 2 ^ 64 → 1 ≤ len → len ≤ length ds
+    → take len ds ≡ decimal n → get_or ds (len - 1) 0 < 57
+    → take (len - 1) ds ++ ((get_or ds (len - 1) 0 + 1) ∷ []) ≡ decimal (n + 1)
+next_digit n ds len small some within is below =
+    let d = get_or ds (len - 1) 0 in
+    let all : (len - 1) + 1 ≡ len = omega arith in
+    let whole : take (len - 1) ds ++ (d ∷ []) ≡ decimal n =
+    sym (take_more ds (len - 1) 0 (omega arith)) ∙ ap (λ k. take k ds) all ∙ is in
+    elim (cases_lt n 10) [
+      | inl few ↦
+          let same = last_digit (take (len - 1) ds) [] d (48 + n) (whole ∙ decimal_digit n few) in
+          let digit : d + 1 ≡ 48 + (n + 1) = omega (arith, same.1) in
+          ap (λ l. l ++ ((d + 1) ∷ [])) same.0 ∙ ap (λ k. k ∷ []) digit
+          ∙ sym (decimal_digit (n + 1) (omega (arith, same.1, below)))
+      | inr more ↦
+          let same = last_digit (take (len - 1) ds) (decimal (n / 10)) d (48 + n % 10)
+          (whole ∙ decimal_step n more (omega arith)) in
+          let digit : d + 1 ≡ 48 + (n + 1) % 10 = omega (arith, same.1, below) in
+          let front : n / 10 ≡ (n + 1) / 10 = omega (arith, same.1, below) in
+          ap (λ l. l ++ ((d + 1) ∷ [])) same.0 ∙ ap (λ k. decimal k ++ ((d + 1) ∷ [])) front
+          ∙ ap (λ k. decimal ((n + 1) / 10) ++ (k ∷ [])) digit ∙ sym (decimal_step (n + 1) (omega arith) small)
+    ]

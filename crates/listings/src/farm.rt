@@ -10,7 +10,8 @@ ghost use Rattle.listings.specs.FarmLines.{state_word, flags_text, state_text, b
 
 use crate::lines::{push_invalid, push_refused};
 use crate::listing::Listing;
-use crate::parts::{put_field, put_flag, put_number, put_word};
+use crate::parts::{put_field, put_flag, put_word};
+use crate::record_number::RecordNumber;
 use crate::text::Text;
 use cop1::{Farm, FarmMode, Verdict};
 use octets::Splitter;
@@ -24,9 +25,9 @@ fn put_state(room: &mut [u8], at: usize, state: FarmMode) -> usize
     ensures next { result ≤ at + 7 }
 {
     match state {
-        FarmMode::Open => put_word(room, at, b"Open"),
-        FarmMode::Wait => put_word(room, at, b"Wait"),
-        FarmMode::Lockout => put_word(room, at, b"Lockout"),
+        FarmMode::Open => put_word::<4>(room, at, b"Open"),
+        FarmMode::Wait => put_word::<4>(room, at, b"Wait"),
+        FarmMode::Lockout => put_word::<4>(room, at, b"Lockout"),
     }
 }
 
@@ -37,12 +38,12 @@ fn put_verdict(room: &mut [u8], at: usize, verdict: Verdict) -> usize
     ensures next { result ≤ at + 9 }
 {
     match verdict {
-        Verdict::Accepted => put_word(room, at, b"accepted"),
-        Verdict::Ahead => put_word(room, at, b"ahead"),
-        Verdict::NoBuffer => put_word(room, at, b"nobuffer"),
-        Verdict::Behind => put_word(room, at, b"behind"),
-        Verdict::Outside => put_word(room, at, b"outside"),
-        Verdict::Discarded => put_word(room, at, b"discarded"),
+        Verdict::Accepted => put_word::<8>(room, at, b"accepted"),
+        Verdict::Ahead => put_word::<4>(room, at, b"ahead"),
+        Verdict::NoBuffer => put_word::<8>(room, at, b"nobuffer"),
+        Verdict::Behind => put_word::<4>(room, at, b"behind"),
+        Verdict::Outside => put_word::<4>(room, at, b"outside"),
+        Verdict::Discarded => put_word::<8>(room, at, b"discarded"),
     }
 }
 
@@ -52,11 +53,11 @@ fn put_flags(room: &mut [u8], at: usize, farm: &Farm) -> usize
     ensures put { take result room.new ≡ take at room.old ++ flags_text farm.now }
     ensures next { result ≤ at + 32 }
 {
-    let next = put_flag(room, at, b" l=", farm.lockout());
-    let next = put_flag(room, next, b" w=", farm.wait());
-    let next = put_flag(room, next, b" t=", farm.retransmit());
-    let next = put_field(room, next, b" b=", u16::from(farm.farm_b()));
-    put_word(room, next, b"\n")
+    let next = put_flag::<2>(room, at, b" l=", farm.lockout());
+    let next = put_flag::<2>(room, next, b" w=", farm.wait());
+    let next = put_flag::<2>(room, next, b" t=", farm.retransmit());
+    let next = put_field::<2>(room, next, b" b=", farm.farm_b());
+    put_word::<1>(room, next, b"\n")
 }
 
 #[inline(always)]
@@ -66,7 +67,7 @@ fn put_receiver(room: &mut [u8], at: usize, farm: &Farm) -> usize
     ensures next { result ≤ at + 64 }
 {
     let next = put_state(room, at, farm.state());
-    let next = put_field(room, next, b" vr=", u16::from(farm.vr()));
+    let next = put_field::<4>(room, next, b" vr=", farm.vr());
     put_flags(room, next, farm)
 }
 
@@ -77,10 +78,10 @@ fn put_ad(room: &mut [u8], at: usize, n: u8, verdict: Verdict) -> usize
         ++ (codes "AD " ++ (decimal n ++ (codes " " ++ ((verdict_row verdict).1 ++ codes " ")))) }
     ensures next { result ≤ at + 32 }
 {
-    let next = put_field(room, at, b"AD ", u16::from(n));
-    let next = put_word(room, next, b" ");
+    let next = put_field::<2>(room, at, b"AD ", n);
+    let next = put_word::<1>(room, next, b" ");
     let next = put_verdict(room, next, verdict);
-    put_word(room, next, b" ")
+    put_word::<1>(room, next, b" ")
 }
 
 #[inline(always)]
@@ -90,8 +91,8 @@ fn put_set_vr(room: &mut [u8], at: usize, vr: u8) -> usize
         ++ (codes "BC set " ++ (decimal vr ++ codes " ")) }
     ensures next { result ≤ at + 32 }
 {
-    let next = put_field(room, at, b"BC set ", u16::from(vr));
-    put_word(room, next, b" ")
+    let next = put_field::<4>(room, at, b"BC set ", vr);
+    put_word::<1>(room, next, b" ")
 }
 
 /// Gives a frame to the receiver, whose buffer is free.
@@ -124,11 +125,11 @@ fn put_body(room: &mut [u8], at: usize, farm: &mut Farm, body: &Body) -> usize
         }
         Body::Bd { .. } => {
             farm.bd();
-            put_word(room, at, b"BD ")
+            put_word::<2>(room, at, b"BD ")
         }
         Body::Bc(Command::Unlock) => {
             farm.unlock();
-            put_word(room, at, b"BC unlock ")
+            put_word::<8>(room, at, b"BC unlock ")
         }
         Body::Bc(Command::SetVr(vr)) => {
             farm.set_vr(*vr);
@@ -139,15 +140,21 @@ fn put_body(room: &mut [u8], at: usize, farm: &mut Farm, body: &Body) -> usize
 
 /// Gives a frame to the receiver, and puts its line.
 #[inline(always)]
-fn put_frame(room: &mut [u8], at: usize, farm: &mut Farm, index: u64, body: &Body) -> usize
+fn put_frame(
+    room: &mut [u8],
+    at: usize,
+    farm: &mut Farm,
+    index: &RecordNumber,
+    body: &Body,
+) -> usize
     requires { at + 128 ≤ length room.old }
-    ensures put { take result room.new ≡ take at room.old ++ (decimal index ++ (codes " "
+    ensures put { take result room.new ≡ take at room.old ++ (decimal index.now ++ (codes " "
         ++ (body_text farm.old (body_view body.now) ++ state_text farm.new))) }
     ensures farm { farm.new ≡ after_body farm.old (body_view body.now) }
     ensures next { result ≤ at + 128 }
 {
-    let next = put_number(room, at, index);
-    let next = put_word(room, next, b" ");
+    let next = index.put(room, at);
+    let next = put_word::<1>(room, next, b" ");
     let next = put_body(room, next, farm, body);
     put_receiver(room, next, farm)
 }
@@ -158,10 +165,10 @@ fn push_frame(
     text: &mut Text,
     farm: &mut Farm,
     check: Check,
-    index: u64,
+    index: &RecordNumber,
     octets: &[u8],
 ) -> Result<bool, AllocError>
-    ensures text { Appends result text.old text.new (farm_line check farm.old index octets.now) }
+    ensures text { Appends result text.old text.new (farm_line check farm.old index.now octets.now) }
     ensures farm { OnOk result (farm.new ≡ after_record check farm.old octets.now) }
     ensures good { IfOk result (λ good. good ≡ is_ok (frame_at check octets.now)) }
 {
@@ -184,11 +191,16 @@ fn push_frame(
 impl<const CHECKED: bool> Listing<Splitter<FrameLayout<CHECKED>>> for Farm {
     ghost lines = { farm_lines (check_if CHECKED) };
 
-    fn take(&mut self, text: &mut Text, index: u64, octets: &[u8]) -> Result<bool, AllocError> {
+    fn take(
+        &mut self,
+        text: &mut Text,
+        index: &RecordNumber,
+        octets: &[u8],
+    ) -> Result<bool, AllocError> {
         push_frame(text, self, check_if(CHECKED), index, octets)
     }
 
-    fn refuse(text: &mut Text, index: u64, fault: TcFault) -> Result<(), AllocError> {
+    fn refuse(text: &mut Text, index: &RecordNumber, fault: TcFault) -> Result<(), AllocError> {
         push_invalid(text, index, fault.number(), fault.name())
     }
 }

@@ -7,6 +7,7 @@ ghost use Rattle.tc_frame.specs.Splitter.{check_if};
 ghost use Rattle.listings.specs.FirstNumber.{Awaiting, farm_begun, number_of_body, number_in, heard, from_first};
 
 use crate::listing::Listing;
+use crate::record_number::RecordNumber;
 use crate::text::Text;
 use cop1::{Farm, FarmFields};
 use octets::Splitter;
@@ -98,12 +99,17 @@ where
     ghost lines = { from_first C.begun (check_if CHECKED) C.lines };
 
     #[inline(always)]
-    fn take(&mut self, text: &mut Text, index: u64, octets: &[u8]) -> Result<bool, AllocError> {
+    fn take(
+        &mut self,
+        text: &mut Text,
+        index: &RecordNumber,
+        octets: &[u8],
+    ) -> Result<bool, AllocError> {
         self.hear(check_if(CHECKED), octets);
         self.listing.take(text, index, octets)
     }
 
-    fn refuse(text: &mut Text, index: u64, fault: TcFault) -> Result<(), AllocError> {
+    fn refuse(text: &mut Text, index: &RecordNumber, fault: TcFault) -> Result<(), AllocError> {
         C::refuse(text, index, fault)
     }
 }

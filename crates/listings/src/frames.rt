@@ -10,7 +10,8 @@ ghost use Rattle.listings.specs.FrameLines.{type_word, channel_text, segment_tex
 
 use crate::lines::{push_invalid, push_octets, push_refused};
 use crate::listing::Listing;
-use crate::parts::{put_field, put_number, put_word};
+use crate::parts::{put_field, put_long_field, put_word};
+use crate::record_number::RecordNumber;
 use crate::text::Text;
 use octets::Splitter;
 use std::alloc::AllocError;
@@ -31,9 +32,14 @@ impl Model for FrameListing {
 
 /// Appends the line of a record, and answers whether it is a frame.
 #[inline(always)]
-fn push_frame(text: &mut Text, check: Check, index: u64, octets: &[u8]) -> Result<bool, AllocError>
+fn push_frame(
+    text: &mut Text,
+    check: Check,
+    index: &RecordNumber,
+    octets: &[u8],
+) -> Result<bool, AllocError>
     ensures text { Appends result text.old text.new
-        (frame_line index (frame_at check octets.now)) }
+        (frame_line index.now (frame_at check octets.now)) }
     ensures good { IfOk result (λ good. good ≡ is_ok (frame_at check octets.now)) }
 {
     match decode(octets, check) {
@@ -59,17 +65,17 @@ fn word_of_type(body: &Body) -> [u8; 2]
 }
 
 #[inline(always)]
-fn put_channel(room: &mut [u8], at: usize, index: u64, frame: &TcFrame) -> usize
+fn put_channel(room: &mut [u8], at: usize, index: &RecordNumber, frame: &TcFrame) -> usize
     requires { at + 64 ≤ length room.old }
     ensures put { take result room.new ≡ take at room.old
-        ++ (decimal index ++ (codes " " ++ channel_text (frame_view frame.now))) }
+        ++ (decimal index.now ++ (codes " " ++ channel_text (frame_view frame.now))) }
     ensures next { result ≤ at + 64 }
 {
-    let next = put_number(room, at, index);
-    let next = put_word(room, next, b" ");
-    let next = put_word(room, next, &word_of_type(&frame.body));
-    let next = put_field(room, next, b" scid=", frame.scid);
-    put_field(room, next, b" vcid=", u16::from(frame.vcid))
+    let next = index.put(room, at);
+    let next = put_word::<1>(room, next, b" ");
+    let next = put_word::<2>(room, next, &word_of_type(&frame.body));
+    let next = put_long_field::<4>(room, next, b" scid=", frame.scid);
+    put_field::<4>(room, next, b" vcid=", frame.vcid)
 }
 
 #[inline(always)]
@@ -79,9 +85,9 @@ fn put_header(room: &mut [u8], at: usize, header: SegmentHeader) -> usize
         ++ (decimal (flags_code header.flags) ++ (codes " map=" ++ (decimal header.map ++ codes " data=")))) }
     ensures next { result ≤ at + 32 }
 {
-    let next = put_field(room, at, b" seg=", u16::from(header.flags.code()));
-    let next = put_field(room, next, b" map=", u16::from(header.map));
-    put_word(room, next, b" data=")
+    let next = put_field::<4>(room, at, b" seg=", header.flags.code());
+    let next = put_field::<4>(room, next, b" map=", header.map);
+    put_word::<4>(room, next, b" data=")
 }
 
 #[inline(always)]
@@ -100,8 +106,8 @@ fn put_set_vr(room: &mut [u8], at: usize, vr: u8) -> usize
         ++ (codes " set " ++ (decimal vr ++ line_end)) }
     ensures next { result ≤ at + 32 }
 {
-    let next = put_field(room, at, b" set ", u16::from(vr));
-    put_word(room, next, b"\n")
+    let next = put_field::<4>(room, at, b" set ", vr);
+    put_word::<1>(room, next, b"\n")
 }
 
 #[inline(always)]
@@ -111,12 +117,12 @@ fn push_body(text: &mut Text, body: &Body) -> Result<(), AllocError>
 {
     match body {
         Body::Ad { n, segment } => {
-            text.len = put_field(text.octets.as_mut_slice(), text.len, b" n=", u16::from(*n));
+            text.len = put_field::<2>(text.octets.as_mut_slice(), text.len, b" n=", *n);
             push_segment(text, segment)
         }
         Body::Bd { segment } => push_segment(text, segment),
         Body::Bc(Command::Unlock) => {
-            text.len = put_word(text.octets.as_mut_slice(), text.len, b" unlock\n");
+            text.len = put_word::<8>(text.octets.as_mut_slice(), text.len, b" unlock\n");
             Ok(())
         }
         Body::Bc(Command::SetVr(vr)) => {
@@ -129,11 +135,16 @@ fn push_body(text: &mut Text, body: &Body) -> Result<(), AllocError>
 impl<const CHECKED: bool> Listing<Splitter<FrameLayout<CHECKED>>> for FrameListing {
     ghost lines = { frame_lines (check_if CHECKED) };
 
-    fn take(&mut self, text: &mut Text, index: u64, octets: &[u8]) -> Result<bool, AllocError> {
+    fn take(
+        &mut self,
+        text: &mut Text,
+        index: &RecordNumber,
+        octets: &[u8],
+    ) -> Result<bool, AllocError> {
         push_frame(text, check_if(CHECKED), index, octets)
     }
 
-    fn refuse(text: &mut Text, index: u64, fault: TcFault) -> Result<(), AllocError> {
+    fn refuse(text: &mut Text, index: &RecordNumber, fault: TcFault) -> Result<(), AllocError> {
         push_invalid(text, index, fault.number(), fault.name())
     }
 }

@@ -4,13 +4,19 @@ ghost use Rattle.std.specs.Prelude.{◌≡◌, ◌+◌, ◌*◌, ◌≤◌, ◌+
 ghost use Rattle.listings.specs.Text.{invalid_line, octets_line, line_end};
 ghost use Rattle.listings.specs.Text.{Appends};
 
-use crate::parts::{put_all, put_digits, put_field, put_number, put_word};
+use crate::parts::{put_all, put_digits, put_field, put_word};
+use crate::record_number::RecordNumber;
 use crate::text::Text;
 use std::alloc::AllocError;
 
 /// Appends the line of a record that was refused, or of a rest.
-pub fn push_invalid(text: &mut Text, index: u64, number: u8, name: &str) -> Result<(), AllocError>
-    ensures { Appends result text.old text.new (invalid_line index (number, name.now)) }
+pub fn push_invalid(
+    text: &mut Text,
+    index: &RecordNumber,
+    number: u8,
+    name: &str,
+) -> Result<(), AllocError>
+    ensures { Appends result text.old text.new (invalid_line index.now (number, name.now)) }
 {
     text.make_room(64)?;
     text.len = put_invalid(text.octets.as_mut_slice(), text.len, index, number);
@@ -18,23 +24,28 @@ pub fn push_invalid(text: &mut Text, index: u64, number: u8, name: &str) -> Resu
 }
 
 /// Appends the line of a record that was refused, and answers that it is not good.
-pub fn push_refused(text: &mut Text, index: u64, number: u8, name: &str) -> Result<bool, AllocError>
-    ensures text { Appends result text.old text.new (invalid_line index (number, name.now)) }
+pub fn push_refused(
+    text: &mut Text,
+    index: &RecordNumber,
+    number: u8,
+    name: &str,
+) -> Result<bool, AllocError>
+    ensures text { Appends result text.old text.new (invalid_line index.now (number, name.now)) }
     ensures good { IfOk result (λ good. good ≡ false) }
 {
     push_invalid(text, index, number, name)?;
     Ok(false)
 }
 
-fn put_invalid(room: &mut [u8], at: usize, index: u64, number: u8) -> usize
+fn put_invalid(room: &mut [u8], at: usize, index: &RecordNumber, number: u8) -> usize
     requires { at + 64 ≤ length room.old }
     ensures put { take result room.new ≡ take at room.old
-        ++ (decimal index ++ (codes " invalid " ++ (decimal number ++ codes " "))) }
+        ++ (decimal index.now ++ (codes " invalid " ++ (decimal number ++ codes " "))) }
     ensures next { result ≤ at + 64 }
 {
-    let next = put_number(room, at, index);
-    let next = put_field(room, next, b" invalid ", u16::from(number));
-    put_word(room, next, b" ")
+    let next = index.put(room, at);
+    let next = put_field::<8>(room, next, b" invalid ", number);
+    put_word::<1>(room, next, b" ")
 }
 
 /// Appends a name, and ends the line.
@@ -52,7 +63,7 @@ fn put_name(room: &mut [u8], at: usize, name: &str) -> usize
     ensures next { result ≤ at + (2 * length name.now + 1) }
 {
     let next = put_all(room, at, name.as_bytes());
-    put_word(room, next, b"\n")
+    put_word::<1>(room, next, b"\n")
 }
 
 /// Appends octets as upper-case hexadecimal digits, and ends the line.
@@ -72,5 +83,5 @@ fn put_octets(room: &mut [u8], at: usize, octets: &[u8]) -> usize
     ensures next { result ≤ at + (2 * length octets.now + 1) }
 {
     let next = put_digits(room, at, octets);
-    put_word(room, next, b"\n")
+    put_word::<1>(room, next, b"\n")
 }

@@ -18,7 +18,8 @@ use crate::farm::give;
 use crate::first_number::Begins;
 use crate::lines::{push_invalid, push_name, push_octets, push_refused};
 use crate::listing::Listing;
-use crate::parts::{put_field, put_number, put_word};
+use crate::parts::{put_field, put_word};
+use crate::record_number::RecordNumber;
 use crate::text::Text;
 use cop1::{Farm, Verdict};
 use map_service::{Assembler, Dropped, Limits, Taken};
@@ -68,10 +69,10 @@ impl MapListing {
     fn push_segment(
         &mut self,
         text: &mut Text,
-        index: u64,
+        index: &RecordNumber,
         segment: Segment,
     ) -> Result<(), AllocError>
-        ensures text { Appends result text.old text.new (outcome_text index segment.entry.header.map
+        ensures text { Appends result text.old text.new (outcome_text index.now segment.entry.header.map
             (step_at self.old.assembler (segment_view segment.entry))) }
         ensures state { OnOk result (self.new
             ≡ record self.old {
@@ -107,11 +108,11 @@ impl MapListing {
     pub(crate) fn push_body(
         &mut self,
         text: &mut Text,
-        index: u64,
+        index: &RecordNumber,
         body: Body,
     ) -> Result<(), AllocError>
         ensures text { Appends result text.old text.new
-            (body_text self.old index (body_view body.entry)) }
+            (body_text self.old index.now (body_view body.entry)) }
         ensures state { OnOk result (self.new ≡ after_body self.old (body_view body.entry)) }
     {
         match body {
@@ -144,11 +145,11 @@ impl MapListing {
         &mut self,
         text: &mut Text,
         check: Check,
-        index: u64,
+        index: &RecordNumber,
         octets: &[u8],
     ) -> Result<bool, AllocError>
         ensures text { Appends result text.old text.new
-            (record_text self.old index (frame_at check octets.now)) }
+            (record_text self.old index.now (frame_at check octets.now)) }
         ensures state { OnOk result (self.new ≡ after_record check self.old octets.now) }
         ensures good { IfOk result (λ good. good ≡ is_ok (frame_at check octets.now)) }
     {
@@ -163,21 +164,21 @@ impl MapListing {
 }
 
 /// Appends the line of what is dropped.
-fn push_dropped(text: &mut Text, index: u64, cause: &str) -> Result<(), AllocError>
-    ensures { Appends result text.old text.new (dropped_line index cause.now) }
+fn push_dropped(text: &mut Text, index: &RecordNumber, cause: &str) -> Result<(), AllocError>
+    ensures { Appends result text.old text.new (dropped_line index.now cause.now) }
 {
     text.make_room(32)?;
     text.len = put_dropped(text.octets.as_mut_slice(), text.len, index);
     push_name(text, cause)
 }
 
-fn put_dropped(room: &mut [u8], at: usize, index: u64) -> usize
+fn put_dropped(room: &mut [u8], at: usize, index: &RecordNumber) -> usize
     requires { at + 32 ≤ length room.old }
-    ensures put { take result room.new ≡ take at room.old ++ (decimal index ++ codes " dropped ") }
+    ensures put { take result room.new ≡ take at room.old ++ (decimal index.now ++ codes " dropped ") }
     ensures next { result ≤ at + 32 }
 {
-    let next = put_number(room, at, index);
-    put_word(room, next, b" dropped ")
+    let next = index.put(room, at);
+    put_word::<8>(room, next, b" dropped ")
 }
 
 /// Appends a word, a MAP, and octets that came on it.
@@ -197,13 +198,17 @@ fn put_on_map(room: &mut [u8], at: usize, word: &[u8; 7], map: u8) -> usize
         ++ (word.now ++ (decimal map ++ codes " ")) }
     ensures next { result ≤ at + 16 }
 {
-    let next = put_field(room, at, word, u16::from(map));
-    put_word(room, next, b" ")
+    let next = put_field::<4>(room, at, word, map);
+    put_word::<1>(room, next, b" ")
 }
 
 #[inline(always)]
-fn push_cause(text: &mut Text, index: u64, dropped: Option<Dropped>) -> Result<(), AllocError>
-    ensures { Appends result text.old text.new (cause_text index dropped) }
+fn push_cause(
+    text: &mut Text,
+    index: &RecordNumber,
+    dropped: Option<Dropped>,
+) -> Result<(), AllocError>
+    ensures { Appends result text.old text.new (cause_text index.now dropped) }
 {
     match dropped {
         Some(cause) => push_dropped(text, index, cause.name()),
@@ -240,8 +245,8 @@ fn is_bypass(segment: Segment) -> bool
     }
 }
 
-fn push_bypass(text: &mut Text, index: u64, segment: Segment) -> Result<(), AllocError>
-    ensures { Appends result text.old text.new (bypass_text index (segment_view segment.entry)) }
+fn push_bypass(text: &mut Text, index: &RecordNumber, segment: Segment) -> Result<(), AllocError>
+    ensures { Appends result text.old text.new (bypass_text index.now (segment_view segment.entry)) }
 {
     if is_bypass(segment) {
         push_on_map(text, b"bypass ", segment.header.map, segment.payload)
@@ -261,11 +266,16 @@ pub fn law_of_listed_packets()
 impl<const CHECKED: bool> Listing<Splitter<FrameLayout<CHECKED>>> for MapListing {
     ghost lines = { map_lines (check_if CHECKED) };
 
-    fn take(&mut self, text: &mut Text, index: u64, octets: &[u8]) -> Result<bool, AllocError> {
+    fn take(
+        &mut self,
+        text: &mut Text,
+        index: &RecordNumber,
+        octets: &[u8],
+    ) -> Result<bool, AllocError> {
         self.push_frame(text, check_if(CHECKED), index, octets)
     }
 
-    fn refuse(text: &mut Text, index: u64, fault: TcFault) -> Result<(), AllocError> {
+    fn refuse(text: &mut Text, index: &RecordNumber, fault: TcFault) -> Result<(), AllocError> {
         push_invalid(text, index, fault.number(), fault.name())
     }
 }

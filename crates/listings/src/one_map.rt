@@ -12,6 +12,7 @@ use crate::first_number::Begins;
 use crate::lines::{push_invalid, push_refused};
 use crate::listing::Listing;
 use crate::maps::MapListing;
+use crate::record_number::RecordNumber;
 use crate::text::Text;
 use octets::Splitter;
 use std::alloc::AllocError;
@@ -56,11 +57,11 @@ impl OneMap {
         &mut self,
         text: &mut Text,
         check: Check,
-        index: u64,
+        index: &RecordNumber,
         octets: &[u8],
     ) -> Result<bool, AllocError>
         ensures text { Appends result text.old text.new
-            (one_map_text self.old index (frame_at check octets.now)) }
+            (one_map_text self.old index.now (frame_at check octets.now)) }
         ensures state { OnOk result (self.new ≡ after_frame self.old (frame_at check octets.now)) }
         ensures good { IfOk result (λ good. good ≡ is_ok (frame_at check octets.now)) }
     {
@@ -105,11 +106,16 @@ impl Begins for OneMap {
 impl<const CHECKED: bool> Listing<Splitter<FrameLayout<CHECKED>>> for OneMap {
     ghost lines = { one_map_lines (check_if CHECKED) };
 
-    fn take(&mut self, text: &mut Text, index: u64, octets: &[u8]) -> Result<bool, AllocError> {
+    fn take(
+        &mut self,
+        text: &mut Text,
+        index: &RecordNumber,
+        octets: &[u8],
+    ) -> Result<bool, AllocError> {
         self.push_frame(text, check_if(CHECKED), index, octets)
     }
 
-    fn refuse(text: &mut Text, index: u64, fault: TcFault) -> Result<(), AllocError> {
+    fn refuse(text: &mut Text, index: &RecordNumber, fault: TcFault) -> Result<(), AllocError> {
         push_invalid(text, index, fault.number(), fault.name())
     }
 }

@@ -6,6 +6,7 @@ ghost use Rattle.listings.specs.Filters.{only};
 use crate::cutter::Cutter;
 use crate::filters::Filter;
 use crate::listing::Listing;
+use crate::record_number::RecordNumber;
 use crate::text::Text;
 use std::alloc::AllocError;
 use std::marker::{Brand, Model, PhantomData};
@@ -55,14 +56,19 @@ impl<S: Cutter, C: Listing<S>, F: Filter, K: Kept> Listing<S> for Only<C, F, K> 
     ghost lines = { only K.keeps C.lines };
 
     #[inline(always)]
-    fn take(&mut self, text: &mut Text, index: u64, octets: &[u8]) -> Result<bool, AllocError> {
+    fn take(
+        &mut self,
+        text: &mut Text,
+        index: &RecordNumber,
+        octets: &[u8],
+    ) -> Result<bool, AllocError> {
         if !self.filter.keeps(octets) {
             return Ok(true);
         }
         self.listing.take(text, index, octets)
     }
 
-    fn refuse(text: &mut Text, index: u64, fault: S::Fault) -> Result<(), AllocError> {
+    fn refuse(text: &mut Text, index: &RecordNumber, fault: S::Fault) -> Result<(), AllocError> {
         C::refuse(text, index, fault)
     }
 }

@@ -9,7 +9,8 @@ ghost use Rattle.listings.specs.PacketLines.{kind_word, none_seen, process_text,
 
 use crate::lines::{push_invalid, push_octets, push_refused};
 use crate::listing::Listing;
-use crate::parts::{put_field, put_number, put_word};
+use crate::parts::{put_field, put_long_field, put_word};
+use crate::record_number::RecordNumber;
 use crate::text::Text;
 use octets::Splitter;
 use space_packet::{GapCheck, Packet, PacketFault, PacketKind, Packets, decode};
@@ -52,21 +53,21 @@ fn word_of_kind(kind: PacketKind) -> [u8; 2]
 }
 
 #[inline(always)]
-fn number_of_flag(flag: bool) -> u16
+fn number_of_flag(flag: bool) -> u8
     ensures { result ≡ secondary_bit flag }
 {
-    u16::from(flag)
+    u8::from(flag)
 }
 
 #[inline(always)]
-fn put_process(room: &mut [u8], at: usize, kind: &[u8; 2], secondary: u16, apid: u16) -> usize
+fn put_process(room: &mut [u8], at: usize, kind: &[u8; 2], secondary: u8, apid: u16) -> usize
     requires { at + 48 ≤ length room.old }
     ensures put { take result room.new ≡ take at room.old ++ process_text kind.now secondary apid }
     ensures next { result ≤ at + 48 }
 {
-    let next = put_word(room, at, kind);
-    let next = put_field(room, next, b" secondary=", secondary);
-    put_field(room, next, b" apid=", apid)
+    let next = put_word::<2>(room, at, kind);
+    let next = put_field::<8>(room, next, b" secondary=", secondary);
+    put_long_field::<4>(room, next, b" apid=", apid)
 }
 
 #[inline(always)]
@@ -75,8 +76,8 @@ fn put_sequence(room: &mut [u8], at: usize, packet: &Packet) -> usize
     ensures put { take result room.new ≡ take at room.old ++ sequence_text (packet_view packet.now) }
     ensures next { result ≤ at + 32 }
 {
-    let next = put_field(room, at, b" flags=", u16::from(packet.flags));
-    put_field(room, next, b" count=", packet.count)
+    let next = put_field::<4>(room, at, b" flags=", packet.flags);
+    put_long_field::<4>(room, next, b" count=", packet.count)
 }
 
 #[inline(always)]
@@ -86,24 +87,30 @@ fn put_gap(room: &mut [u8], at: usize, gap: Option<u16>) -> usize
     ensures next { result ≤ at + 32 }
 {
     match gap {
-        None => put_word(room, at, b" gap=- data="),
+        None => put_word::<8>(room, at, b" gap=- data="),
         Some(gap) => {
-            let next = put_field(room, at, b" gap=", gap);
-            put_word(room, next, b" data=")
+            let next = put_long_field::<4>(room, at, b" gap=", gap);
+            put_word::<4>(room, next, b" data=")
         }
     }
 }
 
 #[inline(always)]
-fn put_packet(room: &mut [u8], at: usize, index: u64, packet: &Packet, gap: Option<u16>) -> usize
+fn put_packet(
+    room: &mut [u8],
+    at: usize,
+    index: &RecordNumber,
+    packet: &Packet,
+    gap: Option<u16>,
+) -> usize
     requires { at + 144 ≤ length room.old }
-    ensures put { take result room.new ≡ take at room.old ++ (decimal index ++ (codes " "
+    ensures put { take result room.new ≡ take at room.old ++ (decimal index.now ++ (codes " "
         ++ (process_text (kind_word packet.now.kind) (secondary_bit packet.now.secondary) packet.now.apid
         ++ (sequence_text (packet_view packet.now) ++ gap_text gap)))) }
     ensures next { result ≤ at + 144 }
 {
-    let next = put_number(room, at, index);
-    let next = put_word(room, next, b" ");
+    let next = index.put(room, at);
+    let next = put_word::<1>(room, next, b" ");
     let kind = word_of_kind(packet.kind);
     let secondary = number_of_flag(packet.secondary);
     let next = put_process(room, next, &kind, secondary, packet.apid);
@@ -114,7 +121,12 @@ fn put_packet(room: &mut [u8], at: usize, index: u64, packet: &Packet, gap: Opti
 impl Listing<Splitter<Packets>> for PacketListing {
     ghost lines = { packet_lines };
 
-    fn take(&mut self, text: &mut Text, index: u64, octets: &[u8]) -> Result<bool, AllocError> {
+    fn take(
+        &mut self,
+        text: &mut Text,
+        index: &RecordNumber,
+        octets: &[u8],
+    ) -> Result<bool, AllocError> {
         match decode(octets) {
             Ok((packet, _)) => {
                 let gap = self.gaps.see(packet.apid, packet.count);
@@ -127,7 +139,7 @@ impl Listing<Splitter<Packets>> for PacketListing {
         }
     }
 
-    fn refuse(text: &mut Text, index: u64, fault: PacketFault) -> Result<(), AllocError> {
+    fn refuse(text: &mut Text, index: &RecordNumber, fault: PacketFault) -> Result<(), AllocError> {
         push_invalid(text, index, fault.number(), fault.name())
     }
 }

@@ -19,44 +19,28 @@ pub fn put_all(room: &mut [u8], at: usize, octets: &[u8]) -> usize
     next
 }
 
-// Puts the first N of these octets, by one load and one store.
+/// Puts the first N of these octets, by one load and one store.
 #[inline(always)]
-fn put_front<const N: usize>(room: &mut [u8], at: usize, octets: &[u8])
+pub fn put_front<const N: usize>(room: &mut [u8], at: usize, octets: &[u8])
     requires { (N ≤ length octets.now) × (at + N ≤ length room.old) }
     ensures { take (at + N) room.new ≡ take at room.old ++ take N octets.now }
 {
     Simd::<u8, N>::from_slice(octets).copy_to_slice(&mut room[at..]);
 }
 
-// Puts at most twice N octets: the first N, and the last N over them.
+/// Puts a word of N octets to twice as many: the first N, and the last N over them.
 #[inline(always)]
-fn put_ends<const N: usize>(room: &mut [u8], at: usize, octets: &[u8]) -> usize
-    requires room { at + length octets.now ≤ length room.old }
-    requires most { (N ≤ length octets.now) × (length octets.now ≤ N + N) }
-    ensures put { take result room.new ≡ take at room.old ++ octets.now }
-    ensures next { result ≡ at + length octets.now }
-{
-    let next = at + octets.len();
-    let last = octets.len() - N;
-    put_front::<N>(room, at, octets);
-    put_front::<N>(room, at + last, &octets[last..]);
-    next
-}
-
-/// Puts octets whose count is known when this is compiled.
-#[inline(always)]
-pub fn put_word<const N: usize>(room: &mut [u8], at: usize, word: &[u8; N]) -> usize
-    requires { at + N ≤ length room.old }
+pub fn put_word<const N: usize>(room: &mut [u8], at: usize, word: &[u8]) -> usize
+    requires room { at + length word.now ≤ length room.old }
+    requires most { (N ≤ length word.now) × (length word.now ≤ N + N) }
     ensures put { take result room.new ≡ take at room.old ++ word.now }
-    ensures next { result ≡ at + N }
+    ensures next { result ≡ at + length word.now }
 {
-    match N {
-        2..=3 => put_ends::<2>(room, at, word),
-        4..=7 => put_ends::<4>(room, at, word),
-        8..=15 => put_ends::<8>(room, at, word),
-        16..=31 => put_ends::<16>(room, at, word),
-        _ => put_all(room, at, word),
-    }
+    let next = at + word.len();
+    let last = word.len() - N;
+    put_front::<N>(room, at, word);
+    put_front::<N>(room, at + last, &word[last..]);
+    next
 }
 
 // The decimal digits of each octet: three places, and how many of them are digits.
@@ -129,15 +113,31 @@ fn put_octet(room: &mut [u8], at: usize, octet: u8) -> usize
     at + usize::from(entry[3])
 }
 
+/// Puts a word, and the decimal digits of an octet after it, which are at most three.
+#[inline(always)]
+pub fn put_field<const N: usize>(room: &mut [u8], at: usize, word: &[u8], octet: u8) -> usize
+    requires room { at + (length word.now + 4) ≤ length room.old }
+    requires most { (N ≤ length word.now) × (length word.now ≤ N + N) }
+    ensures put { take result room.new ≡ take at room.old ++ (word.now ++ decimal octet) }
+    ensures next { result ≤ at + (length word.now + 3) }
+{
+    let next = put_word::<N>(room, at, word);
+    put_octet(room, next, octet)
+}
+
 /// Puts a word, and a number's decimal digits after it, which are at most five.
 #[inline(always)]
 #[tactic(auto, using(crate::proofs::Digits::at_most_five))]
-pub fn put_field<const N: usize>(room: &mut [u8], at: usize, word: &[u8; N], number: u16) -> usize
-    requires { at + (N + 5) ≤ length room.old }
+pub fn put_long_field<const N: usize>(room: &mut [u8], at: usize, word: &[u8], number: u16) -> usize
+    requires room { at + (length word.now + 5) ≤ length room.old }
+    requires most { (N ≤ length word.now) × (length word.now ≤ N + N) }
     ensures put { take result room.new ≡ take at room.old ++ (word.now ++ decimal number) }
-    ensures next { result ≤ at + (N + 5) }
+    ensures next { result ≤ at + (length word.now + 5) }
 {
-    let next = put_word(room, at, word);
+    let next = put_word::<N>(room, at, word);
+    if number < 256 {
+        return put_octet(room, next, number as u8);
+    }
     put_eight(room, next, u32::from(number))
 }
 
@@ -150,18 +150,19 @@ fn digit_of_flag(flag: bool) -> u8
 
 /// Puts a word, and a flag as 0 or 1 after it.
 #[inline(always)]
-pub fn put_flag<const N: usize>(room: &mut [u8], at: usize, word: &[u8; N], flag: bool) -> usize
-    requires { at + (N + 1) ≤ length room.old }
+pub fn put_flag<const N: usize>(room: &mut [u8], at: usize, word: &[u8], flag: bool) -> usize
+    requires room { at + (length word.now + 1) ≤ length room.old }
+    requires most { (N ≤ length word.now) × (length word.now ≤ N + N) }
     ensures put { take result room.new ≡ take at room.old
         ++ (word.now ++ decimal (flag_number flag)) }
-    ensures next { result ≡ at + (N + 1) }
+    ensures next { result ≡ at + (length word.now + 1) }
 {
-    let next = put_word(room, at, word);
-    put_word(room, next, &[digit_of_flag(flag)])
+    let next = put_word::<N>(room, at, word);
+    put_word::<1>(room, next, &[digit_of_flag(flag)])
 }
 
 /// Puts the decimal digits of the number of a record, which are at most twenty.
-#[inline(always)]
+#[inline(never)]
 #[tactic(auto, using(crate::proofs::Digits::at_most_twenty))]
 pub fn put_number(room: &mut [u8], at: usize, number: u64) -> usize
     requires { at + 20 ≤ length room.old }
@@ -174,8 +175,8 @@ pub fn put_number(room: &mut [u8], at: usize, number: u64) -> usize
     put_long(room, at, number)
 }
 
-// Puts at most eight decimal digits.
-#[inline(always)]
+// Puts at most eight decimal digits. It stands by itself, so that a line stays short enough to be inlined.
+#[inline(never)]
 #[tactic(auto, using(crate::proofs::Digits::four_more))]
 fn put_eight(room: &mut [u8], at: usize, number: u32) -> usize
     requires room { at + length (decimal number) ≤ length room.old }
@@ -218,7 +219,7 @@ fn put_upper(room: &mut [u8], at: usize, number: u16) -> usize
     }
     if number < 1000 {
         let next = put_octet(room, at, (number / 10) as u8);
-        return put_word(room, next, &[b'0' + (number % 10) as u8]);
+        return put_word::<1>(room, next, &[b'0' + (number % 10) as u8]);
     }
     let next = put_octet(room, at, (number / 100) as u8);
     put_two(room, next, (number % 100) as u8)

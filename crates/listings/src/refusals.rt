@@ -6,6 +6,7 @@ ghost use Rattle.listings.specs.RefusalLines.{refusal_lines};
 
 use crate::lines::{push_invalid, push_refused};
 use crate::listing::Listing;
+use crate::record_number::RecordNumber;
 use crate::text::Text;
 use octets::Splitter;
 use std::alloc::AllocError;
@@ -25,14 +26,19 @@ impl Model for RefusalListing {
 impl Listing<Splitter<Checked>> for RefusalListing {
     ghost lines = { refusal_lines };
 
-    fn take(&mut self, text: &mut Text, index: u64, octets: &[u8]) -> Result<bool, AllocError> {
+    fn take(
+        &mut self,
+        text: &mut Text,
+        index: &RecordNumber,
+        octets: &[u8],
+    ) -> Result<bool, AllocError> {
         match decode(octets, Check::On) {
             Ok(_) => Ok(true),
             Err(fault) => push_refused(text, index, fault.number(), fault.name()),
         }
     }
 
-    fn refuse(text: &mut Text, index: u64, fault: TcFault) -> Result<(), AllocError> {
+    fn refuse(text: &mut Text, index: &RecordNumber, fault: TcFault) -> Result<(), AllocError> {
         push_invalid(text, index, fault.number(), fault.name())
     }
 }

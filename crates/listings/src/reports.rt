@@ -9,7 +9,8 @@ ghost use Rattle.listings.specs.ReportLines.{field_line, receiver_text, report_l
 use crate::control_words::{ControlWords, WordFault, word_in};
 use crate::lines::{push_invalid, push_name, push_refused};
 use crate::listing::Listing;
-use crate::parts::{put_field, put_flag, put_number, put_word};
+use crate::parts::{put_field, put_flag, put_word};
+use crate::record_number::RecordNumber;
 use crate::text::Text;
 use bitflags::Flags;
 use clcw::{Clcw, ClcwFlags, decode};
@@ -33,20 +34,20 @@ fn put_status(room: &mut [u8], at: usize, word: &Clcw) -> usize
     ensures put { take result room.new ≡ take at room.old ++ status_text word.now }
     ensures next { result ≤ at + 32 }
 {
-    let next = put_field(room, at, b" status=", u16::from(word.status));
-    let next = put_flag(
+    let next = put_field::<8>(room, at, b" status=", word.status);
+    let next = put_flag::<4>(
         room,
         next,
         b" rf=",
         word.flags.contains(ClcwFlags::NO_RF_AVAILABLE),
     );
-    let next = put_flag(
+    let next = put_flag::<4>(
         room,
         next,
         b" lock=",
         word.flags.contains(ClcwFlags::NO_BIT_LOCK),
     );
-    put_word(room, next, b"\n")
+    put_word::<1>(room, next, b"\n")
 }
 
 #[inline(always)]
@@ -55,16 +56,16 @@ fn put_receiver(room: &mut [u8], at: usize, word: &Clcw) -> usize
     ensures put { take result room.new ≡ take at room.old ++ receiver_text word.now }
     ensures next { result ≤ at + 64 }
 {
-    let next = put_field(room, at, b" vr=", u16::from(word.value));
-    let next = put_flag(room, next, b" l=", word.flags.contains(ClcwFlags::LOCKOUT));
-    let next = put_flag(room, next, b" w=", word.flags.contains(ClcwFlags::WAIT));
-    let next = put_flag(
+    let next = put_field::<4>(room, at, b" vr=", word.value);
+    let next = put_flag::<2>(room, next, b" l=", word.flags.contains(ClcwFlags::LOCKOUT));
+    let next = put_flag::<2>(room, next, b" w=", word.flags.contains(ClcwFlags::WAIT));
+    let next = put_flag::<2>(
         room,
         next,
         b" t=",
         word.flags.contains(ClcwFlags::RETRANSMIT),
     );
-    let next = put_field(room, next, b" b=", u16::from(word.farm_b));
+    let next = put_field::<2>(room, next, b" b=", word.farm_b);
     put_status(room, next, word)
 }
 
@@ -74,19 +75,19 @@ fn put_report(room: &mut [u8], at: usize, word: &Clcw) -> usize
     ensures put { take result room.new ≡ take at room.old ++ report_line word.now }
     ensures next { result ≤ at + 96 }
 {
-    let next = put_field(room, at, b"report vcid=", u16::from(word.vcid));
+    let next = put_field::<8>(room, at, b"report vcid=", word.vcid);
     put_receiver(room, next, word)
 }
 
 #[inline(always)]
-fn put_numbered(room: &mut [u8], at: usize, index: u64, word: &Clcw) -> usize
+fn put_numbered(room: &mut [u8], at: usize, index: &RecordNumber, word: &Clcw) -> usize
     requires { at + 128 ≤ length room.old }
     ensures put { take result room.new ≡ take at room.old
-        ++ (decimal index ++ (codes " " ++ report_line word.now)) }
+        ++ (decimal index.now ++ (codes " " ++ report_line word.now)) }
     ensures next { result ≤ at + 128 }
 {
-    let next = put_number(room, at, index);
-    let next = put_word(room, next, b" ");
+    let next = index.put(room, at);
+    let next = put_word::<1>(room, next, b" ");
     put_report(room, next, word)
 }
 
@@ -96,8 +97,8 @@ fn put_invalid(room: &mut [u8], at: usize, number: u8) -> usize
         ++ (codes "report invalid " ++ (decimal number ++ codes " ")) }
     ensures next { result ≤ at + 32 }
 {
-    let next = put_field(room, at, b"report invalid ", u16::from(number));
-    put_word(room, next, b" ")
+    let next = put_field::<8>(room, at, b"report invalid ", number);
+    put_word::<1>(room, next, b" ")
 }
 
 /// Appends the line of the control word in a telemetry frame, or why its field is none.
@@ -121,7 +122,12 @@ pub fn push_report(text: &mut Text, field: [u8; 4]) -> Result<(), AllocError>
 impl Listing<Splitter<ControlWords>> for ReportListing {
     ghost lines = { report_lines };
 
-    fn take(&mut self, text: &mut Text, index: u64, octets: &[u8]) -> Result<bool, AllocError> {
+    fn take(
+        &mut self,
+        text: &mut Text,
+        index: &RecordNumber,
+        octets: &[u8],
+    ) -> Result<bool, AllocError> {
         match word_in(octets) {
             Ok(word) => {
                 text.make_room(128)?;
@@ -132,7 +138,7 @@ impl Listing<Splitter<ControlWords>> for ReportListing {
         }
     }
 
-    fn refuse(text: &mut Text, index: u64, fault: WordFault) -> Result<(), AllocError> {
+    fn refuse(text: &mut Text, index: &RecordNumber, fault: WordFault) -> Result<(), AllocError> {
         push_invalid(text, index, fault.number(), fault.name())
     }
 }

@@ -15,26 +15,24 @@ use crate::cutter::Cutter;
 use crate::fault::ListingFault;
 use crate::listing::Listing;
 use crate::output::{WriteFailed, write_all};
+use crate::record_number::RecordNumber;
 use crate::sink::Sink;
 use crate::source::Source;
 use crate::text::Text;
 use std::alloc::{AllocError, Global};
 
 /// How many records there were, and whether all of them were good.
-#[derive(Clone, Copy, Drop)]
+#[derive(Drop)]
 pub struct Progress {
-    count: u64,
+    count: RecordNumber,
     all_good: bool,
 }
 
 impl Progress {
-    fn and(self, good: bool) -> Progress
-        ensures { result ≡ record { count = self.count; all_good = self.all_good && good } }
+    fn and(&mut self, good: bool)
+        ensures { self.new ≡ record { count = self.old.count; all_good = self.old.all_good && good } }
     {
-        Progress {
-            count: self.count,
-            all_good: self.all_good && good,
-        }
+        self.all_good = self.all_good && good;
     }
 }
 
@@ -59,9 +57,9 @@ fn list_records<S: Cutter, C: Listing<S>>(
     while let Some(answer) = cutter.next() {
         match answer {
             Ok(octets) => {
-                progress.count += 1;
-                let good = listing.take(text, progress.count, octets)?;
-                *progress = progress.and(good);
+                progress.count.step();
+                let good = listing.take(text, &progress.count, octets)?;
+                progress.and(good);
             }
             Err(fault) => return Ok(Some(*fault)),
         }
@@ -128,7 +126,8 @@ fn list_piece<S: Cutter, C: Listing<S>, W: Sink>(
     let Some(fault) = fault else {
         return put(writer, text, Course::Open);
     };
-    let Ok(()) = C::refuse(text, progress.count + 1, fault) else {
+    progress.count.step();
+    let Ok(()) = C::refuse(text, &progress.count, fault) else {
         return Err(ListingFault::Memory);
     };
     put(writer, text, Course::Refused)
@@ -138,7 +137,7 @@ fn list_piece<S: Cutter, C: Listing<S>, W: Sink>(
 /// all was good.
 fn list_rest<S: Cutter, C: Listing<S>, W: Sink>(
     cutter: &S,
-    progress: Progress,
+    mut progress: Progress,
     text: &mut Text,
     writer: &mut W,
 ) -> Result<bool, ListingFault>
@@ -157,7 +156,8 @@ fn list_rest<S: Cutter, C: Listing<S>, W: Sink>(
         return Ok(progress.all_good);
     };
     text.clear();
-    let Ok(()) = C::refuse(text, progress.count + 1, fault) else {
+    progress.count.step();
+    let Ok(()) = C::refuse(text, &progress.count, fault) else {
         return Err(ListingFault::Memory);
     };
     put(writer, text, false)
@@ -217,7 +217,7 @@ fn list_pieces<S: Cutter, C: Listing<S>, R: Source, W: Sink>(
         (rest_by S.layout (gained (R.given reader.old) (R.given reader.new)))) }
 {
     let mut progress = Progress {
-        count: 0,
+        count: RecordNumber::new(),
         all_good: true,
     };
     let mut piece = [0u8; 4096];

@@ -10,7 +10,8 @@ ghost use Rattle.listings.specs.TelemetryLines.{TelemetryState, telemetry_opened
 use crate::frame_cutter::{FrameCutter, FrameLength};
 use crate::lines::{push_invalid, push_octets, push_refused};
 use crate::listing::Listing;
-use crate::parts::{put_digits, put_field, put_number, put_word};
+use crate::parts::{put_digits, put_field, put_long_field, put_word};
+use crate::record_number::RecordNumber;
 use crate::reports::push_report;
 use crate::text::Text;
 use std::alloc::{AllocError, Global};
@@ -60,7 +61,12 @@ impl<K: FrameLength> TelemetryListing<K> {
 impl<K: FrameLength> Listing<FrameCutter<K>> for TelemetryListing<K> {
     ghost lines = { telemetry_lines (K.payload + 12) };
 
-    fn take(&mut self, text: &mut Text, index: u64, octets: &[u8]) -> Result<bool, AllocError> {
+    fn take(
+        &mut self,
+        text: &mut Text,
+        index: &RecordNumber,
+        octets: &[u8],
+    ) -> Result<bool, AllocError> {
         match decode(octets, usize::from(self.frame_length)) {
             Ok(frame) => {
                 self.packets.clear();
@@ -77,23 +83,23 @@ impl<K: FrameLength> Listing<FrameCutter<K>> for TelemetryListing<K> {
         }
     }
 
-    fn refuse(text: &mut Text, index: u64, fault: TmFault) -> Result<(), AllocError> {
+    fn refuse(text: &mut Text, index: &RecordNumber, fault: TmFault) -> Result<(), AllocError> {
         push_invalid(text, index, fault.number(), fault.name())
     }
 }
 
 #[inline(always)]
-fn put_counts(room: &mut [u8], at: usize, index: u64, frame: &TmFrame) -> usize
+fn put_counts(room: &mut [u8], at: usize, index: &RecordNumber, frame: &TmFrame) -> usize
     requires { at + 64 ≤ length room.old }
     ensures put { take result room.new ≡ take at room.old
-        ++ counts_text index (frame_view frame.now) }
+        ++ counts_text index.now (frame_view frame.now) }
     ensures next { result ≤ at + 64 }
 {
-    let next = put_number(room, at, index);
-    let next = put_field(room, next, b" scid=", frame.scid);
-    let next = put_field(room, next, b" vcid=", u16::from(frame.vcid));
-    let next = put_field(room, next, b" mc=", u16::from(frame.mc_count));
-    put_field(room, next, b" vc=", u16::from(frame.vc_count))
+    let next = index.put(room, at);
+    let next = put_long_field::<4>(room, next, b" scid=", frame.scid);
+    let next = put_field::<4>(room, next, b" vcid=", frame.vcid);
+    let next = put_field::<4>(room, next, b" mc=", frame.mc_count);
+    put_field::<4>(room, next, b" vc=", frame.vc_count)
 }
 
 #[inline(always)]
@@ -105,11 +111,11 @@ fn put_pointer(room: &mut [u8], at: usize, pointer: Pointer) -> usize
 {
     match pointer {
         Pointer::At(place) => {
-            let next = put_field(room, at, b" pointer=", place);
-            put_word(room, next, b" ocf=")
+            let next = put_long_field::<8>(room, at, b" pointer=", place);
+            put_word::<4>(room, next, b" ocf=")
         }
-        Pointer::NoStart => put_word(room, at, b" pointer=none ocf="),
-        Pointer::OnlyIdle => put_word(room, at, b" pointer=idle ocf="),
+        Pointer::NoStart => put_word::<16>(room, at, b" pointer=none ocf="),
+        Pointer::OnlyIdle => put_word::<16>(room, at, b" pointer=idle ocf="),
     }
 }
 
@@ -121,19 +127,19 @@ fn put_gap(room: &mut [u8], at: usize, gap: Gap) -> usize
     ensures next { result ≤ at + 16 }
 {
     match gap {
-        Gap::First => put_word(room, at, b" gap=-\n"),
+        Gap::First => put_word::<4>(room, at, b" gap=-\n"),
         Gap::Lost(count) => {
-            let next = put_field(room, at, b" gap=", u16::from(count));
-            put_word(room, next, b"\n")
+            let next = put_field::<4>(room, at, b" gap=", count);
+            put_word::<1>(room, next, b"\n")
         }
     }
 }
 
 #[inline(always)]
-fn put_frame(room: &mut [u8], at: usize, index: u64, frame: &TmFrame, gap: Gap) -> usize
+fn put_frame(room: &mut [u8], at: usize, index: &RecordNumber, frame: &TmFrame, gap: Gap) -> usize
     requires { at + 128 ≤ length room.old }
     ensures put { take result room.new ≡ take at room.old
-        ++ frame_line index (frame_view frame.now) gap }
+        ++ frame_line index.now (frame_view frame.now) gap }
     ensures next { result ≤ at + 128 }
 {
     let next = put_counts(room, at, index, frame);
@@ -168,6 +174,6 @@ fn push_packet(text: &mut Text, packet: &[u8]) -> Result<(), AllocError>
     ensures { Appends result text.old text.new (finished_line packet.now) }
 {
     text.make_room(7)?;
-    text.len = put_word(text.octets.as_mut_slice(), text.len, b"packet ");
+    text.len = put_word::<4>(text.octets.as_mut_slice(), text.len, b"packet ");
     push_octets(text, packet)
 }

@@ -1,4 +1,4 @@
-use Rattle.std.proofs.Common.{◌++◌, ◌∙◌, length, take, drop, ap}
+use Rattle.std.proofs.Common.{◌++◌, ◌∙◌, take, ap}
 use Rattle.std.proofs.lemmas.List.{take_rest}
 use Rattle.listings.proofs.Digits.{last_two}
 use Rattle.listings.proofs.parts.put_two.Goals as goal

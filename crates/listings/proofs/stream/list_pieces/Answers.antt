@@ -63,7 +63,9 @@ loop-count-init g c =
       up_to = record {
         gave = sym (append-nil given) ∙ ap (λ o. given ++ o) (sym none);
         wrote = sym (append-nil taken) ∙ ap (λ x. taken ++ x.text) (sym nothing);
-        stands = ap (standing [] c.args.listing.now (record { count = 0; all_good = true })) held_nothing
+        stands = ap (λ n. standing [] c.args.listing.now (record { count = n; all_good = true })
+            (g.S.Cutter.held c.args.cutter.now)) c.new.ensures
+            ∙ ap (standing [] c.args.listing.now (record { count = 0; all_good = true })) held_nothing
             ∙ sym bare_nothing;
       };
       consumes = consumes_nothing (g.R.Source.remaining c.args.reader.now) given;
@@ -72,7 +74,7 @@ loop-count-init g c =
       going = c.requires.going;
       counted = ap length (sym none);
       short = omega arith;
-      bound = omega (arith, ap length held_nothing);
+      bound = omega (arith, c.new.ensures, ap length held_nothing);
       read_failures = refl;
       write_failures = refl;
     }

@@ -1,4 +1,4 @@
-use Rattle.std.proofs.Common.{◌≡◌, ◌∙◌, Ok, Err, sym, ap, subst, drop, length, arith}
+use Rattle.std.proofs.Common.{◌≡◌, ◌∙◌, ◌++◌, Ok, Err, sym, ap, subst, drop, length, arith}
 use Rattle.std.specs.Prelude.{Some, None, ◌&&◌}
 use Rattle.octets.specs.Splitter.{rest_after, failure_after}
 use Rattle.octets.proofs.Streams.{IsNoRecord}
@@ -26,17 +26,20 @@ loop-answer-preserved g c =
       same = goes_on g.C.Listing.lines g.S.Cutter.layout g.met.S.Cutter.heads
           (standing (written c.loop-answer.text) c.loop-answer.listing c.loop-answer.progress
           (g.S.Cutter.held c.loop-answer.cutter))
-          (standing (written c.take.new.text) c.take.new.self c.and.result
+          (standing (written c.take.new.text) c.take.new.self c.and.new.self
           (g.S.Cutter.held c.next.follows.lender-at-none))
-          c.in-Ok.octets.now first c.in_ok-good-in-Ok.ensures.text c.in_ok-good-in-Ok.ensures.state
-          (ap (λ x. x.count) c.and.ensures)
+          c.in-Ok.octets.now first
+          (c.in_ok-good-in-Ok.ensures.text ∙ ap (λ n. written c.loop-answer.text
+          ++ g.C.Listing.lines.line_of c.loop-answer.listing n c.in-Ok.octets.now) c.step.ensures)
+          c.in_ok-good-in-Ok.ensures.state
+          (ap (λ x. x.count) c.and.ensures ∙ c.step.ensures)
           (ap (λ x. x.all_good) c.and.ensures
           ∙ ap (λ b. c.loop-answer.progress.all_good && b) c.in_ok-good-in-Ok.ensures.good) left
           ∙ c.loop-answer.invariant.same;
       failed = told.1
           ∙ ap (λ o. failure_after o (g.S.Cutter.failure c.loop-answer.cutter)) (c.next.ensures.answer ∙ first)
           ∙ c.loop-answer.invariant.failed;
-      room = omega (arith, ap (λ x. x.count) c.and.ensures, ap length left, less);
+      room = omega (arith, ap (λ x. x.count) c.and.ensures, c.step.ensures, ap length left, less);
     }
 
 -- no record stands first, so the listing ends as it stands
