@@ -19,6 +19,7 @@ complete -c tctool -n "__fish_seen_subcommand_from farm map" -l vr -x -d 'Number
 complete -c tctool -n "__fish_seen_subcommand_from farm map tc tm check" -l scid -x -d 'Lists the frames of this spacecraft alone, 0 to 1023'
 complete -c tctool -n "__fish_seen_subcommand_from farm map tc check" -l vcid -x -d 'Lists the frames of this virtual channel alone, 0 to 63'
 complete -c tctool -n "__fish_seen_subcommand_from farm map tc encode" -l check -d 'The frames end with their check'
+complete -c tctool -n "__fish_seen_subcommand_from farm map tc tm clcw check packets" -l count -d 'Writes the totals of the lines in place of them'
 complete -c tctool -n "__fish_seen_subcommand_from map" -l map -x -d 'Lists the packets of this MAP alone, 0 to 63; the receiver takes the frames of all'
 complete -c tctool -n "__fish_seen_subcommand_from map" -l blocking -d 'A segment may hold several packets'
 complete -c tctool -n "__fish_seen_subcommand_from tm" -l length -x -d 'Octets of a frame, 16 to 2048'

@@ -52,6 +52,9 @@ blocking = named (codes "blocking")
 abbrev pub report : Wanted
 report = named (codes "report")
 
+abbrev pub count : Wanted
+count = named (codes "count")
+
 abbrev pub length : Wanted
 length = record { name = codes "length"; is_required = true; range = Some (16, 2048) }
 
@@ -85,13 +88,13 @@ file_of _ = file
 
 -- the arguments of each command but the file
 abbrev pub options_of : Named → List Wanted
-options_of commands.Farm = width ∷ vr ∷ scid ∷ vcid ∷ check ∷ []
-options_of commands.Map = width ∷ vr ∷ scid ∷ vcid ∷ map ∷ check ∷ blocking ∷ []
-options_of commands.Tc = scid ∷ vcid ∷ check ∷ []
-options_of commands.Tm = length ∷ scid ∷ telemetry_vcid ∷ report ∷ []
-options_of commands.Clcw = []
-options_of commands.Check = scid ∷ vcid ∷ []
-options_of commands.Packets = apid ∷ []
+options_of commands.Farm = width ∷ vr ∷ scid ∷ vcid ∷ check ∷ count ∷ []
+options_of commands.Map = width ∷ vr ∷ scid ∷ vcid ∷ map ∷ check ∷ blocking ∷ count ∷ []
+options_of commands.Tc = scid ∷ vcid ∷ check ∷ count ∷ []
+options_of commands.Tm = length ∷ scid ∷ telemetry_vcid ∷ report ∷ count ∷ []
+options_of commands.Clcw = count ∷ []
+options_of commands.Check = scid ∷ vcid ∷ count ∷ []
+options_of commands.Packets = apid ∷ count ∷ []
 options_of commands.Encode = check ∷ []
 options_of commands.Sim = []
 options_of commands.Ground = []

@@ -3,7 +3,7 @@
 ghost use Rattle.std.specs.Prelude.{◌≡◌, ◌≤◌, Some, None, IfOk};
 ghost use Rattle.clap.specs.Facts.{least_values};
 ghost use Rattle.command_line.specs.Arguments.{AreArguments, IsArgument, wanted_of};
-ghost use Rattle.command_line.specs.Arguments.{apid, blocking, check, file, input, length, map, named, report};
+ghost use Rattle.command_line.specs.Arguments.{apid, blocking, check, count, file, input, length, map, named, report};
 ghost use Rattle.command_line.specs.Arguments.{scid, telemetry_vcid, vcid, vr, width};
 
 use crate::commands::Named;
@@ -32,6 +32,7 @@ impl Named {
                 scid_option(alloc),
                 vcid_option(alloc),
                 check_flag(alloc),
+                count_flag(alloc),
                 file_argument(alloc, help),
             ]?,
             Named::Map => vec![in alloc;
@@ -42,12 +43,14 @@ impl Named {
                 map_option(alloc),
                 check_flag(alloc),
                 blocking_flag(alloc),
+                count_flag(alloc),
                 file_argument(alloc, help),
             ]?,
             Named::Tc => vec![in alloc;
                 scid_option(alloc),
                 vcid_option(alloc),
                 check_flag(alloc),
+                count_flag(alloc),
                 file_argument(alloc, help),
             ]?,
             Named::Tm => vec![in alloc;
@@ -55,16 +58,23 @@ impl Named {
                 scid_option(alloc),
                 telemetry_vcid_option(alloc),
                 report_flag(alloc),
+                count_flag(alloc),
                 file_argument(alloc, help),
             ]?,
             Named::Check => vec![in alloc;
                 scid_option(alloc),
                 vcid_option(alloc),
+                count_flag(alloc),
                 file_argument(alloc, help),
             ]?,
-            Named::Packets => vec![in alloc; apid_option(alloc), file_argument(alloc, help)]?,
+            Named::Clcw => vec![in alloc; count_flag(alloc), file_argument(alloc, help)]?,
+            Named::Packets => vec![in alloc;
+                apid_option(alloc),
+                count_flag(alloc),
+                file_argument(alloc, help),
+            ]?,
             Named::Encode => vec![in alloc; check_flag(alloc), file_argument(alloc, help)]?,
-            Named::Clcw | Named::Sim => vec![in alloc; file_argument(alloc, help)]?,
+            Named::Sim => vec![in alloc; file_argument(alloc, help)]?,
             Named::Ground | Named::Spacecraft => vec![in alloc; input_argument(alloc, help)]?,
         })
     }
@@ -162,6 +172,14 @@ fn blocking_flag<'a>(alloc: Global) -> Arg<'a>
     ensures { IsArgument result blocking }
 {
     flag(alloc, "blocking", "A segment may hold several packets")
+}
+
+// `--count`, whether totals are written in place of lines.
+fn count_flag<'a>(alloc: Global) -> Arg<'a>
+    ensures { IsArgument result count }
+{
+    let help = "Writes the totals of the lines in place of them";
+    flag(alloc, "count", help)
 }
 
 // `FILE`.

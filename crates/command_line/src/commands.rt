@@ -66,6 +66,7 @@ impl<'a> Described<'a> {
         let given = self.given(alloc, words)?;
         Ok(Options {
             task: self.command.task(&given)?,
+            count: self.command.count(&given),
             file: self.command.file(&given),
         })
     }

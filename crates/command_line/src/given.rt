@@ -57,6 +57,16 @@ impl Named {
         })
     }
 
+    /// Whether the totals of the lines are asked for; not where no file is listed.
+    pub fn count(self, given: &ArgMatches<'_>) -> bool
+        requires { GivesAll given.now (wanted_of self) }
+    {
+        match self {
+            Named::Encode | Named::Sim | Named::Ground | Named::Spacecraft => false,
+            _ => given.get_flag("count"),
+        }
+    }
+
     /// The name of the file; standard input where none is given of those that play a node.
     pub fn file<'a>(self, given: &ArgMatches<'a>) -> &'a str
         requires { Gives given.now (file_of self) }

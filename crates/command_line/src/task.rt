@@ -84,6 +84,8 @@ pub enum Task {
 #[derive(Clone, Copy, Debug, Drop, PartialEq, Eq)]
 pub struct Options<'a> {
     pub task: Task,
+    /// Whether the totals of the lines are written in place of them; where a file is listed.
+    pub count: bool,
     /// The name of the file, as it was given.
     pub file: &'a str,
 }

@@ -7,6 +7,7 @@ use Rattle.listings.specs.Devices.{gained}
 use Rattle.std.specs.Prelude.{Result, Ok, Err, IfOk, OnOk, ◌&&◌}
 use Rattle.listings.specs.Layouts.{Layout, HasHeads, rest_by, IsRefused}
 use Rattle.listings.specs.Listing.{Lines, Standing, fresh, fed, listed, rest_line, text_of, is_all_good}
+use Rattle.listings.specs.declared.stream.Summary.{Summary}
 use Rattle.listings.proofs.Listed.{bare, is_fed, refused_some}
 
 -- What begins a text begins each longer one.
@@ -42,6 +43,12 @@ gained_nothing a = drop_all (length a) a (omega arith)
 pub on_ok_from : {T E Q : Type 0} (P : T → Type 0) (r : Result T E) → ((x : T) → P x → Q) → IfOk r P → OnOk r Q
 on_ok_from P (Ok x) h p = h x p
 on_ok_from P (Err e) h p = tt
+
+-- what was listed is the same where each field is
+pub same_summary : (a b : Summary) → a.records ≡ b.records → a.octets ≡ b.octets → a.all_good ≡ b.all_good → a ≡ b
+same_summary a b records octets good =
+    ap (λ (n : ℕ). record a { records = n }) records
+    ∙ ap (λ (n : ℕ). record a { records = b.records; octets = n }) octets ∙ ap (λ (x : Bool). record b { all_good = x }) good
 
 -- What a piece of a stream adds to what is listed and written of it.
 

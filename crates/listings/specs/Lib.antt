@@ -8,6 +8,7 @@ pub mod ReportLines
 pub mod TelemetryLines
 pub mod Devices
 pub mod Text
+pub mod Totals
 pub mod RefusalLines
 pub mod Listing
 pub mod Layouts

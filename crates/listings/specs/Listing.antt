@@ -4,6 +4,7 @@ use Rattle.std.specs.Prelude.{◌≡◌, None, ℕ, ◌+◌, Bool, true, false, 
 use Rattle.std.specs.Prelude.{length, Option, Some, Result, Err}
 use Rattle.std.specs.List.{list_all}
 use Rattle.listings.specs.Layouts.{Layout, first_by, records_by, rest_by, rest_fault, IsRefused}
+use Rattle.listings.specs.declared.stream.Summary.{Summary}
 use Rattle.listings.specs.declared.stream.Progress.{Progress}
 
 -- What a command writes. S is what it keeps between two records, F is why octets are refused as no
@@ -77,6 +78,14 @@ module _ {S F : Type 0} (lines : Lines S F) where
     -- whether all records are good and nothing is left after them
     abbrev pub is_all_good : Standing S → Bool
     is_all_good st = (listed st).all_good && is_empty (listed st).octets
+
+    -- how many records and octets there are, and whether all is good
+    abbrev pub summary_of : Standing S → Summary
+    summary_of st = record {
+      records = (listed st).count;
+      octets = length st.octets;
+      all_good = is_all_good st;
+    }
 
     -- Octets were listed: the text is written, and more octets may come after those that are left.
     pub record HasListed (st next : Standing S) (before now : List ℕ) : Type 0 where

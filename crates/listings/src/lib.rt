@@ -30,6 +30,7 @@ mod source;
 mod stream;
 mod telemetry;
 mod text;
+mod totals;
 
 pub use control_words::{ControlWords, WordFault};
 pub use cutter::Cutter;
@@ -50,6 +51,7 @@ pub use refusals::RefusalListing;
 pub use reports::ReportListing;
 pub use sink::{Sink, Writer};
 pub use source::{Reader, Source};
-pub use stream::{MOST_OCTETS, list_stream};
+pub use stream::{MOST_OCTETS, Summary, list_stream};
 pub use telemetry::TelemetryListing;
 pub use text::Text;
+pub use totals::Totals;

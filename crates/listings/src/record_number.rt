@@ -50,6 +50,27 @@ impl RecordNumber {
         }
     }
 
+    /// The number after this one.
+    pub fn following(&self) -> Self
+        requires { self.now + 1 < 2 ^ 64 }
+        ensures { result ≡ self.now + 1 }
+    {
+        let mut next = RecordNumber {
+            number: self.number,
+            digits: self.digits,
+            len: self.len,
+        };
+        next.step();
+        next
+    }
+
+    /// The number.
+    pub fn get(&self) -> u64
+        ensures { result ≡ self.now }
+    {
+        self.number
+    }
+
     /// Puts the decimal digits, which are at most twenty.
     #[inline(always)]
     pub fn put(&self, room: &mut [u8], at: usize) -> usize

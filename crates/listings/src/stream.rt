@@ -2,7 +2,7 @@
 
 ghost use Rattle.std.specs.Prelude.{◌≡◌, ◌⊎◌, None, false, ◌+◌, ◌-◌, ◌^◌, ◌<◌, ◌≤◌, ◌&&◌, ◌++◌, [], length, Ok, Err, OnOk, IfOk, IfErr};
 ghost use Rattle.listings.specs.Layouts.{first_by, rest_by, IsRefused};
-ghost use Rattle.listings.specs.Listing.{fresh, listed, text_of, is_all_good, rest_line, is_empty, HasListed, HasRefused};
+ghost use Rattle.listings.specs.Listing.{fresh, listed, text_of, rest_line, is_empty, summary_of, HasListed, HasRefused};
 ghost use Rattle.listings.specs.Devices.{HasEnded};
 ghost use Rattle.listings.specs.Devices.{writes_failed_in};
 ghost use Rattle.listings.specs.Devices.{gained};
@@ -34,6 +34,27 @@ impl Progress {
     {
         self.all_good = self.all_good && good;
     }
+
+    fn of_all(&self, octets: u64, all_good: bool) -> Summary
+        ensures { result ≡ record { records = self.now.count; octets = octets; all_good = all_good } }
+    {
+        Summary {
+            records: self.count.get(),
+            octets,
+            all_good,
+        }
+    }
+}
+
+/// What was listed: how many whole records and octets, and whether all was good.
+#[derive(Clone, Copy, Debug, Drop, PartialEq, Eq)]
+pub struct Summary {
+    /// The records whose last octet came.
+    pub records: u64,
+    /// All octets that were read.
+    pub octets: u64,
+    /// Whether every record was good and nothing was left after them.
+    pub all_good: bool,
 }
 
 /// Takes all whole records that the cutter holds, and answers the fault of the octets after them
@@ -110,6 +131,8 @@ fn list_piece<S: Cutter, C: Listing<S>, W: Sink>(
     ensures refused { result ≡ Ok Course.Refused → HasRefused C.lines S.layout
         (standing [] listing.old progress.old (S.held cutter.old ++ piece.now))
         (W.taken_octets writer.old) (W.taken_octets writer.new) }
+    ensures records { result ≡ Ok Course.Refused → progress.new.count ≡ (listed C.lines S.layout
+        (standing [] listing.old progress.old (S.held cutter.old ++ piece.now))).count }
     ensures beginning { BeginsToWrite result (W.taken_octets writer.old) (W.taken_octets writer.new)
         (text_of C.lines S.layout
         (standing [] listing.old progress.old (S.held cutter.old ++ piece.now))) }
@@ -126,25 +149,30 @@ fn list_piece<S: Cutter, C: Listing<S>, W: Sink>(
     let Some(fault) = fault else {
         return put(writer, text, Course::Open);
     };
-    progress.count.step();
-    let Ok(()) = C::refuse(text, &progress.count, fault) else {
+    let next = progress.count.following();
+    let Ok(()) = C::refuse(text, &next, fault) else {
         return Err(ListingFault::Memory);
     };
     put(writer, text, Course::Refused)
 }
 
-/// Writes the line of what is left when the input has ended, where anything is, and answers whether
-/// all was good.
+/// Writes the line of what is left when the input has ended, where anything is, and answers what was
+/// listed of this many octets.
 fn list_rest<S: Cutter, C: Listing<S>, W: Sink>(
     cutter: &S,
-    mut progress: Progress,
+    progress: Progress,
+    octets: u64,
     text: &mut Text,
     writer: &mut W,
-) -> Result<bool, ListingFault>
+) -> Result<Summary, ListingFault>
     requires open { first_by S.layout (S.held cutter.now) ≡ None }
     requires going { S.failure cutter.now ≡ None }
     requires count { progress.count < 2 ^ 64 - 1 }
-    ensures ok { IfOk result (λ good. (good ≡ (progress.all_good && is_empty (S.held cutter.now)))
+    ensures ok { IfOk result (λ all. (all ≡ record {
+      records = progress.count;
+      octets = octets;
+      all_good = progress.all_good && is_empty (S.held cutter.now);
+    })
         × (W.taken_octets writer.new ≡ W.taken_octets writer.old
         ++ rest_line C.lines S.layout (progress.count + 1) (S.held cutter.now))) }
     ensures beginning { BeginsToWrite result (W.taken_octets writer.old) (W.taken_octets writer.new)
@@ -153,21 +181,22 @@ fn list_rest<S: Cutter, C: Listing<S>, W: Sink>(
     ensures faults { IfErr result (λ e. (e ≡ ListingFault.Write) ⊎ (e ≡ ListingFault.Memory)) }
 {
     let Err(fault) = cutter.finish() else {
-        return Ok(progress.all_good);
+        return Ok(progress.of_all(octets, progress.all_good));
     };
     text.clear();
-    progress.count.step();
-    let Ok(()) = C::refuse(text, &progress.count, fault) else {
+    let next = progress.count.following();
+    let Ok(()) = C::refuse(text, &next, fault) else {
         return Err(ListingFault::Memory);
     };
-    put(writer, text, false)
+    put(writer, text, progress.of_all(octets, false))
 }
 
 /// The most octets that are read of a stream.
 pub const MOST_OCTETS: u64 = 9_223_372_036_854_775_807;
 
 /// Reads a stream in pieces, and writes the lines of each piece before it reads the next. It answers
-/// whether every record was good and nothing was left after them.
+/// how many whole records and octets there were, and whether every record was good and nothing was left after
+/// them.
 ///
 /// Where a record declares a length that none can have, its line is the last and nothing more is
 /// read. The fault is `Read` or `Write` where that device failed, `Memory` where none was left, and
@@ -179,14 +208,14 @@ pub fn list_stream<S: Cutter + Drop, C: Listing<S> + Drop, R: Source, W: Sink>(
     writer: &mut W,
     mut cutter: S,
     mut listing: C,
-) -> Result<bool, ListingFault>
+) -> Result<Summary, ListingFault>
     requires held { S.held cutter ≡ [] }
     requires going { S.failure cutter ≡ None }
     ensures reads { Reads R.given R.remaining R.failures result reader.old reader.new }
     ensures writes { WritesText W.taken_octets W.failures result writer.old writer.new
         (text_of C.lines S.layout
         (fresh listing (gained (R.given reader.old) (R.given reader.new)))) }
-    ensures good { IfOk result (λ good. good ≡ is_all_good C.lines S.layout
+    ensures listed { IfOk result (λ l. l ≡ summary_of C.lines S.layout
         (fresh listing (gained (R.given reader.old) (R.given reader.new)))) }
     ensures end { OnOk result (HasEnded (R.has_ended reader.new) (R.remaining reader.new)
         ⊎ IsRefused S.layout
@@ -203,14 +232,14 @@ fn list_pieces<S: Cutter, C: Listing<S>, R: Source, W: Sink>(
     cutter: &mut S,
     listing: &mut C,
     text: &mut Text,
-) -> Result<bool, ListingFault>
+) -> Result<Summary, ListingFault>
     requires held { S.held cutter.old ≡ [] }
     requires going { S.failure cutter.old ≡ None }
     ensures reads { Reads R.given R.remaining R.failures result reader.old reader.new }
     ensures writes { WritesText W.taken_octets W.failures result writer.old writer.new
         (text_of C.lines S.layout
         (fresh listing.old (gained (R.given reader.old) (R.given reader.new)))) }
-    ensures good { IfOk result (λ good. good ≡ is_all_good C.lines S.layout
+    ensures listed { IfOk result (λ l. l ≡ summary_of C.lines S.layout
         (fresh listing.old (gained (R.given reader.old) (R.given reader.new)))) }
     ensures end { OnOk result (HasEnded (R.has_ended reader.new) (R.remaining reader.new)
         ⊎ IsRefused S.layout
@@ -227,7 +256,7 @@ fn list_pieces<S: Cutter, C: Listing<S>, R: Source, W: Sink>(
             return Err(ListingFault::Read);
         };
         if count == 0 {
-            return list_rest::<S, C, W>(cutter, progress, text, writer);
+            return list_rest::<S, C, W>(cutter, progress, total, text, writer);
         }
         if count as u64 > MOST_OCTETS - total {
             return Err(ListingFault::TooLong);
@@ -242,7 +271,7 @@ fn list_pieces<S: Cutter, C: Listing<S>, R: Source, W: Sink>(
             &piece[..count],
         ) {
             Ok(Course::Open) => {}
-            Ok(Course::Refused) => return Ok(false),
+            Ok(Course::Refused) => return Ok(progress.of_all(total, false)),
             Err(fault) => return Err(fault),
         }
     }

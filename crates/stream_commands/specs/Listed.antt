@@ -23,9 +23,10 @@ use Rattle.listings.specs.ReportLines.{report_lines}
 use Rattle.listings.specs.TelemetryLines.{telemetry_lines, telemetry_opened}
 use Rattle.listings.specs.Layouts.{Layout, frame_layout, telemetry_layout, word_layout}
 use Rattle.listings.specs.Layouts.{packet_layout, rest_by, IsRefused}
-use Rattle.listings.specs.Listing.{Lines, fresh, text_of, is_all_good}
+use Rattle.listings.specs.Listing.{Lines, fresh, text_of, summary_of}
+use Rattle.listings.specs.Totals.{totals_of}
+use Rattle.listings.specs.declared.stream.Summary.{Summary}
 use Rattle.stream_commands.specs.declared.outcome.Outcome.{Outcome}
-use Rattle.stream_commands.specs.declared.outcome.Outcome.TheVariants.{Good}
 use Rattle.stream_commands.specs.Outcome.{outcome_if}
 
 -- What is done with a file: its records are listed, cut by this layout, with these lines and this
@@ -102,11 +103,10 @@ abbrev pub work_lines : Work → List ℕ → List ℕ
 work_lines (Lists layout lines start) octets = text_of lines layout (fresh start octets)
 work_lines Plays octets = []
 
--- Good exactly where every record is good and nothing is left
-abbrev pub work_outcome : Work → List ℕ → Outcome
-work_outcome (Lists layout lines start) octets =
-    outcome_if (is_all_good lines layout (fresh start octets))
-work_outcome Plays octets = Good
+-- how many records and octets there are, and whether every record is good and nothing is left
+abbrev pub work_summary : Work → List ℕ → Summary
+work_summary (Lists layout lines start) octets = summary_of lines layout (fresh start octets)
+work_summary Plays octets = record { records = 0; octets = 0; all_good = true }
 
 -- a record's length is refused, so that nothing more is read; of what is played all is read
 abbrev pub WorkStops : Work → List ℕ → Type 0
@@ -116,8 +116,19 @@ WorkStops Plays octets = ⊥
 abbrev pub listed_lines : Task → List ℕ → List ℕ
 listed_lines task octets = work_lines (work_of task) octets
 
+abbrev pub task_summary : Task → List ℕ → Summary
+task_summary task octets = work_summary (work_of task) octets
+
+-- Good exactly where every record is good and nothing is left
 abbrev pub listed_outcome : Task → List ℕ → Outcome
-listed_outcome task octets = work_outcome (work_of task) octets
+listed_outcome task octets = outcome_if (task_summary task octets).all_good
+
+-- what is written of a file: its lines, or their totals
+abbrev pub shown_lines : Bool → Task → List ℕ → List ℕ
+shown_lines false task octets = listed_lines task octets
+shown_lines true task octets =
+    totals_of (task_summary task octets).records (task_summary task octets).octets
+    (listed_lines task octets)
 
 abbrev pub StopsAt : Task → List ℕ → Type 0
 StopsAt task octets = WorkStops (work_of task) octets

@@ -2,12 +2,13 @@
 //! here.
 #![tactic(auto)]
 
+mod counted;
 mod listed;
 mod outcome;
 mod status;
 mod whole_file;
 
-pub use listed::list;
+pub use counted::list;
 pub use outcome::Outcome;
 pub use status::ending;
 pub use whole_file::read_all;

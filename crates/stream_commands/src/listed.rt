@@ -5,22 +5,21 @@ ghost use Rattle.command_line.specs.Arguments.{IsInRange};
 ghost use Rattle.listings.specs.Devices.{HasEnded};
 ghost use Rattle.listings.specs.Devices.{gained};
 ghost use Rattle.listings.specs.Layouts.{rest_by, IsRefused};
-ghost use Rattle.listings.specs.Listing.{fresh, text_of, is_all_good};
+ghost use Rattle.listings.specs.Listing.{fresh, text_of, summary_of};
 ghost use Rattle.listings.specs.Streams.{Reads, WritesText};
 ghost use Rattle.cop1.specs.Farm.{IsWidth};
 ghost use Rattle.tc_frame.specs.Splitter.{check_if};
 ghost use Rattle.listings.specs.Filters.{only};
-ghost use Rattle.stream_commands.specs.Listed.{frames_work, is_listed, listed_lines, listed_outcome, StopsAt};
-ghost use Rattle.stream_commands.specs.Listed.{work_lines, work_outcome, WorkStops};
-ghost use Rattle.stream_commands.specs.Outcome.{outcome_if};
+ghost use Rattle.stream_commands.specs.Listed.{frames_work, is_listed, listed_lines, task_summary, StopsAt};
+ghost use Rattle.stream_commands.specs.Listed.{work_lines, work_summary, WorkStops};
 
-use crate::outcome::Outcome;
 use command_line::{Channel, MapPart, Part, Task};
 use cop1::Farm;
 use listings::{
     ControlWords, Cutter, Filter, FrameCutter, FrameLength, FrameListing, FramesOf, FromFirst,
     Kept, Listing, ListingFault, MapListing, OneMap, Only, PacketListing, PacketsOf,
-    RefusalListing, ReportListing, Sink, Source, TelemetryListing, TelemetryOf, list_stream,
+    RefusalListing, ReportListing, Sink, Source, Summary, TelemetryListing, TelemetryOf,
+    list_stream,
 };
 use octets::Splitter;
 use space_packet::Packets;
@@ -28,28 +27,20 @@ use std::alloc::Global;
 use std::marker::Brand;
 use tc_frame::FrameLayout;
 
-/// Reads a stream to its end, in pieces, and writes the lines that a command asks for that lists a file: of
-/// each piece before the next is read.
-///
-/// An `Ok` says that all lines are written and nothing else, and whether every record was good. Where
-/// a record declares a length that none can have, its line is the last and nothing more is read. The
-/// fault is `Read` or `Write` where that device failed, `Memory` where none was left, and `TooLong`
-/// past `MOST_OCTETS` octets; what is written by then is a beginning of the lines. A call that failed
-/// is the last of its device.
-/// Faults: `Read`, `Write`, `Memory`, `TooLong`. Memory: yes. Cost: the octets read and written.
-pub fn list<R: Source, W: Sink>(
+// Writes the lines that a command asks for, as `list` says it, and answers what was listed.
+pub(crate) fn list_lines<R: Source, W: Sink>(
     alloc: Global,
     reader: &mut R,
     writer: &mut W,
     task: Task,
-) -> Result<Outcome, ListingFault>
+) -> Result<Summary, ListingFault>
     requires range { IsInRange task }
     requires listed { is_listed task ≡ true }
     ensures reads { Reads R.given R.remaining R.failures result reader.old reader.new }
     ensures writes { WritesText W.taken_octets W.failures result writer.old writer.new
         (listed_lines task (gained (R.given reader.old) (R.given reader.new))) }
-    ensures outcome { IfOk result (λ outcome. outcome
-        ≡ listed_outcome task (gained (R.given reader.old) (R.given reader.new))) }
+    ensures listed { IfOk result (λ l. l
+        ≡ task_summary task (gained (R.given reader.old) (R.given reader.new))) }
     ensures end { OnOk result (HasEnded (R.has_ended reader.new) (R.remaining reader.new)
         ⊎ StopsAt task (gained (R.given reader.old) (R.given reader.new))) }
 {
@@ -124,14 +115,14 @@ fn list_farm<const CHECKED: bool, R: Source, W: Sink>(
     width: u8,
     vr: u8,
     part: Option<Part>,
-) -> Result<Outcome, ListingFault>
+) -> Result<Summary, ListingFault>
     requires task { task ≡ Task.Farm CHECKED width vr part }
     requires width { IsWidth width }
     ensures reads { Reads R.given R.remaining R.failures result reader.old reader.new }
     ensures writes { WritesText W.taken_octets W.failures result writer.old writer.new
         (listed_lines task (gained (R.given reader.old) (R.given reader.new))) }
-    ensures outcome { IfOk result (λ outcome. outcome
-        ≡ listed_outcome task (gained (R.given reader.old) (R.given reader.new))) }
+    ensures listed { IfOk result (λ l. l
+        ≡ task_summary task (gained (R.given reader.old) (R.given reader.new))) }
     ensures end { OnOk result (HasEnded (R.has_ended reader.new) (R.remaining reader.new)
         ⊎ StopsAt task (gained (R.given reader.old) (R.given reader.new))) }
 {
@@ -157,14 +148,14 @@ fn list_maps<const CHECKED: bool, R: Source, W: Sink>(
     vr: u8,
     blocking: bool,
     part: Option<MapPart>,
-) -> Result<Outcome, ListingFault>
+) -> Result<Summary, ListingFault>
     requires task { task ≡ Task.Map CHECKED width vr blocking part }
     requires width { IsWidth width }
     ensures reads { Reads R.given R.remaining R.failures result reader.old reader.new }
     ensures writes { WritesText W.taken_octets W.failures result writer.old writer.new
         (listed_lines task (gained (R.given reader.old) (R.given reader.new))) }
-    ensures outcome { IfOk result (λ outcome. outcome
-        ≡ listed_outcome task (gained (R.given reader.old) (R.given reader.new))) }
+    ensures listed { IfOk result (λ l. l
+        ≡ task_summary task (gained (R.given reader.old) (R.given reader.new))) }
     ensures end { OnOk result (HasEnded (R.has_ended reader.new) (R.remaining reader.new)
         ⊎ StopsAt task (gained (R.given reader.old) (R.given reader.new))) }
 {
@@ -189,14 +180,14 @@ fn list_telemetry<K: FrameLength, R: Source, W: Sink>(
     size: u16,
     report: bool,
     channel: Option<Channel>,
-) -> Result<Outcome, ListingFault>
+) -> Result<Summary, ListingFault>
     requires task { task ≡ Task.Tm size report channel }
     requires size { size ≡ K.payload + 12 }
     ensures reads { Reads R.given R.remaining R.failures result reader.old reader.new }
     ensures writes { WritesText W.taken_octets W.failures result writer.old writer.new
         (listed_lines task (gained (R.given reader.old) (R.given reader.new))) }
-    ensures outcome { IfOk result (λ outcome. outcome
-        ≡ listed_outcome task (gained (R.given reader.old) (R.given reader.new))) }
+    ensures listed { IfOk result (λ l. l
+        ≡ task_summary task (gained (R.given reader.old) (R.given reader.new))) }
     ensures end { OnOk result (HasEnded (R.has_ended reader.new) (R.remaining reader.new)
         ⊎ StopsAt task (gained (R.given reader.old) (R.given reader.new))) }
 {
@@ -220,13 +211,13 @@ fn list_packets<R: Source, W: Sink>(
     writer: &mut W,
     task: Task,
     apid: Option<u16>,
-) -> Result<Outcome, ListingFault>
+) -> Result<Summary, ListingFault>
     requires task { task ≡ Task.Packets apid }
     ensures reads { Reads R.given R.remaining R.failures result reader.old reader.new }
     ensures writes { WritesText W.taken_octets W.failures result writer.old writer.new
         (listed_lines task (gained (R.given reader.old) (R.given reader.new))) }
-    ensures outcome { IfOk result (λ outcome. outcome
-        ≡ listed_outcome task (gained (R.given reader.old) (R.given reader.new))) }
+    ensures listed { IfOk result (λ l. l
+        ≡ task_summary task (gained (R.given reader.old) (R.given reader.new))) }
     ensures end { OnOk result (HasEnded (R.has_ended reader.new) (R.remaining reader.new)
         ⊎ StopsAt task (gained (R.given reader.old) (R.given reader.new))) }
 {
@@ -249,20 +240,20 @@ fn list_on<const CHECKED: bool, C, R: Source, W: Sink>(
     task: Task,
     listing: C,
     channel: Option<Channel>,
-) -> Result<Outcome, ListingFault>
+) -> Result<Summary, ListingFault>
 where
     C: Listing<Splitter<FrameLayout<CHECKED>>> + Drop,
     requires lines { (octets : List ℕ) → listed_lines task octets
         ≡ work_lines (frames_work (check_if CHECKED) C.lines listing channel) octets }
-    requires outcome { (octets : List ℕ) → listed_outcome task octets
-        ≡ work_outcome (frames_work (check_if CHECKED) C.lines listing channel) octets }
+    requires listed { (octets : List ℕ) → task_summary task octets
+        ≡ work_summary (frames_work (check_if CHECKED) C.lines listing channel) octets }
     requires stops { (octets : List ℕ)
         → WorkStops (frames_work (check_if CHECKED) C.lines listing channel) octets → StopsAt task octets }
     ensures reads { Reads R.given R.remaining R.failures result reader.old reader.new }
     ensures writes { WritesText W.taken_octets W.failures result writer.old writer.new
         (listed_lines task (gained (R.given reader.old) (R.given reader.new))) }
-    ensures outcome { IfOk result (λ outcome. outcome
-        ≡ listed_outcome task (gained (R.given reader.old) (R.given reader.new))) }
+    ensures listed { IfOk result (λ l. l
+        ≡ task_summary task (gained (R.given reader.old) (R.given reader.new))) }
     ensures end { OnOk result (HasEnded (R.has_ended reader.new) (R.remaining reader.new)
         ⊎ StopsAt task (gained (R.given reader.old) (R.given reader.new))) }
 {
@@ -285,20 +276,20 @@ fn list_only<K: Kept, S: Cutter + Drop, C: Listing<S> + Drop, F: Filter + Drop, 
     cutter: S,
     listing: C,
     filter: F,
-) -> Result<Outcome, ListingFault>
+) -> Result<Summary, ListingFault>
     requires held { S.held cutter ≡ [] }
     requires going { S.failure cutter ≡ None }
     requires keeps { (octets : List ℕ) → F.keeps filter octets ≡ K.keeps octets }
     requires lines { (octets : List ℕ) → listed_lines task octets
         ≡ text_of (only K.keeps C.lines) S.layout (fresh listing octets) }
-    requires outcome { (octets : List ℕ) → listed_outcome task octets
-        ≡ outcome_if (is_all_good (only K.keeps C.lines) S.layout (fresh listing octets)) }
+    requires listed { (octets : List ℕ) → task_summary task octets
+        ≡ summary_of (only K.keeps C.lines) S.layout (fresh listing octets) }
     requires stops { (octets : List ℕ) → IsRefused S.layout (rest_by S.layout octets) → StopsAt task octets }
     ensures reads { Reads R.given R.remaining R.failures result reader.old reader.new }
     ensures writes { WritesText W.taken_octets W.failures result writer.old writer.new
         (listed_lines task (gained (R.given reader.old) (R.given reader.new))) }
-    ensures outcome { IfOk result (λ outcome. outcome
-        ≡ listed_outcome task (gained (R.given reader.old) (R.given reader.new))) }
+    ensures listed { IfOk result (λ l. l
+        ≡ task_summary task (gained (R.given reader.old) (R.given reader.new))) }
     ensures end { OnOk result (HasEnded (R.has_ended reader.new) (R.remaining reader.new)
         ⊎ StopsAt task (gained (R.given reader.old) (R.given reader.new))) }
 {
@@ -314,24 +305,21 @@ fn list_records<S: Cutter + Drop, C: Listing<S> + Drop, R: Source, W: Sink>(
     task: Task,
     cutter: S,
     listing: C,
-) -> Result<Outcome, ListingFault>
+) -> Result<Summary, ListingFault>
     requires held { S.held cutter ≡ [] }
     requires going { S.failure cutter ≡ None }
     requires lines { (octets : List ℕ) → listed_lines task octets
         ≡ text_of C.lines S.layout (fresh listing octets) }
-    requires outcome { (octets : List ℕ) → listed_outcome task octets
-        ≡ outcome_if (is_all_good C.lines S.layout (fresh listing octets)) }
+    requires listed { (octets : List ℕ) → task_summary task octets
+        ≡ summary_of C.lines S.layout (fresh listing octets) }
     requires stops { (octets : List ℕ) → IsRefused S.layout (rest_by S.layout octets) → StopsAt task octets }
     ensures reads { Reads R.given R.remaining R.failures result reader.old reader.new }
     ensures writes { WritesText W.taken_octets W.failures result writer.old writer.new
         (listed_lines task (gained (R.given reader.old) (R.given reader.new))) }
-    ensures outcome { IfOk result (λ outcome. outcome
-        ≡ listed_outcome task (gained (R.given reader.old) (R.given reader.new))) }
+    ensures listed { IfOk result (λ l. l
+        ≡ task_summary task (gained (R.given reader.old) (R.given reader.new))) }
     ensures end { OnOk result (HasEnded (R.has_ended reader.new) (R.remaining reader.new)
         ⊎ StopsAt task (gained (R.given reader.old) (R.given reader.new))) }
 {
-    match list_stream(alloc, reader, writer, cutter, listing) {
-        Ok(good) => Ok(Outcome::of(good)),
-        Err(fault) => Err(fault),
-    }
+    list_stream(alloc, reader, writer, cutter, listing)
 }

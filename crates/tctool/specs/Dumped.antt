@@ -1,10 +1,10 @@
 -- What the commands write of the octets of a file, those that play it among them.
-use Rattle.std.specs.Prelude.{◌≡◌, List, ℕ, ◌++◌, Option, Some, None, Result, Err}
+use Rattle.std.specs.Prelude.{◌≡◌, Bool, List, ℕ, ◌++◌, Option, Some, None, Result, Err}
 use Rattle.script.specs.Ending as ends
 use Rattle.script.specs.Ending.{script_ending, script_text}
 use Rattle.command_line.specs.declared.task.Task.{Task}
 use Rattle.command_line.specs.declared.task.Task.TheVariants as tasks
-use Rattle.stream_commands.specs.Listed.{listed_lines, listed_outcome}
+use Rattle.stream_commands.specs.Listed.{listed_outcome, shown_lines}
 use Rattle.stream_commands.specs.Outcome.{OutcomeView, Good, Unreadable, OutOfRange, outcome_view}
 use Rattle.stream_commands.specs.Outcome.{outcome_if}
 use Rattle.stream_commands.specs.declared.outcome.Outcome.{Outcome}
@@ -28,13 +28,15 @@ abbrev pub as_read : Option ℕ → OutcomeView
 as_read None = Good
 as_read (Some line) = Unreadable line
 
--- the lines for all octets of a file, its rest included, or the octets for its lines
-abbrev pub lines_of : Task → List ℕ → List ℕ
-lines_of (tasks.Encode check) octets = octets_in (check_if check) octets
-lines_of tasks.Sim octets = script_text octets
-lines_of tasks.Ground octets = answers_of (node_playing ground_rules) fresh_player octets
-lines_of tasks.Spacecraft octets = answers_of (node_playing spacecraft_rules) fresh_player octets
-lines_of task octets = listed_lines task octets
+-- the lines for all octets of a file, its rest included, or the totals of these lines, or the octets
+-- for its lines
+abbrev pub lines_of : Bool → Task → List ℕ → List ℕ
+lines_of count (tasks.Encode check) octets = octets_in (check_if check) octets
+lines_of count tasks.Sim octets = script_text octets
+lines_of count tasks.Ground octets = answers_of (node_playing ground_rules) fresh_player octets
+lines_of count tasks.Spacecraft octets =
+    answers_of (node_playing spacecraft_rules) fresh_player octets
+lines_of count task octets = shown_lines count task octets
 
 -- a node has answered all lines that had ended, where a read of more fails: so it answers them
 -- before each read

@@ -20,7 +20,8 @@ use stream_commands::{Outcome, list};
 
 /// Reads the input to its end, in pieces, and writes the lines that the words ask for: of each piece
 /// before the next is read, but of a script once all of it is read. A node answers each line of a piece. For
-/// `Task::Encode` octets are written in place of lines.
+/// `Task::Encode` octets are written in place of lines. Where the words ask to count them, the totals of the
+/// lines of a file that is listed are written in place of them.
 ///
 /// An `Ok` says that all lines are written and nothing else, and whether every record was good. Where
 /// a record declares a length that none can have, its line is the last and nothing more is read. Of a
@@ -38,7 +39,7 @@ pub fn dump<R: Source, W: Sink>(
     requires { IsInRange options.now.task }
     ensures reads { Reads R.given R.remaining R.failures result reader.old reader.new }
     ensures writes { WritesText W.taken_octets W.failures result writer.old writer.new
-        (lines_of options.now.task (gained (R.given reader.old) (R.given reader.new))) }
+        (lines_of options.now.count options.now.task (gained (R.given reader.old) (R.given reader.new))) }
     ensures in_time { AnswersInTime options.now.task result (W.taken_octets writer.old)
         (W.taken_octets writer.new) (gained (R.given reader.old) (R.given reader.new)) }
     ensures outcome { IfOk result (λ outcome. outcome_view outcome
@@ -51,6 +52,6 @@ pub fn dump<R: Source, W: Sink>(
         Task::Sim => simulate(alloc, reader, writer),
         Task::Ground => play_node::<Ground, R, W>(alloc, reader, writer),
         Task::Spacecraft => play_node::<Spacecraft, R, W>(alloc, reader, writer),
-        task => list(alloc, reader, writer, task),
+        task => list(alloc, reader, writer, task, options.count),
     }
 }

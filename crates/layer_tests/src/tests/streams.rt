@@ -9,7 +9,7 @@ use listings::{
     Begins, Call, ControlWords, Cutter, DeviceLog, Filter, FrameCutter, FrameLength, FrameListing,
     FramesOf, FromFirst, Kept, Listing, ListingFault, MapListing, OneMap, Only, PacketListing,
     PacketsOf, Reader, RefusalListing, ReportListing, Sink, Source, TelemetryListing, TelemetryOf,
-    Writer, list_stream, write_all,
+    Totals, Writer, list_stream, write_all,
 };
 use octets::{Splitter, remove_front};
 use space_packet::Packets;
@@ -58,7 +58,9 @@ fn is_listed<S: Cutter + Drop, C: Listing<S> + Drop>(
         cutter,
         listing,
     );
-    equal(rt, &result, &Ok(good));
+    let listed = result.expect(rt, "lines");
+    equal(rt, &listed.all_good, &good);
+    equal(rt, &listed.octets, &(octets.len() as u64));
     equal(rt, &written.as_slice(), &text.as_bytes());
 }
 
@@ -210,6 +212,19 @@ fn lists_nowhere(rt: &impl Abort, alloc: Global) {
         FrameListing,
     );
     equal(rt, &result, &Err(ListingFault::Write));
+}
+
+// Totals of lines whose words two writes part.
+#[test]
+fn totals_of_two_writes(rt: HostRuntime) {
+    let mut totals = Totals::new(rt.alloc());
+    let first = write_all(&mut totals, b"1 AD scid=1 n=0 vci");
+    equal(&rt, &first, &Ok(()));
+    let second = write_all(&mut totals, b"d=2\n2 AD scid=1 n=1 vcid=3\n");
+    equal(&rt, &second, &Ok(()));
+    let text = totals.lines(2, 26).expect(&rt, "totals");
+    let lines = "records 2\noctets 26\nAD 2\nscid=1 2\nvcid=2 1\nvcid=3 1\n";
+    equal(&rt, &text.as_bytes(), &lines.as_bytes());
 }
 
 // A reader and a writer that move at most three octets at a call, and fail at the call after this many.

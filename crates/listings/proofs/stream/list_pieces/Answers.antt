@@ -3,6 +3,7 @@ use Rattle.std.proofs.Common.{true, Result, Ok, length, take, inr, arith}
 use Rattle.std.specs.Io.KnownBytes.{Consumes}
 use Rattle.listings.specs.Devices.{gained, writes_failed_in}
 use Rattle.listings.proofs.Pieces.{gained_more, gained_nothing, on_ok_from, adds_piece, at_end, stops, is_bad}
+use Rattle.listings.proofs.Pieces.{same_summary}
 use Rattle.std.proofs.lemmas.List.{append-nil, length-append, length-take-le}
 use Rattle.std.proofs.lemmas.Result.{on_err_weaker}
 use Rattle.octets.specs.Beginning.{IsBeginning}
@@ -137,6 +138,8 @@ returns-in-Ok-Refused g c =
     c.in-Ok.ensures.given in
     let went : c.list_piece.result ≡ done Refused = c.in-Ok-Refused.is ∙ ap done c.in-Ok-Refused.field-0-is in
     let has = c.list_piece.ensures.refused went in
+    let short : length (take c.in-Ok.count c.read.new.piece) ≡ c.in-Ok.count =
+    length-take-le c.in-Ok.count c.read.new.piece (omega (arith, c.in-Ok.ensures.count)) in
     let refused = stops g.C.Listing.lines g.S.Cutter.layout adds has.refused in
     record {
       reads = record {
@@ -151,7 +154,10 @@ returns-in-Ok-Refused g c =
         beginning = tt;
         failed = omega (arith, so_failed _ _ went c.list_piece.ensures.failures, c.loop-count.invariant.write_failures);
       };
-      good = sym (is_bad g.C.Listing.lines g.S.Cutter.layout g.met.S.Cutter.heads c.args.listing.now _ refused);
+      listed = c.of_all.ensures ∙ same_summary _ _
+          (c.list_piece.ensures.records went ∙ ap (λ (x : Standing g.row.C.Denot). x.count) adds.stands)
+          (omega (arith, adds.counted, short, c.loop-count.invariant.counted))
+          (sym (is_bad g.C.Listing.lines g.S.Cutter.layout g.met.S.Cutter.heads c.args.listing.now _ refused));
       end = inr refused;
     }
 

@@ -1,5 +1,5 @@
 use Rattle.std.specs.Prelude.{◌-◌}
-use Rattle.stream_commands.proofs.listed.list.Given as goal
+use Rattle.stream_commands.proofs.listed.list_lines.Given as goal
 
 -- the frames' length is the one that the words give
 abbrev pub ghosts-list_telemetry : goal.ghosts-list_telemetry

@@ -1,0 +1,10 @@
+use Rattle.std.proofs.Common.{◌∙◌, map, ap, sym, rules}
+use Rattle.listings.specs.Totals.{row_of}
+use Rattle.listings.proofs.Words.{word_known}
+use Rattle.listings.proofs.totals.count_known.Goals as goal
+
+pub returns-in-Some-checked_add-clause-known : goal.returns-in-Some-checked_add-clause-known
+returns-in-Some-checked_add-clause-known c =
+    λ _. ap (map row_of) (c.get_mut.follows.holds c.in-Some-checked_add.more).0
+    ∙ word_known c.args.table.now.entries c.args.word.now c.in-Some.count.now c.in-Some-checked_add.more (search rules)
+    c.in-Some.ensures.ordered (sym c.in-Some.ensures.value)

@@ -1,0 +1,87 @@
+-- What is written in place of lines: how often each of their words stands in them.
+use Rattle.std.specs.Prelude.{ℕ, ◌+◌, ◌==◌, Bool, false, ◌&&◌, ◌||◌, not, if◌then◌else◌, List, []}
+use Rattle.std.specs.Prelude.{◌∷◌, ◌++◌, codes, decimal, map, nat_le, Vec}
+use Rattle.std.specs.Bool.{nat_eq}
+use Rattle.std.specs.Cmp.Lexicographic.{slice_cmp}
+use Rattle.std.specs.List.{fold, list_any, starts_with}
+use Rattle.std.specs.Ordering.{match_ordering, nat_cmp}
+use Rattle.listings.specs.Text.{line_end}
+use Rattle.listings.specs.declared.totals.Tally.{Tally}
+
+-- what parts words: a space or a line feed
+abbrev pub parts_words : ℕ → Bool
+parts_words octet = (octet == 32) || (octet == 10)
+
+abbrev pub is_digit : ℕ → Bool
+is_digit octet = nat_le 48 octet && nat_le octet 57
+
+-- fields whose values differ from record to record
+abbrev pub fields_left_out : List (List ℕ)
+fields_left_out =
+    codes "n=" ∷ codes "vr=" ∷ codes "b=" ∷ codes "mc=" ∷ codes "vc=" ∷ codes "pointer="
+    ∷ codes "ocf=" ∷ codes "count=" ∷ codes "data=" ∷ []
+
+-- whether a word is counted: no number, no octets in hexadecimal, and none of these fields
+abbrev pub is_counted : List ℕ → Bool
+is_counted [] = false
+is_counted (octet ∷ octets) =
+    not (is_digit octet || list_any (starts_with nat_eq (octet ∷ octets)) fields_left_out)
+
+-- A table has the words in the order of their octets, each with its count.
+
+-- with a word more, which has 1 where it is new
+abbrev pub with_word : List (List ℕ × ℕ) → List ℕ → List (List ℕ × ℕ)
+with_word [] word = (word, 1) ∷ []
+with_word (row ∷ rows) word =
+    match_ordering (slice_cmp nat_cmp word row.0)
+    ((word, 1) ∷ row ∷ rows)
+    ((row.0, row.1 + 1) ∷ rows)
+    (row ∷ with_word rows word)
+
+-- with a word more, where it is counted
+abbrev pub with_ended : List (List ℕ × ℕ) → List ℕ → List (List ℕ × ℕ)
+with_ended rows word = if is_counted word then with_word rows word else rows
+
+-- The table of the words that have ended, and the word that has begun.
+pub record Tallied : Type 0 where
+  pub rows : List (List ℕ × ℕ)
+  pub word : List ℕ
+
+abbrev pub none_tallied : Tallied
+none_tallied = record { rows = []; word = [] }
+
+-- with an octet more
+abbrev pub with_octet : Tallied → ℕ → Tallied
+with_octet t octet =
+    if parts_words octet then record { rows = with_ended t.rows t.word; word = [] } else record {
+      rows = t.rows;
+      word = t.word ++ octet ∷ [];
+    }
+
+-- of a text, each line of which has ended
+abbrev pub tallied : List ℕ → Tallied
+tallied text = fold with_octet none_tallied text
+
+-- What is written.
+
+abbrev pub total_line : List ℕ → ℕ → List ℕ
+total_line word count = word ++ (codes " " ++ (decimal count ++ line_end))
+
+abbrev pub total_lines : List (List ℕ × ℕ) → List ℕ
+total_lines [] = []
+total_lines (row ∷ rows) = total_line row.0 row.1 ++ total_lines rows
+
+-- the totals of so many records and octets, whose lines are this text
+abbrev pub totals_of : ℕ → ℕ → List ℕ → List ℕ
+totals_of records octets text =
+    total_line (codes "records") records
+    ++ (total_line (codes "octets") octets ++ total_lines (tallied text).rows)
+
+-- How the code keeps them.
+
+-- a row of the table, whose word is a vector
+abbrev pub row_of : {A : Type 0} → Vec ℕ A × ℕ → List ℕ × ℕ
+row_of row = (row.0.items, row.1)
+
+abbrev pub tallied_in : Tally → Tallied
+tallied_in t = record { rows = map row_of t.table.entries; word = t.word.items }

@@ -1,0 +1,82 @@
+// Writes the lines of a stream, or their totals.
+
+ghost use Rattle.std.specs.Prelude.{◌≡◌, ◌⊎◌, true, OnOk, IfOk};
+ghost use Rattle.command_line.specs.Arguments.{IsInRange};
+ghost use Rattle.listings.specs.Devices.{HasEnded};
+ghost use Rattle.listings.specs.Devices.{gained};
+ghost use Rattle.listings.specs.Streams.{Reads, WritesText};
+ghost use Rattle.stream_commands.specs.Listed.{is_listed, listed_outcome, shown_lines, StopsAt};
+
+use crate::listed::list_lines;
+use crate::outcome::Outcome;
+use command_line::Task;
+use listings::{ListingFault, Sink, Source, Summary, Totals, WriteFailed, write_all};
+use std::alloc::Global;
+
+/// Reads a stream to its end, in pieces, and writes the lines that a command asks for that lists a file: of
+/// each piece before the next is read. Where totals are asked for (`count`), it writes these at the end in
+/// place of the lines: the whole records, the octets, and how often each counted word stands in the lines.
+///
+/// An `Ok` says that all lines are written and nothing else, and whether every record was good. Where
+/// a record declares a length that none can have, its line is the last and nothing more is read. The
+/// fault is `Read` or `Write` where that device failed, `Memory` where none was left, and `TooLong`
+/// past `MOST_OCTETS` octets; what is written by then is a beginning of the lines or of the totals. A call
+/// that failed is the last of its device.
+/// Faults: `Read`, `Write`, `Memory`, `TooLong`. Memory: yes. Cost: the octets read and written.
+pub fn list<R: Source, W: Sink>(
+    alloc: Global,
+    reader: &mut R,
+    writer: &mut W,
+    task: Task,
+    count: bool,
+) -> Result<Outcome, ListingFault>
+    requires range { IsInRange task }
+    requires listed { is_listed task ≡ true }
+    ensures reads { Reads R.given R.remaining R.failures result reader.old reader.new }
+    ensures writes { WritesText W.taken_octets W.failures result writer.old writer.new
+        (shown_lines count task (gained (R.given reader.old) (R.given reader.new))) }
+    ensures outcome { IfOk result (λ outcome. outcome
+        ≡ listed_outcome task (gained (R.given reader.old) (R.given reader.new))) }
+    ensures end { OnOk result (HasEnded (R.has_ended reader.new) (R.remaining reader.new)
+        ⊎ StopsAt task (gained (R.given reader.old) (R.given reader.new))) }
+{
+    if count {
+        return write_totals(alloc, reader, writer, task);
+    }
+    match list_lines(alloc, reader, writer, task) {
+        Ok(listed) => Ok(Outcome::of(listed.all_good)),
+        Err(fault) => Err(fault),
+    }
+}
+
+// Counts the words of the lines, and writes the totals.
+fn write_totals<R: Source, W: Sink>(
+    alloc: Global,
+    reader: &mut R,
+    writer: &mut W,
+    task: Task,
+) -> Result<Outcome, ListingFault>
+    requires range { IsInRange task }
+    requires listed { is_listed task ≡ true }
+    ensures reads { Reads R.given R.remaining R.failures result reader.old reader.new }
+    ensures writes { WritesText W.taken_octets W.failures result writer.old writer.new
+        (shown_lines true task (gained (R.given reader.old) (R.given reader.new))) }
+    ensures outcome { IfOk result (λ outcome. outcome
+        ≡ listed_outcome task (gained (R.given reader.old) (R.given reader.new))) }
+    ensures end { OnOk result (HasEnded (R.has_ended reader.new) (R.remaining reader.new)
+        ⊎ StopsAt task (gained (R.given reader.old) (R.given reader.new))) }
+{
+    let mut totals = Totals::new(alloc);
+    let listed = match list_lines(alloc, reader, &mut totals, task) {
+        Ok(listed) => listed,
+        Err(ListingFault::Write) => return Err(ListingFault::Memory),
+        Err(fault) => return Err(fault),
+    };
+    let Ok(text) = totals.lines(listed.records, listed.octets) else {
+        return Err(ListingFault::Memory);
+    };
+    match write_all(writer, text.as_bytes()) {
+        Ok(()) => Ok(Outcome::of(listed.all_good)),
+        Err(WriteFailed) => Err(ListingFault::Write),
+    }
+}
