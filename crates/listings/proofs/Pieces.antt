@@ -48,7 +48,8 @@ on_ok_from P (Err e) h p = tt
 pub same_summary : (a b : Summary) → a.records ≡ b.records → a.octets ≡ b.octets → a.all_good ≡ b.all_good → a ≡ b
 same_summary a b records octets good =
     ap (λ (n : ℕ). record a { records = n }) records
-    ∙ ap (λ (n : ℕ). record a { records = b.records; octets = n }) octets ∙ ap (λ (x : Bool). record b { all_good = x }) good
+    ∙ ap (λ (n : ℕ). record a { records = b.records; octets = n }) octets
+    ∙ ap (λ (x : Bool). record b { all_good = x }) good
 
 -- What a piece of a stream adds to what is listed and written of it.
 

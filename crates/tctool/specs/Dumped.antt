@@ -28,8 +28,7 @@ abbrev pub as_read : Option ℕ → OutcomeView
 as_read None = Good
 as_read (Some line) = Unreadable line
 
--- the lines for all octets of a file, its rest included, or the totals of these lines, or the octets
--- for its lines
+-- the lines for all octets of a file, its rest included, or their totals, or the octets of lines
 abbrev pub lines_of : Bool → Task → List ℕ → List ℕ
 lines_of count (tasks.Encode check) octets = octets_in (check_if check) octets
 lines_of count tasks.Sim octets = script_text octets
