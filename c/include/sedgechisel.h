@@ -643,6 +643,19 @@ SEDGE_CHECK uint8_t sedge_tm_extractor_frame(struct sedge_tm_extractor *extracto
  * or false, with nothing written, if there is none. */
 SEDGE_CHECK bool sedge_tm_packet(const uint8_t *data, size_t data_count, struct sedge_part *packet);
 
+/* Takes the frames of this length that stand one after another in the octets, each as sedge_tm_decode and then
+ * sedge_tm_extractor_frame take it, and writes a record of 19 octets of each to out, in order: the number of octets of
+ * its packets, of four octets, the lowest one first; the first fault of these two calls, or 0; then first and lost, and
+ * dropped, which is 1 if a packet that was begun is dropped and is not idle, or 0; then the scid and the pointer, of
+ * two octets, the lower one first, the vcid, mc_count, vc_count and ocf, or 0 for each where it is no frame. The
+ * packets of all these frames go to packets one after another: sedge_map_packet finds where each begins. Stops where
+ * out has no room for a record, or packets for as many octets as the memory and a frame have, or where no whole frame
+ * follows; a length of 0 is that of no frame. Writes the number of octets of all these packets to total. Returns the
+ * number of frames. */
+size_t sedge_tm_extractor_frames(struct sedge_tm_extractor *extractor, const uint8_t *octets, size_t count,
+                                 size_t frame_length, uint8_t *memory, size_t memory_room, uint8_t *out,
+                                 size_t out_room, uint8_t *packets, size_t packets_room, size_t *total);
+
 /* ---- Packets in segments, for one MAP (232.0-B-4, 4.1.3.2.2), with blocking or without it. ---- */
 
 /* Why octets of a MAP are dropped: by sedge_map_take from 2 on, by a node (sedgechisel_nodes.h) from 1 on. */

@@ -813,6 +813,9 @@ _tm_builder_build = _call("tm_builder_build", c_uint8, POINTER(_TmBuilder), c_ch
 _tm_extractor_frame = _call("tm_extractor_frame", c_uint8, POINTER(_TmExtractor), POINTER(TmFrame), c_char_p, c_size_t,
                             c_char_p, c_size_t, POINTER(_TmExtracted))
 _tm_packet = _call("tm_packet", c_bool, c_char_p, c_size_t, POINTER(_Part))
+_tm_extractor_frames = _call("tm_extractor_frames", c_size_t, POINTER(_TmExtractor), c_char_p, c_size_t,
+                             ("frame_length", c_size_t), c_char_p, c_size_t, c_char_p, c_size_t, c_char_p, c_size_t,
+                             POINTER(c_size_t))
 
 # ---- Packets in segments ----
 
