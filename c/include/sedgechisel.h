@@ -573,8 +573,8 @@ SEDGE_CHECK uint8_t sedge_tm_encode(const struct sedge_tm_frame *frame, const ui
 /* A builder of the frames of one virtual channel, all of one length. Begin it with sedge_tm_builder_open; its fields
  * may be read at any time. The memory holds the octets that are to be sent: the rest of the packet that was begun, and
  * then the packets that are queued. Each call checks that the fields are those of a builder and that these octets are
- * in the memory and end with a packet; if not, it returns SEDGE_DAMAGED and changes nothing. So a call takes time in
- * proportion to the number of packets that are queued. */
+ * in the memory, and sedge_tm_builder_build that they are whole packets as far as the frame takes them; if not, it
+ * returns SEDGE_DAMAGED and changes nothing. No call looks at the packets that wait after those. */
 struct sedge_tm_builder {
     size_t from;        /* where the octets that are to be sent are in the memory */
     size_t count;       /* the number of octets that are to be sent */
@@ -590,7 +590,8 @@ struct sedge_tm_builder {
  * is not below 1,024, vcid not below 8, or length not from 16 to 2,048. */
 SEDGE_CHECK uint8_t sedge_tm_builder_open(struct sedge_tm_builder *builder, uint16_t scid, uint8_t vcid, size_t length);
 
-/* Queues a packet, all of its octets, after those that are to be sent. Returns 0, or the first of SEDGE_DAMAGED,
+/* Queues a packet, all of its octets, after those that are to be sent, at which it does not look. Returns 0, or the
+ * first of SEDGE_DAMAGED (the numbers of the struct are no builder's, or its octets are not in the memory),
  * SEDGE_TM_NOT_A_PACKET (not exactly one packet, or an idle one) and SEDGE_TM_MEMORY (the octets to be sent and the
  * packet are more than the memory has). */
 SEDGE_CHECK uint8_t sedge_tm_builder_queue(struct sedge_tm_builder *builder, const uint8_t *packet, size_t count,
@@ -599,7 +600,8 @@ SEDGE_CHECK uint8_t sedge_tm_builder_queue(struct sedge_tm_builder *builder, con
 /* Writes the next frame to the beginning of out, with this operational control field, of four octets as
  * sedge_clcw_encode writes them, and its length, that of all the builder's frames, to total. Where packets run out
  * within the frame, an idle packet fills it; where nothing is to be sent, the frame has only idle data. Returns 0, or
- * the first of SEDGE_DAMAGED, SEDGE_WRONG_COUNT (the field is not four octets) and SEDGE_TM_ROOM. */
+ * the first of SEDGE_DAMAGED (as for sedge_tm_builder_queue, or the octets that this frame takes are not of whole
+ * packets), SEDGE_WRONG_COUNT (the field is not four octets) and SEDGE_TM_ROOM. */
 SEDGE_CHECK uint8_t sedge_tm_builder_build(struct sedge_tm_builder *builder, const uint8_t *ocf, size_t ocf_count,
                                            const uint8_t *memory, size_t memory_count, uint8_t *out, size_t room,
                                            size_t *total);
