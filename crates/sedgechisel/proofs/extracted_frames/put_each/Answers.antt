@@ -15,7 +15,8 @@ each-preserved c =
     let same : piece ≡ one = piece_is payload c.in-Some.packet.from c.in-Some.packet.count in
     let more : List ℕ = handed_from next payload in
     let split : handed_from c.each.place payload ≡ one ++ more = ap concat c.in-Some.ensures.0 in
-    let end : c.add-end.result ≡ c.each.end + length one = c.add-end.ensures.count ∙ ap (λ (xs : List ℕ). c.each.end + length xs) same in
+    let end : c.add-end.result ≡ c.each.end + length one =
+    c.add-end.ensures.count ∙ ap (λ (xs : List ℕ). c.each.end + length xs) same in
     record {
       within = c.in-Some.ensures.1;
       after = omega (arith, c.each.invariant.after, end);
@@ -29,5 +30,6 @@ each-preserved c =
           ∙ c.each.invariant.packets;
       rest =
           c.add-end.ensures.rest
-          ∙ later c.each.packets c.args.packets.now c.each.end c.add-end.result (omega (arith, end)) c.each.invariant.rest;
+          ∙ later c.each.packets c.args.packets.now c.each.end c.add-end.result (omega (arith, end))
+          c.each.invariant.rest;
     }
