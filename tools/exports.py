@@ -24,12 +24,13 @@ class Parameter(typing.NamedTuple):
     type: str
     form: str
 
-    def flat(self):
-        """As C has it, where octets are a pointer and their number."""
+    def flat(self, is_one):
+        """As C has it, where octets are a pointer and their number, or the room for them if they are written."""
         if "octets" not in self.form:
             return [self]
         own = {"octets": "count", "packet": "count"}.get(self.name)
-        count = own or ("room" if self.form == "written octets" else f"{self.name}_count")
+        room = "room" if is_one else f"{self.name}_room"
+        count = own or (room if self.form == "written octets" else f"{self.name}_count")
         return [self, Parameter(count, "usize", "count")]
 
 
@@ -44,7 +45,8 @@ class Export(typing.NamedTuple):
     is_checked: bool
 
     def flat(self):
-        return [it for one in self.parameters for it in one.flat()]
+        is_one = sum(it.form == "written octets" for it in self.parameters) < 2
+        return [it for one in self.parameters for it in one.flat(is_one)]
 
 
 class Field(typing.NamedTuple):

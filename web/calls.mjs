@@ -65,6 +65,7 @@ export const calls = {
     "sedge_tm_builder_build": ["uint8_t", [["builder", "written", "sedge_tm_builder"], ["ocf", "octets", ""], ["memory", "octets", ""], ["out", "room", ""], ["total", "written", "size_t"]]],
     "sedge_tm_extractor_frame": ["uint8_t", [["extractor", "written", "sedge_tm_extractor"], ["frame", "read", "sedge_tm_frame"], ["data", "octets", ""], ["memory", "room", ""], ["extracted", "written", "sedge_tm_extracted"]]],
     "sedge_tm_packet": ["bool", [["data", "octets", ""], ["packet", "written", "sedge_part"]]],
+    "sedge_tm_extractor_frames": ["size_t", [["extractor", "written", "sedge_tm_extractor"], ["octets", "octets", ""], ["frame_length", "value", "size_t"], ["memory", "room", ""], ["out", "room", ""], ["packets", "room", ""], ["total", "written", "size_t"]]],
     "sedge_map_take": ["uint8_t", [["map", "written", "sedge_map"], ["flags", "value", "uint8_t"], ["data", "octets", ""], ["memory", "room", ""], ["taken", "written", "sedge_taken"]]],
     "sedge_map_packet": ["bool", [["octets", "octets", ""], ["packet", "written", "sedge_part"]]],
     "sedge_map_count": ["uint8_t", [["octets", "octets", ""], ["limits", "read", "sedge_limits"], ["segments", "written", "size_t"]]],

@@ -272,6 +272,7 @@ export interface Calls {
     sedge_tm_builder_build(builder: Partial<sedge_tm_builder>, ocf: Uint8Array, memory: Uint8Array, out: Uint8Array, total: Partial<Box>): number;
     sedge_tm_extractor_frame(extractor: Partial<sedge_tm_extractor>, frame: sedge_tm_frame, data: Uint8Array, memory: Uint8Array, extracted: Partial<sedge_tm_extracted>): number;
     sedge_tm_packet(data: Uint8Array, packet: Partial<sedge_part>): boolean;
+    sedge_tm_extractor_frames(extractor: Partial<sedge_tm_extractor>, octets: Uint8Array, frame_length: number, memory: Uint8Array, out: Uint8Array, packets: Uint8Array, total: Partial<Box>): number;
     sedge_map_take(map: Partial<sedge_map>, flags: number, data: Uint8Array, memory: Uint8Array, taken: Partial<sedge_taken>): number;
     sedge_map_packet(octets: Uint8Array, packet: Partial<sedge_part>): boolean;
     sedge_map_count(octets: Uint8Array, limits: sedge_limits, segments: Partial<Box>): number;

@@ -573,8 +573,8 @@ SEDGE_CHECK uint8_t sedge_tm_encode(const struct sedge_tm_frame *frame, const ui
 /* A builder of the frames of one virtual channel, all of one length. Begin it with sedge_tm_builder_open; its fields
  * may be read at any time. The memory holds the octets that are to be sent: the rest of the packet that was begun, and
  * then the packets that are queued. Each call checks that the fields are those of a builder and that these octets are
- * in the memory and end with a packet; if not, it returns SEDGE_DAMAGED and changes nothing. So a call takes time in
- * proportion to the number of packets that are queued. */
+ * in the memory, and sedge_tm_builder_build that they are whole packets as far as the frame takes them; if not, it
+ * returns SEDGE_DAMAGED and changes nothing. No call looks at the packets that wait after those. */
 struct sedge_tm_builder {
     size_t from;        /* where the octets that are to be sent are in the memory */
     size_t count;       /* the number of octets that are to be sent */
@@ -590,7 +590,8 @@ struct sedge_tm_builder {
  * is not below 1,024, vcid not below 8, or length not from 16 to 2,048. */
 SEDGE_CHECK uint8_t sedge_tm_builder_open(struct sedge_tm_builder *builder, uint16_t scid, uint8_t vcid, size_t length);
 
-/* Queues a packet, all of its octets, after those that are to be sent. Returns 0, or the first of SEDGE_DAMAGED,
+/* Queues a packet, all of its octets, after those that are to be sent, at which it does not look. Returns 0, or the
+ * first of SEDGE_DAMAGED (the numbers of the struct are no builder's, or its octets are not in the memory),
  * SEDGE_TM_NOT_A_PACKET (not exactly one packet, or an idle one) and SEDGE_TM_MEMORY (the octets to be sent and the
  * packet are more than the memory has). */
 SEDGE_CHECK uint8_t sedge_tm_builder_queue(struct sedge_tm_builder *builder, const uint8_t *packet, size_t count,
@@ -599,7 +600,8 @@ SEDGE_CHECK uint8_t sedge_tm_builder_queue(struct sedge_tm_builder *builder, con
 /* Writes the next frame to the beginning of out, with this operational control field, of four octets as
  * sedge_clcw_encode writes them, and its length, that of all the builder's frames, to total. Where packets run out
  * within the frame, an idle packet fills it; where nothing is to be sent, the frame has only idle data. Returns 0, or
- * the first of SEDGE_DAMAGED, SEDGE_WRONG_COUNT (the field is not four octets) and SEDGE_TM_ROOM. */
+ * the first of SEDGE_DAMAGED (as for sedge_tm_builder_queue, or the octets that this frame takes are not of whole
+ * packets), SEDGE_WRONG_COUNT (the field is not four octets) and SEDGE_TM_ROOM. */
 SEDGE_CHECK uint8_t sedge_tm_builder_build(struct sedge_tm_builder *builder, const uint8_t *ocf, size_t ocf_count,
                                            const uint8_t *memory, size_t memory_count, uint8_t *out, size_t room,
                                            size_t *total);
@@ -642,6 +644,19 @@ SEDGE_CHECK uint8_t sedge_tm_extractor_frame(struct sedge_tm_extractor *extracto
 /* Goes on to the packet after this part of a frame's data that is not idle. Returns true, and the part is that packet;
  * or false, with nothing written, if there is none. */
 SEDGE_CHECK bool sedge_tm_packet(const uint8_t *data, size_t data_count, struct sedge_part *packet);
+
+/* Takes the frames of this length that stand one after another in the octets, each as sedge_tm_decode and then
+ * sedge_tm_extractor_frame take it, and writes a record of 19 octets of each to out, in order: the number of octets of
+ * its packets, of four octets, the lowest one first; the first fault of these two calls, or 0; then first and lost, and
+ * dropped, which is 1 if a packet that was begun is dropped and is not idle, or 0; then the scid and the pointer, of
+ * two octets, the lower one first, the vcid, mc_count, vc_count and ocf, or 0 for each where it is no frame. The
+ * packets of all these frames go to packets one after another: sedge_map_packet finds where each begins. Stops where
+ * out has no room for a record, or packets for as many octets as the memory and a frame have, or where no whole frame
+ * follows; a length of 0 is that of no frame. Writes the number of octets of all these packets to total. Returns the
+ * number of frames. */
+size_t sedge_tm_extractor_frames(struct sedge_tm_extractor *extractor, const uint8_t *octets, size_t count,
+                                 size_t frame_length, uint8_t *memory, size_t memory_room, uint8_t *out,
+                                 size_t out_room, uint8_t *packets, size_t packets_room, size_t *total);
 
 /* ---- Packets in segments, for one MAP (232.0-B-4, 4.1.3.2.2), with blocking or without it. ---- */
 

@@ -538,7 +538,7 @@ static const unsigned char table_sedge_clcw_fault_name[10] = {
 };
 
 /* Of sedge_clcw_fault_name_at. */
-static const unsigned char table_sedge_clcw_fault_name_27[20] = {
+static const unsigned char table_sedge_clcw_fault_name_29[20] = {
     75, 105, 110, 100, 86, 101, 114, 115, 67, 111, 112, 0, 83, 112, 97, 114, 82, 97, 110, 103
 };
 
@@ -548,7 +548,7 @@ static const unsigned char table_sedge_dropped_name[10] = {
 };
 
 /* Of sedge_dropped_name_at. */
-static const unsigned char table_sedge_dropped_name_28[40] = {
+static const unsigned char table_sedge_dropped_name_30[40] = {
     108, 111, 115, 101, 100, 77, 97, 112, 110, 116, 101, 114, 114, 117, 112, 116, 111, 66, 101, 103, 105, 110, 110,
     105, 111, 116, 65, 80, 97, 99, 107, 101, 111, 111, 76, 111, 110, 103, 0, 0
 };
@@ -566,7 +566,10 @@ static void map_service_cutting_segment_count(uint64_t p0, uint64_t p1, uint64_t
 static uint64_t map_service_cutting_group_len(uint64_t p0, uint64_t p1, uint64_t p2);
 static uint32_t sedgechisel_command_frame_sedge_tc_decode(uint64_t p0, uint64_t p1, uint32_t p2, uint64_t p3, uint64_t
     p4);
+static void tm_link_decoding_decode(uint64_t p0, uint64_t p1, uint64_t p2, uint64_t p3);
 static void tm_link_decoding_fields_of(uint64_t p0, uint64_t p1, uint64_t p2, uint32_t p3, uint32_t p4);
+static uint32_t sedgechisel_telemetry_extractor_sedge_tm_extractor_frame(uint64_t p0, uint64_t p1, uint64_t p2,
+    uint64_t p3, uint64_t p4, uint64_t p5, uint64_t p6);
 static void sedgechisel_telemetry_extractor_start(uint64_t p0, uint64_t p1, uint64_t p2, uint64_t p3, uint64_t p4,
     uint64_t p5, uint64_t p6, uint64_t p7, uint64_t p8);
 static void sedge_alert_name_at(uint64_t result, uint32_t alert);
@@ -618,6 +621,9 @@ static uint32_t sedge_map_take_at(uint64_t map, uint32_t flags, uint64_t data, u
     uint64_t room, uint64_t taken);
 static uint32_t sedge_tm_extractor_frame_at(uint64_t extractor, uint64_t frame, uint64_t data, uint64_t data_count,
     uint64_t memory, uint64_t room, uint64_t extracted);
+static uint64_t sedge_tm_extractor_frames_at(uint64_t extractor, uint64_t octets, uint64_t count, uint64_t
+    frame_length, uint64_t memory, uint64_t memory_room, uint64_t out, uint64_t out_room, uint64_t packets, uint64_t
+    packets_room, uint64_t total);
 static uint32_t sedge_fop_clcw_at(uint64_t fop, uint32_t vcid, uint64_t word, uint64_t released);
 static uint32_t sedge_fop_directive_at(uint64_t fop, uint32_t directive, uint32_t value);
 static uint32_t sedge_fop_next_at(uint64_t fop, uint64_t number);
@@ -895,6 +901,117 @@ static uint32_t sedgechisel_command_frame_sedge_tc_decode(uint64_t p0, uint64_t 
     return 1;
 }
 
+static void tm_link_decoding_decode(uint64_t p0, uint64_t p1, uint64_t p2, uint64_t p3)
+{
+    unsigned char frame_octets[96 + 15];
+    uint32_t v5 = 0, v6 = 0, v7 = 0, v8 = 0, v9 = 0, t1;
+    uint64_t v4 = 0;
+    v4 = aligned(frame_octets);
+    if (ordered64(v4) < 0x8000000000000010ULL) UNREACHABLE;
+    put64(v4 + 46, 0);
+    put64(v4 + 40, 0);
+    put64(v4 + 32, 0);
+    put64(v4 + 24, 0);
+    put64(v4 + 16, 0);
+    put64(v4 + 8, 0);
+    put64(v4 + 88, 0);
+    put64(v4 + 80, 0);
+    put64(v4 + 72, 0);
+    put64(v4 + 64, 0);
+    put64(v4 + 56, 0);
+    if (p2 == p3) {
+        if ((p3 - 0x801) > ~2033ULL) goto l3;
+    }
+    put64(v4 + 46, 0);
+    put64(v4 + 38, 0);
+    put64(v4 + 30, 0);
+    put64(v4 + 22, 0);
+    put64(v4 + 14, 0);
+    v5 = 0;
+    v6 = 1;
+    goto l2;
+l3:;
+    v5 = get8(p1);
+    if (v5 >= 64) {
+        put64(v4 + 46, 0);
+        put64(v4 + 38, 0);
+        put64(v4 + 30, 0);
+        put64(v4 + 22, 0);
+        put64(v4 + 14, 0);
+        v6 = 1;
+        v5 = 1;
+        goto l2;
+    }
+    if (p2 >= 2) {
+        v7 = get8(p1 + 4);
+        v8 = get8(p1 + 5);
+        v9 = get8(p1 + 1);
+        p3 = p2 - 2;
+        v6 = get16(p1 + p3);
+        t1 = octets_frame_check_check(p1, p3);
+        if ((((v6 << 8) | (v6 >> 8)) & 0xffff) == (t1 & 0xffff)) goto l6;
+    }
+    put64(v4 + 46, 0);
+    put64(v4 + 38, 0);
+    put64(v4 + 30, 0);
+    put64(v4 + 22, 0);
+    put64(v4 + 14, 0);
+    v5 = 2;
+    v6 = 1;
+    goto l2;
+l6:;
+    if ((v7 & 248) != 24) {
+        put64(v4 + 46, 0);
+        put64(v4 + 38, 0);
+        put64(v4 + 30, 0);
+        put64(v4 + 22, 0);
+        put64(v4 + 14, 0);
+        v5 = 3;
+        v6 = 1;
+        goto l2;
+    }
+    v7 = (v7 << 8) | v8;
+    if ((v7 & 0x7ff) <= 0x7fd) {
+        if ((p2 - 12) <= ((uint64_t)v7 & 0x7ff)) {
+            put64(v4 + 46, 0);
+            put64(v4 + 38, 0);
+            put64(v4 + 30, 0);
+            put64(v4 + 22, 0);
+            put64(v4 + 14, 0);
+            v5 = 4;
+            v6 = 1;
+            goto l2;
+        }
+    }
+    v6 = 1;
+    if ((v9 & 1) == 0) {
+        put64(v4 + 46, 0);
+        put64(v4 + 38, 0);
+        put64(v4 + 30, 0);
+        put64(v4 + 22, 0);
+        put64(v4 + 14, 0);
+        v5 = 5;
+        goto l2;
+    }
+    tm_link_decoding_fields_of(v4 + 56, p1, p2, (v5 << 8) | v9, v7);
+    put64(v4 + 46, get64(v4 + 88));
+    put64(v4 + 38, get64(v4 + 80));
+    put64(v4 + 30, get64(v4 + 72));
+    put64(v4 + 22, get64(v4 + 64));
+    put64(v4 + 14, get64(v4 + 56));
+    v6 = 0;
+    v5 = 0;
+l2:;
+    put8(p0, v6);
+    put8(p0 + 1, v5);
+    put64(p0 + 8, get64(v4 + 14));
+    put64(p0 + 16, get64(v4 + 22));
+    put64(p0 + 24, get64(v4 + 30));
+    put64(p0 + 32, get64(v4 + 38));
+    put64(p0 + 40, get64(v4 + 46));
+    return;
+}
+
 static void tm_link_decoding_fields_of(uint64_t p0, uint64_t p1, uint64_t p2, uint32_t p3, uint32_t p4)
 {
     uint32_t v5 = 0, v6 = 0, v7 = 0, v8 = 0;
@@ -932,6 +1049,231 @@ l2:;
     put64(p0 + 24, p2 - 12);
     put64(p0 + 16, p1 + 6);
     return;
+}
+
+static uint32_t sedgechisel_telemetry_extractor_sedge_tm_extractor_frame(uint64_t p0, uint64_t p1, uint64_t p2,
+    uint64_t p3, uint64_t p4, uint64_t p5, uint64_t p6)
+{
+    unsigned char frame_octets[80 + 15];
+    uint32_t v8 = 0, v9 = 0, v14 = 0, v16 = 0;
+    uint64_t v7 = 0, v10 = 0, v11 = 0, v12 = 0, v13 = 0, v15 = 0, v17 = 0, v18 = 0, v19 = 0, v20 = 0;
+    v7 = aligned(frame_octets);
+    if (ordered64(v7) < 0x8000000000000010ULL) UNREACHABLE;
+    put16(v7 + 4, 0);
+    put32(v7, 0);
+    v8 = 255;
+    v9 = get8(p0 + 17);
+    if (v9 > 1) return v8;
+    v10 = get64(p0);
+    if (p5 < v10) return v8;
+    v11 = get64(p0 + 8);
+    if (v11 > (p5 - v10)) return v8;
+    if (v9 != 1) {
+        if (v11 != 0) return v8;
+    }
+    v8 = 2;
+    v12 = 0;
+    v13 = p3;
+    v14 = get16(p1 + 2);
+    switch (v14 - 0x7fe) {
+    case 0:
+        goto l5;
+    case 1:
+        v8 = 1;
+        v13 = p3;
+        goto l5;
+    default:
+        goto l6;
+    }
+l6:;
+    v13 = (uint64_t)v14;
+    if (p3 <= v13) {
+        v8 = 10;
+        return v8;
+    }
+    v8 = 0;
+    v12 = v13;
+l5:;
+    if (v9 != 1) {
+        v15 = p1 + 6;
+        v14 = 0;
+        goto l9;
+    }
+    v15 = p1 + 6;
+    v14 = get8(v15) + ~get8(p0 + 16);
+    v16 = v14 & 255;
+    v10 = (v16 != 0) ? 0ULL : v10;
+    v11 = (v16 != 0) ? 0ULL : v11;
+l9:;
+    p1 = 0;
+    put64(v7 + 32, 0);
+    put64(v7 + 24, 0);
+    put64(v7 + 16, 0);
+    put64(v7 + 8, 0);
+    switch (v8) {
+    case 1:
+        put64(v7 + 64, 0);
+        put64(v7 + 56, 0);
+        put64(v7 + 48, 0);
+        put64(v7 + 40, 0);
+        if (v11 != 0) {
+            v17 = v11 + p3;
+            if (v17 <= 5) goto l16;
+            p1 = (v11 < 6) ? v11 : 6ULL;
+            v12 = v7 + 74 + p1;
+            v18 = 6 - p1;
+            v19 = (v11 > 5) ? 0ULL : v18;
+            if (v19 != 0) fill(v12, 0, v19);
+            if (p1 != 0) copy(v7 + 74, p4 + v10, p1);
+            if (v18 != 0) copy(v12, p2, v18);
+            v8 = get8(v7 + 74);
+            if (v8 <= 31) {
+                if ((v8 & 8) != 0) {
+                    if ((((v8 << 8) & 0x700) | get8(v7 + 75)) == 0x7ff) goto l17;
+                }
+                p1 = (((uint64_t)get8(v7 + 78) << 8) | (uint64_t)get8(v7 + 79)) + 7;
+                if (p1 != v17) {
+                    if (v17 < p1) goto l16;
+                }
+            }
+        }
+    l17:;
+        sedgechisel_telemetry_extractor_start(v7 + 40, v10, v11, p2, p3, p2, 0, p4, p5);
+        put64(v7 + 16, get64(v7 + 48));
+        put64(v7 + 24, get64(v7 + 56));
+        put64(v7 + 32, get64(v7 + 64));
+        v8 = get8(v7 + 40);
+        goto l13;
+    l16:;
+        if (p5 >= v17) {
+            v12 = v11 & 3;
+            p5 = 0;
+            if (v11 >= 4) {
+                v19 = p4 + v10;
+                v20 = v11 & ~3ULL;
+                p5 = 0;
+                do {
+                    p1 = p4 + p5;
+                    v18 = v19 + p5;
+                    put8(p1, get8(v18));
+                    put8(p1 + 1, get8(v18 + 1));
+                    put8(p1 + 2, get8(v18 + 2));
+                    put8(p1 + 3, get8(v18 + 3));
+                    p5 = p5 + 4;
+                } while (v20 != p5);
+                if (v12 == 0) goto l23;
+            }
+            p5 = p4 + p5;
+            do {
+                put8(p5, get8(p5 + v10));
+                p5 = p5 + 1;
+                v12 = v12 - 1;
+            } while (v12 != 0);
+        l23:;
+            v18 = p4 + v11;
+            if ((v18 - p2) < p3) {
+                v10 = p3 & 3;
+                p1 = 0;
+                if (p3 >= 4) {
+                    v12 = p3 & ~3ULL;
+                    p1 = 0;
+                    do {
+                        p5 = v18 + p1;
+                        p3 = p2 + p1;
+                        put8(p5, get8(p3));
+                        put8(p5 + 1, get8(p3 + 1));
+                        put8(p5 + 2, get8(p3 + 2));
+                        put8(p5 + 3, get8(p3 + 3));
+                        p1 = p1 + 4;
+                    } while (v12 != p1);
+                    if (v10 == 0) goto l27;
+                }
+                p5 = p2 + p1;
+                p3 = p4 + (v11 + p1);
+            l31:;
+                put8(p3, get8(p5));
+                p3 = p3 + 1;
+                p5 = p5 + 1;
+                v10 = v10 - 1;
+                if (v10 != 0) goto l31;
+                goto l27;
+            }
+            if (p3 != 0) copy(v18, p2, p3);
+        l27:;
+            put64(v7 + 56, 0);
+            put64(v7 + 48, 0);
+            put64(v7 + 64, v17);
+            put64(v7 + 16, 0);
+            put64(v7 + 24, 0);
+            put64(v7 + 32, v17);
+            v8 = 1;
+            goto l13;
+        }
+        put64(v7 + 32, 0);
+        put64(v7 + 24, 0);
+        put64(v7 + 16, 0);
+        put64(v7 + 8, 0);
+        v8 = 0;
+        goto l13;
+    case 2:
+        goto l12;
+    default:
+        goto l14;
+    }
+l14:;
+    p1 = p2 + v12;
+    p3 = p3 - v12;
+    if (p3 >= 6) {
+        do {
+            v8 = get8(p1);
+            if (v8 > 31) {
+                p3 = 0;
+                goto l32;
+            }
+            if ((v8 & 8) != 0) {
+                if ((((v8 << 8) & 0x700) | get8(p1 + 1)) == 0x7ff) {
+                    p3 = 0;
+                    goto l32;
+                }
+            }
+            v18 = (((uint64_t)get8(p1 + 4) << 8) | (uint64_t)get8(p1 + 5)) + 7;
+            if (p3 < v18) goto l32;
+            p1 = p1 + v18;
+            p3 = p3 - v18;
+        } while (p3 > 5);
+    }
+l32:;
+    sedgechisel_telemetry_extractor_start(v7 + 8, v10, v11, p2, v12, p1, p3, p4, p5);
+    v8 = get8(v7 + 8);
+l13:;
+    if ((v8 & 255) != 1) goto l2;
+    p1 = get64(v7 + 32);
+    p5 = get64(v7 + 24);
+    p3 = get64(v7 + 16);
+    goto l11;
+l12:;
+    p5 = 0;
+    p3 = 0;
+l11:;
+    v8 = 0;
+    put32(p6 + 26, 0);
+    put8(p6 + 25, v14);
+    put64(p6 + 16, 0);
+    put64(p6 + 8, v13);
+    put64(p6, p3);
+    put16(p6 + 30, 0);
+    put8(p6 + 24, v9 != 1);
+    v9 = get8(v15);
+    put8(p0 + 17, 1);
+    put8(p0 + 16, v9);
+    put64(p0 + 8, p1);
+    put64(p0, p5);
+    put32(p0 + 18, get32(v7));
+    put16(p0 + 22, get16(v7 + 4));
+    return v8;
+l2:;
+    v8 = 7;
+    return v8;
 }
 
 static void sedgechisel_telemetry_extractor_start(uint64_t p0, uint64_t p1, uint64_t p2, uint64_t p3, uint64_t p4,
@@ -1245,7 +1587,7 @@ static void sedge_clcw_fault_name_at(uint64_t result, uint32_t fault)
     goto l1;
 l2:;
     v5 = (uint64_t)fault & 255;
-    v3 = get32((v5 << 2) + address(table_sedge_clcw_fault_name_27));
+    v3 = get32((v5 << 2) + address(table_sedge_clcw_fault_name_29));
     v4 = get16((v5 << 1) + address(table_sedge_clcw_fault_name));
     fault = (uint32_t)(0x6565006900ULL >> (((uint64_t)(fault << 3) & 248) & 63));
 l1:;
@@ -1354,7 +1696,7 @@ static void sedge_dropped_name_at(uint64_t result, uint32_t cause)
     cause = cause - 1;
     if ((cause & 255) < 5) {
         v6 = (uint64_t)cause & 255;
-        v4 = get64((v6 << 3) + address(table_sedge_dropped_name_28));
+        v4 = get64((v6 << 3) + address(table_sedge_dropped_name_30));
         v3 = get16((v6 << 1) + address(table_sedge_dropped_name));
         v5 = (uint32_t)(0x544e4e4943ULL >> (((uint64_t)(cause << 3) & 248) & 63));
     }
@@ -2102,8 +2444,8 @@ static uint32_t sedge_tm_builder_open_at(uint64_t builder, uint32_t scid, uint32
 static uint32_t sedge_tm_builder_queue_at(uint64_t builder, uint64_t packet, uint64_t count, uint64_t memory, uint64_t
     room)
 {
-    uint32_t v5 = 0, v12 = 0;
-    uint64_t v6 = 0, v7 = 0, v8 = 0, v9 = 0, v10 = 0, v11 = 0, v13 = 0, v14 = 0, v15 = 0;
+    uint32_t v5 = 0, v8 = 0;
+    uint64_t v6 = 0, v7 = 0, v9 = 0, v10 = 0, v11 = 0, v12 = 0, v13 = 0, v14 = 0, v15 = 0;
     v5 = 255;
     if (get16(builder + 24) > 0x3ff) return v5;
     if ((get8(builder + 28) & 255) > 7) return v5;
@@ -2114,65 +2456,48 @@ static uint32_t sedge_tm_builder_queue_at(uint64_t builder, uint64_t packet, uin
     if (room < v6) return v5;
     v7 = get64(builder + 8);
     if (v7 > (room - v6)) return v5;
-    v8 = get64(builder + 16);
-    if (v7 < v8) return v5;
-    v9 = (memory == 0) ? 0x1000ULL : 0ULL;
-    v10 = memory + v9;
-    v11 = v7 - v8;
-    if (v11 >= 6) {
-        v8 = v10 + v6 + v8;
-        do {
-            v12 = get8(v8);
-            if (v12 > 31) return v5;
-            if ((v12 & 8) != 0) {
-                if ((((v12 << 8) & 0x700) | get8(v8 + 1)) == 0x7ff) return v5;
-            }
-            v13 = (((uint64_t)get8(v8 + 4) << 8) | (uint64_t)get8(v8 + 5)) + 7;
-            if (v11 < v13) return v5;
-            v8 = v8 + v13;
-            v11 = v11 - v13;
-        } while (v11 > 5);
-    }
-    if (v11 != 0) return v5;
+    if (get64(builder + 16) > v7) return v5;
     v5 = 8;
     if (count < 6) return v5;
     packet = some(packet);
-    v12 = get8(packet);
-    if (v12 > 31) return v5;
+    v8 = get8(packet);
+    if (v8 > 31) return v5;
     v5 = 8;
-    if ((v12 & 8) != 0) {
-        if ((((v12 << 8) & 0x700) | get8(packet + 1)) == 0x7ff) return v5;
+    if ((v8 & 8) != 0) {
+        if ((((v8 << 8) & 0x700) | get8(packet + 1)) == 0x7ff) return v5;
     }
     if (((((uint64_t)get8(packet + 4) << 8) | (uint64_t)get8(packet + 5)) + 7) != count) return v5;
     v5 = 8;
-    v12 = get16(packet);
-    if ((((v12 << 8) | (v12 >> 8)) & 0x7ff) == 0x7ff) return v5;
+    v8 = get16(packet);
+    if ((((v8 << 8) | (v8 >> 8)) & 0x7ff) == 0x7ff) return v5;
     v5 = 7;
     if ((room - v7) < count) return v5;
+    v9 = (memory == 0) ? 0x1000ULL : 0ULL;
+    v10 = memory + v9;
     if ((room - (v6 + v7)) >= count) {
-        v14 = v6;
-        v15 = v7;
-        goto l7;
+        v11 = v6;
+        v12 = v7;
+        goto l4;
     }
-    v14 = 0;
-    v15 = 0;
+    v11 = 0;
+    v12 = 0;
     if (v7 != 0) {
         v13 = v7 & 3;
         room = 0;
         if (v7 >= 4) {
-            v15 = v10 + v6;
-            v7 = v7 & ~3ULL;
+            v12 = v10 + v6;
+            v14 = v7 & ~3ULL;
             room = 0;
             do {
-                v8 = v10 + room;
-                v11 = v15 + room;
-                put8(v8, get8(v11));
-                put8(v8 + 1, get8(v11 + 1));
-                put8(v8 + 2, get8(v11 + 2));
-                put8(v8 + 3, get8(v11 + 3));
+                v7 = v10 + room;
+                v15 = v12 + room;
+                put8(v7, get8(v15));
+                put8(v7 + 1, get8(v15 + 1));
+                put8(v7 + 2, get8(v15 + 2));
+                put8(v7 + 3, get8(v15 + 3));
                 room = room + 4;
-            } while (v7 != room);
-            if (v13 == 0) goto l10;
+            } while (v14 != room);
+            if (v13 == 0) goto l7;
         }
         room = memory + (v9 + room);
         do {
@@ -2180,39 +2505,39 @@ static uint32_t sedge_tm_builder_queue_at(uint64_t builder, uint64_t packet, uin
             room = room + 1;
             v13 = v13 - 1;
         } while (v13 != 0);
-    l10:;
-        v15 = get64(builder + 8);
+    l7:;
+        v12 = get64(builder + 8);
     }
     put64(builder, 0);
-l7:;
-    v6 = v10 + v14 + v15;
-    if ((v6 - packet) < count) {
+l4:;
+    v15 = v10 + v11 + v12;
+    if ((v15 - packet) < count) {
         v13 = count & ~3ULL;
-        v11 = count & 3;
+        v7 = count & 3;
         room = 0;
         do {
-            memory = v6 + room;
-            v8 = packet + room;
-            put8(memory, get8(v8));
-            put8(memory + 1, get8(v8 + 1));
-            put8(memory + 2, get8(v8 + 2));
-            put8(memory + 3, get8(v8 + 3));
+            memory = v15 + room;
+            v6 = packet + room;
+            put8(memory, get8(v6));
+            put8(memory + 1, get8(v6 + 1));
+            put8(memory + 2, get8(v6 + 2));
+            put8(memory + 3, get8(v6 + 3));
             room = room + 4;
         } while (v13 != room);
-        if (v11 == 0) goto l14;
-        memory = packet + room;
-        room = v6 + room;
-    l17:;
-        put8(room, get8(memory));
+        if (v7 == 0) goto l11;
+        packet = packet + room;
+        room = v15 + room;
+    l14:;
+        put8(room, get8(packet));
         room = room + 1;
-        memory = memory + 1;
-        v11 = v11 - 1;
-        if (v11 != 0) goto l17;
-        goto l14;
+        packet = packet + 1;
+        v7 = v7 - 1;
+        if (v7 != 0) goto l14;
+        goto l11;
     }
-    if (count != 0) copy(v6, packet, count);
-l14:;
-    put64(builder + 8, v15 + count);
+    if (count != 0) copy(v15, packet, count);
+l11:;
+    put64(builder + 8, v12 + count);
     v5 = 0;
     return v5;
 }
@@ -2220,7 +2545,7 @@ l14:;
 static uint32_t sedge_tm_decode_at(uint64_t octets, uint64_t count, uint64_t length, uint64_t frame, uint64_t data)
 {
     unsigned char frame_octets[48 + 15];
-    uint32_t v6 = 0, v7 = 0, v8 = 0, v9 = 0, v10 = 0, v11 = 0, v12 = 0, t1;
+    uint32_t v6 = 0, v7 = 0, v8 = 0, v9 = 0, v10 = 0, v11 = 0, v12 = 0;
     uint64_t v5 = 0;
     v5 = aligned(frame_octets);
     if (ordered64(v5) < 0x8000000000000010ULL) UNREACHABLE;
@@ -2229,70 +2554,42 @@ static uint32_t sedge_tm_decode_at(uint64_t octets, uint64_t count, uint64_t len
     put64(v5 + 24, 0);
     put64(v5 + 16, 0);
     put64(v5 + 8, 0);
-    v6 = 1;
-    if (count != length) return v6;
-    if ((length - 0x801) < ~2032ULL) return v6;
-    length = some(octets);
-    v7 = get8(length);
-    if (v7 > 63) {
-        v6 = 2;
-        return v6;
-    }
-    v6 = 3;
-    if (count < 2) return v6;
-    v8 = get8(length + 4);
-    v9 = get8(length + 5);
-    v10 = get8(length + 1);
-    octets = count - 2;
-    v11 = get16(length + octets);
-    t1 = octets_frame_check_check(length, octets);
-    if ((((v11 << 8) | (v11 >> 8)) & 0xffff) != (t1 & 0xffff)) return v6;
-    if ((v8 & 248) != 24) {
-        v6 = 4;
-        return v6;
-    }
-    v6 = (v8 << 8) | v9;
-    if ((v6 & 0x7ff) <= 0x7fd) {
-        if ((count - 12) <= ((uint64_t)v6 & 0x7ff)) {
-            v6 = 5;
-            return v6;
-        }
-    }
-    if ((v10 & 1) == 0) {
-        v6 = 6;
-        return v6;
-    }
-    tm_link_decoding_fields_of(v5 + 8, length, count, (v7 << 8) | v10, v6);
-    v11 = get32(v5 + 40);
-    length = get64(v5 + 32);
+    put64(v5, 0);
+    tm_link_decoding_decode(v5, some(octets), count, length);
+    if (get8(v5) != 0) goto l2;
+    v6 = get32(v5 + 40);
+    octets = get64(v5 + 32);
     v7 = get16(v5 + 16);
     v8 = get8(v5 + 12);
     v9 = get8(v5 + 11);
     v10 = get8(v5 + 10);
-    v12 = get16(v5 + 8);
+    v11 = get16(v5 + 8);
     switch ((uint32_t)(uint64_t)get8(v5 + 14)) {
     case 1:
         v7 = 0x7ff;
-        goto l7;
+        goto l4;
     case 2:
-        goto l8;
+        goto l5;
     default:
-        goto l7;
+        goto l4;
     }
-l8:;
+l5:;
     v7 = 0x7fe;
-l7:;
-    v6 = 0;
+l4:;
+    v12 = 0;
     put8(frame + 11, 0);
-    put32(frame + 7, v11);
+    put32(frame + 7, v6);
     put8(frame + 6, v8);
     put8(frame + 5, v9);
     put8(frame + 4, v10);
     put16(frame + 2, v7);
-    put16(frame, v12);
-    put64(data + 8, length);
+    put16(frame, v11);
+    put64(data + 8, octets);
     put64(data, 6);
-    return v6;
+    return v12 & 255;
+l2:;
+    v12 = get8(v5 + 1) + 1;
+    return v12 & 255;
 }
 
 static uint32_t sedge_tm_encode_at(uint64_t frame, uint64_t data, uint64_t data_count, uint64_t out, uint64_t room,
@@ -2952,231 +3249,411 @@ l2:;
 static uint32_t sedge_tm_extractor_frame_at(uint64_t extractor, uint64_t frame, uint64_t data, uint64_t data_count,
     uint64_t memory, uint64_t room, uint64_t extracted)
 {
-    unsigned char frame_octets[80 + 15];
-    uint32_t v8 = 0, v9 = 0, v14 = 0, v18 = 0;
-    uint64_t v7 = 0, v10 = 0, v11 = 0, v12 = 0, v13 = 0, v15 = 0, v16 = 0, v17 = 0, v19 = 0, v20 = 0, v21 = 0,
-        v22 = 0, v23 = 0, v24 = 0;
-    v7 = aligned(frame_octets);
-    if (ordered64(v7) < 0x8000000000000010ULL) UNREACHABLE;
-    put16(v7 + 4, 0);
-    put32(v7, 0);
-    v8 = 255;
-    v9 = get8(extractor + 17);
-    if (v9 > 1) return v8;
-    v10 = get64(extractor);
-    if (room < v10) return v8;
-    v11 = get64(extractor + 8);
-    if (v11 > (room - v10)) return v8;
-    if (v9 != 1) {
-        if (v11 != 0) return v8;
-    }
-    v8 = 2;
+    uint32_t t1;
+    t1 = sedgechisel_telemetry_extractor_sedge_tm_extractor_frame(extractor, frame, some(data), data_count,
+        some(memory), room, extracted);
+    return t1 & 255;
+}
+
+static uint64_t sedge_tm_extractor_frames_at(uint64_t extractor, uint64_t octets, uint64_t count, uint64_t
+    frame_length, uint64_t memory, uint64_t memory_room, uint64_t out, uint64_t out_room, uint64_t packets, uint64_t
+    packets_room, uint64_t total)
+{
+    unsigned char frame_octets[112 + 15];
+    uint32_t v22 = 0, v23 = 0, v24 = 0, v25 = 0, v26 = 0, v27 = 0, v28 = 0, v29 = 0, v30 = 0, v31 = 0, v34 = 0,
+        v35 = 0, v39 = 0, v40 = 0, v41 = 0, v46 = 0;
+    uint64_t v11 = 0, v12 = 0, v13 = 0, v14 = 0, v15 = 0, v16 = 0, v17 = 0, v18 = 0, v19 = 0, v20 = 0, v21 = 0,
+        v32 = 0, v33 = 0, v36 = 0, v37 = 0, v38 = 0, v42 = 0, v43 = 0, v44 = 0, v45 = 0;
+    v11 = aligned(frame_octets);
+    if (ordered64(v11) < 0x8000000000000010ULL) UNREACHABLE;
     v12 = 0;
-    v13 = data_count;
-    v14 = get16(frame + 2);
-    switch (v14 - 0x7fe) {
-    case 0:
-        goto l5;
-    case 1:
-        v8 = 1;
-        v13 = data_count;
-        goto l5;
-    default:
-        goto l6;
-    }
-l6:;
-    v13 = (uint64_t)v14;
-    if (data_count <= v13) {
-        v8 = 10;
-        return v8;
-    }
-    v8 = 0;
-    v12 = v13;
-l5:;
-    v15 = (memory == 0) ? 0x1000ULL : 0ULL;
-    v16 = (data == 0) ? 0x1000ULL : 0ULL;
-    if (v9 != 1) {
-        v17 = frame + 6;
+    v13 = out_room / 19;
+    if (out_room < 19) {
         v14 = 0;
-        goto l9;
+        put64(total, v12);
+        return v14;
     }
-    v17 = frame + 6;
-    v14 = get8(v17) + ~get8(extractor + 16);
-    v18 = v14 & 255;
-    v10 = (v18 != 0) ? 0ULL : v10;
-    v11 = (v18 != 0) ? 0ULL : v11;
-l9:;
-    v19 = memory + v15;
-    v20 = data + v16;
-    frame = 0;
-    put64(v7 + 32, 0);
-    put64(v7 + 24, 0);
-    put64(v7 + 16, 0);
-    put64(v7 + 8, 0);
-    switch (v8) {
-    case 1:
-        put64(v7 + 64, 0);
-        put64(v7 + 56, 0);
-        put64(v7 + 48, 0);
-        put64(v7 + 40, 0);
-        if (v11 != 0) {
-            v21 = v11 + data_count;
-            if (v21 <= 5) goto l16;
-            frame = (v11 < 6) ? v11 : 6ULL;
-            v22 = v7 + 74 + frame;
-            v12 = 6 - frame;
-            v23 = (v11 > 5) ? 0ULL : v12;
-            if (v23 != 0) fill(v22, 0, v23);
-            if (frame != 0) copy(v7 + 74, v19 + v10, frame);
-            if (v12 != 0) copy(v22, v20, v12);
-            v8 = get8(v7 + 74);
-            if (v8 <= 31) {
-                if ((v8 & 8) != 0) {
-                    if ((((v8 << 8) & 0x700) | get8(v7 + 75)) == 0x7ff) goto l17;
-                }
-                frame = (((uint64_t)get8(v7 + 78) << 8) | (uint64_t)get8(v7 + 79)) + 7;
-                if (frame != v21) {
-                    if (v21 < frame) goto l16;
-                }
-            }
+    v15 = some(packets);
+    v16 = some(out);
+    v17 = some(memory);
+    v18 = some(octets);
+    v19 = frame_length - 1;
+    v20 = v11 + 62;
+    v14 = 0;
+    memory = 0;
+    v21 = 0;
+    v12 = 0;
+    do {
+        out_room = packets_room - v12;
+        if ((out_room - memory_room) < frame_length) {
+            put64(total, v12);
+            return v14;
         }
-    l17:;
-        sedgechisel_telemetry_extractor_start(v7 + 40, v10, v11, v20, data_count, v20, 0, v19, room);
-        put64(v7 + 16, get64(v7 + 48));
-        put64(v7 + 24, get64(v7 + 56));
-        put64(v7 + 32, get64(v7 + 64));
-        v8 = get8(v7 + 40);
-        goto l13;
-    l16:;
-        if (room >= v21) {
-            v22 = v11 & 3;
-            room = 0;
-            if (v11 >= 4) {
-                v23 = v19 + v10;
-                v24 = v11 & ~3ULL;
-                room = 0;
-                do {
-                    frame = v19 + room;
-                    v12 = v23 + room;
-                    put8(frame, get8(v12));
-                    put8(frame + 1, get8(v12 + 1));
-                    put8(frame + 2, get8(v12 + 2));
-                    put8(frame + 3, get8(v12 + 3));
-                    room = room + 4;
-                } while (v24 != room);
-                if (v22 == 0) goto l23;
+        if (v19 >= (count - memory)) {
+            put64(total, v12);
+            return v14;
+        }
+        if (out_room < memory_room) {
+            put64(total, v12);
+            return v14;
+        }
+        v22 = 0;
+        put16(v20 + 8, 0);
+        put64(v20, 0);
+        put64(v11 + 8, 0);
+        put64(v11 + 16, 0);
+        put64(v11 + 24, 0);
+        put64(v11 + 32, 0);
+        put64(v11 + 40, 0);
+        put64(v11 + 48, 0);
+        tm_link_decoding_decode(v11 + 8, v18 + memory, frame_length, frame_length);
+        if (get8(v11 + 8) == 0) {
+            v23 = get16(v11 + 16);
+            put16(v11 + 60, v23);
+            v24 = get32(v11 + 48);
+            v25 = get8(v11 + 20);
+            v26 = get8(v11 + 19);
+            v27 = get8(v11 + 18);
+            switch ((uint32_t)(uint64_t)get8(v11 + 22)) {
+            case 1:
+                put8(v11 + 71, 0);
+                put32(v11 + 67, v24);
+                put8(v11 + 66, v25);
+                put8(v11 + 65, v26);
+                put8(v11 + 64, v27);
+                put16(v11 + 62, 0x7ff);
+                out_room = 0;
+                v22 = 1;
+                v28 = 7;
+                goto l9;
+            case 2:
+                put8(v11 + 71, 0);
+                put32(v11 + 67, v24);
+                put8(v11 + 66, v25);
+                put8(v11 + 65, v26);
+                put8(v11 + 64, v27);
+                put16(v11 + 62, 0x7fe);
+                out_room = 0;
+                v29 = 2;
+                v22 = 1;
+                v28 = 7;
+                v30 = 254;
+                goto l7;
+            default:
+                goto l10;
             }
-            room = memory + (v15 + room);
-            do {
-                put8(room, get8(room + v10));
-                room = room + 1;
-                v22 = v22 - 1;
-            } while (v22 != 0);
-        l23:;
-            v12 = v19 + v11;
-            if ((v12 - v20) < data_count) {
-                v10 = data_count & 3;
-                frame = 0;
-                if (data_count >= 4) {
-                    v22 = data_count & ~3ULL;
-                    frame = 0;
+        l10:;
+            v31 = get16(v11 + 24);
+            put8(v11 + 71, 0);
+            put32(v11 + 67, v24);
+            put8(v11 + 66, v25);
+            put8(v11 + 65, v26);
+            put8(v11 + 64, v27);
+            put16(v11 + 62, v31);
+            v22 = 1;
+            out_room = 0;
+            v29 = 2;
+            v28 = 7;
+            v30 = 254;
+            switch (v31 - 0x7fe) {
+            case 0:
+                goto l7;
+            case 1:
+                goto l13;
+            default:
+                goto l8;
+            }
+        l13:;
+            v22 = 1;
+        l9:;
+            v30 = 255;
+            v29 = 1;
+            goto l7;
+        l8:;
+            out_room = (uint64_t)v31;
+            v28 = v31 >> 8;
+            v30 = v31;
+            v22 = 0;
+            v29 = 0;
+        l7:;
+            v32 = get64(v11 + 40);
+            v33 = get64(v11 + 32);
+            v31 = 0;
+            v34 = 0;
+            v35 = get8(extractor + 17);
+            if (v35 <= 1) {
+                v34 = 0;
+                packets = get64(extractor);
+                if (memory_room >= packets) {
+                    v34 = 0;
+                    out = get64(extractor + 8);
+                    if (out <= (memory_room - packets)) {
+                        v34 = 0;
+                        if (v35 == 1) {
+                            v34 = 0;
+                            if ((v22 | (uint32_t)(v32 > out_room)) != 0) {
+                                v34 = 0;
+                                if (out != 0) {
+                                    v34 = 1;
+                                    packets = v17 + packets;
+                                    if ((v25 & 255) == ((get8(extractor + 16) + 1) & 255)) goto l15;
+                                    if (out == 1) goto l14;
+                                    v34 = (((get8(packets) << 8) & 0x700) | get8(packets + 1)) != 0x7ff;
+                                    goto l14;
+                                l15:;
+                                    switch (v29) {
+                                    case 1:
+                                        goto l17;
+                                    case 2:
+                                        goto l18;
+                                    default:
+                                        goto l16;
+                                    }
+                                l18:;
+                                    if (out == 1) goto l14;
+                                    v34 = (((get8(packets) << 8) & 0x700) | get8(packets + 1)) != 0x7ff;
+                                    goto l14;
+                                l17:;
+                                    v36 = out + v32;
+                                    if (v36 < 6) goto l21;
+                                    out_room = (out < 6) ? out : 6ULL;
+                                    v37 = v11 + 106 + out_room;
+                                    octets = 6 - out_room;
+                                    v38 = (out > 5) ? 0ULL : octets;
+                                    if (v38 == 0) goto l22;
+                                    fill(v37, 0, v38);
+                                l22:;
+                                    if (out_room == 0) goto l23;
+                                    copy(v11 + 106, packets, out_room);
+                                l23:;
+                                    if (octets == 0) goto l24;
+                                    copy(v37, v33, octets);
+                                l24:;
+                                    v22 = get8(v11 + 106);
+                                    if (v22 > 31) goto l19;
+                                    if ((v22 & 8) == 0) goto l25;
+                                    if ((((v22 << 8) & 0x700) | get8(v11 + 107)) == 0x7ff) goto l19;
+                                l25:;
+                                    out_room = (((uint64_t)get8(v11 + 110) << 8) | (uint64_t)get8(v11 + 111)) + 7;
+                                    if (out_room != v36) goto l20;
+                                l21:;
+                                    v34 = 0;
+                                    goto l14;
+                                l20:;
+                                    v34 = 0;
+                                    if (v36 < out_room) goto l14;
+                                l19:;
+                                    put16(v11 + 106, 0);
+                                    out_room = (out < 2) ? out : 2ULL;
+                                    if (out_room == 0) goto l26;
+                                    copy(v11 + 106, packets, out_room);
+                                l26:;
+                                    packets = 2 - out_room;
+                                    if (packets == 0) goto l27;
+                                    copy(v11 + 106 + out_room, v33, packets);
+                                l27:;
+                                    v34 = (((get8(v11 + 106) << 8) & 0x700) | get8(v11 + 107)) != 0x7ff;
+                                    goto l14;
+                                l16:;
+                                    octets = out + out_room;
+                                    if (octets < 6) goto l29;
+                                    out_room = (out < 6) ? out : 6ULL;
+                                    v37 = v11 + 106 + out_room;
+                                    v36 = 6 - out_room;
+                                    v38 = (out > 5) ? 0ULL : v36;
+                                    if (v38 == 0) goto l30;
+                                    fill(v37, 0, v38);
+                                l30:;
+                                    if (out_room == 0) goto l31;
+                                    copy(v11 + 106, packets, out_room);
+                                l31:;
+                                    if (v36 == 0) goto l32;
+                                    copy(v37, v33, v36);
+                                l32:;
+                                    v22 = get8(v11 + 106);
+                                    if (v22 > 31) goto l28;
+                                    if ((v22 & 8) == 0) goto l33;
+                                    if ((((v22 << 8) & 0x700) | get8(v11 + 107)) == 0x7ff) goto l28;
+                                l33:;
+                                    if (((((uint64_t)get8(v11 + 110) << 8) | (uint64_t)get8(v11 + 111)) + 7) !=
+                                        octets) goto l28;
+                                    v34 = 0;
+                                    goto l14;
+                                l29:;
+                                    if (octets < 2) goto l14;
+                                l28:;
+                                    put16(v11 + 106, 0);
+                                    out_room = (out < 2) ? out : 2ULL;
+                                    if (out_room == 0) goto l34;
+                                    copy(v11 + 106, packets, out_room);
+                                l34:;
+                                    packets = 2 - out_room;
+                                    if (packets == 0) goto l35;
+                                    copy(v11 + 106 + out_room, v33, packets);
+                                l35:;
+                                    v34 = (((get8(v11 + 106) << 8) & 0x700) | get8(v11 + 107)) != 0x7ff;
+                                }
+                            }
+                        }
+                    }
+                }
+            }
+        l14:;
+            v39 = v24 >> 24;
+            v40 = v24 >> 16;
+            v41 = v24 >> 8;
+            out_room = 0;
+            put64(v11 + 96, 0);
+            put64(v11 + 88, 0);
+            put64(v11 + 80, 0);
+            put64(v11 + 72, 0);
+            v29 = 0;
+            v22 = 0;
+            v35 = sedgechisel_telemetry_extractor_sedge_tm_extractor_frame(extractor, v11 + 60, v33, v32, v17,
+                memory_room, v11 + 72);
+            if ((v35 & 255) == 0) {
+                v36 = get64(v11 + 80);
+                v37 = v15 + v12;
+                v42 = get64(v11 + 72);
+                if ((v37 - v17) < v42) {
+                    octets = v42 & 3;
+                    packets = 0;
+                    if (v42 >= 4) {
+                        v38 = v42 & ~3ULL;
+                        packets = 0;
+                        do {
+                            out_room = v37 + packets;
+                            out = v17 + packets;
+                            put8(out_room, get8(out));
+                            put8(out_room + 1, get8(out + 1));
+                            put8(out_room + 2, get8(out + 2));
+                            put8(out_room + 3, get8(out + 3));
+                            packets = packets + 4;
+                        } while (v38 != packets);
+                        if (octets == 0) goto l37;
+                    }
+                    out_room = v17 + packets;
+                    packets = v15 + (v12 + packets);
+                l41:;
+                    put8(packets, get8(out_room));
+                    packets = packets + 1;
+                    out_room = out_room + 1;
+                    octets = octets - 1;
+                    if (octets != 0) goto l41;
+                    goto l37;
+                }
+                if (v42 != 0) copy(v37, v17, v42);
+            l37:;
+                v43 = v42 + v12;
+                out = v32 - v36;
+                if (out >= 6) {
                     do {
-                        room = v12 + frame;
-                        data_count = v20 + frame;
-                        put8(room, get8(data_count));
-                        put8(room + 1, get8(data_count + 1));
-                        put8(room + 2, get8(data_count + 2));
-                        put8(room + 3, get8(data_count + 3));
-                        frame = frame + 4;
-                    } while (v22 != frame);
-                    if (v10 == 0) goto l27;
+                        packets = v36;
+                    l44:;
+                        out_room = v33 + packets;
+                        v22 = get8(out_room);
+                        if (v22 > 31) goto l42;
+                        if ((v22 & 8) != 0) {
+                            if ((((v22 << 8) & 0x700) | get8(out_room + 1)) == 0x7ff) goto l42;
+                        }
+                        v37 = (uint64_t)get8(out_room + 4);
+                        v38 = (uint64_t)get8(out_room + 5);
+                        octets = ((v37 << 8) | v38) + 7;
+                        if (out < octets) goto l42;
+                        v36 = octets + packets;
+                        v22 = get16(out_room);
+                        if ((((v22 << 8) | (v22 >> 8)) & 0x7ff) == 0x7ff) {
+                            packets = v36;
+                            out = v32 - v36;
+                            if (out >= 6) goto l44;
+                            goto l42;
+                        }
+                        v44 = v15 + v43;
+                        if ((v44 - out_room) < octets) {
+                            v42 = octets & 3;
+                            out = 0;
+                            if (((v38 | (v37 << 8)) + 6) >= 3) {
+                                v45 = octets & 0x1fffc;
+                                out = 0;
+                                do {
+                                    v37 = v44 + out;
+                                    v38 = out_room + out;
+                                    put8(v37, get8(v38));
+                                    put8(v37 + 1, get8(v38 + 1));
+                                    put8(v37 + 2, get8(v38 + 2));
+                                    put8(v37 + 3, get8(v38 + 3));
+                                    out = out + 4;
+                                } while (v45 != out);
+                                if (v42 == 0) goto l47;
+                            }
+                            out_room = v15 + (v43 + out);
+                            packets = v33 + out + packets;
+                        l51:;
+                            put8(out_room, get8(packets));
+                            out_room = out_room + 1;
+                            packets = packets + 1;
+                            v42 = v42 - 1;
+                            if (v42 != 0) goto l51;
+                            goto l47;
+                        }
+                        if (octets != 0) copy(v44, out_room, octets);
+                    l47:;
+                        v43 = octets + v43;
+                        out = v32 - v36;
+                    } while (out > 5);
                 }
-                room = data + (v16 + frame);
-                data_count = memory + (v15 + v11 + frame);
-            l31:;
-                put8(data_count, get8(room));
-                data_count = data_count + 1;
-                room = room + 1;
-                v10 = v10 - 1;
-                if (v10 != 0) goto l31;
-                goto l27;
+            l42:;
+                out_room = v43 - v12;
+                v35 = 0;
+                v29 = get8(v11 + 97);
+                v31 = get8(v11 + 96);
+                v22 = v34;
             }
-            if (data_count != 0) copy(v12, v20, data_count);
-        l27:;
-            put64(v7 + 56, 0);
-            put64(v7 + 48, 0);
-            put64(v7 + 64, v21);
-            put64(v7 + 16, 0);
-            put64(v7 + 24, 0);
-            put64(v7 + 32, v21);
-            v8 = 1;
-            goto l13;
+            v12 = out_room + v12;
+            v34 = (v23 & 0xff00) >> 8;
+            v46 = (uint32_t)out_room;
+            goto l5;
         }
-        put64(v7 + 32, 0);
-        put64(v7 + 24, 0);
-        put64(v7 + 16, 0);
-        put64(v7 + 8, 0);
-        v8 = 0;
-        goto l13;
-    case 2:
-        goto l12;
-    default:
-        goto l14;
-    }
-l14:;
-    frame = v20 + v12;
-    data_count = data_count - v12;
-    if (data_count >= 6) {
-        do {
-            v8 = get8(frame);
-            if (v8 > 31) {
-                data_count = 0;
-                goto l32;
-            }
-            if ((v8 & 8) != 0) {
-                if ((((v8 << 8) & 0x700) | get8(frame + 1)) == 0x7ff) {
-                    data_count = 0;
-                    goto l32;
-                }
-            }
-            memory = (((uint64_t)get8(frame + 4) << 8) | (uint64_t)get8(frame + 5)) + 7;
-            if (data_count < memory) goto l32;
-            frame = frame + memory;
-            data_count = data_count - memory;
-        } while (data_count > 5);
-    }
-l32:;
-    sedgechisel_telemetry_extractor_start(v7 + 8, v10, v11, v20, v12, frame, data_count, v19, room);
-    v8 = get8(v7 + 8);
-l13:;
-    if ((v8 & 255) != 1) goto l2;
-    frame = get64(v7 + 32);
-    room = get64(v7 + 24);
-    data_count = get64(v7 + 16);
-    goto l11;
-l12:;
-    room = 0;
-    data_count = 0;
-l11:;
-    v8 = 0;
-    put32(extracted + 26, 0);
-    put8(extracted + 25, v14);
-    put64(extracted + 16, 0);
-    put64(extracted + 8, v13);
-    put64(extracted, data_count);
-    put16(extracted + 30, 0);
-    put8(extracted + 24, v9 != 1);
-    v9 = get8(v17);
-    put8(extractor + 17, 1);
-    put8(extractor + 16, v9);
-    put64(extractor + 8, frame);
-    put64(extractor, room);
-    put32(extractor + 18, get32(v7));
-    put16(extractor + 22, get16(v7 + 4));
-    return v8;
-l2:;
-    v8 = 7;
-    return v8;
+        v35 = get8(v11 + 9) + 1;
+        v46 = 0;
+        v31 = 0;
+        v29 = 0;
+        v23 = 0;
+        v34 = 0;
+        v30 = 0;
+        v28 = 0;
+        v27 = 0;
+        v26 = 0;
+        v25 = 0;
+        v24 = 0;
+        v41 = 0;
+        v40 = 0;
+        v39 = 0;
+    l5:;
+        memory = memory + frame_length;
+        out_room = v16 + v21;
+        put8(out_room + 18, v39);
+        put8(out_room + 17, v40);
+        put8(out_room + 16, v41);
+        put8(out_room + 15, v24);
+        put8(out_room + 14, v25);
+        put8(out_room + 13, v26);
+        put8(out_room + 12, v27);
+        put8(out_room + 11, v28);
+        put8(out_room + 10, v30);
+        put8(out_room + 9, v34);
+        put8(out_room + 8, v23);
+        put8(out_room + 7, v22);
+        put8(out_room + 6, v29);
+        put8(out_room + 5, v31);
+        put8(out_room + 4, v35);
+        put32(out_room, v46);
+        v21 = v21 + 19;
+        v14 = v14 + 1;
+    } while (v14 != v13);
+    v14 = v13;
+    put64(total, v12);
+    return v14;
 }
 
 static uint32_t sedge_fop_clcw_at(uint64_t fop, uint32_t vcid, uint64_t word, uint64_t released)
@@ -4287,9 +4764,9 @@ l1:;
 static uint32_t sedge_tm_builder_build_at(uint64_t builder, uint64_t ocf, uint64_t ocf_count, uint64_t memory,
     uint64_t memory_count, uint64_t out, uint64_t room, uint64_t total)
 {
-    uint32_t v9 = 0, v10 = 0, v11 = 0, v12 = 0, v20 = 0;
-    uint64_t v13 = 0, v14 = 0, v15 = 0, v16 = 0, v17 = 0, v18 = 0, v19 = 0, v21 = 0, v22 = 0, v23 = 0, v24 = 0,
-        v25 = 0, v26 = 0, v27 = 0, v28 = 0, v29 = 0, v30 = 0, t2;
+    uint32_t v9 = 0, v10 = 0, v11 = 0, v12 = 0, v27 = 0;
+    uint64_t v13 = 0, v14 = 0, v15 = 0, v16 = 0, v17 = 0, v18 = 0, v19 = 0, v20 = 0, v21 = 0, v22 = 0, v23 = 0,
+        v24 = 0, v25 = 0, v26 = 0, v28 = 0, v29 = 0, v30 = 0, t2;
     v9 = 255;
     v10 = get16(builder + 24);
     if (v10 > 0x3ff) return v9;
@@ -4308,219 +4785,228 @@ static uint32_t sedge_tm_builder_build_at(uint64_t builder, uint64_t ocf, uint64
     if (v15 < v16) return v9;
     v17 = (memory == 0) ? 0x1000ULL : 0ULL;
     v18 = memory + v17;
-    v19 = v15 - v16;
-    if (v19 >= 6) {
+    v19 = (uint64_t)v12 & 0xffff;
+    v20 = v19 - 12;
+    memory_count = v20 - v13;
+    v21 = (memory_count > v20) ? 0ULL : memory_count;
+    if (v16 < v21) {
+        v22 = v15 - v16;
         memory_count = v18 + v14 + v16;
-        do {
-            v20 = get8(memory_count);
-            if (v20 > 31) return v9;
-            if ((v20 & 8) != 0) {
-                if ((((v20 << 8) & 0x700) | get8(memory_count + 1)) == 0x7ff) return v9;
-            }
-            v21 = (((uint64_t)get8(memory_count + 4) << 8) | (uint64_t)get8(memory_count + 5)) + 7;
-            if (v19 < v21) return v9;
-            memory_count = memory_count + v21;
-            v19 = v19 - v21;
-        } while (v19 > 5);
+        v23 = v16;
+    l5:;
+        if (v22 < 6) goto l4;
+        v12 = get8(memory_count);
+        if (v12 > 31) return v9;
+        if ((v12 & 8) != 0) {
+            if ((((v12 << 8) & 0x700) | get8(memory_count + 1)) == 0x7ff) return v9;
+        }
+        v24 = (((uint64_t)get8(memory_count + 4) << 8) | (uint64_t)get8(memory_count + 5)) + 7;
+        if (v22 < v24) return v9;
+        v22 = v22 - v24;
+        memory_count = memory_count + v24;
+        v21 = v21 - v23;
+        v23 = v24;
+        if (v24 < v21) goto l5;
+        goto l3;
+    l4:;
+        if (v22 != 0) return v9;
     }
-    if (v19 != 0) return v9;
+l3:;
     if (ocf_count != 4) return 254;
-    v22 = (uint64_t)v12 & 0xffff;
-    if (room < v22) return 9;
+    if (room < v19) return 9;
     v12 = get32(some(ocf));
-    v23 = v22 - 12;
-    v24 = (out == 0) ? 0x1000ULL : 0ULL;
-    v19 = out + v24;
-    v25 = v19 + 6;
+    v25 = (out == 0) ? 0x1000ULL : 0ULL;
+    v24 = out + v25;
+    v26 = v24 + 6;
     v9 = get8(builder + 29);
     if ((v15 | v13) == 0) {
-        if (v23 != 0) {
-            memory_count = v22 - 13;
-            v20 = memory_count == 0;
-            if (v20 == 0) {
-                if (v20 == 0) fill(v25, 85, memory_count);
+        if (v20 != 0) {
+            memory_count = v19 - 13;
+            v27 = memory_count == 0;
+            if (v27 == 0) {
+                if (v27 == 0) fill(v26, 85, memory_count);
             }
-            put8(v25 + memory_count, 85);
+            put8(v26 + memory_count, 85);
         }
-        put8(v19 + 3, v9);
-        put8(v19 + 2, v9);
-        put16(v19, (((v10 << 12) | (v11 << 9)) | ((v10 >> 4) & 255)) | 256);
+        put8(v24 + 3, v9);
+        put8(v24 + 2, v9);
+        put16(v24, (((v10 << 12) | (v11 << 9)) | ((v10 >> 4) & 255)) | 256);
         v9 = 0xfe1f;
-        goto l8;
+        goto l9;
     }
-    v21 = v18 + v14;
-    v26 = (v23 < v13) ? v23 : v13;
-    v27 = v23 - v26;
-    v28 = v25 + v26;
+    v22 = v18 + v14;
+    v23 = (v20 < v13) ? v20 : v13;
+    v21 = v20 - v23;
+    v28 = v26 + v23;
     memory_count = address(constant_55 + 7) - v13;
-    if ((v25 - memory_count) < v26) {
-        room = v26 & 3;
+    if ((v26 - memory_count) < v23) {
+        ocf = v23 & 3;
         ocf_count = 0;
-        if (v26 >= 4) {
+        if (v23 >= 4) {
             memory_count = address(constant_55) - v13;
-            ocf = v26 & 4;
+            room = v23 & 4;
             ocf_count = 0;
             do {
-                put32(v19 + ocf_count + 6, get32(memory_count + ocf_count + 7));
+                put32(v24 + ocf_count + 6, get32(memory_count + ocf_count + 7));
                 ocf_count = ocf_count + 4;
-            } while (ocf != ocf_count);
-            if (room == 0) goto l12;
+            } while (room != ocf_count);
+            if (ocf == 0) goto l13;
         }
         memory_count = ocf_count - v13 + address(constant_55 + 7);
-        ocf_count = v24 + ocf_count + out + 6;
-    l16:;
+        ocf_count = v25 + ocf_count + out + 6;
+    l17:;
         put8(ocf_count, get8(memory_count));
         ocf_count = ocf_count + 1;
         memory_count = memory_count + 1;
-        room = room - 1;
-        if (room != 0) goto l16;
-        goto l12;
+        ocf = ocf - 1;
+        if (ocf != 0) goto l17;
+        goto l13;
     }
-    if (v26 != 0) copy(v25, memory_count, v26);
-l12:;
-    v29 = (v27 < v15) ? v27 : v15;
-    v30 = v27 - v29;
-    if ((v28 - v21) < v29) {
-        ocf = v29 & 3;
+    if (v23 != 0) copy(v26, memory_count, v23);
+l13:;
+    v29 = (v21 < v15) ? v21 : v15;
+    v30 = v21 - v29;
+    if ((v28 - v22) < v29) {
+        room = v29 & 3;
         ocf_count = 0;
         if (v29 >= 4) {
-            v15 = v29 & ~3ULL;
-            v27 = out + (v24 + v26);
+            v21 = v29 & ~3ULL;
+            v15 = out + (v25 + v23);
             ocf_count = 0;
             do {
-                memory_count = v27 + ocf_count;
-                room = v21 + ocf_count;
-                put8(memory_count + 6, get8(room));
-                put8(memory_count + 7, get8(room + 1));
-                put8(memory_count + 8, get8(room + 2));
-                put8(memory_count + 9, get8(room + 3));
+                memory_count = v15 + ocf_count;
+                ocf = v22 + ocf_count;
+                put8(memory_count + 6, get8(ocf));
+                put8(memory_count + 7, get8(ocf + 1));
+                put8(memory_count + 8, get8(ocf + 2));
+                put8(memory_count + 9, get8(ocf + 3));
                 ocf_count = ocf_count + 4;
-            } while (v15 != ocf_count);
-            if (ocf == 0) goto l17;
+            } while (v21 != ocf_count);
+            if (room == 0) goto l18;
         }
         memory_count = memory + (v17 + ocf_count + v14);
-        memory = v24 + ocf_count + v26 + out + 6;
-    l21:;
+        memory = v25 + ocf_count + v23 + out + 6;
+    l22:;
         put8(memory, get8(memory_count));
         memory = memory + 1;
         memory_count = memory_count + 1;
-        ocf = ocf - 1;
-        if (ocf != 0) goto l21;
-        goto l17;
+        room = room - 1;
+        if (room != 0) goto l22;
+        goto l18;
     }
-    if (v29 != 0) copy(v28, v21, v29);
-l17:;
+    if (v29 != 0) copy(v28, v22, v29);
+l18:;
     memory_count = v28 + v29;
     if (v30 <= 6) {
         if ((memory_count - address(constant_55)) < v30) {
-            room = v30 & 3;
+            ocf = v30 & 3;
             memory = 0;
-            if ((v22 - (v29 + v26) - 13) >= 3) {
+            if ((v19 - (v29 + v23) - 13) >= 3) {
                 memory_count = v30 & 4;
-                ocf_count = out + (v24 + v29 + v26);
+                ocf_count = out + (v25 + v29 + v23);
                 memory = 0;
                 do {
                     put32(ocf_count + memory + 6, get32(memory + address(constant_55)));
                     memory = memory + 4;
                 } while (memory_count != memory);
-                if (room == 0) goto l22;
+                if (ocf == 0) goto l23;
             }
-            ocf_count = 0 - room;
+            ocf_count = 0 - ocf;
             memory_count = memory + address(constant_55);
-            memory = v24 + memory + v29 + v26 + out + 6;
-        l27:;
+            memory = v25 + memory + v29 + v23 + out + 6;
+        l28:;
             put8(memory, get8(memory_count));
             memory = memory + 1;
             memory_count = memory_count + 1;
             ocf_count = ocf_count + 1;
-            if (ocf_count != 0) goto l27;
-            goto l22;
+            if (ocf_count != 0) goto l28;
+            goto l23;
         }
-        if (v30 == 0) goto l22;
+        if (v30 == 0) goto l23;
         copy(memory_count, address(constant_55), v30);
-        goto l22;
+        goto l23;
     }
     if ((memory_count - address(constant_55)) <= 3) {
         put32(memory_count, 0xc0ff07);
-        goto l28;
+        goto l29;
     }
     put32(memory_count, 0xc0ff07);
-l28:;
+l29:;
     memory = memory_count + 6;
-    v20 = (uint32_t)v30 - 7;
-    put16(memory_count + 4, (v20 << 8) | ((v20 & 0xff00) >> 8));
+    v27 = (uint32_t)v30 - 7;
+    put16(memory_count + 4, (v27 << 8) | ((v27 & 0xff00) >> 8));
     memory_count = v30 - 7;
-    v20 = memory_count == 0;
-    if (v20 == 0) {
-        if (v20 == 0) fill(memory, 85, memory_count);
+    v27 = memory_count == 0;
+    if (v27 == 0) {
+        if (v27 == 0) fill(memory, 85, memory_count);
     }
     put8(memory + memory_count, 85);
-l22:;
-    put8(v19 + 3, v9);
-    put8(v19 + 2, v9);
-    put16(v19, (((v10 << 12) | (v11 << 9)) | ((v10 >> 4) & 255)) | 256);
+l23:;
+    put8(v24 + 3, v9);
+    put8(v24 + 2, v9);
+    put16(v24, (((v10 << 12) | (v11 << 9)) | ((v10 >> 4) & 255)) | 256);
     memory_count = v16 + v13;
     v9 = (uint32_t)memory_count + 0x1800;
-    v9 = (memory_count < v23) ? ((v9 << 8) | ((v9 & 0xff00) >> 8)) : ~224U;
-l8:;
-    put16(v19 + 4, v9);
-    put32(v25 + v23, v12);
-    memory_count = v22 - 2;
-    v9 = octets_frame_check_check(v19, memory_count);
-    put16(v19 + memory_count, (v9 << 8) | ((v9 & 0xff00) >> 8));
-    ocf = get64(builder + 8);
+    v9 = (memory_count < v20) ? ((v9 << 8) | ((v9 & 0xff00) >> 8)) : ~224U;
+l9:;
+    put16(v24 + 4, v9);
+    put32(v26 + v20, v12);
+    memory_count = v19 - 2;
+    v9 = octets_frame_check_check(v24, memory_count);
+    put16(v24 + memory_count, (v9 << 8) | ((v9 & 0xff00) >> 8));
+    room = get64(builder + 8);
     memory_count = (uint64_t)get8(builder + 30);
     if (memory_count == 0) {
-        if (ocf == 0) goto l31;
+        if (room == 0) goto l32;
     }
     memory = (uint64_t)get16(builder + 26) - 12;
     t2 = memory;
     memory = (memory < memory_count) ? memory : memory_count;
     v13 = t2 - memory;
-    if (v13 <= ocf) {
-        v21 = memory_count - memory;
-        goto l33;
+    if (v13 <= room) {
+        v14 = memory_count - memory;
+        goto l34;
     }
-    memory_count = v13 - ocf;
-    v21 = (memory_count < 7) ? (memory_count ^ 7) : 0ULL;
-l33:;
-    v14 = get64(builder);
-    room = get64(builder + 16);
-    if (room >= v13) {
-        memory = room;
+    memory_count = v13 - room;
+    v14 = (memory_count < 7) ? (memory_count ^ 7) : 0ULL;
+l34:;
+    v22 = get64(builder);
+    ocf = get64(builder + 16);
+    if (ocf >= v13) {
+        memory = ocf;
         out = v13;
-        goto l36;
+        goto l37;
     }
-    ocf_count = ocf - room;
-    memory_count = v18 + v14 + room;
+    ocf_count = room - ocf;
+    memory_count = v18 + v22 + ocf;
     out = v13;
     do {
-        v19 = 0;
-        if (ocf_count < 6) goto l35;
+        v24 = 0;
+        if (ocf_count < 6) goto l36;
         v9 = get8(memory_count);
-        if (v9 > 31) goto l35;
+        if (v9 > 31) goto l36;
         if ((v9 & 8) != 0) {
-            if ((((v9 << 8) & 0x700) | get8(memory_count + 1)) == 0x7ff) goto l35;
+            if ((((v9 << 8) & 0x700) | get8(memory_count + 1)) == 0x7ff) goto l36;
         }
         memory = (((uint64_t)get8(memory_count + 4) << 8) | (uint64_t)get8(memory_count + 5)) + 7;
-        if (ocf_count < memory) goto l35;
+        if (ocf_count < memory) goto l36;
         ocf_count = ocf_count - memory;
         memory_count = memory_count + memory;
-        out = out - room;
-        room = memory;
+        out = out - ocf;
+        ocf = memory;
     } while (memory < out);
+l37:;
+    v24 = memory - out;
 l36:;
-    v19 = memory - out;
-l35:;
-    put8(builder + 30, (uint32_t)v21);
-    put64(builder + 16, v19);
-    memory_count = (ocf < v13) ? ocf : v13;
-    put64(builder + 8, ocf - memory_count);
-    put64(builder, v14 + memory_count);
-l31:;
+    put8(builder + 30, (uint32_t)v14);
+    put64(builder + 16, v24);
+    memory_count = (room < v13) ? room : v13;
+    put64(builder + 8, room - memory_count);
+    put64(builder, v22 + memory_count);
+l32:;
     builder = builder + 29;
     put8(builder, get8(builder) + 1);
-    put64(total, v22);
+    put64(total, v19);
     v9 = 0;
     return v9;
 }
@@ -5327,6 +5813,24 @@ bool sedge_tm_packet(const uint8_t *data, size_t data_count, struct sedge_part *
     put_sedge_part(packet_at, packet);
     answer = sedge_tm_packet_at(address(data), data_count, packet_at) != 0;
     get_sedge_part(packet_at, packet);
+    return answer;
+}
+
+size_t sedge_tm_extractor_frames(struct sedge_tm_extractor *extractor, const uint8_t *octets, size_t count, size_t
+    frame_length, uint8_t *memory, size_t memory_room, uint8_t *out, size_t out_room, uint8_t *packets, size_t
+    packets_room, size_t *total)
+{
+    unsigned char extractor_octets[24 + 15];
+    const uint64_t extractor_at = aligned(extractor_octets);
+    unsigned char total_octets[8 + 15];
+    const uint64_t total_at = aligned(total_octets);
+    size_t answer;
+    put_sedge_tm_extractor(extractor_at, extractor);
+    put64(total_at, *total);
+    answer = (size_t)sedge_tm_extractor_frames_at(extractor_at, address(octets), count, frame_length, address(memory),
+        memory_room, address(out), out_room, address(packets), packets_room, total_at);
+    get_sedge_tm_extractor(extractor_at, extractor);
+    *total = (size_t)get64(total_at);
     return answer;
 }
 

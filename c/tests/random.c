@@ -10,7 +10,7 @@
 #include <sys/mman.h>
 #include <unistd.h>
 
-enum { MOST = 4096, REGIONS = 4, KINDS = 12 };
+enum { MOST = 4096, REGIONS = 4, KINDS = 13 };
 
 static int failures;
 
@@ -395,6 +395,32 @@ static void extractors(void) {
     }
 }
 
+static void many_frames(void) {
+    const size_t length = below(4) == 0 ? any_count() : 16 + below(40);
+    size_t count = below(1000), size = any_count(), room = below(4) == 0 ? any_count() : size + length + below(200);
+    size_t total = 99, found, at;
+    uint8_t *octets = octets_of(0, count), *memory = octets_of(3, size), *packets = room_of(room < MOST ? room : MOST);
+    uint8_t out[19 * 8];
+    struct sedge_tm_extractor extractor = {0, 0, 0, 0};
+    struct sedge_part packet = {0, 0};
+    if (below(4) == 0) fill((uint8_t *)&extractor, sizeof extractor);
+    for (at = 0; length >= 16 && at + length <= count; at += length) {
+        octets[at] &= 0x3f;
+        octets[at + 1] |= 1;
+        octets[at + 4] = (uint8_t)(0x18 | (octets[at + 4] & 7));
+        octets[at + 3] = (uint8_t)(at / length);
+        if (below(2)) octets[at + 4] = 0x18, octets[at + 5] = 0;
+        if (below(2)) make_packet(octets + at + 6, length - 12);
+        WANT(sedge_check_append(octets + at, length));
+    }
+    room = room < MOST ? room : MOST;
+    found = sedge_tm_extractor_frames(&extractor, octets, count, length, memory, size, out, sizeof out, packets, room,
+                                      &total);
+    WANT(found <= 8 && found * length <= count && total <= room && is_kept(packets + total));
+    while (sedge_map_packet(packets, total, &packet)) WANT(packet.count >= 7);
+    WANT(packet.from + packet.count == total);
+}
+
 static void maps(void) {
     size_t count = any_count(), room = any_count();
     uint8_t *octets = octets_of(0, count), *memory = octets_of(3, room), answer, flags = (uint8_t)below(5);
@@ -445,7 +471,7 @@ static void cuttings(void) {
 int main(int count, char **words) {
     static void (*const kinds[KINDS])(void) = {checks, control_words, receivers, senders, telecommand_frames,
                                                packets, counts_of_packets, telemetry_frames, builders, extractors,
-                                               maps, cuttings};
+                                               many_frames, maps, cuttings};
     if (count != 2 || make_regions() != 0) return 2;
     for (unsigned long left = strtoul(words[1], NULL, 10); left > 0; left--) kinds[below(KINDS)]();
     printf(failures ? "%d failed\n" : "all as wanted\n", failures);

@@ -145,16 +145,32 @@ static void refusals_of_a_builder(void) {
     WANT(memcmp(&builder, &was, sizeof was) == 0 && total == 99 && out[0] == 0xee && memcmp(out, out + 1, 19) == 0);
 }
 
-/* Whether the builder, or its memory, is refused by both calls, with nothing changed. */
-static int is_damaged(struct sedge_tm_builder builder, uint8_t *memory, size_t room) {
+/* Whether the next frame is refused, with nothing changed. */
+static int is_unsent(struct sedge_tm_builder builder, const uint8_t *memory, size_t room) {
     const struct sedge_tm_builder was = builder;
     uint8_t out[2048];
     size_t total = 99;
-    int is = queue(&builder, FOUR[0], 7, memory, room) == SEDGE_DAMAGED;
     memset(out, 0xee, sizeof out);
     if (sedge_tm_builder_build(&builder, OCF, 4, memory, room, out, sizeof out, &total) != SEDGE_DAMAGED) return 0;
     WANT(memcmp(&builder, &was, sizeof was) == 0 && total == 99 && memcmp(out, out + 1, sizeof out - 1) == 0);
-    return is;
+    return 1;
+}
+
+/* Whether the builder, or its memory, is refused by both calls, with nothing changed. */
+static int is_damaged(struct sedge_tm_builder builder, uint8_t *memory, size_t room) {
+    return is_unsent(builder, memory, room) && queue(&builder, FOUR[0], 7, memory, room) == SEDGE_DAMAGED;
+}
+
+/* Octets that are no packets are refused by the frame that comes to them, with a packet queued after them or not, and
+ * not before. */
+static void octets_of_no_packet(struct sedge_tm_builder builder, uint8_t *memory, size_t room, int queued, int frames) {
+    uint8_t out[20];
+    size_t total;
+    int i;
+    if (queued) WANT(queue(&builder, FOUR[0], 7, memory, room) == SEDGE_OK);
+    for (i = 0; i < frames; i++)
+        WANT(sedge_tm_builder_build(&builder, OCF, 4, memory, room, out, 20, &total) == SEDGE_OK);
+    WANT(is_unsent(builder, memory, room));
 }
 
 static void damaged_builders(void) {
@@ -186,10 +202,13 @@ static void damaged_builders(void) {
     WANT(is_damaged(bad, memory, 40));
     bad = good;
     bad.begun = 7;
-    WANT(is_damaged(bad, memory, 40));
+    octets_of_no_packet(bad, memory, 40, 0, 0);
+    octets_of_no_packet(bad, memory, 40, 1, 0);
     bad = good;
     bad.count = 14;
-    WANT(is_damaged(bad, memory, 40));
+    octets_of_no_packet(bad, memory, 40, 0, 1);
+    octets_of_no_packet(bad, memory, 40, 1, 1);
+    memcpy(memory + 16, FOUR[1], 7);
     bad = good;
     bad.from = (size_t)-1;
     WANT(is_damaged(bad, memory, 40));
@@ -199,8 +218,9 @@ static void damaged_builders(void) {
     bad = good;
     bad.count = (size_t)-1;
     WANT(is_damaged(bad, memory, 40));
-    memory[16 + 5] = 1; /* the length that the second packet declares */
-    WANT(is_damaged(good, memory, 40));
+    memory[16 + 5] = 1; /* the length that the second packet declares: it has one octet of the packet after it */
+    octets_of_no_packet(good, memory, 40, 0, 1);
+    octets_of_no_packet(good, memory, 40, 1, 2);
 }
 
 /* ---- Extracting. ---- */
@@ -437,6 +457,120 @@ static void packets_through_frames(uint16_t length, int losing) {
     WANT(losing ? found < MANY : found == MANY);
 }
 
+/* ---- Many frames in one call. ---- */
+
+/* The places of a call: those for records and packets have this much room, and octets after it stay as they are. */
+struct places {
+    uint8_t memory[400], out[19 * 40 + 1], packets[2000];
+    size_t room, out_room, packets_room;
+};
+
+/* Whether the frame drops a packet that was begun and is not idle; these are its first octets, two at most, and how
+ * many there were before the frame. */
+static int drops(const uint8_t *begun, size_t count, const struct sedge_tm_extractor *extractor,
+                 const struct sedge_tm_frame *frame, const uint8_t *data, const struct sedge_tm_extracted *extracted) {
+    const int continues = frame->pointer == SEDGE_POINTER_NO_START;
+    const int has_front = extracted->lost == 0 && (continues || (frame->pointer > 0 && frame->pointer < 2046));
+    const uint8_t second = count > 1 ? begun[1] : data[0];
+    if (count == 0 || extracted->joined > 0 || (continues && extractor->count > 0)) return 0;
+    return (count < 2 && !has_front) || (begun[0] & 7) != 7 || second != 255;
+}
+
+/* What the call for many frames writes of one, by the calls for one frame: its record, and its packets, of which it
+ * gives the number of octets. */
+static size_t taken_alone(struct sedge_tm_extractor *extractor, const uint8_t *octets, size_t length,
+                          struct places *places, uint8_t *record, uint8_t *packets) {
+    const size_t before = extractor->count;
+    const uint8_t begun[2] = {places->memory[extractor->from], places->memory[extractor->from + 1]};
+    struct sedge_tm_frame frame;
+    struct sedge_tm_extracted extracted;
+    struct sedge_part data, packet;
+    size_t count = 0;
+    memset(record, 0, 19);
+    record[4] = sedge_tm_decode(octets, length, length, &frame, &data);
+    if (record[4] != SEDGE_OK) return 0;
+    record[8] = (uint8_t)frame.scid, record[9] = (uint8_t)(frame.scid >> 8);
+    record[10] = (uint8_t)frame.pointer, record[11] = (uint8_t)(frame.pointer >> 8);
+    record[12] = frame.vcid, record[13] = frame.mc_count, record[14] = frame.vc_count;
+    memcpy(record + 15, frame.ocf, 4);
+    record[4] = sedge_tm_extractor_frame(extractor, &frame, octets + 6, data.count, places->memory, places->room,
+                                         &extracted);
+    if (record[4] != SEDGE_OK) return 0;
+    record[5] = extracted.first, record[6] = extracted.lost;
+    record[7] = (uint8_t)drops(begun, before, extractor, &frame, octets + 6, &extracted);
+    memcpy(packets, places->memory, count = extracted.joined);
+    for (packet = extracted.packets; sedge_tm_packet(octets + 6, data.count, &packet); count += packet.count) {
+        memcpy(packets + count, octets + 6 + packet.from, packet.count);
+    }
+    record[0] = (uint8_t)count, record[1] = (uint8_t)(count >> 8);
+    return count;
+}
+
+/* Takes frames that stand one after another by both calls, and compares: what is written, and where they stop. Gives
+ * the number of packets that are dropped. */
+static unsigned taken_both(const uint8_t *octets, size_t count, size_t length, size_t room, size_t out_room,
+                           size_t packets_room) {
+    static struct places many, alone;
+    struct sedge_tm_extractor one = {0, 0, 0, 0}, other = {0, 0, 0, 0};
+    size_t from = 0, frames, total, found, end, k;
+    unsigned dropped = 0;
+    do {
+        memset(many.out, 0x55, sizeof many.out), memset(alone.out, 0x55, sizeof alone.out);
+        memset(many.packets, 0x55, sizeof many.packets), memset(alone.packets, 0x55, sizeof alone.packets);
+        many.room = alone.room = room, total = 99;
+        frames = sedge_tm_extractor_frames(&one, octets + from, count - from, length, many.memory, room, many.out,
+                                           out_room, many.packets, packets_room, &total);
+        for (found = end = 0; found < out_room / 19 && (found + 1) * length <= count - from; found++) {
+            if (packets_room - end < room + length) break;
+            end += taken_alone(&other, octets + from + found * length, length, &alone, alone.out + 19 * found,
+                               alone.packets + end);
+        }
+        WANT(frames == found && total == end && one.from == other.from && one.count == other.count);
+        WANT(one.last == other.last && one.seen == other.seen);
+        WANT(memcmp(many.out, alone.out, sizeof many.out) == 0);
+        WANT(memcmp(many.packets, alone.packets, sizeof many.packets) == 0);
+        WANT(memcmp(many.memory + one.from, alone.memory + one.from, one.count) == 0);
+        for (k = 0; k < frames; k++) dropped += many.out[19 * k + 7];
+        from += frames * length;
+    } while (frames > 0);
+    WANT(from + length > count || packets_room < room + length || out_room < 19);
+    return dropped;
+}
+
+/* Frames of 24 octets with packets of 7 to 66, some of them damaged, some lost. */
+static void many_frames(void) {
+    static uint8_t octets[24 * 300], memory[400], packet[80];
+    struct sedge_tm_builder builder;
+    struct sedge_tm_extractor extractor = {0, 0, 0, 2};
+    static struct places places;
+    uint32_t queued = 0, frames;
+    size_t count = 0, total, length;
+    WANT(sedge_tm_builder_open(&builder, 1, 0, 24) == SEDGE_OK);
+    for (frames = 0; frames < 310; frames++) {
+        for (; frames % 20 < 18 && builder.count < 100; queued++) {
+            length = 7 + queued * 37 % 60;
+            make(packet, length, queued);
+            WANT(sedge_tm_builder_queue(&builder, packet, length, memory, sizeof memory) == SEDGE_OK);
+        }
+        if (count + 24 > sizeof octets) break;
+        WANT(sedge_tm_builder_build(&builder, OCF, 4, memory, sizeof memory, octets + count, 24, &total) == SEDGE_OK);
+        if (frames % 7 == 3) octets[count + frames % 24] ^= 4;
+        count += frames % 9 == 8 ? 0 : 24;
+    }
+    WANT(taken_both(octets, count, 24, 100, 19 * 40, 2000) > 10 && taken_both(octets, count, 24, 100, 19, 124) > 10);
+    WANT(taken_both(octets, count - 1, 24, 100, 56, 200) > 10 && taken_both(octets, count, 24, 40, 19 * 40, 500) > 10);
+    (void)taken_both(octets, count, 24, 0, 19 * 40, 100), (void)taken_both(octets, count, 16, 100, 19 * 40, 500);
+    (void)taken_both(octets, count, 24, 100, 18, 500), (void)taken_both(octets, count, 24, 100, 19 * 40, 123);
+    (void)taken_both(octets, 23, 24, 100, 19 * 40, 500), (void)taken_both(octets, 0, 24, 100, 19 * 40, 500);
+    total = 99;
+    WANT(sedge_tm_extractor_frames(&extractor, octets, count, 0, places.memory, 100, places.out, 19 * 40,
+                                   places.packets, 2000, &total) == 0);
+    WANT(total == 0);
+    WANT(sedge_tm_extractor_frames(&extractor, octets, 24, 24, places.memory, 100, places.out, 19 * 40,
+                                   places.packets, 2000, &total) == 1);
+    WANT(places.out[4] == SEDGE_DAMAGED && extractor.seen == 2 && places.out[8] == 1);
+}
+
 int main(void) {
     packets_in_frames();
     moves_overlapping_octets();
@@ -456,6 +590,7 @@ int main(void) {
     packets_through_frames(223, 1);
     packets_through_frames(2048, 0);
     packets_through_frames(2048, 1);
+    many_frames();
     printf(failures ? "%d failed\n" : "all as wanted\n", failures);
     return failures != 0;
 }

@@ -513,13 +513,28 @@ _tc_frames = _call("tc_frames", c_size_t, c_char_p, c_size_t, c_bool, c_char_p, 
 # What `_tc_frames` writes of a frame: the number of its octets, its fault, and its fields from the third octet on, of
 # which the kind is needed; and how many octets and frames it is given at once.
 _FOUND, _FIELDS = Struct("<HB3xB5x"), 3
-_PIECE, _MOST, _IS_SWAPPED = 65536, 4096, byteorder == "big"
+_PIECE, _MOST = 65536, 2048
+
+
+def _copier(cls: Type[_Own], *numbers: str) -> Callable[[Any, int], _Own]:
+    """What copies a struct out of octets in which these numbers of it have the lower octet first."""
+    if byteorder == "little":
+        return cls.from_buffer_copy
+
+    def copied(octets: Any, begun: int) -> _Own:
+        struct = cls.from_buffer_copy(octets, begun)
+        for name in numbers:
+            number = getattr(struct, name)
+            setattr(struct, name, number >> 8 | (number & 255) << 8)
+        return struct
+
+    return copied
 
 
 def _frames_in(cls: Type[TcFrame], octets: bytes, checked: bool) -> Iterator[Tuple[Union[TcFrame, TcFault], bytes]]:
     """The frames in octets, and what is left of these."""
     total, out, begun, check = c_size_t(), ctypes.create_string_buffer(_MOST * _FOUND.size + 1), 0, 2 if checked else 0
-    records, frame_of, control = memoryview(out).cast("B"), cls.from_buffer_copy, Kind.BC.value
+    records, frame_of, control = memoryview(out).cast("B"), _copier(cls, "scid"), Kind.BC.value
     while found := _tc_frames(piece := octets[begun:begun + _PIECE], len(piece), checked, out, len(out), total):
         start, fields = 0, _FIELDS
         for count, fault, kind in _FOUND.iter_unpack(records[:found * _FOUND.size]):
@@ -527,10 +542,7 @@ def _frames_in(cls: Type[TcFrame], octets: bytes, checked: bool) -> Iterator[Tup
             if fault:
                 yield TcFault(fault), piece[start:end]
             else:
-                frame = frame_of(out, fields)
-                if _IS_SWAPPED:
-                    frame.scid = frame.scid >> 8 | (frame.scid & 255) << 8
-                yield frame, b"" if kind == control else piece[start + 6:end - check]
+                yield frame_of(out, fields), b"" if kind == control else piece[start + 6:end - check]
             start, fields = end, fields + _FOUND.size
         begun += total.value
     if begun < len(octets):
@@ -752,25 +764,27 @@ class TmExtractor(Single):
         return packets, None if extracted.first else extracted.lost
 
     def take_all(
-            self, octets: bytes, length: int) -> Iterator[Tuple[Union[TmFrame, TmFault], List[bytes], Optional[int]]]:
-        """Takes the frames of `length` octets that stand one after another, each when it is asked for: the frame, and
-        its packets and the number of frames missing before it, as `decode` and `take` give them; or in place of the
-        frame its TmFault, with no packets. Where octets are left at the end, TmFault 1 is the last. A ValueError for a
-        length that is not in 16 to 2,048."""
-        return self._all_of(_octets_of("octets", octets), _frame_length_of(length))
-
-    def _all_of(
-            self, octets: bytes, length: int) -> Iterator[Tuple[Union[TmFrame, TmFault], List[bytes], Optional[int]]]:
-        place, extracted, new, decode = _Part(), _TmExtracted(), TmFrame.__new__, FIRST.sedge_tm_decode
-        for start in range(0, len(octets), length):
-            whole, frame = octets[start:start + length], new(TmFrame)
-            fault = decode(whole, len(whole), length, frame, place)
-            if not fault:
-                fault, packets = self._taken(frame, place.of(whole), extracted)
-            if fault:
-                yield TmFault(fault), [], None
-            else:
-                yield frame, packets, None if extracted.first else extracted.lost
+            self, octets: bytes, length: int) -> List[Tuple[Union[TmFrame, TmFault], List[bytes], Optional[int]]]:
+        """Takes the frames of `length` octets that stand one after another: for each the frame, and its packets and the
+        number of frames missing before it, as `decode` and `take` give them; or in place of the frame its TmFault, with
+        no packets. Where octets are left at the end, TmFault 1 is the last. A ValueError for a length that is not in 16
+        to 2,048."""
+        octets, length = _octets_of("octets", octets), _frame_length_of(length)
+        answers: List[Tuple[Union[TmFrame, TmFault], List[bytes], Optional[int]]] = []
+        most = min(_PIECE, len(octets)) // length + 1
+        out, place = ctypes.create_string_buffer(most * _TAKEN.size + 1), ctypes.create_string_buffer(
+            len(self._memory) + most * length)
+        with self._lock:
+            begun, total, piece = 0, c_size_t(), octets
+            while found := _tm_extractor_frames(
+                    self._extractor, piece, len(piece), length, self._memory, len(self._memory), out,
+                    most * _TAKEN.size, place, len(place), total):
+                self._dropped += _add_taken(answers, out, found, place[:total.value])
+                begun += found * length
+                piece = octets[begun:begun + most * length]
+        if piece:
+            answers.append((TmFault(1), [], None))
+        return answers
 
     def _taken(self, frame: TmFrame, data: bytes, extracted: _TmExtracted) -> Tuple[int, List[bytes]]:
         """What the library answers, and the packets."""
@@ -795,6 +809,31 @@ class TmExtractor(Single):
         return bytes(self._memory[start:start + min(self._extractor.count, 2)])
 
 
+# What `_tm_extractor_frames` writes of a frame: the number of octets of its packets, its fault, whether it is the first
+# one, how many are missing before it, and whether a packet is dropped; and its fields, from the ninth octet on.
+_TAKEN, _TAKEN_FIELDS = Struct("<IBBBB11x"), 8
+
+
+def _add_taken(answers: List[Tuple[Union[TmFrame, TmFault], List[bytes], Optional[int]]], out: Any, found: int,
+               octets: bytes) -> int:
+    """Adds what these records say of frames whose packets have these octets, and gives the number of those that were
+    dropped."""
+    end, fields, all_dropped, frame_of = 0, _TAKEN_FIELDS, 0, _copier(TmFrame, "scid", "pointer")
+    for count, fault, first, lost, dropped in _TAKEN.iter_unpack(memoryview(out).cast("B")[:found * _TAKEN.size]):
+        packets: List[bytes] = []
+        if fault:
+            answers.append((TmFault(fault), packets, None))
+        else:
+            start, end = end, end + count
+            while start < end:
+                begun, start = start, start + 7 + (octets[start + 4] << 8 | octets[start + 5])
+                packets.append(octets[begun:start])
+            all_dropped += dropped
+            answers.append((frame_of(out, fields), packets, None if first else lost))
+        fields += _TAKEN.size
+    return all_dropped
+
+
 def _before_start(pointer: int, data: bytes) -> bytes:
     """The octets of a frame's data before the first packet that starts in it."""
     return data if pointer == NO_START else b"" if pointer == ONLY_IDLE else data[:pointer]
@@ -813,6 +852,9 @@ _tm_builder_build = _call("tm_builder_build", c_uint8, POINTER(_TmBuilder), c_ch
 _tm_extractor_frame = _call("tm_extractor_frame", c_uint8, POINTER(_TmExtractor), POINTER(TmFrame), c_char_p, c_size_t,
                             c_char_p, c_size_t, POINTER(_TmExtracted))
 _tm_packet = _call("tm_packet", c_bool, c_char_p, c_size_t, POINTER(_Part))
+_tm_extractor_frames = _call("tm_extractor_frames", c_size_t, POINTER(_TmExtractor), c_char_p, c_size_t,
+                             ("frame_length", c_size_t), c_char_p, c_size_t, c_char_p, c_size_t, c_char_p, c_size_t,
+                             POINTER(c_size_t))
 
 # ---- Packets in segments ----
 

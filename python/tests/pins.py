@@ -124,6 +124,7 @@ OTHERS = {
     "GapCheck.__init__": "gap_check_open", "Spacecraft._open": "spacecraft_open_kept config_fault",
     "Farm.__init__": "farm_open", "Farm.mode": "farm_state", "Fop.__init__": "fop_open",
     "TmBuilder.__init__": "tm_builder_open", "TmExtractor._taken": "tm_extractor_frame tm_packet",
+    "TmExtractor.take_all": "tm_extractor_frames",
     "_frames_in": "tc_frames",
     "segments": "map_count map_count map_segment", "_parts_of": "map_packet",
     "Alert.word": "alert_word", "Verdict.word": "verdict_word", "Map.take": "map_take dropped_word",
@@ -159,9 +160,9 @@ BY = {
 }
 # Methods that make none at all.
 NONE = {"TmFrame.__init__", "TmFrame.ocf", "TmBuilder.waiting", "TmExtractor.__init__", "TmExtractor.dropped",
-        "TmExtractor._begun", "TmExtractor.take", "TmExtractor.take_all", "TmExtractor._all_of", "TcFrame.decode_all",
-        "Ground.telemetry_all", "Map.__init__", "Clcw.__init__", "TcFrame.__init__", "Packet.__init__", "Config.__init__",
-        "Spacecraft.__init__", "Spacecraft._taken", "Link._taken", "Sender._direct"}
+        "TmExtractor._begun", "TmExtractor.take", "TcFrame.decode_all", "Ground.telemetry_all", "Map.__init__",
+        "Clcw.__init__", "TcFrame.__init__", "Packet.__init__", "Config.__init__", "Spacecraft.__init__",
+        "Spacecraft._taken", "Link._taken", "Sender._direct"}
 # Methods that read a struct, of which another one gives a field.
 READS = ("_read", "_read_ground", "_read_spacecraft")
 # What a method keeps for itself, wherever it does.

@@ -2,9 +2,9 @@
 use Rattle.std.proofs.Common.{◌≡◌, ◌≤◌, ◌<◌, ℕ, ◌+◌, ◌-◌, min, Bool, true, false, List, [], ◌∷◌, ◌++◌, length}
 use Rattle.std.proofs.Common.{take, drop, map, Option, Some, None, Ok, Err, refl, sym, ap, subst, ◌∙◌, arith, inl, inr}
 use Rattle.std.proofs.Common.{length-take, length-drop, length-append}
-use Rattle.std.specs.Prelude.{◌==◌, ◌%◌, if◌then◌else◌, IfOk}
+use Rattle.std.specs.Prelude.{◌==◌, ◌%◌, ◌||◌, nat_le, if◌then◌else◌, IfOk}
 use Rattle.std.specs.List.{concat}
-use Rattle.std.proofs.lemmas.Bool.{and_parts, le-leb, le-ltb, eqb-true, cases_lt}
+use Rattle.std.proofs.lemmas.Bool.{and_parts, le-leb, lt-leb, le-ltb, eqb-true, cases_lt}
 use Rattle.std.proofs.lemmas.Grind.{common_steps}
 use Rattle.std.proofs.lemmas.List.{drop_all, drop-drop, drop-append-le, map-append, drop-take}
 use Rattle.octets.proofs.Streams.{records_of-append, rest_of-append}
@@ -20,7 +20,15 @@ use Rattle.tm_link.proofs.Spelled.{passed_within, passed_beyond}
 use Rattle.sedgechisel.specs.declared.telemetry_builder.KeptBuilder.{KeptBuilder}
 use Rattle.sedgechisel.specs.Answers.{damaged}
 use Rattle.sedgechisel.specs.Builders.{queued_at, built_at, pending_of, whole_of, has_numbers, is_builder, state_of}
-use Rattle.sedgechisel.specs.Builders.{builder_described}
+use Rattle.sedgechisel.specs.Builders.{builder_described, are_whole, can_send}
+
+or-false : (b : Bool) → b || false ≡ b
+or-false true = refl
+or-false false = refl
+
+or-true : (b : Bool) → b || true ≡ true
+or-true true = refl
+or-true false = refl
 
 -- ---- the numbers
 
@@ -304,6 +312,48 @@ send_described b memory room begun passed idle size is room-is passed-is begun-i
     ∙ ap (λ (n : ℕ). Ok (with_all s (idle_after size b.idle_left (length s.pending)) (drop n s.pending)
     (left_after n b.begun sizes).0 (left_after n b.begun sizes).1)) room-is
 
+-- ---- whole packets as far as a frame reaches
+
+further : (room left all : ℕ) → left < room → nat_le (room - left) all ≡ nat_le room (left + all)
+further room left all lt =
+    elim (cases_lt all (room - left)) [
+      | inl less ↦
+          let beyond : left + all < room = omega arith in
+          lt-leb (room - left) all less ∙ sym (lt-leb room (left + all) beyond)
+      | inr le ↦ le-leb (room - left) all le ∙ sym (le-leb room (left + all) (omega arith))
+    ]
+
+-- the packet that was begun is passed, and the next one is whole
+pub whole_one : (rest : List ℕ) (left room n : ℕ) → left < room → Some (take n rest) ≡ first_packet rest
+    → n ≤ length rest
+    → are_whole (drop n rest) n (room - left) ≡ are_whole rest left room
+whole_one rest left room n lt first within =
+    let one = one_more-by_len rest n first within in
+    let behind : List ℕ = concat (packets_in (drop n rest)) in
+    let count : length (concat (packets_in rest)) ≡ n + length behind =
+    omega (
+      arith,
+      ap (λ (ps : List (List ℕ)). length (concat ps)) one.0,
+      length-append (take n rest) behind,
+      length-take n rest,
+    ) in
+    ap (λ (b : Bool). (length (rest_in (drop n rest)) == 0) || b) (further room left (n + length behind) lt)
+    ∙ ap (λ (k : ℕ). (length (rest_in (drop n rest)) == 0) || nat_le room (left + k)) (sym count)
+    ∙ ap (λ (xs : List ℕ). (length xs == 0) || nat_le room (left + length (concat (packets_in rest)))) (sym one.1)
+
+pub whole_none : (rest : List ℕ) (left room : ℕ) → left < room → first_packet rest ≡ None
+    → are_whole rest left room ≡ (length rest == 0)
+whole_none rest left room lt none =
+    let no = no_more rest none in
+    ap (λ (xs : List ℕ). (length xs == 0) || nat_le room (left + length (concat (packets_in rest)))) no.1
+    ∙ ap (λ (ps : List (List ℕ)). (length rest == 0) || nat_le room (left + length (concat ps))) no.0
+    ∙ ap (λ (b : Bool). (length rest == 0) || b) (lt-leb room (left + 0) (omega arith)) ∙ or-false (length rest == 0)
+
+pub whole_all : (rest : List ℕ) (left room : ℕ) → room ≤ left → are_whole rest left room ≡ true
+whole_all rest left room le =
+    ap (λ (b : Bool). (length (rest_in rest) == 0) || b) (le-leb room (left + length (concat (packets_in rest)))
+    (omega arith)) ∙ or-true (length (rest_in rest) == 0)
+
 -- ---- the next frame's count
 
 counted_by : (b : KeptBuilder) (memory : List ℕ) (s : BuilderState) (is : Bool)
@@ -326,12 +376,12 @@ if_taken true x number P e p = p
 if_taken false x number P e p = absurd cc
 
 pub queue_taken : (b : KeptBuilder) (packet memory : List ℕ) (new : KeptBuilder) (after : List ℕ)
-    → is_builder b memory ≡ true → is_to_send packet ≡ true → b.count + length packet ≤ length memory
+    → has_numbers b (length memory) ≡ true → is_to_send packet ≡ true → b.count + length packet ≤ length memory
     → builder_described new after ≡ Ok (after_queue (state_of b memory) packet)
     → IfOk (queued_at b packet memory) (λ s. builder_described new after ≡ Ok s)
 queue_taken b packet memory new after is send room h = rw (is, send, le-ltb _ _ room) h
 
-pub build_taken : (b : KeptBuilder) (ocf memory : List ℕ) (room : ℕ) → is_builder b memory ≡ true
+pub build_taken : (b : KeptBuilder) (ocf memory : List ℕ) (room : ℕ) → can_send b memory ≡ true
     → (length ocf == 4) ≡ true → b.length ≤ room
     → built_at b ocf memory room ≡ Ok (build_step (state_of b memory) ocf)
 build_taken b ocf memory room is four long = rw (is, four, le-ltb _ _ long) refl

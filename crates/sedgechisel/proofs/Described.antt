@@ -141,3 +141,10 @@ report_describes total b r f fields octets answer is same =
     let read : telemetry.frame_read total b ≡ Ok (tm.frame_view f) =
     ap (numbered tm_faults.fault_row) (sym answer ∙ ap (map_ok tm.frame_view) is) in
     rw same (found_reports total b (tm.frame_view f) octets read)
+
+-- the fields and the data of a frame describe it
+pub fields_again : (total : ℕ) (view : tm.FrameView) (b : List ℕ) → tm.IsTmFrame total view b
+    → telemetry.frame_described (telemetry.fields_of view) view.payload ≡ view
+fields_again total view b is =
+    let again = tm_frames.pointer_again view.pointer (total - 12) (omega (arith, is.most)) is.pointer in
+    rw (again.again) refl

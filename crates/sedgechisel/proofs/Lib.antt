@@ -5,3 +5,4 @@ mod Described
 mod Builders
 mod Extractors
 mod FramesInOrder
+mod ExtractedFrames

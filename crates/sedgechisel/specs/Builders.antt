@@ -1,6 +1,7 @@
 -- A builder of telemetry frames as C keeps it, with its packets in the caller's memory.
-use Rattle.std.specs.Prelude.{ℕ, ◌+◌, ◌-◌, List, length, take, drop, map, Bool, not, ◌&&◌, ◌==◌}
-use Rattle.std.specs.Prelude.{nat_lt, nat_le, if◌then◌else◌, Result, Ok, Err}
+use Rattle.std.specs.Prelude.{ℕ, ◌+◌, ◌-◌, List, length, take, drop, map, Bool, not, ◌&&◌, ◌||◌}
+use Rattle.std.specs.Prelude.{◌==◌, nat_lt, nat_le, if◌then◌else◌, Result, Ok, Err}
+use Rattle.std.specs.List.{concat}
 use Rattle.space_packet.specs.Packets.{packets_in, rest_in}
 use Rattle.tm_link.specs.declared.turn.Turn.{Turn}
 use Rattle.tm_link.specs.declared.fault.TmFault.TheVariants.{NotAPacket, Memory, Room, FieldRange}
@@ -28,9 +29,21 @@ has_numbers b room =
     && nat_le b.count (room - b.from)
     && nat_le b.begun b.count
 
--- and its octets end with a packet
+-- and all of its octets end with a packet
 abbrev pub is_builder : KeptBuilder → List ℕ → Bool
 is_builder b memory = has_numbers b (length memory) && (length (rest_in (whole_of b memory)) == 0)
+
+-- octets from a packet's start on are whole packets as far as this many octets reach, of which the
+-- first ones are left of a packet that was begun
+abbrev pub are_whole : List ℕ → ℕ → ℕ → Bool
+are_whole octets begun room =
+    (length (rest_in octets) == 0) || nat_le room (begun + length (concat (packets_in octets)))
+
+-- a builder whose octets are whole packets as far as the next frame takes them
+abbrev pub can_send : KeptBuilder → List ℕ → Bool
+can_send b memory =
+    has_numbers b (length memory)
+    && are_whole (whole_of b memory) b.begun (b.length - 12 - b.idle_left)
 
 -- what it knows beside its octets
 abbrev pub turn_of : KeptBuilder → Turn
@@ -59,10 +72,10 @@ builder_opened scid vcid total =
     if builder_fits scid vcid total then Ok (new_builder scid vcid total)
     else Err (fault_row FieldRange).0
 
--- the state after a packet was queued
+-- the state after a packet was queued, if the octets before it end with a packet
 abbrev pub queued_at : KeptBuilder → List ℕ → List ℕ → Result BuilderState ℕ
 queued_at b packet memory =
-    if not (is_builder b memory) then Err damaged
+    if not (has_numbers b (length memory)) then Err damaged
     else if not (is_to_send packet) then Err (fault_row NotAPacket).0
     else if nat_lt (length memory) (b.count + length packet) then Err (fault_row Memory).0
     else Ok (after_queue (state_of b memory) packet)
@@ -71,7 +84,7 @@ queued_at b packet memory =
 -- after it
 abbrev pub built_at : KeptBuilder → List ℕ → List ℕ → ℕ → Result (FrameView × BuilderState) ℕ
 built_at b ocf memory room =
-    if not (is_builder b memory) then Err damaged
+    if not (can_send b memory) then Err damaged
     else if not (length ocf == 4) then Err wrong_count
     else if nat_lt room b.length then Err (fault_row Room).0
     else Ok (build_step (state_of b memory) ocf)

@@ -9,4 +9,5 @@ pub mod Packets
 pub mod Receivers
 pub mod Senders
 pub mod TelemetryFrames
+pub mod ExtractedFrames
 pub mod Extractors

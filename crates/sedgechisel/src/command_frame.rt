@@ -188,7 +188,7 @@ fn record_of(octets: &[u8], checked: bool) -> [u8; 12]
 }
 
 // The two octets of a number, the lower one first.
-fn halves(number: u16) -> (u8, u8)
+pub(crate) fn halves(number: u16) -> (u8, u8)
     ensures low { result.0 ≡ number % 256 }
     ensures high { result.1 ≡ number / 256 }
 {

@@ -1,17 +1,17 @@
 // Building telemetry frames of packets in the caller's memory.
 
-ghost use Rattle.std.specs.Prelude.{◌≡◌, ◌≤◌, ◌+◌, ◌-◌, ◌++◌, ◌==◌, ℕ, List, [], length, take, map, true, Ok, IfOk, OnErr, IfSome, is_some};
+ghost use Rattle.std.specs.Prelude.{◌≡◌, ◌≤◌, ◌+◌, ◌-◌, ◌++◌, ◌==◌, ℕ, List, [], length, take, map, true, Ok, IfOk, OnErr, IfSome, is_some, OnOk};
 ghost use Rattle.space_packet.specs.Packets.{packets_in};
 ghost use Rattle.tm_link.specs.Builder.{left_after, after_send, after_fill, with_next_count};
 ghost use Rattle.tm_link.specs.Layout.{IsTmFrame};
 ghost use Rattle.tm_link.specs.Encoding.{spelling};
 ghost use Rattle.sedgechisel.specs.Answers.{status_of, IsSpelled};
-ghost use Rattle.sedgechisel.specs.Builders.{pending_of, has_numbers, is_builder, state_of, builder_described, builder_opened, queued_at, built_at, turn_of};
+ghost use Rattle.sedgechisel.specs.Builders.{pending_of, has_numbers, is_builder, state_of, builder_described, builder_opened, queued_at, built_at, turn_of, can_send, are_whole};
 
 use crate::assembly::add;
 use crate::numbers::{DAMAGED, WRONG_COUNT};
 use space_packet::packet_len;
-use tm_link::{TmFault, Turn, can_build, can_queue, idle_left_after, put_next, rest_after_packets};
+use tm_link::{TmFault, Turn, can_build, can_queue, idle_left_after, put_next};
 
 /// A builder of telemetry frames (CCSDS 132.0-B-3, 4.2): where the octets that are to be sent stand in the memory, how
 /// many of them are left of the packet that was begun, the identifiers, the octets of a frame, the next frame's count,
@@ -70,7 +70,8 @@ pub extern "C" fn sedge_tm_builder_open(
     0
 }
 
-/// Queues a packet, all of its octets, after those that are to be sent. Returns 0, or the first of `SEDGE_DAMAGED`,
+/// Queues a packet, all of its octets, after those that are to be sent, at which it does not look. Returns 0, or the
+/// first of `SEDGE_DAMAGED` (the numbers of the struct are no builder's, or its octets are not in the memory),
 /// `SEDGE_TM_NOT_A_PACKET` (not exactly one packet, or an idle one) and `SEDGE_TM_MEMORY` (the octets to be sent and
 /// the packet are more than the memory has).
 #[unsafe(no_mangle)]
@@ -81,12 +82,21 @@ pub extern "C" fn sedge_tm_builder_queue(
     memory: &mut [u8],
 ) -> u8
     ensures answer { result ≡ status_of (queued_at builder.old packet.now memory.old) }
-    ensures after { IfOk (queued_at builder.old packet.now memory.old)
+    ensures after { is_builder builder.old memory.old ≡ true
+        → IfOk (queued_at builder.old packet.now memory.old)
         (λ s. builder_described builder.new memory.new ≡ Ok s) }
+
+    // Whatever stands before it, the packet stands after that, and nothing else changes.
+    ensures queued { OnOk (queued_at builder.old packet.now memory.old)
+        ((pending_of builder.new memory.new ≡ pending_of builder.old memory.old ++ packet.now)
+        × (builder.new ≡ record builder.old {
+          from = builder.new.from;
+          count = builder.old.count + length packet.now;
+        })) }
     ensures unchanged { OnErr (queued_at builder.old packet.now memory.old)
         ((builder.new ≡ builder.old) × (memory.new ≡ memory.old)) }
 {
-    if !is_builder(builder, memory) {
+    if !has_numbers(builder, memory.len()) {
         return DAMAGED;
     }
     if !can_queue(packet) {
@@ -102,7 +112,8 @@ pub extern "C" fn sedge_tm_builder_queue(
 /// Writes the next frame to the beginning of `out`, with this operational control field, of four octets as
 /// `sedge_clcw_encode` writes them, and its length, that of all the builder's frames, to `total`. Where packets run
 /// out within the frame, an idle packet fills it; where nothing is to be sent, the frame has only idle data. Returns
-/// 0, or the first of `SEDGE_DAMAGED`, `SEDGE_WRONG_COUNT` (the field is not four octets) and `SEDGE_TM_ROOM`.
+/// 0, or the first of `SEDGE_DAMAGED` (as for `sedge_tm_builder_queue`, or the octets that this frame takes are not of
+/// whole packets), `SEDGE_WRONG_COUNT` (the field is not four octets) and `SEDGE_TM_ROOM`.
 #[unsafe(no_mangle)]
 #[must_use]
 pub extern "C" fn sedge_tm_builder_build(
@@ -119,12 +130,13 @@ pub extern "C" fn sedge_tm_builder_build(
     // So `sedge_tm_decode` reads this frame.
     ensures spells { IfOk (built_at builder.old ocf.now memory.now (length out.old))
         (λ r. IsTmFrame builder.old.length r.0 (take builder.old.length out.new)) }
-    ensures after { IfOk (built_at builder.old ocf.now memory.now (length out.old))
+    ensures after { is_builder builder.old memory.now ≡ true
+        → IfOk (built_at builder.old ocf.now memory.now (length out.old))
         (λ r. builder_described builder.new memory.now ≡ Ok r.1) }
     ensures unchanged { OnErr (built_at builder.old ocf.now memory.now (length out.old))
         (builder.new ≡ builder.old) }
 {
-    if !is_builder(builder, memory) {
+    if !can_send(builder, memory) {
         return DAMAGED;
     }
     let Some(four) = four_of(ocf) else {
@@ -155,11 +167,41 @@ fn four_of(octets: &[u8]) -> Option<[u8; 4]>
     }
 }
 
-fn is_builder(builder: &KeptBuilder, memory: &[u8]) -> bool
-    ensures { result ≡ is_builder builder.now memory.now }
+// Whether this is a builder whose octets are whole packets as far as the next frame takes them.
+fn can_send(builder: &KeptBuilder, memory: &[u8]) -> bool
+    ensures { result ≡ can_send builder.now memory.now }
 {
-    has_numbers(builder, memory.len())
-        && rest_after_packets(&pending(builder, memory)[builder.begun..]).is_empty()
+    if !has_numbers(builder, memory.len()) {
+        return false;
+    }
+    let size = builder.length as usize - 12;
+    let idle_left = builder.idle_left as usize;
+    are_whole(
+        &pending(builder, memory)[builder.begun..],
+        builder.begun,
+        size - idle_left.min(size),
+    )
+}
+
+// Whether octets are whole packets as far as this many octets reach, of which the first ones are left of a packet that
+// was begun.
+fn are_whole(packets: &[u8], begun: usize, count: usize) -> bool
+    ensures { result ≡ are_whole packets.now begun count }
+{
+    let mut rest = packets;
+    let mut left = begun;
+    let mut room = count;
+    while left < room {
+        room -= left;
+        match packet_len(rest) {
+            Some(len) => {
+                left = len;
+                rest = rest.split_at(len).1;
+            }
+            None => return rest.is_empty(),
+        }
+    }
+    true
 }
 
 fn has_numbers(builder: &KeptBuilder, room: usize) -> bool
@@ -235,8 +277,8 @@ fn put(builder: &mut KeptBuilder, packet: &[u8], memory: &mut [u8])
 
 // Passes a frame.
 fn pass(builder: &mut KeptBuilder, memory: &[u8])
-    requires { is_builder builder.old memory.now ≡ true }
-    ensures { builder_described builder.new memory.now
+    requires { has_numbers builder.old (length memory.now) ≡ true }
+    ensures { is_builder builder.old memory.now ≡ true → builder_described builder.new memory.now
         ≡ Ok (with_next_count (after_fill (state_of builder.old memory.now))) }
 {
     if builder.idle_left != 0 || builder.count != 0 {
@@ -247,8 +289,8 @@ fn pass(builder: &mut KeptBuilder, memory: &[u8])
 
 // Passes the octets of a data field.
 fn send(builder: &mut KeptBuilder, memory: &[u8])
-    requires { is_builder builder.old memory.now ≡ true }
-    ensures { builder_described builder.new memory.now
+    requires { has_numbers builder.old (length memory.now) ≡ true }
+    ensures { is_builder builder.old memory.now ≡ true → builder_described builder.new memory.now
         ≡ Ok (after_send (state_of builder.old memory.now) (builder.old.length - 12)) }
 {
     let size = builder.length as usize - 12;

@@ -123,7 +123,7 @@ pub extern "C" fn sedge_tm_packet(payload: &[u8], packet: &mut Part) -> bool
 }
 
 // The first packet from a place on that isn't idle.
-fn packet_after(octets: &[u8], place: usize) -> Option<Part>
+pub(crate) fn packet_after(octets: &[u8], place: usize) -> Option<Part>
     requires { place ≤ length octets.now }
     ensures { StandsAfter octets.now place result }
 {
@@ -137,7 +137,7 @@ fn packet_after(octets: &[u8], place: usize) -> Option<Part>
     None
 }
 
-fn is_whole(extractor: &KeptExtractor, room: usize) -> bool
+pub(crate) fn is_whole(extractor: &KeptExtractor, room: usize) -> bool
     ensures { result ≡ is_extractor extractor.now room }
 {
     extractor.seen < 2
@@ -146,7 +146,7 @@ fn is_whole(extractor: &KeptExtractor, room: usize) -> bool
         && (extractor.seen == 1 || extractor.count == 0)
 }
 
-fn is_pointer_within(pointer: Pointer, size: usize) -> bool
+pub(crate) fn is_pointer_within(pointer: Pointer, size: usize) -> bool
     ensures { result ≡ pointer_fits pointer size }
 {
     match pointer {
@@ -156,7 +156,7 @@ fn is_pointer_within(pointer: Pointer, size: usize) -> bool
 }
 
 // The last frame's count, once there was a frame.
-fn last_of(extractor: &KeptExtractor) -> Option<u8>
+pub(crate) fn last_of(extractor: &KeptExtractor) -> Option<u8>
     ensures { result ≡ last_of extractor.now }
 {
     if extractor.seen == 1 {

@@ -98,7 +98,7 @@ pub(crate) fn pointer_from(number: u16) -> Pointer
     }
 }
 
-fn fields_from(frame: &TmFrame) -> ReportFrame
+pub(crate) fn fields_from(frame: &TmFrame) -> ReportFrame
     ensures { result ≡ fields_of (frame_view frame.now) }
 {
     ReportFrame {

@@ -307,6 +307,11 @@ unsafe extern "C" {
         room: usize, extracted: &mut TmExtracted,
     ) -> u8;
     fn sedge_tm_packet(data: *const u8, data_count: usize, packet: &mut Part) -> bool;
+    fn sedge_tm_extractor_frames(
+        extractor: &mut TmExtractor, octets: *const u8, count: usize, frame_length: usize, memory: *mut u8,
+        memory_room: usize, out: *mut u8, out_room: usize, packets: *mut u8, packets_room: usize,
+        total: &mut usize,
+    ) -> usize;
 
     fn sedge_map_take(
         map: &mut Map, flags: u8, data: *const u8, data_count: usize, memory: *mut u8, room: usize,
@@ -429,6 +434,27 @@ pub fn tm_extractor_frame(
 
 pub fn tm_packet(data: &[u8], packet: &mut Part) -> bool {
     unsafe { sedge_tm_packet(data.as_ptr(), data.len(), packet) }
+}
+
+pub fn tm_extractor_frames(
+    extractor: &mut TmExtractor, octets: &[u8], frame_length: usize, memory: &mut [u8], out: &mut [u8],
+    packets: &mut [u8], total: &mut usize,
+) -> usize {
+    unsafe {
+        sedge_tm_extractor_frames(
+            extractor,
+            octets.as_ptr(),
+            octets.len(),
+            frame_length,
+            memory.as_mut_ptr(),
+            memory.len(),
+            out.as_mut_ptr(),
+            out.len(),
+            packets.as_mut_ptr(),
+            packets.len(),
+            total,
+        )
+    }
 }
 
 pub fn map_take(map: &mut Map, flags: u8, data: &[u8], memory: &mut [u8], taken: &mut Taken) -> u8 {

@@ -74,5 +74,5 @@ pub use nodes::{
 pub use packet::{GapCheck, Packet, PacketFault, PacketKind, SequenceFlags};
 pub use tc::{Body, Command, Fecf, Segment, SegmentFlags, TcFault, TcFrame, TcFrames};
 pub use tm::{Pointer, TmFault, TmFrame, TmFrames};
-pub use tm_packets::{Extracted, TmBuilder, TmExtractor, TmPackets};
+pub use tm_packets::{Extracted, TakenFrame, TakenFrames, TmBuilder, TmExtractor, TmPackets};
 pub use version::{version, Version};

@@ -141,7 +141,7 @@ impl<'a> Iterator for TmFrames<'a> {
 impl FusedIterator for TmFrames<'_> {}
 
 impl Pointer {
-    fn from_raw(pointer: u16) -> Self {
+    pub(crate) fn from_raw(pointer: u16) -> Self {
         match pointer {
             ffi::SEDGE_POINTER_ONLY_IDLE => Self::OnlyIdle,
             ffi::SEDGE_POINTER_NO_START => Self::NoStart,

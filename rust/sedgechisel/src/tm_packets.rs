@@ -2,8 +2,9 @@
 //! and 4.3).
 
 use crate::ffi;
+use crate::map::{packets, Packets};
 use crate::memory::Memory;
-use crate::tm::{TmFault, TmFrame};
+use crate::tm::{Pointer, TmFault, TmFrame};
 use core::iter::FusedIterator;
 
 /// Builds the frames of one virtual channel, all of one length, out of packets that wait in memory that its caller
@@ -144,7 +145,43 @@ impl<'m> TmExtractor<'m> {
         let lost = (extracted.first == 0).then_some(extracted.lost);
         Ok(Extracted { packets: TmPackets { joined, data: frame.data, last: extracted.packets }, lost })
     }
+
+    /// Takes the frames of `length` octets that stand one after another, by one call of the library: each as
+    /// [`TmFrame::decode`] and then [`take`](Self::take) take it, before this returns. What comes of them is written to
+    /// the other two: 19 octets of each frame, and the octets of all packets.
+    ///
+    /// It stops where one of these has no room: `packets` has to have as much left for a frame as the memory and the
+    /// frame have. [`len`](ExactSizeIterator::len) says how many frames were taken; go on with the octets after these.
+    ///
+    /// ```
+    /// use sedgechisel::{TmExtractor, TmFault};
+    ///
+    /// let (octets, mut memory) = ([0; 60], [0; 4096]);
+    /// let (mut records, mut packets) = ([0; 19 * 2], [0; 5000]);
+    /// let mut extractor = TmExtractor::new(&mut memory);
+    /// let mut rest = &octets[..];
+    /// while rest.len() >= 20 {
+    ///     let frames = extractor.take_all(rest, 20, &mut records, &mut packets);
+    ///     rest = &rest[20 * frames.len()..];
+    ///     for frame in frames {
+    ///         match frame {
+    ///             Ok(taken) => taken.packets.for_each(|it| println!("{it:?}")),
+    ///             Err((fault, octets)) => assert_eq!((fault, octets.len()), (TmFault::Check, 20)),
+    ///         }
+    ///     }
+    /// }
+    /// ```
+    pub fn take_all<'t>(
+        &mut self, octets: &'t [u8], length: usize, records: &'t mut [u8], packets: &'t mut [u8],
+    ) -> TakenFrames<'t> {
+        let (kept, memory, mut total) = (&mut self.kept, &mut self.memory, 0);
+        let frames = ffi::tm_extractor_frames(kept, octets, length, memory, records, packets, &mut total);
+        TakenFrames { octets, length, records: &records[..RECORD * frames], packets: &packets[..total] }
+    }
 }
+
+/// The octets of a record.
+const RECORD: usize = 19;
 
 #[cfg(feature = "nodes")]
 #[cfg_attr(docsrs, doc(cfg(feature = "nodes")))]
@@ -189,3 +226,69 @@ impl<'t> Iterator for TmPackets<'t> {
 }
 
 impl FusedIterator for TmPackets<'_> {}
+
+/// What came of frames one after another, by [`TmExtractor::take_all`]: of each, or its fault with its octets.
+#[derive(Clone, Debug)]
+pub struct TakenFrames<'t> {
+    octets: &'t [u8],
+    length: usize,
+    records: &'t [u8],
+    packets: &'t [u8],
+}
+
+/// A frame that was taken, and its packets.
+#[derive(Clone, Debug)]
+pub struct TakenFrame<'t> {
+    /// The frame.
+    pub frame: TmFrame<'t>,
+    /// The packets whose last octets it has, but for idle ones.
+    pub packets: Packets<'t>,
+    /// The number of frames that are missing before it, modulo 256; none is known before the first (4.1.2.6).
+    pub lost: Option<u8>,
+    /// Whether a packet that was begun is dropped, which is not idle.
+    pub dropped: bool,
+}
+
+impl<'t> TakenFrame<'t> {
+    /// What a record says of a frame of these octets, whose packets these are.
+    fn of(record: &[u8], octets: &'t [u8], found: &'t [u8]) -> Result<Self, TmFault> {
+        TmFault::judge(record[4])?;
+        let two = |at| u16::from_le_bytes([record[at], record[at + 1]]);
+        let frame = TmFrame {
+            scid: two(8),
+            vcid: record[12],
+            mc_count: record[13],
+            vc_count: record[14],
+            pointer: Pointer::from_raw(two(10)),
+            ocf: [record[15], record[16], record[17], record[18]],
+            data: &octets[6..octets.len() - 6],
+        };
+        let lost = (record[5] == 0).then_some(record[6]);
+        Ok(Self { frame, packets: packets(found), lost, dropped: record[7] == 1 })
+    }
+}
+
+impl<'t> Iterator for TakenFrames<'t> {
+    type Item = Result<TakenFrame<'t>, (TmFault, &'t [u8])>;
+
+    fn next(&mut self) -> Option<Self::Item> {
+        if self.records.is_empty() {
+            return None;
+        }
+        let (record, records) = self.records.split_at(RECORD);
+        let (whole, octets) = self.octets.split_at(self.length);
+        let count = u32::from_le_bytes([record[0], record[1], record[2], record[3]]);
+        let (found, packets) = self.packets.split_at(count as usize);
+        (self.records, self.octets, self.packets) = (records, octets, packets);
+        Some(TakenFrame::of(record, whole, found).map_err(|fault| (fault, whole)))
+    }
+
+    fn size_hint(&self) -> (usize, Option<usize>) {
+        let frames = self.records.len() / RECORD;
+        (frames, Some(frames))
+    }
+}
+
+impl ExactSizeIterator for TakenFrames<'_> {}
+
+impl FusedIterator for TakenFrames<'_> {}

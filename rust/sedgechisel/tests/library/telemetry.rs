@@ -76,6 +76,60 @@ fn a_long_packet(mut extractor: TmExtractor) {
     assert!(extractor.part().is_empty());
 }
 
+/// Many frames come as each by itself: some with a damaged octet, some lost, in places that hold a few.
+#[test]
+fn frames_one_after_another() {
+    let (mut sending, mut room, mut octets) = ([0; 200], [0; TmFrame::LONGEST], Vec::new());
+    let mut builder = TmBuilder::new(1, 0, 24, &mut sending).unwrap();
+    for k in 0..300 {
+        while k % 20 < 18 && builder.waiting().len() < 100 {
+            builder.queue(if k % 3 == 0 { &LONG[..] } else { &FOUR[k % 4] }).unwrap();
+        }
+        let frame = builder.build(OCF, &mut room).unwrap();
+        if k % 7 == 3 {
+            frame[k % 24] ^= 4;
+        }
+        if k % 9 != 8 {
+            octets.extend_from_slice(frame);
+        }
+    }
+    octets.extend_from_slice(b"rest");
+    let (mut memory, mut other, mut packets) = ([0; 100], [0; 100], [0; 300]);
+    let (mut many, mut alone) = (TmExtractor::new(&mut memory), TmExtractor::new(&mut other));
+    let (mut rest, mut found, mut dropped, mut refused) = (&octets[..], 0, 0, 0);
+    while rest.len() >= 24 {
+        let mut records = [0; 19 * 7];
+        let frames = many.take_all(rest, 24, &mut records, &mut packets);
+        assert!((1..=7).contains(&frames.len()));
+        let (pieces, later) = rest.split_at(24 * frames.len());
+        rest = later;
+        for (one, piece) in frames.zip(pieces.chunks(24)) {
+            match (one, TmFrame::decode(piece, 24)) {
+                (Ok(one), Ok(frame)) => {
+                    let wanted = alone.take(&frame).unwrap();
+                    assert_eq!((&one.frame, one.lost), (&frame, wanted.lost));
+                    let packets: Vec<_> = one.packets.collect();
+                    assert_eq!(packets, wanted.packets.collect::<Vec<_>>());
+                    found += packets.len();
+                    dropped += usize::from(one.dropped);
+                }
+                (Err(one), Err(fault)) => {
+                    assert_eq!(one, (fault, piece));
+                    refused += 1;
+                }
+                (one, other) => panic!("{one:?} and {other:?}"),
+            }
+        }
+        assert_eq!(many.part(), alone.part());
+    }
+    assert_eq!((rest, refused), (&b"rest"[..], 38));
+    assert!(found > 100 && dropped > 10, "{found} {dropped}");
+    let mut records = [0; 19];
+    for (octets, length, room) in [(&octets[..23], 24, 300), (&octets[..], 0, 300), (&octets[..], 24, 123)] {
+        assert_eq!(many.take_all(octets, length, &mut records, &mut packets[..room]).len(), 0);
+    }
+}
+
 #[test]
 fn refusals() {
     for (scid, vcid, length) in [(1024, 0, 20), (0, 8, 20), (0, 0, 15), (0, 0, 2049), (0, 0, 65_556)] {

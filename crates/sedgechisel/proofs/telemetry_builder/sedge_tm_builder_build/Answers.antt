@@ -6,7 +6,7 @@ use Rattle.tm_link.specs.declared.turn.Turn.{Turn}
 use Rattle.tm_link.specs.Builder.{BuilderState, frame_built, state_with}
 use Rattle.tm_link.specs.Layout.{FrameView, IsTmFrame}
 use Rattle.sedgechisel.specs.declared.telemetry_builder.KeptBuilder.{KeptBuilder}
-use Rattle.sedgechisel.specs.Builders.{is_builder, state_of, turn_of, pending_of}
+use Rattle.sedgechisel.specs.Builders.{can_send, state_of, turn_of, pending_of}
 use Rattle.sedgechisel.proofs.Builders.{build_taken}
 use Rattle.sedgechisel.proofs.telemetry_builder.sedge_tm_builder_build.Goals as goal
 
@@ -15,7 +15,7 @@ returns-clause-spells c =
     let b : KeptBuilder = c.args.builder.now in
     let memory : List ℕ = c.args.memory.now in
     let out : List ℕ = c.put_next.new.out in
-    let is : is_builder b memory ≡ true = sym c.is_builder.ensures ∙ c.if-not-is_builder.false in
+    let is : can_send b memory ≡ true = sym c.can_send.ensures ∙ c.if-not-can_send.false in
     let four : (length c.args.ocf.now == 4) ≡ true = sym c.four_of.ensures.some ∙ ap (λ o. is_some o) c.in-Some.is in
     let long : b.length ≤ length c.args.out.now = omega (arith, c.if-out-len.false) in
     let n : ℕ = length (take b.length c.args.out.now) in

@@ -7,7 +7,7 @@ use Rattle.sedgechisel.proofs.Builders.{send_described}
 use Rattle.sedgechisel.proofs.telemetry_builder.send.Goals as goal
 
 pub returns : goal.returns
-returns c =
+returns c = λ is.
     let size : ℕ = c.args.builder.now.length - 12 in
     let room : ℕ = size - c.min.result in
     let begun : ℕ = c.args.builder.now.begun in
@@ -15,7 +15,7 @@ returns c =
     ≡ drop begun (pending_of c.args.builder.now c.args.memory.now) =
     take_rest c.pending.result.now begun ∙ ap (drop begun) c.pending.ensures in
     send_described c.args.builder.now c.args.memory.now room c.begun_after-builder.result c.min-passed.result
-    c.idle_left_after-left.result size c.requires (omega (arith, c.min.ensures)) c.min-passed.ensures
+    c.idle_left_after-left.result size is (omega (arith, c.min.ensures)) c.min-passed.ensures
     (c.begun_after-builder.ensures
     ∙ ap (λ (xs : List ℕ). (left_after room begun (map length (packets_in xs))).0) behind)
     c.idle_left_after-left.ensures.value c.idle_left_after-left.ensures.most

@@ -1,0 +1,173 @@
+use Rattle.std.proofs.Common.{◌≡◌, ◌<◌, ℕ, ◌+◌, ◌-◌, ◌/◌, ◌++◌, List, length, take, drop, Bool, true, false}
+use Rattle.std.proofs.Common.{Result, sym, ap, ◌∙◌, arith, length-drop}
+use Rattle.std.proofs.lemmas.List.{drop-drop}
+use Rattle.tm_link.specs.Extractor.{ExtractorState, Extracted}
+use Rattle.sedgechisel.specs.Extractors.{extractor_described}
+use Rattle.sedgechisel.specs.ExtractedFrames.{Run, is_end, run_from, before, record_of, packets_by, came_of, state_by}
+use Rattle.sedgechisel.proofs.FramesInOrder.{piece_is, later, all_done}
+use Rattle.sedgechisel.proofs.ExtractedFrames.{IsNext, next_is, run_next, run_none, run_done, runs_on, run_ends}
+use Rattle.sedgechisel.proofs.ExtractedFrames.{end_is, record_is, came_equal}
+use Rattle.sedgechisel.proofs.extracted_frames.sedge_tm_extractor_frames.Goals as goal
+
+pub returns-then-is_end-clause-records : goal.returns-then-is_end-clause-records
+returns-then-is_end-clause-records c =
+    let most : ℕ = length c.args.out.now / 19 in
+    let state : Result ExtractorState ℕ = extractor_described c.frames.extractor c.frames.memory in
+    let end : is_end c.args.frame_length (length c.args.memory.now) (length c.args.packets.now - c.frames.end)
+    (drop c.frames.from c.args.octets.now) ≡ true =
+    end_is c.args.frame_length c.frames.end c.frames.from c.frames.memory c.args.memory.now c.frames.packets
+    c.args.packets.now c.args.octets.now c.frames.invariant.memory c.frames.invariant.place
+    ∙ sym c.is_end.ensures ∙ c.if-is_end.true in
+    let ends = run_ends _ _ _ _ state c.frames.invariant.runs
+    (run_none c.args.frame_length (length c.args.memory.now) (length c.args.packets.now - c.frames.end)
+    (drop c.frames.from c.args.octets.now) state c.frames.frames most c.frames-test.true end) in
+    (all_done c.frames.out c.args.out.now _ c.frames.at
+    (omega (arith, c.frames.invariant.at, c.frames.invariant.frames, c.frames.invariant.out)) ends.0
+    c.frames.invariant.after_records).1
+
+pub returns-then-is_end-clause-packets : goal.returns-then-is_end-clause-packets
+returns-then-is_end-clause-packets c =
+    let most : ℕ = length c.args.out.now / 19 in
+    let state : Result ExtractorState ℕ = extractor_described c.frames.extractor c.frames.memory in
+    let end : is_end c.args.frame_length (length c.args.memory.now) (length c.args.packets.now - c.frames.end)
+    (drop c.frames.from c.args.octets.now) ≡ true =
+    end_is c.args.frame_length c.frames.end c.frames.from c.frames.memory c.args.memory.now c.frames.packets
+    c.args.packets.now c.args.octets.now c.frames.invariant.memory c.frames.invariant.place
+    ∙ sym c.is_end.ensures ∙ c.if-is_end.true in
+    let ends = run_ends _ _ _ _ state c.frames.invariant.runs
+    (run_none c.args.frame_length (length c.args.memory.now) (length c.args.packets.now - c.frames.end)
+    (drop c.frames.from c.args.octets.now) state c.frames.frames most c.frames-test.true end) in
+    (all_done c.frames.packets c.args.packets.now _ c.frames.end c.frames.invariant.end ends.1
+    c.frames.invariant.after_packets).1
+
+pub returns-then-is_end-clause-after : goal.returns-then-is_end-clause-after
+returns-then-is_end-clause-after c =
+    let most : ℕ = length c.args.out.now / 19 in
+    let state : Result ExtractorState ℕ = extractor_described c.frames.extractor c.frames.memory in
+    let end : is_end c.args.frame_length (length c.args.memory.now) (length c.args.packets.now - c.frames.end)
+    (drop c.frames.from c.args.octets.now) ≡ true =
+    end_is c.args.frame_length c.frames.end c.frames.from c.frames.memory c.args.memory.now c.frames.packets
+    c.args.packets.now c.args.octets.now c.frames.invariant.memory c.frames.invariant.place
+    ∙ sym c.is_end.ensures ∙ c.if-is_end.true in
+    (run_ends _ _ _ _ state c.frames.invariant.runs
+    (run_none c.args.frame_length (length c.args.memory.now) (length c.args.packets.now - c.frames.end)
+    (drop c.frames.from c.args.octets.now) state c.frames.frames most c.frames-test.true end)).2
+
+pub returns-then-is_end-clause-frames : goal.returns-then-is_end-clause-frames
+returns-then-is_end-clause-frames c =
+    let most : ℕ = length c.args.out.now / 19 in
+    let state : Result ExtractorState ℕ = extractor_described c.frames.extractor c.frames.memory in
+    let end : is_end c.args.frame_length (length c.args.memory.now) (length c.args.packets.now - c.frames.end)
+    (drop c.frames.from c.args.octets.now) ≡ true =
+    end_is c.args.frame_length c.frames.end c.frames.from c.frames.memory c.args.memory.now c.frames.packets
+    c.args.packets.now c.args.octets.now c.frames.invariant.memory c.frames.invariant.place
+    ∙ sym c.is_end.ensures ∙ c.if-is_end.true in
+    let ends = run_ends _ _ _ _ state c.frames.invariant.runs
+    (run_none c.args.frame_length (length c.args.memory.now) (length c.args.packets.now - c.frames.end)
+    (drop c.frames.from c.args.octets.now) state c.frames.frames most c.frames-test.true end) in
+    sym c.frames.invariant.at
+    ∙ (all_done c.frames.out c.args.out.now _ c.frames.at
+    (omega (arith, c.frames.invariant.at, c.frames.invariant.frames, c.frames.invariant.out)) ends.0
+    c.frames.invariant.after_records).0
+
+pub returns-then-is_end-clause-total : goal.returns-then-is_end-clause-total
+returns-then-is_end-clause-total c =
+    let most : ℕ = length c.args.out.now / 19 in
+    let state : Result ExtractorState ℕ = extractor_described c.frames.extractor c.frames.memory in
+    let end : is_end c.args.frame_length (length c.args.memory.now) (length c.args.packets.now - c.frames.end)
+    (drop c.frames.from c.args.octets.now) ≡ true =
+    end_is c.args.frame_length c.frames.end c.frames.from c.frames.memory c.args.memory.now c.frames.packets
+    c.args.packets.now c.args.octets.now c.frames.invariant.memory c.frames.invariant.place
+    ∙ sym c.is_end.ensures ∙ c.if-is_end.true in
+    let ends = run_ends _ _ _ _ state c.frames.invariant.runs
+    (run_none c.args.frame_length (length c.args.memory.now) (length c.args.packets.now - c.frames.end)
+    (drop c.frames.from c.args.octets.now) state c.frames.frames most c.frames-test.true end) in
+    (all_done c.frames.packets c.args.packets.now _ c.frames.end c.frames.invariant.end ends.1
+    c.frames.invariant.after_packets).0
+
+pub returns-clause-packets : goal.returns-clause-packets
+returns-clause-packets c =
+    let most : ℕ = length c.args.out.now / 19 in
+    let state : Result ExtractorState ℕ = extractor_described c.frames.extractor c.frames.memory in
+    let ends = run_ends _ _ _ _ state c.frames.invariant.runs
+    (run_done c.args.frame_length (length c.args.memory.now) (length c.args.packets.now - c.frames.end)
+    (drop c.frames.from c.args.octets.now) state c.frames.frames most (omega (arith, c.frames-test.false))) in
+    (all_done c.frames.packets c.args.packets.now _ c.frames.end c.frames.invariant.end ends.1
+    c.frames.invariant.after_packets).1
+
+pub frames-preserved : goal.frames-preserved
+frames-preserved c =
+    let total : ℕ = c.args.frame_length in
+    let room : ℕ = length c.args.memory.now in
+    let most : ℕ = length c.args.out.now / 19 in
+    let k : ℕ = c.frames.frames in
+    let from : ℕ = c.frames.from in
+    let octets : List ℕ = c.args.octets.now in
+    let left : ℕ = length c.args.packets.now - c.frames.end in
+    let state : Result ExtractorState ℕ = extractor_described c.frames.extractor c.frames.memory in
+    let one : List ℕ = take total (drop from octets) in
+    let came : Result (Extracted × Bool) ℕ = came_of state room one in
+    let lt : k < most = c.frames-test.true in
+    let goes : is_end total room left (drop from octets) ≡ false =
+    end_is total c.frames.end from c.frames.memory c.args.memory.now c.frames.packets
+    c.args.packets.now octets c.frames.invariant.memory c.frames.invariant.place
+    ∙ sym c.is_end.ensures ∙ c.if-is_end.false in
+    let next : IsNext total room left (drop from octets) = next_is total room left (drop from octets) goes in
+    let piece : take (from + total - from) (drop from octets) ≡ one = piece_is octets from total in
+    let is : c.take_one-taken.result.0 ≡ record_of state room one =
+    c.take_one-taken.ensures.record ∙ record_is state _ room _ one c.frames.invariant.memory piece in
+    let comes : came_of state (length c.frames.memory) (take (from + total - from) (drop from octets)) ≡ came =
+    came_equal state _ room _ one c.frames.invariant.memory piece in
+    let packets : List ℕ = packets_by came in
+    let end : c.take_one-taken.result.1 ≡ c.frames.end + length packets =
+    c.take_one-taken.ensures.end
+    ∙ ap (λ (r : Result (Extracted × Bool) ℕ). c.frames.end + length (packets_by r)) comes in
+    let after : extractor_described c.take_one-taken.new.extractor c.take_one-taken.new.memory ≡ state_by came state =
+    c.take_one-taken.ensures.state ∙ ap (λ (r : Result (Extracted × Bool) ℕ). state_by r state) comes in
+    let more : Run = run_from total room (length c.args.packets.now - c.take_one-taken.result.1)
+    (drop (from + total) octets)
+    (extractor_described c.take_one-taken.new.extractor c.take_one-taken.new.memory) (most - (k + 1)) in
+    let place : left - length packets ≡ length c.args.packets.now - c.take_one-taken.result.1 = omega (arith, end) in
+    let long : length c.take_one-taken.result.0 ≡ 19 = ap length is in
+    let same : run_from total room left (drop from octets) state (most - k)
+    ≡ before (record_of state room one) packets more =
+    run_next total room left (drop from octets) state k most lt goes
+    ∙ ap (λ (n : ℕ). before (record_of state room one) packets
+    (run_from total room n (drop total (drop from octets)) (state_by came state) (most - (k + 1)))) place
+    ∙ ap (λ (xs : List ℕ). before (record_of state room one) packets
+    (run_from total room (length c.args.packets.now - c.take_one-taken.result.1) xs (state_by came state)
+    (most - (k + 1)))) (drop-drop total from octets)
+    ∙ ap (λ (s : Result ExtractorState ℕ). before (record_of state room one) packets
+    (run_from total room (length c.args.packets.now - c.take_one-taken.result.1) (drop (from + total) octets) s
+    (most - (k + 1)))) (sym after) in
+    let runs = runs_on (take c.frames.at c.frames.out) (take c.frames.end c.frames.packets)
+    (record_of state room one) packets _ more _ c.frames.invariant.runs same in
+    record {
+      frames = omega (arith, lt);
+      within = omega (arith, next.within, length-drop from octets, next.some);
+      end = omega (arith, c.take_one-taken.ensures.within, c.take_one-taken.ensures.long);
+      at = omega (arith, c.add-at.ensures.count, long, c.frames.invariant.at);
+      out = c.add-at.ensures.room ∙ c.frames.invariant.out;
+      place = c.take_one-taken.ensures.long ∙ c.frames.invariant.place;
+      memory = c.take_one-taken.ensures.memory ∙ c.frames.invariant.memory;
+      runs = record {
+        records =
+            ap (λ (xs : List ℕ). xs ++ more.records)
+            (c.add-at.ensures.joined ∙ ap (λ (xs : List ℕ). take c.frames.at c.frames.out ++ xs) is)
+            ∙ runs.records;
+        packets =
+            ap (λ (xs : List ℕ). xs ++ more.packets)
+            (c.take_one-taken.ensures.packets
+            ∙ ap (λ (r : Result (Extracted × Bool) ℕ). take c.frames.end c.frames.packets ++ packets_by r) comes)
+            ∙ runs.packets;
+        after = runs.after;
+      };
+      after_records =
+          c.add-at.ensures.rest
+          ∙ later c.frames.out c.args.out.now c.frames.at c.add-at.result (omega (arith, c.add-at.ensures.count))
+          c.frames.invariant.after_records;
+      after_packets =
+          c.take_one-taken.ensures.rest
+          ∙ later c.frames.packets c.args.packets.now c.frames.end c.take_one-taken.result.1 (omega (arith, end))
+          c.frames.invariant.after_packets;
+    }
