@@ -1,6 +1,3 @@
 pub mod Listed
-pub mod ListedPackets
+pub mod ListedMaps
 pub mod Digits
-pub mod Lanes
-pub mod Pieces
-pub mod OneMapLines
