@@ -21,6 +21,16 @@ def enumerations(headers):
     return {name: dict(re.findall(r"(SEDGE_\w+) = (\w+)", body)) for name, body in ENUMERATION.findall(text)}
 
 
+def with_last_ones(text, headers):
+    """A header of the tests with the last number of each enumeration anew that it names, as LAST_DIRECTIVE."""
+    known = enumerations(headers)
+
+    def last(it):
+        return f"{it[1]} {[*next(known[own] for own in known if own.split('_')[0] == it[2].lower())][-1]}"
+
+    return re.sub(r"^(#define LAST_(\w+)) \w+$", last, text, flags=re.M)
+
+
 def with_constants(header):
     """A header with each number of its enumerations as a constant anew, of the least type that has them all."""
     lines = ""

@@ -1,4 +1,5 @@
-"""The managed parameters as nodes/specs/Parameters.antt has them: for tools/check_docs and tools/completions."""
+"""The managed parameters as nodes/specs/Parameters.antt has them: for tools/bindings, tools/check_docs and
+tools/completions."""
 import re
 
 from items import text_of

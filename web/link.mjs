@@ -25,23 +25,6 @@ function numberOf(digits, most) {
     return Number(digits);
 }
 
-const PLAIN = {
-    terminate: { kind: n.SEDGE_EVENT_DIRECTIVE, directive: n.SEDGE_TERMINATE },
-    send: { kind: n.SEDGE_EVENT_SEND },
-    report: { kind: n.SEDGE_EVENT_REPORT },
-    tick: { kind: n.SEDGE_EVENT_TICK },
-    take: { kind: n.SEDGE_EVENT_TAKE },
-    takebypass: { kind: n.SEDGE_EVENT_TAKE_BYPASS },
-    show: { kind: 0 },
-    'up deliver': { kind: n.SEDGE_EVENT_UP_DELIVER },
-    'up lose': { kind: n.SEDGE_EVENT_UP_LOSE },
-    'down deliver': { kind: n.SEDGE_EVENT_DOWN_DELIVER },
-    'down lose': { kind: n.SEDGE_EVENT_DOWN_LOSE },
-    'down clcw': { kind: n.SEDGE_EVENT_DOWN_CLCW },
-    'init none': { kind: n.SEDGE_EVENT_DIRECTIVE, directive: n.SEDGE_INIT_WITHOUT_CHECK },
-    'init check': { kind: n.SEDGE_EVENT_DIRECTIVE, directive: n.SEDGE_INIT_WITH_CHECK },
-    'init unlock': { kind: n.SEDGE_EVENT_DIRECTIVE, directive: n.SEDGE_INIT_UNLOCK },
-};
 // The words before a number, with the directive that has it, and the most that it may be.
 const NUMBERED = {
     'init set': [n.SEDGE_INIT_SET_VR, 255], vs: [n.SEDGE_SET_VS, 255], window: [n.SEDGE_SET_WINDOW, 255],
@@ -52,6 +35,21 @@ const WITH_OCTETS = {
     'up damage': n.SEDGE_EVENT_UP_DAMAGE, 'down damage': n.SEDGE_EVENT_DOWN_DAMAGE, telemetry: n.SEDGE_EVENT_TELEMETRY,
 };
 const WITH_MAP = { submit: n.SEDGE_EVENT_SUBMIT, bypass: n.SEDGE_EVENT_BYPASS };
+// Lines without a number or octets: those of directives, and one for each event that has neither, by its name.
+const WITH_MORE = [
+    n.SEDGE_EVENT_DIRECTIVE, n.SEDGE_EVENT_RESUME, ...Object.values(WITH_OCTETS), ...Object.values(WITH_MAP),
+];
+const PLAIN = {
+    show: { kind: 0 },
+    terminate: { kind: n.SEDGE_EVENT_DIRECTIVE, directive: n.SEDGE_TERMINATE },
+    'init none': { kind: n.SEDGE_EVENT_DIRECTIVE, directive: n.SEDGE_INIT_WITHOUT_CHECK },
+    'init check': { kind: n.SEDGE_EVENT_DIRECTIVE, directive: n.SEDGE_INIT_WITH_CHECK },
+    'init unlock': { kind: n.SEDGE_EVENT_DIRECTIVE, directive: n.SEDGE_INIT_UNLOCK },
+};
+for (const [name, kind] of Object.entries(n)) {
+    const own = name.match(/^SEDGE_EVENT_(UP_|DOWN_)?(\w+)$/)?.slice(1).map((it = '') => it.toLowerCase());
+    if (own && !WITH_MORE.includes(kind)) PLAIN[own[0].replace('_', ' ') + own[1].replaceAll('_', '')] = { kind };
+}
 
 // The event of a line; null where it is unreadable.
 export function eventOf(line) {

@@ -1,9 +1,3 @@
 pub mod FarmFlags
-pub mod Alike
-pub mod Both
 pub mod UnitsFollow
-pub mod ReportCases
-pub mod Marks
-pub mod DirectiveCases
-pub mod PullCases
-pub mod TickCases
+pub mod Cases

@@ -1,42 +1,248 @@
--- A sender of units follows the rules over numbers: its outcomes are theirs, with the queues that their answers leave.
-use Rattle.std.proofs.Common.{◌≡◌, ◌≤◌, ◌<◌, ℕ, ◌+◌, ◌-◌, ◌%◌, Bool, true, false, List, [], ◌∷◌}
-use Rattle.std.proofs.Common.{length, drop, is_some, min, Option, Some, None, inl, inr, refl, sym}
-use Rattle.std.proofs.Common.{subst, ap, ◌∙◌, arith, length-drop, length-append}
-use Rattle.std.specs.Prelude.{◌==◌, nat_lt, slice_get, ◌↔◌, IsSome}
+-- A sender of units follows the rules over numbers: its outcomes are theirs, with the queues that their answers
+-- leave.
+use denote.Bor.{Bor}
+use Rattle.circular_buffer.specs.Buffer.{keep_last, Buffer, buffer}
+use Rattle.std.proofs.Common.{◌≡◌, ◌≤◌, ◌<◌, ℕ, zero, suc, ◌+◌, ◌-◌, true, List, [], ◌∷◌, ◌++◌, length, drop, map}
+use Rattle.std.proofs.Common.{Option, Some, None, inl, inr, refl, ap, arith, Bool, false, ◌%◌, is_some, min, sym, subst}
+use Rattle.std.proofs.Common.{◌∙◌, length-drop, length-append}
+use Rattle.std.specs.Prelude.{slice_get, option_copied, if◌then◌else◌, ◌==◌, not, nat_lt, ◌↔◌, IsSome}
 use Rattle.std.proofs.lemmas.Bool.{cases_lt, eq-eqb, ne_eqb}
 use Rattle.std.proofs.lemmas.List.{drop-drop, drop_all}
-use Rattle.circular_buffer.specs.Buffer.{keep_last, Buffer, buffer}
 use Rattle.clcw.specs.declared.word.Clcw.{Clcw}
+use Rattle.cop1.specs.Units.{marked_unit, unmarked_unit, oldest_marked, without_oldest_mark, due_units, SentUnit, units}
+use Rattle.cop1.specs.Units.{is_none_sent, FopOutcome, IsFop}
+use Rattle.cop1.specs.Queues.{marked_last, Queues, Fits, FollowsTheRules, with_queues, still_waiting, trimmed, trims}
+use Rattle.cop1.specs.Queues.{submitted, first_bypass, taken_from, next_at, pulled, peeked_at, pulled_by, by_rules}
 use Rattle.cop1.specs.Modulo.{ahead_by}
+use Rattle.cop1.specs.declared.vocabulary.Alert.{Alert}
+use Rattle.cop1.specs.declared.vocabulary.Directive.{Directive}
+use Rattle.cop1.specs.declared.vocabulary.Directive.TheVariants.{InitWithoutCheck, InitWithCheck, InitUnlock, InitSetVr}
 use Rattle.cop1.specs.declared.vocabulary.FopMode.{FopMode}
-use Rattle.cop1.specs.declared.vocabulary.FopMode.TheVariants.{S1, S2, S6}
+use Rattle.cop1.specs.declared.vocabulary.FopMode.TheVariants.{S4, S5, S6, S1, S2}
+use Rattle.cop1.specs.FopVariables.{Store, SenderOf, OutcomeOf, held_by}
+use Rattle.cop1.specs.FopWords.{alerts, goes_on}
+use Rattle.cop1.specs.FopReport.{clcw_step, report_in, confirms, move_on, after_new_value, retransmits, locks, waits}
+use Rattle.cop1.specs.FopReport.{asks}
+use Rattle.cop1.specs.FopTick.{tick_step}
+use Rattle.cop1.specs.FopDirective.{directive_step, obeys}
 use Rattle.cop1.specs.declared.vocabulary.Control.{Control}
 use Rattle.cop1.specs.declared.vocabulary.Control.TheVariants.{Due}
-use Rattle.cop1.specs.declared.vocabulary.Directive.{Directive}
 use Rattle.cop1.specs.UnitsNext.{IsPlaced, seen_at}
-use Rattle.cop1.specs.Units.{SentUnit, units, is_none_sent, oldest_marked, FopOutcome, IsFop}
 use Rattle.cop1.specs.FopSubmit.{submit_in, waits_behind}
 use Rattle.cop1.specs.UnitsStep.{handing_back, FopInput, fop_step}
-use Rattle.cop1.specs.FopDirective.{directive_step}
 use Rattle.cop1.specs.FopPull as pulls
 use Rattle.cop1.specs.FopPull.{PulledUnit, NothingPulled, SequencePulled}
-use Rattle.cop1.specs.FopReport.{clcw_step}
-use Rattle.cop1.specs.FopTick.{tick_step}
 use Rattle.cop1.specs.UnitsStep as fop
-use Rattle.cop1.specs.Queues.{Queues, Fits, FollowsTheRules, with_queues, marked_last}
-use Rattle.cop1.specs.Queues.{still_waiting, trimmed, trims, submitted, first_bypass, taken_from}
-use Rattle.cop1.specs.Queues.{next_at, pulled, peeked_at, pulled_by, by_rules}
-use Rattle.cop1.specs.Numbers.{IsSender, SenderNumbers, SenderOutcome, Counted, numbers, Which}
-use Rattle.cop1.specs.Numbers.{TheWaiting, OneSent, waiting_which}
+use Rattle.cop1.specs.Numbers.{IsSender, SenderNumbers, SenderOutcome, Counted, numbers, Which, TheWaiting, OneSent}
+use Rattle.cop1.specs.Numbers.{waiting_which}
 use Rattle.cop1.specs.NumbersStep.{is_due, next_of, next_outcome}
-use Rattle.cop1.proofs.Both.{when}
-use Rattle.cop1.proofs.Alike.{Keeps, Alike, reported, ticked, directed}
-use Rattle.cop1.proofs.Marks.{map-marked_unit-marked_last, marked_last-all, drop-marked_last}
-use Rattle.cop1.proofs.Marks.{marked_last-push, oldest_marked-none, oldest_marked-last}
-use Rattle.cop1.proofs.Marks.{without_oldest_mark-last, slice_get-within, slice_get-push}
-use Rattle.cop1.proofs.Marks.{length-marked_last}
 use Rattle.cop1.specs.declared.fop.Fop.TheInside.{Inside}
 use Rattle.cop1.specs.FopFields.{queues_of, fop_state_of, IsSound}
+use Rattle.cop1.proofs.Cases.{when, heard_both, ticked_both, obeyed_both, begun}
+
+-- The sent queue as bare units, of which the last are marked.
+
+module _ {U : Type 0} where
+  pub length-marked_last : (due : ℕ) (us : List U) → length (marked_last due us) ≡ length us
+  length-marked_last due [] = refl
+  length-marked_last due (u ∷ us) = ap suc (length-marked_last due us)
+
+  -- the marks are counted from the end, so they stay where units leave the front
+  pub drop-marked_last : (due n : ℕ) (us : List U) → drop n (marked_last due us) ≡ marked_last due (drop n us)
+  drop-marked_last due zero us = refl
+  drop-marked_last due (suc n) [] = refl
+  drop-marked_last due (suc n) (u ∷ us) = drop-marked_last due n us
+
+  -- no more are marked than there are
+  pub marked_last-all : (due more : ℕ) (us : List U) → length us ≤ due → length us ≤ more
+      → marked_last due us ≡ marked_last more us
+  marked_last-all due more [] all all' = refl
+  marked_last-all due more (u ∷ us) all all' =
+      grind (arith, all, all', marked_last-all due more us (omega arith) (omega arith))
+
+  pub map-marked_unit-marked_last : (due : ℕ) (us : List U)
+      → map marked_unit (marked_last due us) ≡ marked_last (length us) us
+  map-marked_unit-marked_last due [] = refl
+  map-marked_unit-marked_last due (u ∷ us) =
+      let more = marked_last-all (length us) (suc (length us)) us (omega arith) (omega arith) in
+      grind (arith, map-marked_unit-marked_last due us, more)
+
+  -- as many are marked as are due
+  pub length_due : (due : ℕ) (us : List U) → due ≤ length us → length (due_units (marked_last due us)) ≡ due
+  length_due due [] within = omega arith
+  length_due due (u ∷ us) within =
+      elim (cases_lt (length us) due) [
+        | inl lt ↦
+            let all = marked_last-all due (length us) us (omega arith) (omega arith) in
+            grind (arith, lt, all, length_due (length us) us (omega arith))
+        | inr le ↦ grind (arith, le, length_due due us le)
+      ]
+
+  -- where none is marked, a unit comes after
+  pub marked_last-push : (us : List U) (u : U) → marked_last 0 (us ++ u ∷ []) ≡ marked_last 0 us ++ unmarked_unit u ∷ []
+  marked_last-push [] u = refl
+  marked_last-push (x ∷ us) u = grind (arith, marked_last-push us u)
+
+  -- the oldest marked unit is the first of the last `due`
+  pub oldest_marked-none : (place : ℕ) (us : List U) → oldest_marked place (marked_last 0 us) ≡ None
+  oldest_marked-none place [] = refl
+  oldest_marked-none place (u ∷ us) = grind (arith, oldest_marked-none (place + 1) us)
+
+  pub oldest_marked-last : (place due : ℕ) (us : List U) (u : U) → 0 < due → due ≤ length us
+      → slice_get us (length us - due) ≡ Some u
+      → oldest_marked place (marked_last due us) ≡ Some (place + (length us - due), u)
+  oldest_marked-last place due [] u some within found = absurd (omega arith)
+  oldest_marked-last place due (x ∷ us) u some within found =
+      elim (cases_lt (length us) due) [
+        | inl lt ↦
+            let first : suc (length us) - due ≡ 0 = omega arith in
+            let unit : Some x ≡ Some u = rw first at found in
+            grind (arith, lt, first, unit)
+        | inr le ↦
+            let behind : suc (length us) - due ≡ suc (length us - due) = omega arith in
+            let unit : slice_get us (length us - due) ≡ Some u = rw behind at found in
+            grind (arith, le, behind, oldest_marked-last (place + 1) due us u some le unit)
+      ]
+
+  pub without_oldest_mark-last : (due : ℕ) (us : List U) → 0 < due → due ≤ length us
+      → without_oldest_mark (marked_last due us) ≡ marked_last (due - 1) us
+  without_oldest_mark-last due [] some within = absurd (omega arith)
+  without_oldest_mark-last due (x ∷ us) some within =
+      grind (arith, some, within, marked_last-all due (due - 1) us, without_oldest_mark-last due us some)
+
+  pub map-unit-marked_last : (due : ℕ) (us : List U) → map (λ u. u.unit) (marked_last due us) ≡ us
+  map-unit-marked_last due [] = refl
+  map-unit-marked_last due (u ∷ us) = ap (λ us. u ∷ us) (map-unit-marked_last due us)
+
+  -- a place within a list has its element
+  pub slice_get-within : (us : List U) (place : ℕ) → place < length us → (u : U) × (slice_get us place ≡ Some u)
+  slice_get-within [] place lt = absurd (omega arith)
+  slice_get-within (u ∷ us) zero lt = (u, refl)
+  slice_get-within (u ∷ us) (suc place) lt = slice_get-within us place (omega arith)
+
+  pub is_some_copied : (o : Option (Bor U)) (u : U) → option_copied o ≡ Some u → is_some o ≡ true
+  is_some_copied None u e = absurd cc
+  is_some_copied (Some r) u e = refl
+
+  pub slice_get-push : (us : List U) (u : U) → slice_get (us ++ u ∷ []) (length us) ≡ Some u
+  slice_get-push [] u = refl
+  slice_get-push (x ∷ us) u = slice_get-push us u
+
+pub ruleset marks =
+    (length-marked_last, drop-marked_last, map-marked_unit-marked_last, marked_last-push, map-unit-marked_last)
+
+-- Two senders with the same numbers, whose units are held in two ways that the operations of the stores keep alike,
+-- stay so by each report, tick and directive.
+
+-- what is so of the units that wait and those sent, in one store and in another
+pub record Keeps (H K : Store) : Type 1 where
+  pub Waits : H.Waiting → K.Waiting → Type 0
+  pub Sends : H.Sent → K.Sent → Type 0
+  pub no_unit : Waits H.no_unit K.no_unit
+  pub no_units : Sends H.no_units K.no_units
+  pub is_empty : (x : H.Sent) (y : K.Sent) → Sends x y → K.is_empty y ≡ H.is_empty x
+  pub left : (n : ℕ) (x : H.Sent) (y : K.Sent) → Sends x y → Sends (H.left n x) (K.left n y)
+  pub repeated : (x : H.Sent) (y : K.Sent) → Sends x y → Sends (H.repeated x) (K.repeated y)
+
+module _ {H K : Store} (k : Keeps H K) (room : ℕ) (b : K.Bypass) where
+  pub record Alike {A : Type 0} (o : OutcomeOf H A) (p : OutcomeOf K A) : Type 0 where
+    pub same : p ≡ record {
+      after = held_by K o.after p.after.waiting p.after.sent b;
+      answer = o.answer;
+      gone = o.gone;
+    }
+    pub waiting : k.Waits o.after.waiting p.after.waiting
+    pub sent : k.Sends o.after.sent p.after.sent
+    pub same_room : o.after.room ≡ room
+
+  abbrev pub Stands : SenderOf H → K.Waiting → K.Sent → Type 0
+  Stands s w q = (s.room ≡ room) × k.Waits s.waiting w × k.Sends s.sent q
+
+  so : {A : Type 0} {t : SenderOf H} {w : K.Waiting} {q : K.Sent} {answer : A} {n : ℕ} → Stands t w q
+      → Alike (record { after = t; answer = answer; gone = n })
+      (record { after = held_by K t w q b; answer = answer; gone = n })
+  so h = record { same = refl; waiting = h.1; sent = h.2; same_room = h.0 }
+
+  if_so : {o o' : OutcomeOf H (Option Alert)} {p p' : OutcomeOf K (Option Alert)} (c : Bool) → Alike o p → Alike o' p'
+      → Alike (if c then o else o') (if c then p else p')
+  if_so c here there = when (λ o p. Alike o p) c (λ t. here) (λ t. there)
+
+  module _ (s : SenderOf H) (w : K.Waiting) (q : K.Sent) (h : Stands s w q) where
+    abbrev t : SenderOf K
+    t = held_by K s w q b
+
+    none : Stands (record s { waiting = H.no_unit; sent = H.no_units }) K.no_unit K.no_units
+    none = (h.0, k.no_unit, k.no_units)
+
+    all : Stands (record s { sent = H.repeated s.sent }) w (K.repeated q)
+    all = (h.0, h.1, k.repeated s.sent q h.2)
+
+    over : (x : Alert) → Alike (alerts s x) (alerts t x)
+    over x = so none
+
+    later : (v : ℕ) → Stands (after_new_value s v) w (K.left (ahead_by v s.nn) q)
+    later v = (h.0, h.1, k.left (ahead_by v s.nn) s.sent q h.2)
+
+    moved_on : (v : ℕ) → Alike (move_on s v) (move_on t v)
+    moved_on v = rw (k.is_empty _ _ (later v).2) (so (later v))
+
+    repeats : (again : Bool) → Alike (goes_on (retransmits s again)) (goes_on (retransmits t again))
+    repeats true = so all
+    repeats false = so h
+
+    heard : (c : Clcw) (m : FopMode) → Alike (report_in s c m) (report_in t c m)
+    heard c S4 =
+        if_so (locks c) (over _) (if_so (not (c.value == s.vs)) (over _)
+        (if_so (asks c) (over _) (if_so (waits c) (over _) (so h))))
+    heard c S5 = if_so (confirms s c) (so h) (so h)
+    heard c S6 = so h
+    heard c _ = heard_both s w q b c (λ o p. Alike o p) (record {
+      locked = λ is. over _;
+      outside = λ is. over _;
+      wait_flag = λ asking is. over _;
+      asks_none = λ asking at. over _;
+      same = so h;
+      ceases = λ asking at were. over _;
+      moves = λ inside. moved_on c.value;
+      others_over = λ inside asking one. so none;
+      others_wait = λ inside asking. so (later c.value);
+      others_again = λ inside asking. so (h.0, h.1, k.repeated _ _ (later c.value).2);
+      all_over = λ asking one. over _;
+      all_wait = λ asking. so h;
+      all_again = λ asking again. repeats again;
+    })
+
+    pub reported : (c : Clcw) → Alike (clcw_step s c) (clcw_step t c)
+    reported c = heard c s.state
+
+    pub ticked : Alike (tick_step s) (tick_step t)
+    ticked = ticked_both s w q b (λ o p. Alike o p) (record {
+      off = so h;
+      runs = λ left. so h;
+      stops = so h;
+      repeats = λ active. so all;
+      counts = so h;
+      commands = λ is. so h;
+      gives_up = so none;
+    })
+
+    began : (d : Directive) → Alike (obeys (begun s d)) (obeys (begun t d))
+    began InitWithoutCheck = so none
+    began InitWithCheck = so none
+    began InitUnlock = so none
+    began (InitSetVr x) = so none
+    began _ = so h
+
+    pub directed : (d : Directive) → Alike (directive_step s d) (directive_step t d)
+    directed d = obeyed_both s w q b (λ d o p. Alike o p) (record {
+      refused = λ d fault on. so h;
+      begins = λ d is off. began d;
+      terminated = so none;
+      numbers = λ x off. so h;
+      sets = λ d k n ticks plain most. so h;
+    }) d
+
+-- A sender of units follows the rules over numbers: its outcomes are theirs, with the queues that their answers leave.
 
 module _ {U : Type 0} where
   -- ---- reports, ticks and directives: the numbers stand for what is left of the queues
@@ -125,8 +331,8 @@ module _ {U : Type 0} where
       }
 
   module _ {s : SenderNumbers} {q : Queues U} (fits : Fits s q) where
-    waits : (q.waiting ≡ still_waiting s.waiting q.waiting) × (is_some q.waiting ≡ s.waiting)
-    waits = (still q.waiting s.waiting fits.waiting, fits.waiting)
+    waits_alike : (q.waiting ≡ still_waiting s.waiting q.waiting) × (is_some q.waiting ≡ s.waiting)
+    waits_alike = (still q.waiting s.waiting fits.waiting, fits.waiting)
 
     sent : IsLeft q.units s.sent (marked_last s.sent.due q.units)
     sent =
@@ -137,15 +343,15 @@ module _ {U : Type 0} where
 
     pub report-follows : (c : Clcw) → Follows s.room q (clcw_step s c) (clcw_step (with_queues s q) c)
     report-follows c = follows-alike s.room q _ _
-        (reported (keeps q) s.room q.bypass s q.waiting _ (refl, waits, sent) c)
+        (reported (keeps q) s.room q.bypass s q.waiting _ (refl, waits_alike, sent) c)
 
     pub tick-follows : Follows s.room q (tick_step s) (tick_step (with_queues s q))
     tick-follows = follows-alike s.room q _ _
-        (ticked (keeps q) s.room q.bypass s q.waiting _ (refl, waits, sent))
+        (ticked (keeps q) s.room q.bypass s q.waiting _ (refl, waits_alike, sent))
 
     pub directive-follows : (d : Directive) → Follows s.room q (directive_step s d) (directive_step (with_queues s q) d)
     directive-follows d = follows-alike s.room q _ _
-        (directed (keeps q) s.room q.bypass s q.waiting _ (refl, waits, sent) d)
+        (directed (keeps q) s.room q.bypass s q.waiting _ (refl, waits_alike, sent) d)
 
   -- ---- units that come
 

@@ -97,7 +97,7 @@ impl<U: Drop> Fop<U> {
         self.sender.fields().nn
     }
 
-    #[tactic(auto, using(crate::proofs::Marks::marks))]
+    #[tactic(auto, using(crate::proofs::UnitsFollow::marks))]
     /// How many units are sent and not acknowledged: half the largest window width at most.
     pub fn sent(&self) -> usize
         ensures count { result ≡ length self.now.sent }
@@ -107,7 +107,7 @@ impl<U: Drop> Fop<U> {
     }
 
     /// How many of these are due to be sent again.
-    #[tactic(auto, using(crate::proofs::Marks::length_due))]
+    #[tactic(auto, using(crate::proofs::UnitsFollow::length_due))]
     pub fn due(&self) -> usize
         ensures { result ≡ length (due_units self.now.sent) }
     {

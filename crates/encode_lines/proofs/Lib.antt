@@ -1,9 +1,4 @@
-pub mod FrameWords
-pub mod Found
-pub mod FieldWords
-pub mod WordLines
-pub mod ReadFrames
-pub mod SpelledFrames
-pub mod ReadPackets
-pub mod SpelledPackets
+pub mod Words
+pub mod FrameLines
+pub mod PacketLines
 pub mod Runs

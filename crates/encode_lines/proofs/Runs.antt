@@ -5,8 +5,7 @@ use Rattle.std.specs.Option.{unwrap_or}
 use Rattle.tc_frame.specs.declared.frame.Check.{Check}
 use Rattle.line_stream.specs.Playing.{answers, after_lines}
 use Rattle.encode_lines.specs.declared.encoder.Encoder.{Encoder}
-use Rattle.encode_lines.specs.Octets.{line_octets, octets_of_lines, unreadable_after, and_then, or_number}
-use Rattle.encode_lines.specs.Encoding.{encoding}
+use Rattle.encode_lines.specs.Octets.{line_octets, octets_of_lines, unreadable_after, and_then, or_number, encoding}
 
 abbrev encoder : Check → ℕ → Option ℕ → Encoder
 encoder check n refused = record { check = check; lines = n; refused = refused }

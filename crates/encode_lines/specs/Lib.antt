@@ -1,7 +1,5 @@
 pub mod Fields
 pub mod Frames
 pub mod Packets
-pub mod Puts
 pub mod Octets
-pub mod Encoding
 pub mod Listed

@@ -1,13 +1,24 @@
--- The octets of lines that `tctool tc` and `tctool packets` write.
-use Rattle.std.specs.Prelude.{ℕ, ◌+◌, ◌==◌, if◌then◌else◌, List, [], ◌∷◌, ◌++◌, Option, Some}
-use Rattle.std.specs.Prelude.{None, option_and_then}
+-- The octets that lines stand for, and what an encoder writes of a text.
+use Rattle.std.specs.Prelude.{◌≡◌, ℕ, Bool, List, [], ◌++◌, Option, unwrap_or, is_some, Result}
+use Rattle.std.specs.Prelude.{IfOk, ◌+◌, ◌==◌, if◌then◌else◌, ◌∷◌, Some, None, option_and_then, not}
 use Rattle.std.specs.Option.{option_or}
-use Rattle.line_stream.specs.Lines.{lines_of}
-use Rattle.script_lines.specs.Words.{words_in}
 use Rattle.tc_frame.specs.declared.frame.Check.{Check}
+use Rattle.script_lines.specs.Words.{words_in}
+use Rattle.line_stream.specs.Lines.{lines_of}
+use Rattle.line_stream.specs.Playing.{Playing}
 use Rattle.encode_lines.specs.Fields.{without_number}
 use Rattle.encode_lines.specs.Frames.{frame_in, frame_octets}
 use Rattle.encode_lines.specs.Packets.{packet_in, packet_octets}
+use Rattle.encode_lines.specs.declared.encoder.Encoder.{Encoder}
+
+-- What a call appends that puts octets where there are some.
+
+-- octets are appended, and the answer says whether there are any to be
+abbrev pub Puts : {E : Type 0} → Result Bool E → List ℕ → List ℕ → Option (List ℕ) → Type 0
+Puts result old new octets =
+    IfOk result (λ good. (new ≡ old ++ unwrap_or octets []) × (good ≡ is_some octets))
+
+-- The octets of lines that `tctool tc` and `tctool packets` write.
 
 -- the octets of the frame or packet that these words say
 abbrev pub words_octets : Check → List (List ℕ) → Option (List ℕ)
@@ -52,3 +63,26 @@ octets_in check text = octets_of_lines check (lines_of text)
 
 abbrev pub unreadable_in : Check → List ℕ → Option ℕ
 unreadable_in check text = unreadable_after check 0 (lines_of text)
+
+-- An encoder as a player of lines: after the first one that is unreadable it writes nothing.
+
+-- before the first line
+abbrev pub fresh : Check → Encoder
+fresh check = record { check = check; lines = 0; refused = None }
+
+abbrev pub answer_to : Encoder → List ℕ → List ℕ
+answer_to e line = if is_some e.refused then [] else unwrap_or (line_octets e.check line) []
+
+-- the number of the first line that is unreadable, once this one is read
+abbrev pub refused_after : Encoder → List ℕ → Option ℕ
+refused_after e line =
+    if is_some e.refused then e.refused
+    else if is_some (line_octets e.check line) then None
+    else Some (e.lines + 1)
+
+abbrev pub encoding : Playing Encoder
+encoding = record {
+  answer = answer_to;
+  after = λ e line. record e { lines = e.lines + 1; refused = refused_after e line };
+  is_good = λ e line. not (is_some (refused_after e line));
+}

@@ -3,8 +3,7 @@
 ghost use Rattle.std.specs.Prelude.{◌≡◌, None, map, OnOk, IfOk};
 ghost use Rattle.listings.specs.Devices.{HasEnded, gained};
 ghost use Rattle.listings.specs.Streams.{Reads, WritesText};
-ghost use Rattle.encode_lines.specs.Puts.{Puts};
-ghost use Rattle.encode_lines.specs.Octets.{words_octets, line_octets, octets_in, unreadable_in};
+ghost use Rattle.encode_lines.specs.Octets.{Puts, words_octets, line_octets, octets_in, unreadable_in};
 
 use crate::fields::{without_number, words_in};
 use crate::frames::frame_in;
@@ -67,7 +66,7 @@ pub struct Encoder {
 }
 
 impl Encoder {
-    ghost use Rattle.encode_lines.specs.Encoding.{fresh};
+    ghost use Rattle.encode_lines.specs.Octets.{fresh};
 
     // Before the first line.
     fn new(check: Check) -> Self
@@ -82,7 +81,7 @@ impl Encoder {
 }
 
 impl Responder<Vec<u8>> for Encoder {
-    ghost use Rattle.encode_lines.specs.Encoding.{encoding};
+    ghost use Rattle.encode_lines.specs.Octets.{encoding};
 
     ghost playing = { encoding };
 

@@ -40,7 +40,7 @@ fn frame_of<'a>(scid: &[u8], vcid: &[u8], body: Body<'a>) -> Option<TcFrame<'a>>
 
 // The lines of each type of frame, by their words.
 
-#[tactic(auto, using(crate::proofs::FrameWords::frame_of_none))]
+#[tactic(auto, using(crate::proofs::Words::frame_of_none))]
 fn sequence_line<'a>(
     kind: &[u8],
     scid: &[u8],
@@ -61,7 +61,7 @@ fn sequence_line<'a>(
     frame_of(scid, vcid, Body::Ad { n, segment })
 }
 
-#[tactic(auto, using(crate::proofs::FrameWords::frame_of_none))]
+#[tactic(auto, using(crate::proofs::Words::frame_of_none))]
 fn bypass_line<'a>(
     kind: &[u8],
     scid: &[u8],
@@ -91,7 +91,7 @@ fn unlock_line<'a>(kind: &[u8], scid: &[u8], vcid: &[u8], word: &[u8]) -> Option
     }
 }
 
-#[tactic(auto, using(crate::proofs::FrameWords::frame_of_none))]
+#[tactic(auto, using(crate::proofs::Words::frame_of_none))]
 fn set_line<'a>(
     kind: &[u8],
     scid: &[u8],

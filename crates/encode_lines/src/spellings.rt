@@ -5,7 +5,7 @@ ghost use Rattle.space_packet.specs.Layout.{packet_view};
 ghost use Rattle.tc_frame.specs.Layout.{body_view, frame_view};
 ghost use Rattle.encode_lines.specs.Frames.{digits_of, frame_decoded, frame_octets, with_octets};
 ghost use Rattle.encode_lines.specs.Packets.{packet_decoded, packet_octets};
-ghost use Rattle.encode_lines.specs.Puts.{Puts};
+ghost use Rattle.encode_lines.specs.Octets.{Puts};
 
 use crate::fields::octets_of_digits;
 use space_packet::Packet;

@@ -1,7 +1,4 @@
 pub mod Listed
-pub mod ListedPackets
+pub mod ListedMaps
 pub mod Digits
-pub mod Lanes
 pub mod Words
-pub mod Pieces
-pub mod OneMapLines

@@ -1,4 +1,1 @@
-mod Refused
-mod Frames
-mod Numbers
-mod Asked
+mod Answered

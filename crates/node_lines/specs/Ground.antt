@@ -18,8 +18,7 @@ use Rattle.nodes.specs.Ground as calls
 use Rattle.node_answers.specs.Answers.{fault_text, sent_text, heard_text, reported_text, tick_text}
 use Rattle.node_answers.specs.Answers.{fop_state_word}
 use Rattle.node_lines.specs.Asks.{Ask, Submit, Bypass, Direct, Send, Tick, Take, Telemetry}
-use Rattle.node_lines.specs.Asks.{ControlWord, Resume, Show}
-use Rattle.node_lines.specs.Turns.{Turn, NodeRules, told}
+use Rattle.node_lines.specs.Asks.{ControlWord, Resume, Show, Turn, NodeRules, told}
 
 -- ---- the answers to calls, as texts
 

@@ -7,8 +7,8 @@ use Rattle.nodes.specs.Parameters.{default_config, with_value, config_fault}
 use Rattle.line_stream.specs.Playing.{Playing}
 use Rattle.node_lines.specs.declared.player.NodePlayer.{NodePlayer}
 use Rattle.node_lines.specs.declared.player.NodePlayer.TheVariants.{Configured, Made}
-use Rattle.node_lines.specs.Asks.{NodeLine, Skipped, Setting, Asking, Unreadable, node_line}
-use Rattle.node_lines.specs.Turns.{Turn, NodeRules}
+use Rattle.node_lines.specs.Asks.{NodeLine, Skipped, Setting, Asking, Unreadable, node_line, Turn}
+use Rattle.node_lines.specs.Asks.{NodeRules}
 
 -- what a line answers, with its line feed, what is after it, and whether it was good
 pub record LineOutcome (S : Type 0) : Type 0 where

@@ -15,8 +15,8 @@ use Rattle.listings.specs.FarmLines.{state_word}
 use Rattle.listings.specs.Text.{flag_number}
 use Rattle.node_answers.specs.Answers.{fault_text, sent_text, packet_text, report_text}
 use Rattle.node_answers.specs.Answers.{received_text}
-use Rattle.node_lines.specs.Asks.{Ask, Frame, Send, Report, Take, TakeBypass, Telemetry, Show}
-use Rattle.node_lines.specs.Turns.{Turn, NodeRules, told}
+use Rattle.node_lines.specs.Asks.{Ask, Frame, Send, Report, Take, TakeBypass, Telemetry, Show, Turn}
+use Rattle.node_lines.specs.Asks.{NodeRules, told}
 
 -- ---- the answers to calls, as texts
 

@@ -6,8 +6,7 @@ ghost use Rattle.nodes.specs.Ground as calls;
 ghost use Rattle.nodes.specs.declared.fault.LinkFault.{LinkFault as Fault};
 ghost use Rattle.nodes.specs.Faults as link;
 ghost use Rattle.node_answers.specs.Answers.{fault_text};
-ghost use Rattle.node_lines.specs.Asks.{ControlWord};
-ghost use Rattle.node_lines.specs.Turns.{Takes, turned};
+ghost use Rattle.node_lines.specs.Asks.{ControlWord, Takes, turned};
 ghost use Rattle.node_lines.specs.Ground.{count_text, ground_rules, ground_asked, ground_call, ground_show, queues_text, sender_text, submissions_text, taken_text, timer_text};
 
 use crate::ask::Ask;

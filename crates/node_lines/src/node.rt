@@ -1,8 +1,7 @@
 // What is played line by line.
 
 ghost use Rattle.std.specs.Prelude.{◌≡◌, is_some, IfOk};
-ghost use Rattle.node_lines.specs.Asks.{ask_view};
-ghost use Rattle.node_lines.specs.Turns.{NodeRules, Takes, turned};
+ghost use Rattle.node_lines.specs.Asks.{ask_view, NodeRules, Takes, turned};
 
 use crate::ask::Ask;
 use nodes::ValidConfig;

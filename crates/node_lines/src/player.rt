@@ -3,8 +3,7 @@
 ghost use Rattle.std.specs.Prelude.{◌≡◌, ◌≤◌, ◌++◌, ◌∷◌, [], codes, true, false, OnOk, IfOk};
 ghost use Rattle.octets.specs.Beginning.{Appends};
 ghost use Rattle.script_lines.specs.Lines.{most_for};
-ghost use Rattle.node_lines.specs.Asks.{ask_view};
-ghost use Rattle.node_lines.specs.Turns.{turned};
+ghost use Rattle.node_lines.specs.Asks.{ask_view, turned};
 
 use crate::ask::{Ask, NodeLine, octets_in, with_octets};
 use crate::node::Node;

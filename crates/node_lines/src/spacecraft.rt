@@ -7,7 +7,7 @@ ghost use Rattle.listings.specs.Text.{flag_number};
 ghost use Rattle.octets.specs.Beginning.{Appends};
 ghost use Rattle.listings.specs.FarmLines.{state_word};
 ghost use Rattle.nodes.specs.Spacecraft as calls;
-ghost use Rattle.node_lines.specs.Turns.{Takes};
+ghost use Rattle.node_lines.specs.Asks.{Takes};
 ghost use Rattle.node_lines.specs.Spacecraft.{spacecraft_rules, spacecraft_call, spacecraft_show, word_text, receiver_text, farm_flags_text, waiting_text};
 
 use crate::ask::Ask;

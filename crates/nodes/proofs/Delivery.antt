@@ -1,14 +1,36 @@
--- What is received is delivered as it is made ready.
-use Rattle.std.proofs.Common.{◌≡◌, ◌≢◌, ℕ, Bool, true, false, List, [], ◌∷◌, ◌++◌, Result, Ok, Err, refl, sym, ap, ◌∙◌}
-use Rattle.std.proofs.Common.{append-nil, inl, inr}
-use Rattle.std.proofs.lemmas.Bool.{cond_both, cases_eq, eq-eqb, ne_eqb}
+-- What arrives is delivered as it is made ready: segments in order, and whole packets, no more of them than octets
+-- allow.
+use Rattle.std.proofs.Common.{◌≡◌, ◌++◌, ℕ, true, false, not, List, [], ◌∷◌, length, take, drop, Result, Ok, Err, refl}
+use Rattle.std.proofs.Common.{ap, ◌∙◌, ◌≤◌, ◌+◌, ◌*◌, ◌/◌, Option, Some, None, arith, length-append, lit≤, ◌≢◌, Bool}
+use Rattle.std.proofs.Common.{sym, append-nil, inl, inr}
+use Rattle.std.specs.Prelude.{nat_lt, ◌==◌}
+use Rattle.std.proofs.lemmas.Bool.{cond_both, ltb-false, eqb-true, cases_eq, eq-eqb, ne_eqb}
+use Rattle.std.specs.List.{AllByRecursion, concat}
+use Rattle.octets.specs.Records.{records_of, IsRecord, IsSplit, rest_of}
+use Rattle.octets.proofs.Streams.{split_of}
+use Rattle.space_packet.specs.declared.fault.PacketFault.{PacketFault}
+use Rattle.space_packet.specs.Decoding.{extent_at}
+use Rattle.space_packet.specs.Laws.{extent_has_header}
+use Rattle.tc_frame.specs.declared.frame.SegmentFlags.{SegmentFlags}
+use Rattle.tc_frame.specs.declared.frame.SegmentFlags.TheVariants.{First, Continuing, Last, Alone}
+use Rattle.tc_frame.specs.Layout.{SegmentView, BodyView, Ad, Bd, Bc, FrameView}
 use Rattle.tc_frame.specs.declared.fault.TcFault.{TcFault}
 use Rattle.tc_frame.specs.declared.frame.Check.TheVariants.{On}
-use Rattle.tc_frame.specs.Layout.{SegmentView, BodyView, Ad, Bd, Bc, FrameView}
 use Rattle.tc_frame.specs.Decoding.{frame_at}
 use Rattle.map_service.specs.declared.limits.Limits.{Limits}
-use Rattle.map_service.specs.Assembly.{assembled, open_part}
-use Rattle.map_service.specs.AssemblerTable.{take_step}
+use Rattle.map_service.specs.declared.dropped.Dropped.{Dropped}
+use Rattle.map_service.specs.declared.dropped.Dropped.TheVariants.{Interrupted, TooLong}
+use Rattle.map_service.specs.Assembly.{is_open, is_too_long, assembled, open_part}
+use Rattle.map_service.specs.Packets.{packets_in}
+use Rattle.map_service.specs.AssemblerTable.{one_fault, alone_fault, alone_packets, drop_outcome, packets_outcome}
+use Rattle.map_service.specs.AssemblerTable.{part_outcome, cell, take_step}
+use Rattle.map_service.proofs.Groups.{packets-split}
+use Rattle.map_service.proofs.Handed.{AreWhole, lone_whole, each_whole}
+use Rattle.tm_link.specs.declared.frame.Pointer.{Pointer}
+use Rattle.tm_link.specs.declared.frame.Pointer.TheVariants.{At, NoStart, OnlyIdle}
+use Rattle.tm_link.specs.Extractor.{ExtractorState, ending_by, ending_of, finished_by, completed_packet, gap_of}
+use Rattle.tm_link.specs.Extractor.{part_over_gap, finished_packets, is_idle, without_idle, extract_step}
+use Rattle.tm_link.specs.Layout as telemetry
 use Rattle.cop1.specs.declared.farm.Verdict.{Verdict}
 use Rattle.cop1.specs.Farm.{verdict_of}
 use Rattle.nodes.specs.declared.received.Received.{Received}
@@ -18,6 +40,126 @@ use Rattle.nodes.specs.Packets.{put_on_map}
 use Rattle.nodes.specs.Spacecraft.{SpacecraftState, SpacecraftOutcome, is_free, is_own_frame, is_accepted}
 use Rattle.nodes.specs.Spacecraft.{assemble_step, sequence_outcome, bypass_outcome, body_outcome, frame_outcome}
 use Rattle.nodes.specs.Delivery.{packets_of_map, delivered_on, HasDelivered, DeliversWhatItReceives}
+
+-- What a frame of telemetry finishes is packets, each exactly one.
+
+pub whole_append : (xs ys : List (List ℕ)) → AreWhole xs → AreWhole ys → AreWhole (xs ++ ys)
+whole_append [] ys h k = k
+whole_append (x ∷ xs) ys h k = (h.0, whole_append xs ys h.1 k)
+
+whole_one : (octets : List ℕ) → nat_lt (length octets) 6 ≡ false → (n : ℕ) → extent_at (take 6 octets) ≡ Ok n
+    → n == length octets ≡ true → AreWhole (octets ∷ [])
+whole_one octets long n e same =
+    (lone_whole octets (record { has_head = ltb-false _ _ long; extent_is = e ∙ ap Ok (eqb-true _ _ same) }, tt), tt)
+
+by_extent : (octets : List ℕ) → nat_lt (length octets) 6 ≡ false → (r : Result ℕ PacketFault)
+    → extent_at (take 6 octets) ≡ r → AreWhole (finished_by octets (ending_by r (length octets)))
+by_extent octets long (Err e) is = tt
+by_extent octets long (Ok n) is =
+    cond_both (n == length octets) _ _ (λ ending. AreWhole (finished_by octets ending))
+    (λ same. whole_one octets long n is same)
+    (λ other. cond_both (nat_lt (length octets) n) _ _ (λ ending. AreWhole (finished_by octets ending))
+    (λ t. tt) (λ t. tt))
+
+finished_whole : (octets : List ℕ) → AreWhole (finished_by octets (ending_of octets))
+finished_whole octets =
+    cond_both (nat_lt (length octets) 6) _ _ (λ ending. AreWhole (finished_by octets ending)) (λ t. tt)
+    (λ long. by_extent octets long (extent_at (take 6 octets)) refl)
+
+completed_whole : (part octets : List ℕ) → AreWhole (completed_packet part octets)
+completed_whole part octets =
+    cond_both (length part == 0) [] _ AreWhole (λ t. tt) (λ t. finished_whole (part ++ octets))
+
+all_whole : (part : List ℕ) (p : Pointer) (payload : List ℕ) → AreWhole (finished_packets part p payload)
+all_whole part OnlyIdle payload = tt
+all_whole part NoStart payload = completed_whole part payload
+all_whole part (At p) payload =
+    whole_append (completed_packet part (take p payload)) (records_of 6 extent_at (drop p payload))
+    (completed_whole part (take p payload))
+    (each_whole (records_of 6 extent_at (drop p payload)) (packets-split (drop p payload)).each)
+
+kept_whole : (packets : List (List ℕ)) → AreWhole packets → AreWhole (without_idle packets)
+kept_whole [] h = tt
+kept_whole (p ∷ ps) h =
+    cond_both (not (is_idle p)) (p ∷ without_idle ps) (without_idle ps) AreWhole (λ t. (h.0, kept_whole ps h.1))
+    (λ t. kept_whole ps h.1)
+
+pub extracted_whole : (s : ExtractorState) (f : telemetry.FrameView) → AreWhole (extract_step s f).packets
+extracted_whole s f =
+    let part : List ℕ = part_over_gap (gap_of s.last f.vc_count) s.part in
+    kept_whole (finished_packets part f.pointer f.payload) (all_whole part f.pointer f.payload)
+
+-- How many packets are handed out at a segment: each has 6 octets at least, or there is one.
+
+sixes : (records : List (List ℕ)) → AllByRecursion (IsRecord 6 extent_at) records
+    → 6 * length records ≤ length (concat records)
+sixes [] h = omega arith
+sixes (r ∷ rs) h = omega (arith, length-append r (concat rs), h.0.has_head, sixes rs h.1)
+
+packets_few : (octets : List ℕ) → 6 * length (packets_in octets) ≤ length octets
+packets_few octets =
+    let split : IsSplit 6 extent_at octets (records_of 6 extent_at octets) (rest_of 6 extent_at octets) =
+    split_of 6 extent_at (lit≤ tt) extent_has_header octets in
+    omega (
+      arith,
+      ap length split.whole,
+      length-append (concat (records_of 6 extent_at octets))
+          (rest_of 6 extent_at octets),
+      sixes (records_of 6 extent_at octets) split.each,
+    )
+
+AreFew : List ℕ → List (List ℕ) → Type 0
+AreFew octets packets = length packets ≤ length octets / 6 + 1
+
+alone_few : (limits : Limits) (octets : List ℕ) → AreFew octets (alone_packets limits octets)
+unfolding AreFew
+alone_few limits octets =
+    cond_both limits.blocking (packets_in octets) (octets ∷ []) (λ packets. length packets ≤ length octets / 6 + 1)
+    (λ _. omega (arith, packets_few octets)) (λ _. omega arith)
+
+given_few : (octets : List ℕ) (earlier : Option Dropped) (packets : List (List ℕ)) (fault : Option Dropped)
+    → AreFew octets packets → AreFew octets (packets_outcome earlier packets fault).packets
+unfolding AreFew
+given_few octets earlier packets None few = few
+given_few octets earlier packets (Some cause) few = omega arith
+
+opened_few : (limits : Limits) (earlier : Option Dropped) (octets joined : List ℕ)
+    → AreFew octets (part_outcome limits earlier joined).packets
+unfolding AreFew
+opened_few limits earlier octets joined =
+    cond_both (is_too_long limits joined) (drop_outcome TooLong) _ (λ o. length o.packets ≤ length octets / 6 + 1)
+    (λ _. omega arith) (λ _. omega arith)
+
+one_few : (octets packet : List ℕ) → AreFew octets (packet ∷ [])
+unfolding AreFew
+one_few octets packet = omega arith
+
+none_few : (octets : List ℕ) → AreFew octets []
+unfolding AreFew
+none_few octets = omega arith
+
+cell_few : (limits : Limits) (flags : SegmentFlags) (part : Option (List ℕ)) (octets : List ℕ)
+    → AreFew octets (cell limits flags part octets).packets
+cell_few limits Alone None octets = given_few octets None _ (alone_fault limits octets) (alone_few limits octets)
+cell_few limits Alone (Some part) octets =
+    given_few octets (Some Interrupted) _ (alone_fault limits octets) (alone_few limits octets)
+cell_few limits First None octets = opened_few limits None octets octets
+cell_few limits First (Some part) octets = opened_few limits (Some Interrupted) octets octets
+cell_few limits Continuing None octets = none_few octets
+cell_few limits Continuing (Some part) octets = opened_few limits None octets (part ++ octets)
+cell_few limits Last None octets = none_few octets
+cell_few limits Last (Some part) octets =
+    given_few octets None _ (one_fault limits (part ++ octets)) (one_few octets (part ++ octets))
+
+pub taken_few : (limits : Limits) (part : Option (List ℕ)) (s : SegmentView)
+    → length (take_step limits part s).packets ≤ length s.payload / 6 + 1
+unfolding AreFew
+taken_few limits part s =
+    cond_both (is_open limits s.header.map) (cell limits s.header.flags part s.payload) _
+    (λ o. length o.packets ≤ length s.payload / 6 + 1)
+    (λ _. cell_few limits s.header.flags part s.payload) (λ _. none_few s.payload)
+
+-- What is received is delivered as it is made ready.
 
 of_its_map : (m : ℕ) (packets : List (List ℕ)) → packets_of_map m (put_on_map m packets) ≡ packets
 of_its_map m [] = refl

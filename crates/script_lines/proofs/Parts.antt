@@ -1,13 +1,14 @@
 -- Where a list is cut at its first mark.
 use Rattle.std.proofs.Common.{◌≡◌, ◌+◌, ◌≤◌, ℕ, Bool, true, false, List, [], ◌∷◌, length, take, drop, refl, ap, ◌∙◌}
-use Rattle.std.proofs.Common.{arith, cond, ltb, Some, None, Option, ◌==◌}
-use Rattle.script_lines.specs.Words.{words_in}
-use Rattle.script_lines.specs.Lines.{line_of_words}
+use Rattle.std.proofs.Common.{arith, cond, ltb, Some, None, Option, ◌==◌, map, ◌||◌, sym}
 use Rattle.std.specs.Option.{unwrap_or}
 use Rattle.std.specs.List.{slice_split, position_or_len, onto_first}
 use Rattle.std.proofs.lemmas.Bool.{ltb-false, ltb-true}
 use Rattle.std.proofs.lemmas.List.Splits.{slice_split_first, slice_split-cons_yes, slice_split-cons_no}
 use Rattle.std.proofs.lemmas.Grind.{common_steps}
+use Rattle.script_lines.specs.Words.{words_in, lines_in}
+use Rattle.script_lines.specs.Lines.{line_of_words, ScriptLine, line_in}
+use Rattle.script_lines.specs.Scripts.{script_in, is_action, is_refused, first_refused}
 
 uncut_case : (p : ℕ → Bool) (x : ℕ) (xs : List ℕ) (b : Bool) → p x ≡ b
     → (length xs ≤ position_or_len p xs → slice_split p xs ≡ xs ∷ []) → length (x ∷ xs) ≤ position_or_len p (x ∷ xs)
@@ -65,3 +66,18 @@ four_words line name one first two second three e f g =
     ap line_of_words (e
     ∙ ap (λ (ws : List (List ℕ)). name ∷ ws)
     (f ∙ ap (λ (ws : List (List ℕ)). first ∷ ws) (g ∙ ap (λ (ws : List (List ℕ)). second ∷ ws) more.2)))
+
+-- A script's lines, one after another.
+
+pub script_begins : (text line : List ℕ) (more : List (List ℕ)) (what : ScriptLine)
+    → lines_in text ≡ line ∷ more → what ≡ line_in line → script_in text ≡ what ∷ map line_in more
+script_begins text line more what is says =
+    ap (map line_in) is ∙ ap (λ (w : ScriptLine). w ∷ map line_in more) (sym says)
+
+pub goes_past : (n : ℕ) (begun next : Bool) (line : ScriptLine) (more all : List ScriptLine) → all ≡ line ∷ more
+    → is_refused begun line ≡ false → next ≡ begun || is_action line
+    → first_refused (n + 1) next more ≡ first_refused n begun all
+goes_past n begun next line more all is kept begins =
+    ap (λ (b : Bool). first_refused (n + 1) b more) begins
+    ∙ sym (ap (λ (b : Bool). cond b (Some n) (first_refused (n + 1) (begun || is_action line) more)) kept)
+    ∙ sym (ap (first_refused n begun) is)

@@ -19,10 +19,10 @@ pub use Rattle.map_service.proofs.AssemblerSteps.{assembled-push, assembled-othe
 pub use Rattle.map_service.specs.Assembly.{assembled}
 pub use Rattle.map_service.specs.Views.{packets_view}
 pub use Rattle.map_service.specs.declared.limits.Limits.{Limits}
-pub use Rattle.cop1.proofs.ReportCases.{heard_active}
-pub use Rattle.cop1.proofs.DirectiveCases.{obeyed, begun}
-pub use Rattle.cop1.proofs.PullCases.{pulled_out}
-pub use Rattle.cop1.proofs.TickCases.{ticked}
+pub use Rattle.cop1.proofs.Cases.{heard_active}
+pub use Rattle.cop1.proofs.Cases.{obeyed, begun}
+pub use Rattle.cop1.proofs.Cases.{pulled_out}
+pub use Rattle.cop1.proofs.Cases.{ticked}
 pub use Rattle.cop1.specs.FopDirective.{is_initiation}
 pub use Rattle.cop1.specs.Farm.{verdict_of}
 pub use Rattle.cop1.specs.FopDirective.{directive_step}

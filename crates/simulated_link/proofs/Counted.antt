@@ -1,26 +1,65 @@
--- What is acknowledged has left the sent queue, and what is in the sent queue was sent.
-use Rattle.simulated_link.proofs.Common.{◌≡◌, ◌≢◌, ◌≤◌, ◌<◌, ℕ, suc, ◌+◌, true, false, List, [], ◌∷◌, ◌++◌, length}
-use Rattle.simulated_link.proofs.Common.{map, drop, Option, Some, None, Result, Ok, Err, option_map, refl, ap, arith}
-use Rattle.simulated_link.proofs.Common.{length-append, length-drop, cond_both, ltb-false, eq-eqb, length-map, Clcw}
-use Rattle.simulated_link.proofs.Common.{On, SegmentView, ahead_by, CopFault, Alert, Idle, Directive, InitWithoutCheck}
-use Rattle.simulated_link.proofs.Common.{InitWithCheck, InitUnlock, InitSetVr, S1, S2, S3, S6, directive_step}
-use Rattle.simulated_link.proofs.Common.{PulledUnit, pull_step, without_oldest_mark, FopState, SentUnit, unmarked_unit}
-use Rattle.simulated_link.proofs.Common.{marked_unit, FopOutcome, clcw_step, report_while_active, after_move_on}
-use Rattle.simulated_link.proofs.Common.{after_new_value, retransmits, IsActive, tick_step, after_acknowledge}
-use Rattle.simulated_link.proofs.Common.{after_repeat, after_alert, after_stop, goes_on, TmFault, Config, LinkFault}
-use Rattle.simulated_link.proofs.Common.{GroundState, refill_step, with_fop, unless_refused, after_submission}
-use Rattle.simulated_link.proofs.Common.{after_extraction, telemetry_outcome, frame_to_send, is_initiation, first_in}
+-- What telemetry that arrives may do at the ground, and that what is in the sent queue was sent and not
+-- acknowledged.
+use Rattle.simulated_link.proofs.Common.{◌≡◌, true, false, not, Option, None, Result, Ok, Err, refl, ◌==◌, cond_both}
+use Rattle.simulated_link.proofs.Common.{eqb-true, not-false, and_parts, Clcw, ClcwFault, SegmentView, Alert, NnR}
+use Rattle.simulated_link.proofs.Common.{Synch, Idle, FopMode, S1, S4, S5, S6, locks, waits, asks, confirms, clcw_step}
+use Rattle.simulated_link.proofs.Common.{report_in, report_while_active, IsActive, alerts, goes_on, FopState}
+use Rattle.simulated_link.proofs.Common.{FopOutcome, TmFault, Extracted, extract_step, Heard, GroundState}
+use Rattle.simulated_link.proofs.Common.{GroundOutcome, with_fop, after_extraction, own_frame_outcome}
+use Rattle.simulated_link.proofs.Common.{telemetry_outcome, ◌≢◌, ◌≤◌, ◌<◌, ℕ, suc, ◌+◌, List, [], ◌∷◌, ◌++◌, length}
+use Rattle.simulated_link.proofs.Common.{map, drop, Some, option_map, ap, arith, length-append, length-drop, ltb-false}
+use Rattle.simulated_link.proofs.Common.{eq-eqb, length-map, On, ahead_by, CopFault, Directive, InitWithoutCheck}
+use Rattle.simulated_link.proofs.Common.{InitWithCheck, InitUnlock, InitSetVr, S2, S3, directive_step, PulledUnit}
+use Rattle.simulated_link.proofs.Common.{pull_step, without_oldest_mark, SentUnit, unmarked_unit, marked_unit}
+use Rattle.simulated_link.proofs.Common.{after_move_on, after_new_value, retransmits, tick_step, after_acknowledge}
+use Rattle.simulated_link.proofs.Common.{after_repeat, after_alert, after_stop, Config, LinkFault, refill_step}
+use Rattle.simulated_link.proofs.Common.{unless_refused, after_submission, frame_to_send, is_initiation, first_in}
 use Rattle.simulated_link.proofs.Common.{is_closed, obeyed, begun, ticked, pulled_out, heard_active, Bool}
-use Rattle.simulated_link.proofs.Common.{ClcwFault}
-use Rattle.tc_frame.specs.Layout.{FrameView}
+use Rattle.std.specs.Prelude.{◌&&◌}
+use Rattle.std.proofs.lemmas.Bool.{not-true}
+use Rattle.tc_frame.specs.Layout as command_layout
 use Rattle.tc_frame.specs.Encoding.{spelling}
+use Rattle.clcw.specs.Decoding.{clcw_at}
+use Rattle.tm_link.specs.Layout.{FrameView}
+use Rattle.tm_link.specs.Layout as telemetry
+use Rattle.cop1.specs.declared.vocabulary.Alert.TheVariants.{Lockout, Clcw as ClcwAlert}
 use Rattle.cop1.specs.Units.{IsFop}
 use Rattle.cop1.specs.FopWords.{is_outside}
-use Rattle.simulated_link.proofs.TelemetryCases.{reported, report_seen, frame_seen}
-use Rattle.tm_link.specs.Layout as telemetry
+use Rattle.nodes.specs.Ground.{after_report, report_outcome, is_own_telemetry, moved_by}
+use Rattle.nodes.specs.declared.heard.HeardClcw.{HeardClcw}
 use Rattle.nodes.specs.Fates.{Fates, with_submission, after_acknowledging, after_obeying}
-use Rattle.nodes.specs.Ground.{moved_by}
 use Rattle.nodes.specs.Ground as ground
+pub use Rattle.nodes.proofs.Owed.{IsConfirming, IsCause, AtEachState, reported}
+
+-- What telemetry that arrives may do at the ground.
+
+-- ---- the telemetry
+
+pub record AtEachFrame (s : GroundState) (P : GroundState → Type 0) : Type 0 where
+  pub same : P s
+  pub extracts : (x : Extracted) → P (after_extraction s x)
+  pub uses : (x : Extracted) (report : Clcw) → P (after_report (after_extraction s x) (clcw_step s.fop report).after)
+
+-- of a report, which a frame carried or which came by itself
+pub report_seen : (s : GroundState) (P : GroundState → Type 0) → P s
+    → ((report : Clcw) → P (after_report s (clcw_step s.fop report).after)) → (r : Result Clcw ClcwFault)
+    → P (report_outcome s r).after
+report_seen s P same uses (Err fault) = same
+report_seen s P same uses (Ok report) =
+    cond_both (report.vcid == s.config.vcid) _ _ (λ (o : GroundOutcome HeardClcw). P o.after) (λ t. uses report)
+    (λ t. same)
+
+module _ (s : GroundState) (P : GroundState → Type 0) (each : AtEachFrame s P) where
+  word_seen : (x : Extracted) (r : Result Clcw ClcwFault) → P (own_frame_outcome s x r).after
+  word_seen x r = report_seen (after_extraction s x) P (each.extracts x) (each.uses x) r
+
+  pub frame_seen : (r : Result FrameView TmFault) → P (telemetry_outcome s r).after
+  frame_seen (Err fault) = each.same
+  frame_seen (Ok frame) =
+      cond_both (is_own_telemetry s.config frame) _ _ (λ (o : GroundOutcome Heard). P o.after)
+      (λ t. word_seen (extract_step s.extractor frame) (clcw_at frame.ocf)) (λ t. each.same)
+
+-- What is acknowledged has left the sent queue, and what is in the sent queue was sent.
 
 -- ---- the sender's queue
 
@@ -223,6 +262,7 @@ module _ (s : GroundState) (fop : IsFop s.fop) (octet : s.fop.nn < 256) where
 
 -- ---- nothing is sent first where nothing goes
 
-pub nothing_first : (vs : ℕ) (o : Option FrameView) → None ≡ option_map (spelling On) o → first_in vs o ≡ []
+pub nothing_first : (vs : ℕ) (o : Option command_layout.FrameView) → None ≡ option_map (spelling On) o
+    → first_in vs o ≡ []
 nothing_first vs None is = refl
 nothing_first vs (Some f) is = absurd cc

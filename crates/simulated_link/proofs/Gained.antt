@@ -1,45 +1,108 @@
--- What is accepted on board is delivered on its MAP, after what the session delivered there.
-use Rattle.simulated_link.proofs.Common.{◌≡◌, ◌≤◌, ℕ, List, [], ◌∷◌, ◌++◌, length, take, drop, option_map}
-use Rattle.simulated_link.proofs.Common.{option_to_list, Bool, true, false, Option, Some, None, Result, Ok, Err}
-use Rattle.simulated_link.proofs.Common.{if◌then◌else◌, refl, sym, ap, ◌∙◌, append-nil, arith, length-append, inl, inr}
-use Rattle.simulated_link.proofs.Common.{cases_eq, eq-eqb, ne_eqb, take-append-drop, take-append-le, drop-append-le}
-use Rattle.simulated_link.proofs.Common.{TcFault, On, SegmentView, BodyView, Ad, Bd, Bc, Limits, assembled}
-use Rattle.simulated_link.proofs.Common.{assembled_begins, assembled-push, assembled-other, Verdict, Accepted}
-use Rattle.simulated_link.proofs.Common.{verdict_of, Config, SpacecraftState, spacecraft_receive, frame_outcome}
-use Rattle.simulated_link.proofs.Common.{body_outcome, sequence_outcome, bypass_outcome, is_free, is_own_frame}
-use Rattle.simulated_link.proofs.Common.{segment_to_accept, acceptance_with, is_kept, packets_accepted_on, limits_of}
+-- What is to be accepted on board is accepted, and delivered on its MAP after what the session delivered there.
+use Rattle.simulated_link.proofs.Common.{◌≡◌, refl, sym, ap, ◌∙◌, map, option_map, ℕ, List, [], ◌++◌, Bool, true, false}
+use Rattle.simulated_link.proofs.Common.{option_to_list, Option, Some, None, Result, Ok, Err, if◌then◌else◌, append-nil}
+use Rattle.simulated_link.proofs.Common.{map-append, On, TcFault, SegmentView, BodyView, Ad, Bd, Bc, segment_octets}
+use Rattle.simulated_link.proofs.Common.{Verdict, Accepted, verdict_of, SpacecraftState, SpacecraftOutcome}
+use Rattle.simulated_link.proofs.Common.{spacecraft_receive, frame_outcome, body_outcome, sequence_outcome}
+use Rattle.simulated_link.proofs.Common.{bypass_outcome, is_free, is_own_frame, is_kept, limits_of, segment_to_accept}
+use Rattle.simulated_link.proofs.Common.{◌≤◌, ◌∷◌, length, take, drop, arith, length-append, inl, inr, cases_eq, eq-eqb}
+use Rattle.simulated_link.proofs.Common.{ne_eqb, take-append-drop, take-append-le, drop-append-le, Limits, assembled}
+use Rattle.simulated_link.proofs.Common.{assembled_begins, assembled-push, assembled-other, Config, acceptance_with}
+use Rattle.simulated_link.proofs.Common.{packets_accepted_on}
 use Rattle.tc_frame.specs.Layout.{FrameView}
 use Rattle.tc_frame.specs.Decoding.{frame_at}
-use Rattle.simulated_link.proofs.AcceptedSegments.{accepts_segment, foreign}
+use Rattle.nodes.specs.declared.received.Received.{Received}
+use Rattle.nodes.specs.declared.received.Received.TheVariants.{Foreign}
+use Rattle.nodes.specs.Spacecraft.{is_accepted}
+use Rattle.nodes.specs.Arrival.{segment_in_body, segment_in_frame}
+
+-- What is to be accepted is what is accepted.
+
+same : {A : Type 0} (xs : List A) → xs ≡ xs ++ []
+same xs = sym (append-nil xs)
+
+in_sequence : (s : SpacecraftState) (n : ℕ) (segment : SegmentView) (verdict : Verdict)
+    → (sequence_outcome s n segment verdict).after.accepted ≡ s.accepted
+    ++ option_to_list (if is_accepted verdict then Some segment else None)
+in_sequence s n segment Accepted = refl
+in_sequence s n segment _ = same s.accepted
+
+in_bypass : (s : SpacecraftState) (segment : SegmentView) (kept : Bool)
+    → (bypass_outcome s segment kept).after.accepted ≡ s.accepted ++ []
+in_bypass s segment true = same s.accepted
+in_bypass s segment false = same s.accepted
+
+in_own : (s : SpacecraftState) (body : BodyView)
+    → (body_outcome s body).after.accepted ≡ s.accepted ++ option_to_list (segment_in_body s body)
+in_own s (Ad n segment) = in_sequence s n segment (verdict_of s.farm n (is_free s))
+in_own s (Bd segment) = in_bypass s segment (is_kept (limits_of s.config) segment)
+in_own s (Bc command) = same s.accepted
+
+abbrev pub foreign : SpacecraftState → SpacecraftOutcome Received
+foreign s = record { answer = Foreign; after = s }
+
+in_any : (s : SpacecraftState) (frame : FrameView) (own : Bool)
+    → (if own then body_outcome s frame.body else foreign s).after.accepted ≡ s.accepted
+    ++ option_to_list (if own then segment_in_body s frame.body else None)
+in_any s frame true = in_own s frame.body
+in_any s frame false = same s.accepted
+
+in_read : (s : SpacecraftState) (r : Result FrameView TcFault)
+    → (frame_outcome s r).after.accepted ≡ s.accepted ++ option_to_list (segment_in_frame s r)
+in_read s (Err fault) = same s.accepted
+in_read s (Ok frame) = in_any s frame (is_own_frame s.config frame)
+
+-- what is accepted when octets arrive
+pub accepts_segment : (s : SpacecraftState) (octets : List ℕ)
+    → (spacecraft_receive s octets).after.accepted ≡ s.accepted ++ option_to_list (segment_to_accept s octets)
+accepts_segment s octets = in_read s (frame_at On octets)
+
+of_option : (x : Option SegmentView)
+    → option_to_list (option_map segment_octets x) ≡ map segment_octets (option_to_list x)
+of_option None = refl
+of_option (Some segment) = refl
+
+-- so its data field goes after those that were accepted
+pub field_behind : (s : SpacecraftState) (octets : List ℕ) (fields : List (List ℕ)) (field : Option (List ℕ))
+    → fields ≡ map segment_octets s.accepted → field ≡ option_map segment_octets (segment_to_accept s octets)
+    → fields ++ option_to_list field ≡ map segment_octets (spacecraft_receive s octets).after.accepted
+field_behind s octets fields field before field_is =
+    ap (λ (xs : List (List ℕ)). xs ++ option_to_list field) before
+    ∙ ap (λ (o : Option (List ℕ)). map segment_octets s.accepted ++ option_to_list o) field_is
+    ∙ ap (λ (xs : List (List ℕ)). map segment_octets s.accepted ++ xs) (of_option (segment_to_accept s octets))
+    ∙ sym (map-append segment_octets s.accepted (option_to_list (segment_to_accept s octets)))
+    ∙ ap (map segment_octets) (sym (accepts_segment s octets))
+
+-- What is accepted on board is delivered on its MAP, after what the session delivered there.
 
 -- ---- the configuration stays
 
-in_sequence : (s : SpacecraftState) (n : ℕ) (segment : SegmentView) (verdict : Verdict)
+sequence_keeps : (s : SpacecraftState) (n : ℕ) (segment : SegmentView) (verdict : Verdict)
     → (sequence_outcome s n segment verdict).after.config ≡ s.config
-in_sequence s n segment Accepted = refl
-in_sequence s n segment _ = refl
+sequence_keeps s n segment Accepted = refl
+sequence_keeps s n segment _ = refl
 
-in_bypass : (s : SpacecraftState) (segment : SegmentView) (kept : Bool)
+bypass_keeps : (s : SpacecraftState) (segment : SegmentView) (kept : Bool)
     → (bypass_outcome s segment kept).after.config ≡ s.config
-in_bypass s segment true = refl
-in_bypass s segment false = refl
+bypass_keeps s segment true = refl
+bypass_keeps s segment false = refl
 
-in_own : (s : SpacecraftState) (body : BodyView) → (body_outcome s body).after.config ≡ s.config
-in_own s (Ad n segment) = in_sequence s n segment (verdict_of s.farm n (is_free s))
-in_own s (Bd segment) = in_bypass s segment (is_kept (limits_of s.config) segment)
-in_own s (Bc command) = refl
+own_keeps : (s : SpacecraftState) (body : BodyView) → (body_outcome s body).after.config ≡ s.config
+own_keeps s (Ad n segment) = sequence_keeps s n segment (verdict_of s.farm n (is_free s))
+own_keeps s (Bd segment) = bypass_keeps s segment (is_kept (limits_of s.config) segment)
+own_keeps s (Bc command) = refl
 
-in_any : (s : SpacecraftState) (frame : FrameView) (own : Bool)
+any_keeps : (s : SpacecraftState) (frame : FrameView) (own : Bool)
     → (if own then body_outcome s frame.body else foreign s).after.config ≡ s.config
-in_any s frame true = in_own s frame.body
-in_any s frame false = refl
+any_keeps s frame true = own_keeps s frame.body
+any_keeps s frame false = refl
 
-in_read : (s : SpacecraftState) (r : Result FrameView TcFault) → (frame_outcome s r).after.config ≡ s.config
-in_read s (Err fault) = refl
-in_read s (Ok frame) = in_any s frame (is_own_frame s.config frame)
+read_keeps : (s : SpacecraftState) (r : Result FrameView TcFault) → (frame_outcome s r).after.config ≡ s.config
+read_keeps s (Err fault) = refl
+read_keeps s (Ok frame) = any_keeps s frame (is_own_frame s.config frame)
 
 pub config_stays : (s : SpacecraftState) (octets : List ℕ) → (spacecraft_receive s octets).after.config ≡ s.config
-config_stays s octets = in_read s (frame_at On octets)
+config_stays s octets = read_keeps s (frame_at On octets)
 
 -- ---- what is delivered
 

@@ -1,10 +1,6 @@
-pub mod AcceptedSegments
+pub mod Gained
 pub mod Common
 pub mod Counted
-pub mod FirstOctets
-pub mod Gained
+pub mod Lists
 pub mod Unchanged
-pub mod MapLists
-pub mod TelemetryCases
 pub mod Transit
-pub mod Refusals

@@ -8,7 +8,7 @@ ghost use Rattle.nodes.specs.Spacecraft.{spacecraft_step, Report};
 use crate::octet_copy::copy_front;
 use nodes::Spacecraft;
 
-#[tactic(auto, using(crate::proofs::FirstOctets::front_is))]
+#[tactic(auto, using(crate::proofs::Lists::front_is))]
 pub(crate) fn put_report(spacecraft: &mut Spacecraft, to: &mut Vec<u8>)
     requires empty { to.old.items ≡ [] }
     requires room { spacecraft.old.config.frame_length ≤ vec_capacity to.old }

@@ -1,52 +1,148 @@
 -- Packets that go past the sequence control.
-use Rattle.tc_link.proofs.Common.{ℕ, zero, suc, List, [], ◌∷◌, ◌++◌, drop, AreSomeOf, ◌≡◌, ◌+◌, ◌%◌, ◌-◌, Bool, true}
-use Rattle.tc_link.proofs.Common.{false, length, map, Option, Some, None, Result, Ok, Err, refl, ap, sym, subst, ◌∙◌}
-use Rattle.tc_link.proofs.Common.{append_assoc, append-nil, map-append, cond_both, AllByRecursion, TcFault, On}
-use Rattle.tc_link.proofs.Common.{SegmentView, BodyView, Ad, Bd, Bc, PulledUnit, pull_step, pulled_out, FopOutcome}
-use Rattle.tc_link.proofs.Common.{units_of, Verdict, is_to_send, after_queue, Config, FitsFrame, LinkFault, GroundState}
-use Rattle.tc_link.proofs.Common.{with_fop, frame_of, frame_to_send, submit_fault, bypass_fault, unless_refused}
-use Rattle.tc_link.proofs.Common.{after_bypass, PacketOn, SpacecraftState, SpacecraftOutcome, frame_outcome}
-use Rattle.tc_link.proofs.Common.{body_outcome, sequence_outcome, bypass_outcome, is_own_frame, is_kept, verdict_of}
-use Rattle.tc_link.proofs.Common.{is_free, limits_of, spacecraft_take, spacecraft_take_bypass, Heard, Event}
-use Rattle.tc_link.proofs.Common.{spacecraft_telemetry, World, WorldOutcome, world_step, world_after_pull}
-use Rattle.tc_link.proofs.Common.{world_after_take, world_after_queueing}
-use Rattle.tc_link.specs.Telemetry.{none, one, without}
-use Rattle.tc_frame.specs.Layout.{FrameView}
-use Rattle.tc_frame.specs.Encoding.{spelling}
+use Rattle.tc_link.proofs.Common.{◌≡◌, ℕ, Bool, true, false, refl, ◌∙◌, Clcw, SegmentView, Directive, CopFault, Alert}
+use Rattle.tc_link.proofs.Common.{InitWithoutCheck, InitWithCheck, InitUnlock, InitSetVr, directive_step, FopState}
+use Rattle.tc_link.proofs.Common.{FopOutcome, clcw_step, retransmits, tick_step, heard_active, obeyed, begun, ticked}
+use Rattle.tc_link.proofs.Common.{GroundState, refill_step, with_fop, Result, Option, directive_outcome, TmFault}
+use Rattle.tc_link.proofs.Common.{telemetry_outcome, LinkFault, unless_refused, List, after_submission, after_alert}
+use Rattle.tc_link.proofs.Common.{Some, None, SetVs, obeying, submitting, zero, suc, [], ◌∷◌, ◌++◌, drop, AreSomeOf}
+use Rattle.tc_link.proofs.Common.{◌+◌, ◌%◌, ◌-◌, length, map, Ok, Err, ap, sym, subst, append_assoc, append-nil}
+use Rattle.tc_link.proofs.Common.{map-append, cond_both, AllByRecursion, TcFault, On, BodyView, Ad, Bd, Bc, PulledUnit}
+use Rattle.tc_link.proofs.Common.{pull_step, pulled_out, units_of, Verdict, is_to_send, after_queue, Config, FitsFrame}
+use Rattle.tc_link.proofs.Common.{frame_of, frame_to_send, submit_fault, bypass_fault, after_bypass, PacketOn}
+use Rattle.tc_link.proofs.Common.{SpacecraftState, SpacecraftOutcome, frame_outcome, body_outcome, sequence_outcome}
+use Rattle.tc_link.proofs.Common.{bypass_outcome, is_own_frame, is_kept, verdict_of, is_free, limits_of}
+use Rattle.tc_link.proofs.Common.{spacecraft_take, spacecraft_take_bypass, Heard, Event, spacecraft_telemetry, World}
+use Rattle.tc_link.proofs.Common.{WorldOutcome, world_step, world_after_pull, world_after_take, world_after_queueing}
+use Rattle.tc_link.proofs.Common.{active_on}
 use Rattle.std.proofs.lemmas.List.Concat.{flat_map-append}
 use Rattle.std.specs.List.{flat_map}
 use Rattle.std.specs.Borrow.{Bor}
-use Rattle.nodes.specs.Ground.{ground_step, ground_take_telemetry}
+use Rattle.tc_frame.specs.Layout.{FrameView}
+use Rattle.tc_frame.specs.Encoding.{spelling}
+use Rattle.tc_frame.specs.Decoding as command
+use Rattle.clcw.specs.declared.fault.ClcwFault.{ClcwFault}
+use Rattle.clcw.specs.Decoding.{clcw_at}
+use Rattle.tm_link.specs.Layout as telemetry
+use Rattle.tm_link.specs.Decoding.{frame_at}
+use Rattle.nodes.specs.Ground.{report_outcome, ground_step, ground_take_telemetry}
 use Rattle.nodes.specs.Spacecraft.{is_accepted, after_take}
 use Rattle.nodes.specs.declared.received.Received.{Received}
 use Rattle.nodes.specs.declared.heard.HeardReport.{HeardReport}
 use Rattle.nodes.specs.declared.heard.HeardReport.TheVariants.{Used}
-use Rattle.clcw.specs.Decoding.{clcw_at}
-use Rattle.simulated_link.proofs.Unchanged.{AtEachLoss, lost, up_arrives, down_arrives}
-use Rattle.simulated_link.specs.World.{world_after_bypass}
-use Rattle.tm_link.specs.Decoding.{frame_at}
-use Rattle.tc_link.specs.AnyPast.{LinkStep, Happens, TakeTelemetry, Receives, Hears, HearsReport}
-use Rattle.tc_link.specs.AnyPast.{ForgetTelemetry, NewGround, NewSpacecraft, IsLinkStep, link_step, link_run}
-use Rattle.tc_link.specs.AnyPast.{after_report, after_hearing}
+use Rattle.nodes.specs.Ground as ground_calls
+use Rattle.nodes.specs.declared.heard.Heard.TheVariants as heard_cases
+use Rattle.nodes.specs.declared.event.Event.TheVariants as events
+use Rattle.simulated_link.specs.World.{world_after_bypass, resumed, directed}
+use Rattle.simulated_link.proofs.Counted.{reported, report_seen, frame_seen}
+use Rattle.simulated_link.proofs.Unchanged.{AtEachLoss, lost, up_arrives, down_arrives, word_arrives, resumes}
+use Rattle.tc_link.specs.Telemetry.{none, one, without}
+use Rattle.tc_link.specs.AnyPast.{LinkStep, Happens, TakeTelemetry, Receives, Hears, HearsReport, ForgetTelemetry}
+use Rattle.tc_link.specs.AnyPast.{NewGround, NewSpacecraft, IsLinkStep, link_step, link_run, after_report}
+use Rattle.tc_link.specs.AnyPast.{after_hearing}
 use Rattle.tc_link.specs.Bypass.{packet_of, packet_in, bypass_up, bypass_queued, bypass_held, bypass_accepted_by}
 use Rattle.tc_link.specs.Bypass.{bypass_taken_by, by_step, bypass_accepted, bypass_taken, ReceivesNothingElse}
 use Rattle.tc_link.specs.Bypass.{BypassKeepsOrder}
 use Rattle.tc_link.specs.InTransit.{in_frame}
-use Rattle.tc_link.proofs.AnyPast.{link_step_holds, past_holds}
-use Rattle.tc_link.proofs.BypassKept.{refilled_same, submission_same, directive_same, telemetry_same, word_same}
-use Rattle.tc_link.proofs.BypassKept.{ticked_same}
-use Rattle.tc_link.proofs.Common.{active_on}
-use Rattle.tc_link.proofs.FitFrames.{moved}
+use Rattle.tc_link.proofs.Refilled.{refilled_keeps}
+use Rattle.tc_link.proofs.Promised.{link_step_holds, past_holds}
+use Rattle.tc_link.proofs.Readable.{moved, Goes, reads_back, fits_at}
 use Rattle.tc_link.proofs.Invariant.{Holding}
 use Rattle.tc_link.proofs.Lists.{oldest_stands}
-use Rattle.tc_link.proofs.Spelled.{Goes, reads_back, fits_at}
-use Rattle.tc_frame.specs.Decoding as command
-use Rattle.nodes.specs.Ground as ground_calls
-use Rattle.nodes.specs.declared.heard.Heard.TheVariants as heard_cases
-use Rattle.nodes.specs.declared.event.Event.TheVariants as events
-use Rattle.tc_link.proofs.Common.{SetVs, InitUnlock}
-use Rattle.simulated_link.proofs.Unchanged.{word_arrives, resumes}
-use Rattle.simulated_link.specs.World.{resumed, directed}
+
+-- The bypass queue of the sender changes by a packet that is accepted and one that is sent alone.
+
+module _ (s : FopState SegmentView) where
+  -- the same packets are queued
+  abbrev pub Same : FopState SegmentView → Type 0
+  Same f = f.bypass ≡ s.bypass
+
+  begun_same : (d : Directive) → Same (begun s d)
+  begun_same InitWithoutCheck = refl
+  begun_same InitWithCheck = refl
+  begun_same InitUnlock = refl
+  begun_same (InitSetVr x) = refl
+  begun_same _ = refl
+
+  again_same : (repeats : Bool) → Same (retransmits s repeats)
+  again_same true = refl
+  again_same false = refl
+
+  pub report_same : (r : Clcw) → Same (clcw_step s r).after
+  report_same r = reported s r (λ o. Same o.after) (record {
+    active = λ active. heard_active s r (λ o. Same o.after) (record {
+      locked = λ t. refl;
+      outside = λ t. refl;
+      wait_flag = λ none waiting. refl;
+      asks_none = λ asking at. refl;
+      same = refl;
+      ceases = λ none at were. refl;
+      moves = λ inside. refl;
+      others_over = λ inside asking one. refl;
+      others_wait = λ inside asking. refl;
+      others_again = λ inside asking. refl;
+      all_over = λ asking one. refl;
+      all_wait = λ asking. refl;
+      all_again = λ asking. again_same;
+    });
+    alerted = λ is x cause. refl;
+    checked = λ is confirms. refl;
+    commanded = λ is confirms. refl;
+    same = refl;
+  })
+
+  pub tick_same : Same (tick_step s).after
+  tick_same = ticked s (λ o. Same o.after) (record {
+    off = refl;
+    runs = λ left. refl;
+    stops = refl;
+    repeats = λ active. refl;
+    counts = refl;
+    commands = λ is. refl;
+    gives_up = refl;
+  })
+
+module _ (s : GroundState) where
+  pub refilled_same : (refill_step s).fop.bypass ≡ s.fop.bypass
+  refilled_same = refilled_keeps (λ g. g.fop.bypass ≡ s.fop.bypass) s (λ waiting pending on off. refl)
+
+with_same : (s : GroundState) (f : FopState SegmentView) → Same s.fop f → (with_fop s f).fop.bypass ≡ s.fop.bypass
+with_same s f same = refilled_same (record s { fop = f }) ∙ same
+
+module _ (s : GroundState) where
+  pub submission_same : (m : ℕ) (octets : List ℕ) (o : Option LinkFault)
+      → (unless_refused o s (after_submission s m octets)).after.fop.bypass ≡ s.fop.bypass
+  submission_same m octets (Some fault) = refl
+  submission_same m octets None = refilled_same (submitting s m octets)
+
+  abbrev Directed : Directive → FopOutcome SegmentView (Result (Option Alert) CopFault) → Type 0
+  Directed d o = (directive_outcome s d o).after.fop.bypass ≡ s.fop.bypass
+
+  pub directive_same : (d : Directive) → Directed d (directive_step s.fop d)
+  directive_same = obeyed s.fop Directed (record {
+    refused = λ d fault on. refl;
+    begins = λ d is off. with_same (obeying s d) (begun s.fop d) (begun_same s.fop d);
+    terminated = with_same s (after_alert s.fop) refl;
+    numbers = λ x is. with_same (obeying s (SetVs x)) (record s.fop { vs = x; nn = x }) refl;
+    sets = λ d n limit ticks plain most. with_same (obeying s d)
+        (record s.fop { window = n; limit = limit; timer = ticks }) refl;
+  })
+
+  pub telemetry_same : (r : Result telemetry.FrameView TmFault)
+      → (telemetry_outcome s r).after.fop.bypass ≡ s.fop.bypass
+  telemetry_same = frame_seen s (λ g. g.fop.bypass ≡ s.fop.bypass) (record {
+    same = refl;
+    extracts = λ x. refl;
+    uses = λ x report. refilled_same _ ∙ report_same s.fop report;
+  })
+
+  pub word_same : (r : Result Clcw ClcwFault) → (report_outcome s r).after.fop.bypass ≡ s.fop.bypass
+  word_same =
+      report_seen s (λ g. g.fop.bypass ≡ s.fop.bypass) refl (λ report. refilled_same _ ∙ report_same s.fop report)
+
+  pub ticked_same : (with_fop s (tick_step s.fop).after).fop.bypass ≡ s.fop.bypass
+  ticked_same = with_same s (tick_step s.fop).after (tick_same s.fop)
+
+-- Packets that go past the sequence control.
 
 -- What some of a list, in order, are of another.
 

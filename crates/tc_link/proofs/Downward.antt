@@ -1,40 +1,42 @@
--- Telemetry that is sent, arrives or doesn't in a session.
+-- Telemetry that is sent, arrives or doesn't keeps what holds in a session: before the confirmation, and once it is
+-- settled.
 use Rattle.tc_link.proofs.Common.{◌≡◌, ℕ, ◌+◌, ◌*◌, ◌/◌, ◌<◌, ◌≤◌, ◌⊎◌, inl, inr, Bool, true, false, List, [], ◌∷◌}
 use Rattle.tc_link.proofs.Common.{◌++◌, length, option_to_list, Ok, refl, ap, sym, subst, ◌∙◌, arith, length-append}
 use Rattle.tc_link.proofs.Common.{◌||◌, eq-eqb, Clcw, SegmentView, ahead_by, Directive, InitWithCheck, asks, clcw_step}
 use Rattle.tc_link.proofs.Common.{FopState, report_of, Extracted, extract_step, Config, Heard, spacecraft_step, Report}
 use Rattle.tc_link.proofs.Common.{GroundState, GroundOutcome, is_closed, after_report, after_extraction}
 use Rattle.tc_link.proofs.Common.{telemetry_outcome, own_frame_outcome, IsChecked, World, is_confirmation}
-use Rattle.tc_link.proofs.Common.{AtMostOneStep, Rises, acknowledging, ground_telemetry}
-use Rattle.nodes.specs.declared.heard.Heard.TheVariants.{Frame}
-use Rattle.nodes.specs.declared.heard.HeardReport.TheVariants.{Used}
-use Rattle.simulated_link.specs.World.{session_after_report, world_after_report}
-use Rattle.tc_link.specs.PlainLink.{reports as tells, loses_down, hears, ignores}
-use Rattle.tc_link.proofs.Early.{WouldConfirm, Lasts, lasts_push, AllSame, same_push}
-use Rattle.tc_link.proofs.Linked.{In, Stage, Calm, Tells, Reporting, Held, Next}
-use Rattle.tc_link.proofs.ReportFrames.{reporting_now}
-use Rattle.tc_link.proofs.Reports.{asked}
-use Rattle.tc_link.proofs.Refilled.{refilled_keeps, held_again}
-use Rattle.tc_link.proofs.Transit.{DownIs, Ranks, bit, down_push, rises_push, rises_lower, rises_to, ranks_push}
-use Rattle.tc_link.proofs.Transit.{ranks_lower}
-use Rattle.tc_link.proofs.ReportFrames.{flags_are}
-use Rattle.nodes.specs.Ground.{report_outcome}
-use Rattle.nodes.specs.declared.heard.HeardClcw.{HeardClcw}
+use Rattle.tc_link.proofs.Common.{AtMostOneStep, Rises, acknowledging, ground_telemetry, Option, Some, None}
+use Rattle.tc_link.proofs.Common.{if◌then◌else◌, Result, PlainLink, WorldOutcome, world_step, down_deliver_step}
+use Rattle.tc_link.proofs.Common.{with_fop, Alert, Idle, FopMode, S1, S4, S5, S6, FopOutcome, units_of, after_alert}
+use Rattle.tc_link.proofs.Common.{alerts, goes_on, is_initialising, ◌%◌, report_in, report_while_active}
+use Rattle.std.proofs.lemmas.List.{drop-drop}
+use Rattle.clcw.specs.declared.fault.ClcwFault.{ClcwFault}
 use Rattle.tm_link.specs.Decoding.{frame_at}
 use Rattle.tm_link.specs.Decoding as telemetry_reading
+use Rattle.tm_link.specs.Extractor.{ExtractorState}
+use Rattle.nodes.specs.declared.heard.Heard.TheVariants.{Frame}
+use Rattle.nodes.specs.declared.heard.HeardReport.TheVariants.{Used}
+use Rattle.nodes.specs.Ground.{report_outcome, after_moving_up}
+use Rattle.nodes.specs.declared.heard.HeardClcw.{HeardClcw}
+use Rattle.nodes.specs.declared.event.Event.TheVariants as events
+use Rattle.simulated_link.specs.World.{session_after_report, world_after_report, world_after_word, down_word_outcome}
+use Rattle.simulated_link.specs.World.{down_clcw_step}
+use Rattle.simulated_link.specs.Replies.{Down, replied_alert}
+use Rattle.simulated_link.proofs.Counted.{IsConfirming, reported}
+use Rattle.tc_link.specs.PlainLink.{reports as tells, loses_down, hears, ignores}
 use Rattle.tc_link.specs.AnyPast.{with_telemetry_of, SaysAs}
 use Rattle.tc_link.specs.FalseAlarms.{alert_in}
-use Rattle.tc_link.proofs.Common.{Option, Some, None, if◌then◌else◌, Result, PlainLink, WorldOutcome, world_step}
-use Rattle.tc_link.proofs.Common.{down_deliver_step, with_fop}
-use Rattle.tc_link.proofs.Linked.{beside}
-use Rattle.tc_link.proofs.ReportsDown.{HasReports}
-use Rattle.clcw.specs.declared.fault.ClcwFault.{ClcwFault}
-use Rattle.nodes.specs.Ground.{after_moving_up}
-use Rattle.nodes.specs.declared.event.Event.TheVariants as events
-use Rattle.simulated_link.specs.Replies.{Down, replied_alert}
-use Rattle.simulated_link.specs.World.{world_after_word, down_word_outcome, down_clcw_step}
-use Rattle.tm_link.specs.Extractor.{ExtractorState}
+use Rattle.tc_link.proofs.Linked.{WouldConfirm, Lasts, lasts_push, AllSame, same_push, In, Stage, Calm, Tells}
+use Rattle.tc_link.proofs.Linked.{Reporting, Held, Next, asked, DownIs, Ranks, bit, down_push, rises_push, rises_lower}
+use Rattle.tc_link.proofs.Linked.{rises_to, ranks_push, ranks_lower, beside, Good, IsEarly, ControlFits, early_off}
+use Rattle.tc_link.proofs.Linked.{last_good, good_down, good_ranks, Begun, Settled, kept_of, holds_on, stays, Late}
+use Rattle.tc_link.proofs.Linked.{IsLate, HeldBy, Led, ReportComes, active_led, ranks_to}
+use Rattle.tc_link.proofs.IdleStart.{reporting_now, flags_are, HasReports}
+use Rattle.tc_link.proofs.Refilled.{refilled_keeps, held_again, held_same_where}
 use Rattle.tc_link.proofs.Sound.{Sound}
+
+-- Telemetry that is sent, arrives or doesn't in a session.
 
 -- ---- octets that tell a report lead to its use
 
@@ -323,3 +325,357 @@ module _ (early : Bool) (c : Config) (d : Directive) (base : ℕ) (w : World) (k
           linked = assumption (reporting, counted, rises, l);
           stage = one_more early c d base w k g;
         }
+
+-- Before the confirmation: telemetry that arrives keeps what holds, or confirms.
+
+confirms_not : (d : Directive) (old new : FopMode) → IsEarly d new → is_confirmation old new ≡ false
+confirms_not d old S4 early = refl
+confirms_not d old S5 early = refl
+confirms_not d old S6 early = refl
+confirms_not d old _ early = elim early [ ]
+
+confirms_now : (was : Bool) (old new : FopMode) → new ≡ S1 → is_initialising old ≡ true
+    → was || is_confirmation old new ≡ true
+confirms_now true old new is waits_for = refl
+confirms_now false old new is waits_for = rw is waits_for
+
+-- the session is just confirmed
+pub record Confirmed (c : Config) (d : Directive) (base : ℕ) (p : PlainLink) (w : World) : Type 0 where
+  pub late : Next false c d base p w
+  pub exact : (w.spacecraft.farm.vr ≡ w.ground_node.fop.vs) × (w.ground_node.fop.nn ≡ w.ground_node.fop.vs)
+
+module _ (c : Config) (d : Directive) (base : ℕ) (w : World) (k : Sound c w) (g : Begun c d base w) where
+  r_none : g.plain.r ≡ 0
+  r_none = omega (arith, g.linked.r_n, g.stage.none_sent)
+
+  a_none : g.plain.a ≡ 0
+  a_none = omega (arith, g.linked.a_r, r_none)
+
+  module _ (x : Extracted) (r : Clcw) (bs : List (List ℕ)) (rs : List Clcw) (v : ℕ) (vs : List ℕ)
+      (is : g.reports ≡ r ∷ rs) (also : g.plain.down ≡ v ∷ vs) (rest : Reporting c bs rs)
+      (count : length rs ≡ length vs) (up : Rises g.plain.a (v ∷ vs) g.plain.r) where
+    abbrev Hears : FopOutcome SegmentView (Option Alert) → Type 0
+    Hears o = Next true c d base g.plain (with_heard w (after_report (after_extraction w.ground_node x) o.after) bs)
+        ⊎ Confirmed c d base g.plain (with_heard w (after_report (after_extraction w.ground_node x) o.after) bs)
+
+    lasts : Lasts base (r ∷ rs) (WouldConfirm base w.spacecraft.farm)
+    lasts = rw is at g.stage.lasts
+
+    same : d ≡ InitWithCheck
+        → AllSame (r ∷ rs) w.spacecraft.farm.lockout w.spacecraft.farm.retransmit w.spacecraft.farm.vr
+    same = rw is at g.stage.same
+
+    -- nothing is acknowledged
+    moves : (f : FopState SegmentView) → f.nn ≡ w.ground_node.fop.nn
+        → ((pending : List SegmentView) (n : ℕ) (units : List SegmentView)
+        → Held (is_closed w.ground_node.fop.state) base w.ground_node.fop.vs w.ground_node.fop.nn
+        w.ground_node.fop.sent (option_to_list w.ground_node.fop.waiting ++ pending) g.plain.a n units
+        → Held (is_closed f.state) base f.vs f.nn f.sent (option_to_list f.waiting ++ pending) g.plain.a n units)
+        → Moves base w.ground_node.fop g.plain.a v 0 f
+    moves f nn held = record {
+      gone_is = inl refl;
+      nn_is = omega (arith, nn, g.linked.nn_octet);
+      nn_octet = rw nn g.linked.nn_octet;
+      held = λ pending n units was. let none : g.plain.a + 0 ≡ g.plain.a = omega arith in
+          rw none (held pending n units was);
+    }
+
+    -- the session is not confirmed
+    stays_early : (f : FopState SegmentView) → IsEarly d f.state → ControlFits d base f.control
+        → Moves base w.ground_node.fop g.plain.a v 0 f
+        → Next true c d base g.plain (with_heard w (after_report (after_extraction w.ground_node x) f) bs)
+    stays_early f early command_is to =
+        heard_keeps true true c d base w g x bs rs v vs f 0 also rest count up to (record {
+          checked = g.stage.checked;
+          early = early;
+          command_is = command_is;
+          confirmed_not = rw (g.stage.confirmed_not, confirms_not d w.ground_node.fop.state f.state early) refl;
+          front_is = g.stage.front_is;
+          none_sent = g.stage.none_sent;
+          lasts = lasts.1;
+          same = λ e. (same e).4;
+        })
+
+    goes_off : (alert : Alert) → Hears (alerts w.ground_node.fop alert)
+    goes_off alert =
+        inl (stays_early (after_alert w.ground_node.fop) tt tt (moves (after_alert w.ground_node.fop) refl
+        (λ pending n units was. kept_of (is_closed w.ground_node.fop.state) _ _ _ _ _ _ _ _ was)))
+
+    goes_on_early : Hears (goes_on w.ground_node.fop)
+    goes_on_early =
+        inl (stays_early w.ground_node.fop g.stage.early g.stage.command_is
+        (moves w.ground_node.fop refl (λ pending n units was. was)))
+
+    vs_of : is_closed w.ground_node.fop.state ≡ false → w.ground_node.fop.vs ≡ base
+    vs_of on = omega (arith, (holds_on g.linked on).vs_is, g.stage.none_sent, g.linked.base_octet)
+
+    -- the report confirms
+    goes_late : (f : FopState SegmentView) → is_closed w.ground_node.fop.state ≡ false
+        → is_initialising w.ground_node.fop.state ≡ true → f.state ≡ S1 → f.vs ≡ w.ground_node.fop.vs
+        → f.nn ≡ w.ground_node.fop.nn → f.sent ≡ w.ground_node.fop.sent → f.waiting ≡ w.ground_node.fop.waiting
+        → Good base r → Hears (goes_on f)
+    goes_late f on waits_for state vs_is nn_is sent waiting good =
+        let all = lasts.0 good in
+        let last = last_good base rs (WouldConfirm base w.spacecraft.farm) all in
+        let was = holds_on g.linked on in
+        let farm = w.spacecraft.farm in
+        let rises : Rises v vs 0 = subst (Rises v vs) r_none up.1 in
+        let to = moves f nn_is (λ pending n units held. rw state (held_same_where false base
+        (record w.ground_node { pending = pending }) f g.plain.a n units vs_is nn_is (ap units_of sent) waiting
+        (rw on at held))) in
+        let stage : Settled d base f.state farm
+        (w.session.confirmed || is_confirmation w.ground_node.fop.state f.state) g.front rs (g.plain.a + 0) g.plain.r
+        g.plain.n vs = record {
+          late = rw state tt;
+          confirmed_is = λ t. confirms_now w.session.confirmed w.ground_node.fop.state f.state state waits_for;
+          confirmed_so = λ t. g.stage.checked;
+          vr_is = omega (arith, last.3, r_none, g.linked.base_octet);
+          first = λ e. r_none;
+          down_is = good_down base v rs vs (WouldConfirm base farm) g.linked.base_octet count rises all;
+          calm = λ t.
+              let none : 2 * g.plain.r + bit farm.retransmit ≡ 0 = rw last.2 (omega (arith, r_none)) in
+              record {
+                unlocked = last.0;
+                clear = λ e. last.2;
+                ranks = rw none (good_ranks base v (2 * (g.plain.a + 0) + asked f.state) rs vs (WouldConfirm base farm)
+                    (rw state (omega (arith, a_none))) count rises all);
+                rank_most = omega (arith, none);
+              };
+        } in
+        inr (record {
+          late = heard_keeps true false c d base w g x bs rs v vs f 0 also rest count up to stage;
+          exact = refilled_keeps (λ t. (farm.vr ≡ t.fop.vs) × (t.fop.nn ≡ t.fop.vs))
+              (record (acknowledging (after_extraction w.ground_node x) f) { fop = f })
+              (λ wait pending so off. (
+                last.3 ∙ sym (vs_of on) ∙ sym vs_is,
+                omega (arith, nn_is, vs_is, was.nn_is, a_none, vs_of on, g.linked.base_octet),
+              ));
+        })
+
+    hears_early : Hears (clcw_step w.ground_node.fop r)
+    hears_early =
+        let s = w.ground_node.fop in
+        let confirming : is_closed s.state ≡ false → IsConfirming s r → Good base r =
+        λ on t. (t.0, t.1, t.2, t.3 ∙ vs_of on) in
+        reported s r (λ o. Hears o) (record {
+          active = λ active. absurd (early_off d s.state g.stage.early active);
+          alerted = λ is alert cause. goes_off alert;
+          checked = λ state confirms. let on : is_closed s.state ≡ false = rw state refl in
+              goes_late (record s { state = S1; ticks = None }) on (rw state refl) refl refl refl refl refl
+              (confirming on confirms);
+          commanded = λ state confirms. let on : is_closed s.state ≡ false = rw state refl in
+              goes_late (record s { state = S1; ticks = None; control = Idle }) on (rw state refl) refl refl refl refl
+              refl (confirming on confirms);
+          same = goes_on_early;
+        })
+
+  down_early : (bs : List (List ℕ)) (rs : List Clcw) (vs : List ℕ) → g.reports ≡ rs → g.plain.down ≡ vs
+      → Reporting c bs rs → length rs ≡ length vs → Rises g.plain.a vs g.plain.r
+      → Next true c d base g.plain (down_deliver_step w bs).after
+      ⊎ Confirmed c d base g.plain (down_deliver_step w bs).after
+  down_early [] rs vs is also rest count up = inl (stays g)
+  down_early (b ∷ bs) [] vs is also rest count up = elim rest [ ]
+  down_early (b ∷ bs) (r ∷ rs) [] is also rest count up = absurd cc
+  down_early (b ∷ bs) (r ∷ rs) (v ∷ vs) is also rest count up =
+      let x : Extracted = extract_step w.ground_node.extractor rest.0.frame in
+      subst (λ (o : GroundOutcome Heard). Next true c d base g.plain (with_heard w o.after bs)
+      ⊎ Confirmed c d base g.plain (with_heard w o.after bs))
+      (sym (used_is c w.ground_node b r k.ground_node.config rest.0))
+      (hears_early x r bs rs v vs is also rest.1 (omega (arith, count)) up)
+
+  pub early_down_deliver : Next true c d base g.plain (down_deliver_step w w.down).after
+      ⊎ Confirmed c d base g.plain (down_deliver_step w w.down).after
+  early_down_deliver =
+      down_early w.down g.reports g.plain.down refl refl g.linked.reporting g.linked.counted g.linked.rises
+
+  -- and a report by itself
+  pub early_down_clcw : Next true c d base g.plain (world_step w events.DownClcw).after
+      ⊎ Confirmed c d base g.plain (world_step w events.DownClcw).after
+  early_down_clcw =
+      let t : HasReports c w.down = record { reports = g.reports; reporting = g.linked.reporting } in
+      subst (λ (new : World). Next true c d base g.plain new ⊎ Confirmed c d base g.plain new)
+      (sym (words_apart c w k t)) (elim early_down_deliver [
+        | inl n ↦ inl (next_apart w n)
+        | inr n ↦ inr (record { late = next_apart w n.late; exact = n.exact })
+      ])
+
+-- Telemetry that arrives once a session is settled keeps what holds.
+
+-- ---- what a report leads to
+
+pub record Goes (base : ℕ) (checked : Type 0) (s : FopState SegmentView) (rank a v gone : ℕ) (f : FopState SegmentView)
+    : Type 0 where
+  pub moves : Moves base s a v gone f
+  pub late : IsLate f.state
+  pub rank_is : checked → 2 * (a + gone) + asked f.state ≤ rank
+
+abbrev Going : ℕ → Type 0 → FopState SegmentView → ℕ → Clcw → ℕ → FopState SegmentView → Type 0
+Going base checked s a c v f = (gone : ℕ) × Goes base checked s (2 * v + bit (asks c)) a v gone f
+
+held_after : (base : ℕ) (s : FopState SegmentView) (a : ℕ) (off : Bool) (gone : ℕ)
+    (o : FopOutcome SegmentView (Option Alert)) (pending : List SegmentView) (n : ℕ) (us : List SegmentView)
+    → o.after.vs ≡ s.vs → o.after.nn ≡ (base + (a + gone)) % 256 → HeldBy off s gone o
+    → Held false base s.vs s.nn s.sent (option_to_list s.waiting ++ pending) a n us
+    → Held off base o.after.vs o.after.nn o.after.sent (option_to_list o.after.waiting ++ pending) (a + gone) n us
+held_after base s a true gone o pending n us vs nn by was = inl (vs ∙ was.vs_is, nn)
+held_after base s a false gone o pending n us vs nn by was = record {
+  vs_is = vs ∙ was.vs_is;
+  nn_is = nn;
+  sent_is = by.0 ∙ rw (was.sent_is, drop-drop) refl;
+  rest_is = rw by.1 was.rest_is;
+}
+
+-- ---- the world
+
+not_waiting : (m : FopMode) → IsLate m → is_initialising m ≡ false
+not_waiting S4 late = elim late [ ]
+not_waiting S5 late = elim late [ ]
+not_waiting _ late = refl
+
+confirms_no_more : (old new : FopMode) → IsLate old → is_confirmation old new ≡ false
+confirms_no_more old S1 late = not_waiting old late
+confirms_no_more old _ late = refl
+
+was_confirmed : (was : Bool) (old new : FopMode) → IsLate old → was || is_confirmation old new ≡ true → was ≡ true
+was_confirmed true old new late is = refl
+was_confirmed false old new late is = sym (confirms_no_more old new late) ∙ is
+
+module _ (c : Config) (d : Directive) (base : ℕ) (w : World) (k : Sound c w) (g : Late c d base w) where
+  -- the sender is another
+  heard_so : (r : Clcw) (rs : List Clcw) (v : ℕ) (vs : List ℕ) (rank : ℕ) (f : FopState SegmentView) (gone : ℕ)
+      → DownIs base (r ∷ rs) (v ∷ vs)
+      → (IsChecked d → Ranks rank rs vs (2 * g.plain.r + bit w.spacecraft.farm.retransmit))
+      → Goes base (IsChecked d) w.ground_node.fop rank g.plain.a v gone f
+      → Settled d base f.state w.spacecraft.farm
+      (w.session.confirmed || is_confirmation w.ground_node.fop.state f.state) g.front rs (g.plain.a + gone) g.plain.r
+      g.plain.n vs
+  heard_so r rs v vs rank f gone down_is ranks_on to =
+      let p = g.plain in
+      let s = g.stage in
+      record {
+        late = to.late;
+        confirmed_is = λ t. rw (s.confirmed_is t) refl;
+        confirmed_so = λ t. s.confirmed_so
+            (was_confirmed w.session.confirmed w.ground_node.fop.state f.state s.late t);
+        vr_is = s.vr_is;
+        first = s.first;
+        down_is = down_is.1;
+        calm = λ checked.
+            let m = s.calm checked in
+            let ranks : Ranks (2 * (p.a + gone) + asked f.state) rs vs (2 * p.r + bit w.spacecraft.farm.retransmit) =
+            ranks_lower rank (2 * (p.a + gone) + asked f.state) (2 * p.r + bit w.spacecraft.farm.retransmit) rs vs
+            (to.rank_is checked) (ranks_on checked) in
+            assumption (ranks, m);
+      }
+
+  -- what is known of a report as it comes, where the sender is on
+  abbrev pub Comes : Clcw → ℕ → Type 0
+  Comes r v = is_closed w.ground_node.fop.state ≡ false
+      → ReportComes base (c.width / 2) (IsChecked d) w.ground_node.fop g.plain.a g.plain.n r v
+
+  -- one that stands first
+  pub coming : (r : Clcw) (rs : List Clcw) (v : ℕ) (vs : List ℕ) → DownIs base (r ∷ rs) (v ∷ vs)
+      → Rises g.plain.a (v ∷ vs) g.plain.r
+      → (IsChecked d
+      → Ranks (2 * g.plain.a + asked w.ground_node.fop.state) (r ∷ rs) (v ∷ vs)
+      (2 * g.plain.r + bit w.spacecraft.farm.retransmit))
+      → Comes r v
+  coming r rs v vs down_is up ranks on =
+      let p = g.plain in
+      let l = g.linked in
+      let was = holds_on l on in
+      let high : v ≤ p.r = rises_to v p.r vs up.1 in
+      record {
+        value_is = down_is.0;
+        low = up.0;
+        high = omega (arith, high, l.r_n);
+        n_a = l.n_a;
+        half_most = omega (arith, k.ranges.width);
+        vs_is = was.vs_is;
+        nn_is = was.nn_is;
+        unlocked = λ t. (ranks t).0;
+        wait_flag = λ t. (ranks t).1;
+        rank_low = λ t. (ranks t).2;
+        rank_high = λ t. omega (
+          arith,
+          ranks_to (2 * v + bit (asks r)) (2 * p.r + bit w.spacecraft.farm.retransmit) rs
+              vs (ranks t).3,
+          (g.stage.calm t).rank_most,
+        );
+      }
+
+  module _ (r : Clcw) (v : ℕ) (comes : Comes r v)
+      (low : IsChecked d → 2 * g.plain.a + asked w.ground_node.fop.state ≤ 2 * v + bit (asks r)) where
+    abbrev Leads_on : FopOutcome SegmentView (Option Alert) → Type 0
+    Leads_on o = Going base (IsChecked d) w.ground_node.fop g.plain.a r v o.after
+
+    running : (o : FopOutcome SegmentView (Option Alert)) → is_closed w.ground_node.fop.state ≡ false
+        → Led base (IsChecked d) w.ground_node.fop g.plain.a r v o → Leads_on o
+    running o on led =
+        let k = comes on in
+        let to = led.2 in
+        let most : led.0 ≤ 127 =
+        elim led.1 [ inl e ↦ omega (arith, e) | inr e ↦ omega (arith, e, k.high, k.n_a, k.half_most) ] in (
+          led.0,
+          record {
+            moves = record {
+              gone_is = led.1;
+              nn_is = omega (arith, to.nn_is, k.nn_is, most);
+              nn_octet = omega (arith, to.nn_is);
+              held = λ pending n us was. held_after base w.ground_node.fop g.plain.a (is_closed o.after.state) led.0 o
+                  pending n us to.vs_is to.nn_is to.held (rw on at was);
+            };
+            late = to.late;
+            rank_is = to.rank_is;
+          },
+        )
+
+    goes_in : (m : FopMode) → w.ground_node.fop.state ≡ m → Leads_on (report_in w.ground_node.fop r m)
+    goes_in S4 is = absurd (let no : IsLate S4 = rw is at g.stage.late in no)
+    goes_in S5 is = absurd (let no : IsLate S5 = rw is at g.stage.late in no)
+    goes_in S6 is = (
+      0,
+      record {
+        moves = record {
+          gone_is = inl refl;
+          nn_is = omega (arith, g.linked.nn_octet);
+          nn_octet = g.linked.nn_octet;
+          held = λ pending n us was. let same : g.plain.a + 0 ≡ g.plain.a = omega arith in rw same was;
+        };
+        late = g.stage.late;
+        rank_is = λ t. omega (arith, low t);
+      },
+    )
+    goes_in _ is =
+        let on : is_closed w.ground_node.fop.state ≡ false = rw is refl in
+        running (report_while_active w.ground_node.fop r) on
+        (active_led base (c.width / 2) (IsChecked d) w.ground_node.fop g.plain.a g.plain.n r v (comes on) (rw is tt))
+
+  deliver_keeps : (bs : List (List ℕ)) (rs : List Clcw) (vs : List ℕ) → g.plain.down ≡ vs → Reporting c bs rs
+      → length rs ≡ length vs → DownIs base rs vs → Rises g.plain.a vs g.plain.r
+      → (IsChecked d
+      → Ranks (2 * g.plain.a + asked w.ground_node.fop.state) rs vs (2 * g.plain.r + bit w.spacecraft.farm.retransmit))
+      → Next false c d base g.plain (down_deliver_step w bs).after
+  deliver_keeps [] rs vs also rest count down_is up ranks = stays g
+  deliver_keeps (b ∷ bs) [] vs also rest count down_is up ranks = elim rest [ ]
+  deliver_keeps (b ∷ bs) (r ∷ rs) [] also rest count down_is up ranks = elim down_is [ ]
+  deliver_keeps (b ∷ bs) (r ∷ rs) (v ∷ vs) also rest count down_is up ranks =
+      let x : Extracted = extract_step w.ground_node.extractor rest.0.frame in
+      let goes =
+      goes_in r v (coming r rs v vs down_is up ranks) (λ t. (ranks t).2) w.ground_node.fop.state refl in
+      let f : FopState SegmentView = (clcw_step w.ground_node.fop r).after in
+      subst (λ (o : GroundOutcome Heard). Next false c d base g.plain (with_heard w o.after bs))
+      (sym (used_is c w.ground_node b r k.ground_node.config rest.0))
+      (heard_keeps false false c d base w g x bs rs v vs f goes.0 also rest.1 (omega (arith, count)) up
+      goes.1.moves (heard_so r rs v vs (2 * v + bit (asks r)) f goes.0 down_is (λ t. (ranks t).3) goes.1))
+
+  pub late_down_deliver : Next false c d base g.plain (down_deliver_step w w.down).after
+  late_down_deliver =
+      deliver_keeps w.down g.reports g.plain.down refl g.linked.reporting g.linked.counted g.stage.down_is
+      g.linked.rises (λ t. (g.stage.calm t).ranks)
+
+  -- and a report by itself
+  pub late_down_clcw : Next false c d base g.plain (world_step w events.DownClcw).after
+  late_down_clcw =
+      let t : HasReports c w.down = record { reports = g.reports; reporting = g.linked.reporting } in
+      subst (Next false c d base g.plain) (sym (words_apart c w k t)) (next_apart w late_down_deliver)

@@ -1,18 +1,16 @@
 -- The ground's account of the submissions of a session is that of the records.
-use Rattle.tc_link.proofs.Common.{◌≡◌, ℕ, ◌+◌, ◌%◌, ◌/◌, ◌<◌, ◌≤◌, ◌⊎◌, inl, inr, true, false}
-use Rattle.tc_link.proofs.Common.{List, [], ◌∷◌, ◌++◌, length, map, Option, Some, None, Result, Ok, Err, refl, ap, sym}
-use Rattle.tc_link.proofs.Common.{subst, ◌∙◌, arith, length-append, length-map, append-nil, AllByRecursion}
-use Rattle.tc_link.proofs.Common.{SegmentView, CopFault, Alert, Directive, InitWithoutCheck, InitWithCheck, InitUnlock}
-use Rattle.tc_link.proofs.Common.{InitSetVr, directive_step, FopState, FopOutcome, FopMode, is_initiation, is_closed}
-use Rattle.tc_link.proofs.Common.{Config, TmFault, LinkFault, GroundState, refill_step, with_fop}
-use Rattle.tc_link.proofs.Common.{directive_outcome, segments_on, segments_of, submit_fault, bypass_fault, after_bypass}
-use Rattle.tc_link.proofs.Common.{after_submission, unless_refused, after_extraction, telemetry_outcome, clcw_step}
-use Rattle.tc_link.proofs.Common.{submitting, ahead_by, PacketOn, Event, World, WorldOutcome, world_step, world_run}
-use Rattle.tc_link.proofs.Common.{KeepsSession}
-use Rattle.tc_link.proofs.Common.{world_after_directive, BeginsNoSession, IsIdle, IsSettled, IsEvent, accepted}
-use Rattle.tc_link.proofs.Common.{directive_of, option_map, Opening, IsChecking}
+use Rattle.tc_link.proofs.Common.{◌≡◌, ℕ, ◌+◌, ◌%◌, ◌/◌, ◌<◌, ◌≤◌, ◌⊎◌, inl, inr, true, false, List, [], ◌∷◌, ◌++◌}
+use Rattle.tc_link.proofs.Common.{length, map, Option, Some, None, Result, Ok, Err, refl, ap, sym, subst, ◌∙◌, arith}
+use Rattle.tc_link.proofs.Common.{length-append, length-map, append-nil, AllByRecursion, SegmentView, CopFault, Alert}
+use Rattle.tc_link.proofs.Common.{Directive, InitWithoutCheck, InitWithCheck, InitUnlock, InitSetVr, directive_step}
+use Rattle.tc_link.proofs.Common.{FopState, FopOutcome, FopMode, is_initiation, is_closed, Config, TmFault, LinkFault}
+use Rattle.tc_link.proofs.Common.{GroundState, refill_step, with_fop, directive_outcome, segments_on, segments_of}
+use Rattle.tc_link.proofs.Common.{submit_fault, bypass_fault, after_bypass, after_submission, unless_refused}
+use Rattle.tc_link.proofs.Common.{after_extraction, telemetry_outcome, clcw_step, submitting, ahead_by, PacketOn, Event}
+use Rattle.tc_link.proofs.Common.{World, WorldOutcome, world_step, world_run, KeepsSession, world_after_directive}
+use Rattle.tc_link.proofs.Common.{BeginsNoSession, IsIdle, IsSettled, IsEvent, accepted, directive_of, option_map}
+use Rattle.tc_link.proofs.Common.{Opening, IsChecking, closed_is, HasPlainHistory, obeyed, begun, ClcwFault, Clcw}
 use Rattle.tc_link.specs.Confirmation.{IsChecked}
-use Rattle.tc_link.proofs.Common.{closed_is, HasPlainHistory, obeyed, begun}
 use Rattle.std.specs.Prelude.{◌^◌, ◌==◌}
 use Rattle.std.specs.List.{flat_map}
 use Rattle.cop1.specs.declared.vocabulary.Directive.TheVariants.{Terminate, SetVs, SetWindow, SetLimit, SetTimer}
@@ -23,21 +21,16 @@ use Rattle.cop1.specs.FopDirective.{from_S6, refuses}
 use Rattle.nodes.specs.Fates.{Fates, left_after, whole_within, whole_with, new_fates, with_submission}
 use Rattle.nodes.specs.Fates.{after_acknowledging, after_obeying, kept_after, submitted as submissions_of}
 use Rattle.nodes.specs.Ground.{moved_by, after_report, after_directive, known_on_board, sent_beyond}
-use Rattle.nodes.proofs.Owed.{moved_is}
-use Rattle.nodes.proofs.Fates.{fewer_left, left_more}
+use Rattle.nodes.proofs.Owed.{moved_is, fewer_left, left_more}
 use Rattle.nodes.specs.declared.event.Event.TheVariants as events
-use Rattle.simulated_link.proofs.TelemetryCases.{frame_seen}
-use Rattle.simulated_link.proofs.Unchanged.{AtEachLoss, lost, pulled, up_arrives, down_arrives}
+use Rattle.simulated_link.proofs.Counted.{frame_seen, report_seen}
+use Rattle.simulated_link.proofs.Unchanged.{AtEachLoss, lost, pulled, up_arrives, down_arrives, word_arrives}
+use Rattle.simulated_link.proofs.Unchanged.{resumes_not}
 use Rattle.simulated_link.specs.World.{Session, submission_of, session_after_report}
-use Rattle.tc_link.proofs.AnyPast.{past_holds}
-use Rattle.tc_link.proofs.CountsOn.{keeps_what_is_known}
-use Rattle.tc_link.proofs.InOrder.{has_plain_history}
-use Rattle.tc_link.proofs.Invariant.{Holding, idle_goes, opening_stays, step_holds}
-use Rattle.tc_link.proofs.Known.{octet}
-use Rattle.tc_link.proofs.OneLink.{sent_count, accepted_count}
-use Rattle.tc_link.proofs.Promised.{promised_so}
+use Rattle.tc_link.proofs.Promised.{past_holds, keeps_what_is_known, sent_count, accepted_count, promised_so}
+use Rattle.tc_link.proofs.InOrder.{has_plain_history, total, left_with, whole_still, whole_more}
+use Rattle.tc_link.proofs.Invariant.{Holding, idle_goes, opening_stays, step_holds, octet, began_at, begun_session}
 use Rattle.tc_link.proofs.Refilled.{refilled_keeps}
-use Rattle.tc_link.proofs.WholeLists.{total, left_with, whole_still, whole_more}
 use Rattle.tc_link.specs.Accepted.{SaysWhatWasAccepted}
 use Rattle.std.proofs.lemmas.Bool.{cases_Bool, eqb-true, eqb-false}
 use Rattle.tc_link.specs.CountsOn.{SetsNone, CountsFrom}
@@ -46,11 +39,7 @@ use Rattle.tc_link.specs.Whole.{segments_each}
 use Rattle.tc_link.specs.Known.{SetsNoNumber}
 use Rattle.tm_link.specs.Decoding as telemetry_reading
 use Rattle.tm_link.specs.Layout as telemetry
-use Rattle.tc_link.proofs.Common.{ClcwFault, Clcw}
-use Rattle.tc_link.proofs.Invariant.{began_at, begun_session}
-use Rattle.simulated_link.proofs.Unchanged.{word_arrives, resumes_not}
 use Rattle.nodes.specs.Ground.{report_outcome}
-use Rattle.simulated_link.proofs.TelemetryCases.{report_seen}
 
 -- ---- the segments of submissions
 

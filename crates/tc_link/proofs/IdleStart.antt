@@ -1,20 +1,292 @@
--- A session begins by an idle start.
-use Rattle.tc_link.proofs.Common.{◌≡◌, ℕ, ◌+◌, ◌/◌, ◌<◌, ◌≤◌, ◌⊎◌, inl, inr, Bool, true, false, [], length, drop, refl}
-use Rattle.tc_link.proofs.Common.{and_parts, eqb-true, SegmentView, Idle, Directive, InitWithoutCheck, InitWithCheck}
-use Rattle.tc_link.proofs.Common.{InitUnlock, InitSetVr, S6, directive_step, FopState, FopOutcome, Config, is_closed}
-use Rattle.tc_link.proofs.Common.{directive_outcome, refill_step, World, world_after_directive, session_begun_by}
-use Rattle.tc_link.proofs.Common.{begins_idle, IsDirective, obeyed, begun, is_initiation, Alert, CopFault, Option}
-use Rattle.tc_link.proofs.Common.{None, Result, option_to_list, ◌++◌, IsChecked, report_now, arith, ◌==◌}
-use Rattle.std.proofs.lemmas.List.{drop_all}
-use Rattle.cop1.specs.FopDirective.{obeys}
-use Rattle.simulated_link.specs.World.{is_idle}
-use Rattle.tc_link.proofs.Linked.{Carries, Held, Stage, In, Begun, Late}
-use Rattle.tc_link.proofs.Refilled.{session_refilled}
+-- The reports on their way are the spacecraft's and can be read, and a session begins by an idle start.
+use Rattle.tc_link.proofs.Common.{◌≡◌, ℕ, ◌+◌, ◌*◌, ◌/◌, ◌%◌, ◌<◌, Bool, true, false, eqb, Ok, refl, arith, eq-eqb}
+use Rattle.tc_link.proofs.Common.{Clcw, flags_number, FarmState, locks, waits, asks, report_of, ◌≤◌, max, List, [], ◌∷◌}
+use Rattle.tc_link.proofs.Common.{◌++◌, length, replicate, ap, length-append, cond_both, length-take-le, BuilderState}
+use Rattle.tc_link.proofs.Common.{idle_tail, data_size, is_at_rest, room_left, Config, report_octets, spacecraft_report}
+use Rattle.tc_link.proofs.Common.{World, Event, WorldOutcome, world_step, sym, ◌∙◌, ◌==◌, list_all, and_parts, eqb-true}
+use Rattle.tc_link.proofs.Common.{Directive, SpacecraftState, begins_clean, begins_idle, reports_as, report_now, ◌⊎◌}
+use Rattle.tc_link.proofs.Common.{inl, inr, drop, SegmentView, Idle, InitWithoutCheck, InitWithCheck, InitUnlock}
+use Rattle.tc_link.proofs.Common.{InitSetVr, S6, directive_step, FopState, FopOutcome, is_closed, directive_outcome}
+use Rattle.tc_link.proofs.Common.{refill_step, world_after_directive, session_begun_by, IsDirective, obeyed, begun}
+use Rattle.tc_link.proofs.Common.{is_initiation, Alert, CopFault, Option, None, Result, option_to_list, IsChecked}
 use Rattle.tc_link.proofs.Common.{closed_is, obeying}
-use Rattle.tc_link.proofs.Early.{IsEarly, ControlFits, zeros, zeros_plain, zeros_run, zeros_rise, zeros_count}
-use Rattle.tc_link.proofs.Idle.{AllSay, idle_parts, all_last, all_same, all_zeros}
-use Rattle.tc_link.proofs.ReportsDown.{HasReports}
-use Rattle.tc_link.proofs.Sound.{Commanded, Sound}
+use Rattle.std.proofs.lemmas.List.{length-replicate, drop_all}
+use Rattle.std.specs.Int.RustNames.{bit_and}
+use Rattle.clcw.specs.Decoding.{clcw_at}
+use Rattle.clcw.specs.Encoding.{spelling}
+use Rattle.tm_link.specs.Builder.{idle_packet, data_from, data_built, frame_built}
+use Rattle.tm_link.specs.Layout as telemetry
+use Rattle.tm_link.specs.Decoding as telemetry_reading
+use Rattle.tm_link.specs.Encoding as telemetry_writing
+use Rattle.tm_link.specs.Decoding.{frame_at}
+use Rattle.tm_link.proofs.Spelled.{built_is, frame_again}
+use Rattle.tm_link.proofs.BuiltFrames.{length-idle, length-tail}
+use Rattle.cop1.specs.Report.{value_if}
+use Rattle.cop1.specs.FopDirective.{obeys}
+use Rattle.nodes.specs.declared.event.Event.TheVariants as events
+use Rattle.simulated_link.specs.World.{is_none, is_quiet, is_idle, may_begin, says_as}
+use Rattle.simulated_link.proofs.Unchanged.{AtEachLoss, lost, pulled, up_arrives, down_arrives, word_arrives, resumes}
+use Rattle.tc_link.proofs.Linked.{Tells, Reporting, reporting_push, WouldConfirm, AllGood, Lasts, AllSame, zeros}
+use Rattle.tc_link.proofs.Linked.{DownIs, Carries, Held, Stage, In, Begun, Late, IsEarly, ControlFits, zeros_plain}
+use Rattle.tc_link.proofs.Linked.{zeros_run, zeros_rise, zeros_count}
+use Rattle.tc_link.proofs.Sound.{Sound, Commanded}
+use Rattle.tc_link.proofs.Refilled.{session_refilled}
+
+-- Reports are read from the octets that are sent.
+
+-- What a receiver reports is read from its octets.
+
+flags_multiple : (l w t : Bool) → (value_if l 32 + value_if w 16 + value_if t 8) % 8 ≡ 0
+flags_multiple true true true = refl
+flags_multiple true true false = refl
+flags_multiple true false true = refl
+flags_multiple true false false = refl
+flags_multiple false true true = refl
+flags_multiple false true false = refl
+flags_multiple false false true = refl
+flags_multiple false false false = refl
+
+flags_in : (s : FarmState) (vcid : ℕ) (l w t : Bool) → s.lockout ≡ l → s.wait ≡ w → s.retransmit ≡ t
+    → (locks (report_of s vcid) ≡ l) × (waits (report_of s vcid) ≡ w) × (asks (report_of s vcid) ≡ t)
+flags_in s vcid true true true e f g = rw (e, f, g) (refl, refl, refl)
+flags_in s vcid true true false e f g = rw (e, f, g) (refl, refl, refl)
+flags_in s vcid true false true e f g = rw (e, f, g) (refl, refl, refl)
+flags_in s vcid true false false e f g = rw (e, f, g) (refl, refl, refl)
+flags_in s vcid false true true e f g = rw (e, f, g) (refl, refl, refl)
+flags_in s vcid false true false e f g = rw (e, f, g) (refl, refl, refl)
+flags_in s vcid false false true e f g = rw (e, f, g) (refl, refl, refl)
+flags_in s vcid false false false e f g = rw (e, f, g) (refl, refl, refl)
+
+pub flags_are : (s : FarmState) (vcid : ℕ) → (locks (report_of s vcid) ≡ s.lockout)
+    × (waits (report_of s vcid) ≡ s.wait) × (asks (report_of s vcid) ≡ s.retransmit)
+flags_are s vcid = flags_in s vcid s.lockout s.wait s.retransmit refl refl refl
+
+read_again : (word : Clcw) → word.status ≡ 0 → flags_number word.flags % 8 ≡ 0 → word.farm_b < 4
+    → clcw_at (spelling word) ≡ Ok word
+unfolding clcw_at
+read_again word status flags farm_b =
+    let kind : eqb ((4 * word.status + 1) / 128) 0 ≡ true = eq-eqb _ _ (omega (arith, status)) in
+    let version : eqb ((4 * word.status + 1) / 32 % 4) 0 ≡ true = eq-eqb _ _ (omega (arith, status)) in
+    let cop : eqb ((4 * word.status + 1) % 4) 1 ≡ true = eq-eqb _ _ (omega arith) in
+    let spare : eqb (4 * word.vcid % 4) 0 ≡ true = eq-eqb _ _ (omega arith) in
+    let last : eqb ((flags_number word.flags + 2 * word.farm_b) % 2) 0 ≡ true = eq-eqb _ _ (omega (arith, flags)) in
+    let status_is : (4 * word.status + 1) / 4 % 8 ≡ word.status = omega (arith, status) in
+    let vcid_is : 4 * word.vcid / 4 ≡ word.vcid = omega arith in
+    let flags_is : (flags_number word.flags + 2 * word.farm_b) / 8 * 8 ≡ flags_number word.flags =
+    omega (arith, flags, farm_b) in
+    let farm_b_is : (flags_number word.flags + 2 * word.farm_b) / 2 % 4 ≡ word.farm_b = omega (arith, flags, farm_b) in
+    rw (kind, version, cop, spare, last, status_is, vcid_is, flags_is, farm_b_is) refl
+
+pub report_reads : (s : FarmState) (vcid : ℕ) → s.farm_b < 4
+    → clcw_at (spelling (report_of s vcid)) ≡ Ok (report_of s vcid)
+report_reads s vcid farm_b = read_again (report_of s vcid) refl (flags_multiple s.lockout s.wait s.retransmit) farm_b
+
+-- A telemetry frame that is sent is read with its report.
+
+pub data_length : (s : BuilderState) → s.idle_left ≤ 6 → length (data_built s) ≡ data_size s
+data_length s least =
+    cond_both (is_at_rest s) (replicate (data_size s) 0x55) (data_from s.idle_left s.pending (data_size s))
+    (λ (xs : List ℕ). length xs ≡ data_size s)
+    (λ t. length-replicate (data_size s) 0x55)
+    (λ t.
+    let filler : List ℕ = idle_packet (max (room_left (data_size s) s.idle_left (length s.pending)) 7) in
+    let all : List ℕ = idle_tail s.idle_left ++ s.pending ++ filler in
+    let room : 7 ≤ max (room_left (data_size s) s.idle_left (length s.pending)) 7 = omega arith in
+    let tail : length (idle_tail s.idle_left) ≡ s.idle_left = length-tail s.idle_left (omega (arith, least)) in
+    let sizes : length all ≡ s.idle_left
+    + (length s.pending + max (room_left (data_size s) s.idle_left (length s.pending)) 7) =
+    omega (
+      arith,
+      length-append (idle_tail s.idle_left ++ s.pending) filler,
+      length-append (idle_tail s.idle_left)
+          s.pending,
+      tail,
+      length-idle (max (room_left (data_size s) s.idle_left (length s.pending)) 7) room,
+    ) in
+    let enough : data_size s ≤ length all = omega (arith, sizes) in
+    length-take-le (data_size s) all enough)
+
+module _ (c : Config) (w : World) (k : Sound c w) where
+  -- the frame that is sent is the one that is read
+  pub reads_now : telemetry_reading.frame_at c.frame_length
+      (telemetry_writing.spelling (spacecraft_report w.spacecraft).answer) ≡ Ok (spacecraft_report w.spacecraft).answer
+  reads_now =
+      let b : BuilderState = w.spacecraft.builder in
+      let ocf : List ℕ = report_octets w.spacecraft in
+      let f : telemetry.FrameView = frame_built b ocf in
+      let total : b.total ≡ c.frame_length = k.spacecraft.builder.total in
+      let spelled =
+      built_is b ocf (omega (arith, k.spacecraft.builder.scid, k.ranges.scid))
+      (omega (arith, k.spacecraft.builder.vcid, k.ranges.tm_vcid)) (omega (arith, total, k.ranges.frame_length))
+      (omega (arith, total, k.ranges.frame_length)) refl (data_length b k.spacecraft.idle_left) in
+      rw (← total) (frame_again b.total (telemetry_writing.spelling f) f spelled)
+
+  pub tells_now : Tells c (telemetry_writing.spelling (spacecraft_report w.spacecraft).answer)
+      (report_of w.spacecraft.farm w.spacecraft.config.vcid)
+  tells_now = record {
+    frame = (spacecraft_report w.spacecraft).answer;
+    reads = reads_now;
+    scid = k.spacecraft.builder.scid;
+    vcid = k.spacecraft.builder.vcid;
+    word = report_reads w.spacecraft.farm w.spacecraft.config.vcid k.spacecraft.farm.farm_b;
+    own = ap (λ x. x.vcid) k.spacecraft.config;
+  }
+
+  -- the frame that is sent is the last on its way
+  pub reporting_now : (reports : List Clcw) → Reporting c w.down reports
+      → Reporting c (w.down ++ telemetry_writing.spelling (spacecraft_report w.spacecraft).answer ∷ [])
+      (reports ++ report_of w.spacecraft.farm w.spacecraft.config.vcid ∷ [])
+  reporting_now reports so =
+      reporting_push c (telemetry_writing.spelling (spacecraft_report w.spacecraft).answer)
+      (report_of w.spacecraft.farm w.spacecraft.config.vcid) w.down reports tells_now so
+
+-- Each frame on its way down is one of the spacecraft's, with a report.
+
+pub record HasReports (c : Config) (down : List (List ℕ)) : Type 0 where
+  pub reports : List Clcw
+  pub reporting : Reporting c down reports
+
+rest_reports : (c : Config) (b : List ℕ) (bs : List (List ℕ)) (rs : List Clcw) → Reporting c (b ∷ bs) rs
+    → HasReports c bs
+rest_reports c b bs [] h = elim h [ ]
+rest_reports c b bs (r ∷ rs) h = record { reports = rs; reporting = h.1 }
+
+module _ (c : Config) (w : World) (k : Sound c w) (t : HasReports c w.down) where
+  abbrev KeepsReports : WorldOutcome → Type 0
+  KeepsReports o = HasReports c o.after.down
+
+  first_gone : (b : List ℕ) (bs : List (List ℕ)) → w.down ≡ b ∷ bs → HasReports c bs
+  first_gone b bs is = rest_reports c b bs t.reports (rw is at t.reporting)
+
+  report_losses : AtEachLoss w KeepsReports
+  report_losses = record {
+    refused = λ fault. t;
+    up = λ b bs is reply silent. t;
+    down = λ b bs is reply silent. first_gone b bs is;
+  }
+
+  pub step_reports : (e : Event) → KeepsReports (world_step w e)
+  step_reports events.Send = pulled w KeepsReports (λ reply up sent silent. t)
+  step_reports events.UpDeliver = up_arrives w KeepsReports t (λ b bs is. t)
+  step_reports events.Report = record {
+    reports = t.reports ++ report_of w.spacecraft.farm w.spacecraft.config.vcid ∷ [];
+    reporting = reporting_now c w k t.reports t.reporting;
+  }
+  step_reports events.DownDeliver = down_arrives w KeepsReports t (λ b bs is. first_gone b bs is)
+  step_reports events.UpLose = lost w KeepsReports report_losses events.UpLose tt
+  step_reports (events.UpDamage octets) = lost w KeepsReports report_losses (events.UpDamage octets) tt
+  step_reports events.DownLose = lost w KeepsReports report_losses events.DownLose tt
+  step_reports (events.DownDamage octets) = lost w KeepsReports report_losses (events.DownDamage octets) tt
+  step_reports events.DownClcw = word_arrives w KeepsReports report_losses (λ b bs is r. first_gone b bs is)
+  step_reports (events.Resume value) = resumes w value KeepsReports t (λ whole can. t)
+  step_reports _ = t
+
+-- What the reports on their way say at an idle start: what the receiver would now.
+
+abbrev pub Says : Clcw → Clcw → Type 0
+Says now r = (r.value ≡ now.value) × (flags_number r.flags ≡ flags_number now.flags)
+
+abbrev pub AllSay : Clcw → List Clcw → Type 0
+AllSay now [] = Unit {0}
+AllSay now (r ∷ rs) = Says now r × AllSay now rs
+
+-- ---- as the octets are read
+
+module _ (now : Clcw) (c : Config) (total : ℕ) (size : total ≡ c.frame_length) where
+  says_so : (b : List ℕ) (r : Clcw) → Tells c b r → reports_as now (frame_at total b) ≡ true → Says now r
+  says_so b r t is =
+      let read : reports_as now (frame_at c.frame_length b) ≡ true = rw size at is in
+      let frame_so : says_as now (clcw_at t.frame.ocf) ≡ true = rw t.reads at read in
+      let so : says_as now (Ok r) ≡ true = rw t.word at frame_so in
+      let both = and_parts (r.value == now.value) (flags_number r.flags == flags_number now.flags) so in
+      (eqb-true _ _ both.0, eqb-true _ _ both.1)
+
+  all_say : (bs : List (List ℕ)) (rs : List Clcw) → Reporting c bs rs
+      → list_all (λ (b : List ℕ). reports_as now (frame_at total b)) bs ≡ true → AllSay now rs
+  all_say [] [] rest is = tt
+  all_say [] (r ∷ rs) rest is = elim rest [ ]
+  all_say (b ∷ bs) [] rest is = elim rest [ ]
+  all_say (b ∷ bs) (r ∷ rs) rest is =
+      let both = and_parts (reports_as now (frame_at total b))
+      (list_all (λ (b : List ℕ). reports_as now (frame_at total b)) bs) is in
+      (says_so b r rest.0 both.0, all_say bs rs rest.1 both.1)
+
+-- ---- what they say
+
+module _ (s : SpacecraftState) where
+  says_flags : (r : Clcw) → Says (report_of s.farm s.config.vcid) r
+      → (locks r ≡ s.farm.lockout) × (waits r ≡ s.farm.wait) × (asks r ≡ s.farm.retransmit) × (r.value ≡ s.farm.vr)
+  says_flags r says =
+      let are = flags_are s.farm s.config.vcid in (
+        ap (λ n. bit_and n 32 == 32) says.1 ∙ are.0,
+        ap (λ n. bit_and n 16 == 16) says.1 ∙ are.1,
+        ap (λ n. bit_and n 8 == 8) says.1 ∙ are.2,
+        says.0,
+      )
+
+  all_confirm : (base : ℕ) (rs : List Clcw) → AllSay (report_of s.farm s.config.vcid) rs → WouldConfirm base s.farm
+      → AllGood base rs (WouldConfirm base s.farm)
+  all_confirm base [] say would = would
+  all_confirm base (r ∷ rs) say would =
+      let f = says_flags r say.0 in
+      ((f.0 ∙ would.0, f.1 ∙ would.1, f.2 ∙ would.2, f.3 ∙ would.3), all_confirm base rs say.1 would)
+
+  -- one that confirms is followed by such alone
+  pub all_last : (base : ℕ) (rs : List Clcw) → AllSay (report_of s.farm s.config.vcid) rs
+      → Lasts base rs (WouldConfirm base s.farm)
+  all_last base [] say = tt
+  all_last base (r ∷ rs) say =
+      let f = says_flags r say.0 in (
+        λ good. all_confirm base rs say.1
+            (sym f.0 ∙ good.0, sym f.1 ∙ good.1, sym f.2 ∙ good.2, sym f.3 ∙ good.3),
+        all_last base rs say.1,
+      )
+
+  pub all_same : (rs : List Clcw) → (s.farm.wait ≡ true → s.farm.retransmit ≡ true)
+      → AllSay (report_of s.farm s.config.vcid) rs → AllSame rs s.farm.lockout s.farm.retransmit s.farm.vr
+  all_same [] agree say = tt
+  all_same (r ∷ rs) agree say =
+      let f = says_flags r say.0 in
+      (f.0, f.2, f.3, λ t. f.2 ∙ agree (sym f.1 ∙ t), all_same rs agree say.1)
+
+  -- each is the number 0 of a plain link
+  pub all_zeros : (base : ℕ) (rs : List Clcw) → base < 256 → s.farm.vr ≡ base
+      → AllSay (report_of s.farm s.config.vcid) rs → DownIs base rs (zeros rs)
+  all_zeros base [] octet is say = tt
+  all_zeros base (r ∷ rs) octet is say =
+      let value : r.value ≡ base = say.0.0 ∙ is in
+      (omega (arith, value, octet), all_zeros base rs octet is say.1)
+
+-- ---- the world
+
+pub empty : {A : Type 0} → (xs : List A) → is_none xs ≡ true → xs ≡ []
+empty [] h = refl
+empty (x ∷ xs) h = absurd cc
+
+module _ (c : Config) (w : World) (t : HasReports c w.down) where
+  pub idle_parts : w.ground_node.config ≡ c → is_idle w ≡ true → (w.up ≡ []) × AllSay (report_now w) t.reports
+  idle_parts config h =
+      let total : ℕ = w.ground_node.config.frame_length in
+      let both = and_parts (is_none w.up)
+      (list_all (λ (b : List ℕ). reports_as (report_now w) (frame_at total b)) w.down) h in (
+        empty w.up both.0,
+        all_say (report_now w) c total (ap (λ (x : Config). x.frame_length) config) w.down t.reports t.reporting
+            both.1,
+      )
+
+-- a quiet world is idle
+quiet_idle : (w : World) → is_quiet w ≡ true → is_idle w ≡ true
+quiet_idle w h =
+    let both = and_parts (is_none w.up) (is_none w.down) h in
+    rw (both.0, empty w.down both.1) refl
+
+-- a session that begins clean has an idle start
+pub clean_idle : (w : World) (d : Directive) → begins_clean w d ≡ true → begins_idle w d ≡ true
+clean_idle w d h =
+    let both = and_parts (may_begin w d) (is_quiet w) h in
+    rw (both.0, quiet_idle w both.1) refl
+
+-- A session begins by an idle start.
 
 pub record InSession (c : Config) (w : World) : Type 0 where
   pub directive : Directive

@@ -1,20 +1,491 @@
--- How the nodes, what is on its way, the records and a plain link hold together in a session that had an
--- idle start, before it is settled and after.
-use Rattle.tc_link.proofs.Common.{◌≡◌, ℕ, ◌+◌, ◌*◌, ◌/◌, ◌%◌, ◌<◌, ◌≤◌, ◌⊎◌, Bool, true, false, List, [], ◌∷◌, ◌++◌}
-use Rattle.tc_link.proofs.Common.{length, take, drop, map, Some, None, Ok, inl, inr, refl, sym, subst, AllByRecursion}
-use Rattle.tc_link.proofs.Common.{Clcw, On, SegmentView, BodyView, segment_octets, is_open, segments_of, cut_fault}
-use Rattle.tc_link.proofs.Common.{Control, Directive, FopMode, FarmState, SentUnit, units_of}
-use Rattle.tc_link.proofs.Common.{Config, IsChecked, limits_of, FitsFrame, PacketOn, frame_of}
-use Rattle.tc_link.proofs.Common.{is_closed, unsent_segments, World, directive_of, PlainLink, PlainRun, AtMostOneStep}
-use Rattle.tc_link.proofs.Common.{new_link, more, Rises}
+-- What is on its way, what a report does, and how the nodes, the records and a plain link hold together in a session
+-- that had an idle start: before it is confirmed, before it is settled, and after.
+use Rattle.tc_link.proofs.Common.{◌≡◌, ℕ, ◌+◌, ◌*◌, ◌%◌, ◌<◌, ◌≤◌, max, Bool, true, false, List, [], ◌∷◌, ◌++◌, Some}
+use Rattle.tc_link.proofs.Common.{refl, arith, slice_get, Clcw, Command, Unlock, SetVr, SegmentView, BodyView, Ad, Bd}
+use Rattle.tc_link.proofs.Common.{Bc, Directive, InitUnlock, InitSetVr, locks, waits, asks, Rises, ◌⊎◌, inl, inr, drop}
+use Rattle.tc_link.proofs.Common.{Option, None, ◌∙◌, ltb-true, ahead_by, FopMode, S2, S3, S4, S5, Alert, Synch, Limit}
+use Rattle.tc_link.proofs.Common.{FopState, FopOutcome, IsActive, units_of, report_while_active, after_move_on}
+use Rattle.tc_link.proofs.Common.{retransmits, after_new_value, after_acknowledge, after_repeat, alerts, goes_on}
+use Rattle.tc_link.proofs.Common.{is_closed, heard_active, active_on, length, ap, Control, Idle, Due, Sent}
+use Rattle.tc_link.proofs.Common.{InitWithCheck, S6, FarmState, IsChecked, PlainLink, PlainRun, new_link, more, ◌/◌}
+use Rattle.tc_link.proofs.Common.{take, map, Ok, sym, subst, AllByRecursion, On, segment_octets, is_open, segments_of}
+use Rattle.tc_link.proofs.Common.{cut_fault, SentUnit, Config, limits_of, FitsFrame, PacketOn, frame_of}
+use Rattle.tc_link.proofs.Common.{unsent_segments, World, directive_of, AtMostOneStep}
 use Rattle.std.specs.List.{flat_map}
-use Rattle.clcw.specs.Decoding.{clcw_at}
-use Rattle.tc_link.proofs.Early.{Unsettled}
-use Rattle.tc_link.proofs.Reports.{IsLate, asked}
-use Rattle.tc_link.proofs.Transit.{UpIs, DownIs, Fits, Ranks, bit}
 use Rattle.tc_frame.specs.Decoding as command
+use Rattle.clcw.specs.Decoding.{clcw_at}
 use Rattle.tm_link.specs.Layout as telemetry
 use Rattle.tm_link.specs.Decoding as telemetry_reading
+use Rattle.cop1.specs.declared.vocabulary.Alert.TheVariants.{Lockout, Clcw as ClcwAlert}
+use Rattle.cop1.specs.FopWords.{after_gone}
+use Rattle.tc_link.specs.PlainLink.{none, reports as tells}
+use Rattle.tc_link.proofs.Lists.{get_append, units-marked, units-drop}
+
+-- What is on its way, beside what a plain link has on its way.
+
+-- the control command of a session that a directive begins and that counts from `base` on
+abbrev pub CommandFits : Directive → ℕ → Command → Type 0
+CommandFits InitUnlock base Unlock = Unit {0}
+CommandFits (InitSetVr x) base (SetVr y) = y ≡ base
+CommandFits _ base _ = ⊥
+
+-- the frames are the pairs; control frames stand before the first of them alone, where `front` says so
+abbrev pub UpIs : Directive → ℕ → Bool → List BodyView → List (ℕ × SegmentView) → Type 0
+UpIs d base front [] [] = Unit {0}
+UpIs d base front [] (q ∷ qs) = ⊥
+UpIs d base front (Bd s ∷ fs) qs = UpIs d base front fs qs
+UpIs d base front (Bc command ∷ fs) qs = (front ≡ true) × CommandFits d base command × UpIs d base front fs qs
+UpIs d base front (Ad n u ∷ fs) [] = ⊥
+UpIs d base front (Ad n u ∷ fs) (q ∷ qs) = (n ≡ (base + q.0) % 256) × (u ≡ q.1) × UpIs d base false fs qs
+
+abbrev pub DownIs : ℕ → List Clcw → List ℕ → Type 0
+DownIs base [] [] = Unit {0}
+DownIs base [] (v ∷ vs) = ⊥
+DownIs base (c ∷ cs) [] = ⊥
+DownIs base (c ∷ cs) (v ∷ vs) = (c.value ≡ (base + v) % 256) × DownIs base cs vs
+
+-- each pair was sent, and none before it takes the receiver past its window
+abbrev pub Fits : (h n : ℕ) → List SegmentView → ℕ → List (ℕ × SegmentView) → Type 0
+Fits h n units r [] = Unit {0}
+Fits h n units r (q ∷ qs) =
+    (slice_get units q.0 ≡ Some q.1) × (q.0 < n) × (r ≤ q.0 + h) × Fits h n units (max r (q.0 + 1)) qs
+
+abbrev pub bit : Bool → ℕ
+bit true = 1
+bit false = 0
+
+-- A report's rank is twice its value, and one more where it asks for repetition. The ranks rise, no report is locked,
+-- and one that waits asks for repetition.
+abbrev pub Ranks : ℕ → List Clcw → List ℕ → ℕ → Type 0
+Ranks low [] [] high = low ≤ high
+Ranks low [] (v ∷ vs) high = ⊥
+Ranks low (c ∷ cs) [] high = ⊥
+Ranks low (c ∷ cs) (v ∷ vs) high =
+    (locks c ≡ false) × (waits c ≡ true → asks c ≡ true) × (low ≤ 2 * v + bit (asks c))
+    × Ranks (2 * v + bit (asks c)) cs vs high
+
+-- ---- what keeps them
+
+pub up_push : (d : Directive) (base n i : ℕ) (u : SegmentView) (front : Bool) (fs : List BodyView)
+    (qs : List (ℕ × SegmentView)) → n ≡ (base + i) % 256 → UpIs d base front fs qs
+    → UpIs d base front (fs ++ Ad n u ∷ []) (qs ++ (i, u) ∷ [])
+up_push d base n i u front [] [] e h = (e, refl, tt)
+up_push d base n i u front [] (q ∷ qs) e h = elim h [ ]
+up_push d base n i u front (Bd s ∷ fs) qs e h = up_push d base n i u front fs qs e h
+up_push d base n i u front (Bc command ∷ fs) qs e h = (h.0, h.1, up_push d base n i u front fs qs e h.2)
+up_push d base n i u front (Ad m v ∷ fs) [] e h = elim h [ ]
+up_push d base n i u front (Ad m v ∷ fs) (q ∷ qs) e h = (h.0, h.1, up_push d base n i u false fs qs e h.2)
+
+pub up_push_bypass : (d : Directive) (base : ℕ) (s : SegmentView) (front : Bool) (fs : List BodyView)
+    (qs : List (ℕ × SegmentView)) → UpIs d base front fs qs → UpIs d base front (fs ++ Bd s ∷ []) qs
+up_push_bypass d base s front [] [] h = tt
+up_push_bypass d base s front [] (q ∷ qs) h = elim h [ ]
+up_push_bypass d base s front (Bd t ∷ fs) qs h = up_push_bypass d base s front fs qs h
+up_push_bypass d base s front (Bc command ∷ fs) qs h = (h.0, h.1, up_push_bypass d base s front fs qs h.2)
+up_push_bypass d base s front (Ad m v ∷ fs) [] h = elim h [ ]
+up_push_bypass d base s front (Ad m v ∷ fs) (q ∷ qs) h = (h.0, h.1, up_push_bypass d base s false fs qs h.2)
+
+-- before any Type-AD frame
+pub up_push_control : (d : Directive) (base : ℕ) (command : Command) (fs : List BodyView) → CommandFits d base command
+    → UpIs d base true fs [] → UpIs d base true (fs ++ Bc command ∷ []) []
+up_push_control d base command [] fits h = (refl, fits, tt)
+up_push_control d base command (Bd s ∷ fs) fits h = up_push_control d base command fs fits h
+up_push_control d base command (Bc other ∷ fs) fits h = (h.0, h.1, up_push_control d base command fs fits h.2)
+up_push_control d base command (Ad m v ∷ fs) fits h = elim h [ ]
+
+pub down_push : (base v : ℕ) (c : Clcw) (cs : List Clcw) (vs : List ℕ) → c.value ≡ (base + v) % 256 → DownIs base cs vs
+    → DownIs base (cs ++ c ∷ []) (vs ++ v ∷ [])
+down_push base v c [] [] e h = (e, tt)
+down_push base v c [] (w ∷ ws) e h = elim h [ ]
+down_push base v c (d ∷ ds) [] e h = elim h [ ]
+down_push base v c (d ∷ ds) (w ∷ ws) e h = (h.0, down_push base v c ds ws e h.1)
+
+pub fits_less : (h n : ℕ) (units : List SegmentView) (r s : ℕ) (qs : List (ℕ × SegmentView)) → s ≤ r
+    → Fits h n units r qs → Fits h n units s qs
+fits_less h n units r s [] below fit = tt
+fits_less h n units r s (q ∷ qs) below fit =
+    (fit.0, fit.1, omega (arith, fit.2), fits_less h n units (max r (q.0 + 1)) (max s (q.0 + 1)) qs (omega arith) fit.3)
+
+pub fits_longer : (h n : ℕ) (units new : List SegmentView) (r : ℕ) (qs : List (ℕ × SegmentView)) → Fits h n units r qs
+    → Fits h n (units ++ new) r qs
+fits_longer h n units new r [] fit = tt
+fits_longer h n units new r (q ∷ qs) fit =
+    (get_append units new q.0 q.1 fit.0, fit.1, fit.2, fits_longer h n units new (max r (q.0 + 1)) qs fit.3)
+
+pub fits_further : (h n m : ℕ) (units : List SegmentView) (r : ℕ) (qs : List (ℕ × SegmentView)) → n ≤ m
+    → Fits h n units r qs → Fits h m units r qs
+fits_further h n m units r [] below fit = tt
+fits_further h n m units r (q ∷ qs) below fit =
+    (fit.0, omega (arith, fit.1), fit.2, fits_further h n m units (max r (q.0 + 1)) qs below fit.3)
+
+pub fits_push : (h n i : ℕ) (u : SegmentView) (units : List SegmentView) (r : ℕ) (qs : List (ℕ × SegmentView)) → r ≤ n
+    → n ≤ i + h → i < n → slice_get units i ≡ Some u → Fits h n units r qs → Fits h n units r (qs ++ (i, u) ∷ [])
+fits_push h n i u units r [] below near sent is fit = (is, sent, omega arith, tt)
+fits_push h n i u units r (q ∷ qs) below near sent is fit =
+    (fit.0, fit.1, fit.2, fits_push h n i u units (max r (q.0 + 1)) qs (omega (arith, fit.1)) near sent is fit.3)
+
+pub rises_push : (low high : ℕ) (vs : List ℕ) → Rises low vs high → Rises low (vs ++ high ∷ []) high
+rises_push low high [] up = (up, omega arith)
+rises_push low high (v ∷ vs) up = (up.0, rises_push v high vs up.1)
+
+pub rises_higher : (low high higher : ℕ) (vs : List ℕ) → high ≤ higher → Rises low vs high → Rises low vs higher
+rises_higher low high higher [] above up = omega arith
+rises_higher low high higher (v ∷ vs) above up = (up.0, rises_higher v high higher vs above up.1)
+
+pub rises_lower : (low lower high : ℕ) (vs : List ℕ) → lower ≤ low → Rises low vs high → Rises lower vs high
+rises_lower low lower high [] below up = omega arith
+rises_lower low lower high (v ∷ vs) below up = (omega (arith, up.0), up.1)
+
+pub rises_to : (low high : ℕ) (vs : List ℕ) → Rises low vs high → low ≤ high
+rises_to low high [] up = up
+rises_to low high (v ∷ vs) up = omega (arith, up.0, rises_to v high vs up.1)
+
+pub ranks_push : (low high r : ℕ) (c : Clcw) (cs : List Clcw) (vs : List ℕ) → locks c ≡ false
+    → (waits c ≡ true → asks c ≡ true) → high ≡ 2 * r + bit (asks c) → Ranks low cs vs high
+    → Ranks low (cs ++ c ∷ []) (vs ++ r ∷ []) high
+ranks_push low high r c [] [] free waiting is up = (free, waiting, omega arith, omega arith)
+ranks_push low high r c [] (w ∷ ws) free waiting is up = elim up [ ]
+ranks_push low high r c (d ∷ ds) [] free waiting is up = elim up [ ]
+ranks_push low high r c (d ∷ ds) (w ∷ ws) free waiting is up =
+    (up.0, up.1, up.2, ranks_push (2 * w + bit (asks d)) high r c ds ws free waiting is up.3)
+
+pub ranks_higher : (low high higher : ℕ) (cs : List Clcw) (vs : List ℕ) → high ≤ higher → Ranks low cs vs high
+    → Ranks low cs vs higher
+ranks_higher low high higher [] [] above up = omega arith
+ranks_higher low high higher [] (w ∷ ws) above up = elim up [ ]
+ranks_higher low high higher (d ∷ ds) [] above up = elim up [ ]
+ranks_higher low high higher (d ∷ ds) (w ∷ ws) above up =
+    (up.0, up.1, up.2, ranks_higher (2 * w + bit (asks d)) high higher ds ws above up.3)
+
+pub ranks_lower : (low lower high : ℕ) (cs : List Clcw) (vs : List ℕ) → lower ≤ low → Ranks low cs vs high
+    → Ranks lower cs vs high
+ranks_lower low lower high [] [] below up = omega arith
+ranks_lower low lower high [] (w ∷ ws) below up = elim up [ ]
+ranks_lower low lower high (d ∷ ds) [] below up = elim up [ ]
+ranks_lower low lower high (d ∷ ds) (w ∷ ws) below up = (up.0, up.1, omega (arith, up.2), up.3)
+
+pub ranks_to : (low high : ℕ) (cs : List Clcw) (vs : List ℕ) → Ranks low cs vs high → low ≤ high
+ranks_to low high [] [] up = up
+ranks_to low high [] (w ∷ ws) up = elim up [ ]
+ranks_to low high (d ∷ ds) [] up = elim up [ ]
+ranks_to low high (d ∷ ds) (w ∷ ws) up = omega (arith, up.2, ranks_to (2 * w + bit (asks d)) high ds ws up.3)
+
+-- What a report does at the sender, where its value lies between the numbers of what is acknowledged and what was sent.
+
+-- 1 where the sender was asked to repeat
+abbrev pub asked : FopMode → ℕ
+asked S2 = 1
+asked S3 = 1
+asked _ = 0
+
+abbrev pub IsLate : FopMode → Type 0
+IsLate S4 = ⊥
+IsLate S5 = ⊥
+IsLate _ = Unit {0}
+
+active_late : (m : FopMode) → IsActive m → IsLate m
+active_late S4 active = active
+active_late S5 active = active
+active_late _ active = tt
+
+-- the alerts that a report may lead to
+abbrev pub IsAllowed : Bool → ℕ → Option Alert → Type 0
+IsAllowed asking limit None = Unit {0}
+IsAllowed asking limit (Some Limit) = (asking ≡ true) × (limit ≡ 1)
+IsAllowed asking limit (Some _) = ⊥
+
+-- what is kept of the queues, where the sender is off and where it is on
+abbrev pub HeldBy : {A : Type 0} → Bool → FopState SegmentView → ℕ → FopOutcome SegmentView A → Type 0
+HeldBy true s gone o = (o.after.sent ≡ []) × (o.after.waiting ≡ None)
+HeldBy false s gone o = (units_of o.after.sent ≡ drop gone (units_of s.sent)) × (o.after.waiting ≡ s.waiting)
+
+-- where an outcome leads, which acknowledges `gone` units
+pub record Leads (base : ℕ) (checked : Type 0) (s : FopState SegmentView) (asking : Bool) (rank a gone : ℕ)
+    (o : FopOutcome SegmentView (Option Alert)) : Type 0 where
+  pub vs_is : o.after.vs ≡ s.vs
+  pub nn_is : o.after.nn ≡ (base + (a + gone)) % 256
+  pub late : IsLate o.after.state
+  pub held : HeldBy (is_closed o.after.state) s gone o
+  pub rank_is : checked → 2 * (a + gone) + asked o.after.state ≤ rank
+  pub allowed : checked → IsAllowed asking s.limit o.answer
+
+-- what is known as a report comes
+pub record ReportComes (base h : ℕ) (checked : Type 0) (s : FopState SegmentView) (a n : ℕ) (c : Clcw) (v : ℕ) : Type 0
+  where
+    pub value_is : c.value ≡ (base + v) % 256
+    pub low : a ≤ v
+    pub high : v ≤ n
+    pub n_a : n ≤ a + h
+    pub half_most : h ≤ 127
+    pub vs_is : s.vs ≡ (base + n) % 256
+    pub nn_is : s.nn ≡ (base + a) % 256
+    pub unlocked : checked → locks c ≡ false
+    pub wait_flag : checked → waits c ≡ true → asks c ≡ true
+    pub rank_low : checked → 2 * a + asked s.state ≤ 2 * v + bit (asks c)
+    pub rank_high : checked → 2 * v + bit (asks c) ≤ 2 * n
+
+abbrev pub Led : ℕ → Type 0 → FopState SegmentView → ℕ → Clcw → ℕ → FopOutcome SegmentView (Option Alert) → Type 0
+Led base checked s a c v o =
+    (gone : ℕ) × ((gone ≡ 0) ⊎ (a + gone ≡ v)) × Leads base checked s (asks c) (2 * v + bit (asks c)) a gone o
+
+module _ (base h : ℕ) (checked : Type 0) (s : FopState SegmentView) (a n : ℕ) (c : Clcw) (v : ℕ)
+    (k : ReportComes base h checked s a n c v) where
+  alert_led : (x : Alert) → (checked → IsAllowed (asks c) s.limit (Some x)) → Led base checked s a c v (alerts s x)
+  alert_led x allowed = (
+    0,
+    inl refl,
+    record {
+      vs_is = refl;
+      nn_is = omega (arith, k.nn_is);
+      late = tt;
+      held = (refl, refl);
+      rank_is = λ is. omega (arith, k.low);
+      allowed = allowed;
+    },
+  )
+
+  same_led : (f : FopState SegmentView) → f.vs ≡ s.vs → f.nn ≡ s.nn → IsLate f.state → is_closed f.state ≡ false
+      → units_of f.sent ≡ units_of s.sent → f.waiting ≡ s.waiting
+      → (checked → 2 * a + asked f.state ≤ 2 * v + bit (asks c)) → Led base checked s a c v (goes_on f)
+  same_led f vs nn late on sent waiting rank_is = (
+    0,
+    inl refl,
+    record {
+      vs_is = vs;
+      nn_is = omega (arith, nn, k.nn_is);
+      late = late;
+      held = rw on (sent, waiting);
+      rank_is = λ is. omega (arith, rank_is is);
+      allowed = λ is. tt;
+    },
+  )
+
+  were_asked : (s.state ≡ S2) ⊎ (s.state ≡ S3) → asked s.state ≡ 1
+  were_asked were = elim were [ inl is ↦ rw is refl | inr is ↦ rw is refl ]
+
+  again_led : asks c ≡ true → (repeats : Bool) → Led base checked s a c v (goes_on (retransmits s repeats))
+  again_led asking true =
+      same_led (record (after_repeat s) { state = S2 }) refl refl tt refl (units-marked s.sent) refl
+      (λ t. rw asking (omega (arith, k.low)))
+  again_led asking false =
+      same_led (record s { state = S2 }) refl refl tt refl refl refl (λ t. rw asking (omega (arith, k.low)))
+
+  -- a report that acknowledges
+  gone_is : a + ahead_by c.value s.nn ≡ v
+  gone_is = omega (arith, k.value_is, k.nn_is, k.low, k.high, k.n_a, k.half_most)
+
+  gone_led : (f : FopState SegmentView) → f.vs ≡ s.vs → f.nn ≡ c.value → IsLate f.state → is_closed f.state ≡ false
+      → units_of f.sent ≡ units_of (drop (ahead_by c.value s.nn) s.sent) → f.waiting ≡ s.waiting
+      → asked f.state ≤ bit (asks c) → Led base checked s a c v (after_gone (ahead_by c.value s.nn) (goes_on f))
+  gone_led f vs nn late on sent waiting rank_is = (
+    ahead_by c.value s.nn,
+    inr gone_is,
+    record {
+      vs_is = vs;
+      nn_is = rw gone_is (nn ∙ k.value_is);
+      late = late;
+      held = rw on (sent ∙ units-drop (ahead_by c.value s.nn) s.sent, waiting);
+      rank_is = λ is. omega (arith, gone_is);
+      allowed = λ is. tt;
+    },
+  )
+
+  gone_alert_led : asks c ≡ true → s.limit ≡ 1
+      → Led base checked s a c v (after_gone (ahead_by c.value s.nn) (alerts (after_new_value s c.value) Limit))
+  gone_alert_led asking one = (
+    ahead_by c.value s.nn,
+    inr gone_is,
+    record {
+      vs_is = refl;
+      nn_is = rw gone_is k.value_is;
+      late = tt;
+      held = (refl, refl);
+      rank_is = λ is. omega (arith, gone_is);
+      allowed = λ is. (asking, one);
+    },
+  )
+
+  pub active_led : IsActive s.state → Led base checked s a c v (report_while_active s c)
+  active_led active = heard_active s c (Led base checked s a c v) (record {
+    locked = λ t. alert_led Lockout (λ is. absurd (let no : locks c ≡ false = k.unlocked is in cc));
+    outside = λ t. absurd (omega (
+      arith,
+      ltb-true _ _ t,
+      k.value_is,
+      k.vs_is,
+      k.nn_is,
+      k.low,
+      k.high,
+      k.n_a,
+      k.half_most,
+    ));
+    wait_flag = λ unasked waiting. alert_led ClcwAlert
+        (λ is. absurd (let yes : asks c ≡ true = k.wait_flag is waiting in cc));
+    asks_none = λ asking at. alert_led Synch (λ is. absurd (
+        let most : 2 * v + 1 ≤ 2 * n = rw asking at (k.rank_high is) in
+        omega (arith, at, k.value_is, k.vs_is, k.low, k.n_a, k.half_most)
+        ));
+    same = same_led s refl refl (active_late s.state active) (active_on s.state active) refl refl k.rank_low;
+    ceases = λ unasked at were. alert_led Synch (λ is. absurd (
+        let low : 2 * a + 1 ≤ 2 * v + 0 = rw (were_asked were, unasked) at (k.rank_low is) in
+        omega (arith, at, k.value_is, k.nn_is, k.high, k.n_a, k.half_most)
+        ));
+    moves = λ inside. gone_led (after_move_on (after_acknowledge s c.value)) refl refl tt refl refl refl (omega arith);
+    others_over = λ inside asking one. gone_alert_led asking one;
+    others_wait = λ inside asking. gone_led (record (after_new_value s c.value) { state = S3 }) refl refl tt refl refl
+        refl (rw asking (omega arith));
+    others_again = λ inside asking. gone_led (record (after_repeat (after_new_value s c.value)) { state = S2 }) refl
+        refl tt refl (units-marked (drop (ahead_by c.value s.nn) s.sent)) refl (rw asking (omega arith));
+    all_over = λ asking one. alert_led Limit (λ is. (asking, one));
+    all_wait = λ asking. same_led (record s { state = S3 }) refl refl tt refl refl refl
+        (λ is. rw asking (omega (arith, k.low)));
+    all_again = again_led;
+  })
+
+-- Before a session that is begun by check, Unlock or Set V(R) is confirmed.
+
+-- ---- reports that confirm
+
+-- a report that confirms
+abbrev pub Good : ℕ → Clcw → Type 0
+Good base c = (locks c ≡ false) × (waits c ≡ false) × (asks c ≡ false) × (c.value ≡ base)
+
+-- a receiver that would now report so
+abbrev pub WouldConfirm : ℕ → FarmState → Type 0
+WouldConfirm base s = (s.lockout ≡ false) × (s.wait ≡ false) × (s.retransmit ≡ false) × (s.vr ≡ base)
+
+-- each report confirms, and at their end this is so
+abbrev pub AllGood : ℕ → List Clcw → Type 0 → Type 0
+AllGood base [] last = last
+AllGood base (c ∷ cs) last = Good base c × AllGood base cs last
+
+-- from a report that confirms on, each one does
+abbrev pub Lasts : ℕ → List Clcw → Type 0 → Type 0
+Lasts base [] last = Unit {0}
+Lasts base (c ∷ cs) last = (Good base c → AllGood base cs last) × Lasts base cs last
+
+all_good_on : (base : ℕ) (cs : List Clcw) (l m : Type 0) → (l → m) → AllGood base cs l → AllGood base cs m
+all_good_on base [] l m on all = on all
+all_good_on base (c ∷ cs) l m on all = (all.0, all_good_on base cs l m on all.1)
+
+pub lasts_on : (base : ℕ) (cs : List Clcw) (l m : Type 0) → (l → m) → Lasts base cs l → Lasts base cs m
+lasts_on base [] l m on all = tt
+lasts_on base (c ∷ cs) l m on all = (λ good. all_good_on base cs l m on (all.0 good), lasts_on base cs l m on all.1)
+
+all_good_push : (base : ℕ) (c : Clcw) (cs : List Clcw) (l : Type 0) → (l → Good base c) → AllGood base cs l
+    → AllGood base (cs ++ c ∷ []) l
+all_good_push base c [] l is all = (is all, all)
+all_good_push base c (x ∷ xs) l is all = (all.0, all_good_push base c xs l is all.1)
+
+pub lasts_push : (base : ℕ) (c : Clcw) (cs : List Clcw) (l : Type 0) → (l → Good base c) → (Good base c → l)
+    → Lasts base cs l → Lasts base (cs ++ c ∷ []) l
+lasts_push base c [] l is so all = (so, tt)
+lasts_push base c (x ∷ xs) l is so all =
+    (λ good. all_good_push base c xs l is (all.0 good), lasts_push base c xs l is so all.1)
+
+pub last_good : (base : ℕ) (cs : List Clcw) (l : Type 0) → AllGood base cs l → l
+last_good base [] l all = all
+last_good base (c ∷ cs) l all = last_good base cs l all.1
+
+-- ---- a plain link with as many reports of 0
+
+abbrev pub zeros : List Clcw → List ℕ
+zeros [] = []
+zeros (c ∷ cs) = 0 ∷ zeros cs
+
+zeros-push : (cs : List Clcw) → zeros cs ++ 0 ∷ [] ≡ 0 ∷ zeros cs
+zeros-push [] = refl
+zeros-push (c ∷ cs) = ap (λ l. 0 ∷ l) (zeros-push cs)
+
+abbrev pub zeros_plain : List Clcw → PlainLink
+zeros_plain cs = record new_link { down = zeros cs }
+
+pub zeros_run : (cs : List Clcw) → PlainRun new_link (zeros_plain cs)
+zeros_run [] = none
+zeros_run (c ∷ cs) =
+    let one : PlainRun new_link (record new_link { down = zeros cs ++ 0 ∷ [] }) = more (zeros_run cs) tells in
+    rw zeros-push at one
+
+pub zeros_rise : (cs : List Clcw) → Rises 0 (zeros cs) 0
+zeros_rise [] = omega arith
+zeros_rise (c ∷ cs) = (omega arith, zeros_rise cs)
+
+pub zeros_count : (cs : List Clcw) → length cs ≡ length (zeros cs)
+zeros_count [] = refl
+zeros_count (c ∷ cs) = omega (arith, zeros_count cs)
+
+-- where each report confirms, 0 is the number of each
+pub good_down : (base low : ℕ) (cs : List Clcw) (vs : List ℕ) (l : Type 0) → base < 256 → length cs ≡ length vs
+    → Rises low vs 0 → AllGood base cs l → DownIs base cs vs
+good_down base low [] [] l most count up all = tt
+good_down base low [] (v ∷ vs) l most count up all = absurd cc
+good_down base low (c ∷ cs) [] l most count up all = absurd cc
+good_down base low (c ∷ cs) (v ∷ vs) l most count up all = (
+  omega (arith, all.0.3, rises_to v 0 vs up.1),
+  good_down base v cs vs l most (omega (arith, count)) up.1 all.1,
+)
+
+pub good_ranks : (base low rank : ℕ) (cs : List Clcw) (vs : List ℕ) (l : Type 0) → rank ≡ 0 → length cs ≡ length vs
+    → Rises low vs 0 → AllGood base cs l → Ranks rank cs vs 0
+good_ranks base low rank [] [] l least count up all = omega (arith, least)
+good_ranks base low rank [] (v ∷ vs) l least count up all = absurd cc
+good_ranks base low rank (c ∷ cs) [] l least count up all = absurd cc
+good_ranks base low rank (c ∷ cs) (v ∷ vs) l least count up all =
+    let none_asked : bit (asks c) ≡ 0 = rw all.0.2 refl in (
+      all.0.0,
+      λ t. absurd (let no : waits c ≡ false = all.0.1 in cc),
+      omega (arith, least),
+      good_ranks base v (2 * v + bit (asks c)) cs vs l (omega (arith, none_asked, rises_to v 0 vs up.1))
+          (omega (arith, count)) up.1 all.1,
+    )
+
+-- ---- what holds before the confirmation
+
+-- where a session waits for it, or has ended before
+abbrev pub IsEarly : Directive → FopMode → Type 0
+IsEarly d S4 = d ≡ InitWithCheck
+IsEarly d S5 = d ≡ InitWithCheck → ⊥
+IsEarly d S6 = Unit {0}
+IsEarly d _ = ⊥
+
+pub early_off : (d : Directive) (m : FopMode) → IsEarly d m → IsActive m → ⊥
+early_off d S4 early active = active
+early_off d S5 early active = active
+early_off d S6 early active = active
+early_off d _ early active = early
+
+abbrev pub ControlFits : Directive → ℕ → Control → Type 0
+ControlFits d base Idle = Unit {0}
+ControlFits d base (Due command) = CommandFits d base command
+ControlFits d base (Sent command) = CommandFits d base command
+
+-- each report has the receiver's lockout flag, retransmit flag and V(R), and one that waits asks for repetition
+abbrev pub AllSame : List Clcw → (lockout retransmit : Bool) (vr : ℕ) → Type 0
+AllSame [] lockout retransmit vr = Unit {0}
+AllSame (c ∷ cs) lockout retransmit vr =
+    (locks c ≡ lockout) × (asks c ≡ retransmit) × (c.value ≡ vr) × (waits c ≡ true → asks c ≡ true)
+    × AllSame cs lockout retransmit vr
+
+pub same_push : (c : Clcw) (cs : List Clcw) (lockout retransmit : Bool) (vr : ℕ) → (locks c ≡ lockout)
+    → (asks c ≡ retransmit) → (c.value ≡ vr) → (waits c ≡ true → asks c ≡ true) → AllSame cs lockout retransmit vr
+    → AllSame (cs ++ c ∷ []) lockout retransmit vr
+same_push c [] lockout retransmit vr l t v w all = (l, t, v, w, tt)
+same_push c (x ∷ xs) lockout retransmit vr l t v w all =
+    (all.0, all.1, all.2, all.3, same_push c xs lockout retransmit vr l t v w all.4)
+
+pub record Unsettled (d : Directive) (base : ℕ) (m : FopMode) (control : Control) (farm : FarmState)
+    (confirmed front : Bool) (reports : List Clcw) (n : ℕ) : Type 0 where
+  pub checked : IsChecked d
+  pub early : IsEarly d m
+  pub command_is : ControlFits d base control
+  pub confirmed_not : confirmed ≡ false
+  pub front_is : front ≡ true
+  pub none_sent : n ≡ 0
+  pub lasts : Lasts base reports (WouldConfirm base farm)
+  pub same : d ≡ InitWithCheck → AllSame reports farm.lockout farm.retransmit farm.vr
+
+-- How the nodes, what is on its way, the records and a plain link hold together in a session that had an
+-- idle start, before it is settled and after.
 
 -- ---- octets on their way
 
@@ -219,7 +690,7 @@ carries_push c octets f (b ∷ bs) (g ∷ gs) reads h = (h.0, carries_push c oct
 
 pub reporting_push : (c : Config) (octets : List ℕ) (r : Clcw) (bs : List (List ℕ)) (rs : List Clcw) → Tells c octets r
     → Reporting c bs rs → Reporting c (bs ++ octets ∷ []) (rs ++ r ∷ [])
-reporting_push c octets r [] [] tells h = (tells, tt)
-reporting_push c octets r [] (g ∷ gs) tells h = elim h [ ]
-reporting_push c octets r (b ∷ bs) [] tells h = elim h [ ]
-reporting_push c octets r (b ∷ bs) (g ∷ gs) tells h = (h.0, reporting_push c octets r bs gs tells h.1)
+reporting_push c octets r [] [] says h = (says, tt)
+reporting_push c octets r [] (g ∷ gs) says h = elim h [ ]
+reporting_push c octets r (b ∷ bs) [] says h = elim h [ ]
+reporting_push c octets r (b ∷ bs) (g ∷ gs) says h = (h.0, reporting_push c octets r bs gs says h.1)

@@ -14,8 +14,7 @@ use Rattle.nodes.specs.Ground as ground_calls
 use Rattle.tc_link.specs.Outage.{HasComeSince}
 use Rattle.tc_link.specs.Telemetry.{Downlink, DownlinkStep, Happens, TakeTelemetry, IsDownlinkStep, new_downlink}
 use Rattle.tc_link.specs.Telemetry.{after_event, after_taking, downlink_run, packets_down, came_by, sent_by}
-use Rattle.tc_link.proofs.Telemetry.{choice_none, arrived_some}
-use Rattle.tc_link.proofs.TelemetryKept.{Laid, new_downlink_laid, chosen, run_laid, in_range}
+use Rattle.tc_link.proofs.Telemetry.{choice_none, arrived_some, Laid, new_downlink_laid, chosen, run_laid, in_range}
 
 -- ---- what comes to be sent, and what comes or is lost, stands after what there was
 

@@ -1,31 +1,233 @@
--- An exchange from any moment: an alert comes, or the link is ready: nothing is on its way, NN(R) is V(R), and all
--- that is not acknowledged is to be sent again.
-use Rattle.tc_link.proofs.Common.{not, ◌≡◌, ◌≢◌, ◌≤◌, ◌⊎◌, inl, inr, ℕ, zero, suc, true, false, List, [], ◌∷◌, ◌++◌}
-use Rattle.tc_link.proofs.Common.{length, Option, Some, refl, ap, sym, subst, ◌∙◌, arith, length-append, cond_both}
-use Rattle.tc_link.proofs.Common.{replicate, Clcw, SegmentView, marked_unit, FopState, S1, S2, IsActive, clcw_step}
-use Rattle.tc_link.proofs.Common.{locks, waits, asks, pull_step, tick_step, after_repeat, after_stop, Open, FarmState}
-use Rattle.tc_link.proofs.Common.{FlagsAgree, report_of, extract_step, GroundState, with_fop, after_extraction}
-use Rattle.tc_link.proofs.Common.{spacecraft_report, World, WorldOutcome, world_step, FopOutcome, Alert, length-map}
-use Rattle.tc_link.proofs.Common.{IsReached, acknowledging}
+-- What an exchange does to both nodes, from any moment: an alert comes, or the link is ready.
+use Rattle.tc_link.proofs.Common.{◌≡◌, ◌≢◌, ◌<◌, ◌≤◌, ℕ, ◌+◌, false, List, ◌∷◌, ◌++◌, length, refl, ap, ◌∙◌, arith}
+use Rattle.tc_link.proofs.Common.{length-append, length-map, option_to_list, Clcw, SegmentView, ahead_by, FopState}
+use Rattle.tc_link.proofs.Common.{IsActive, units_of, extract_step, GroundState, with_fop, is_closed, unsent_segments}
+use Rattle.tc_link.proofs.Common.{World, world_step, down_deliver_step, IsReached, inr, zero, suc, [], PacketOn}
+use Rattle.tc_link.proofs.Common.{spacecraft_take, up_deliver_step, active_on, AllByRecursion, ◌⊎◌, Option, Some, None}
+use Rattle.tc_link.proofs.Common.{Ok, Alert, Extracted, SpacecraftState, WorldOutcome, FopOutcome, subst, sym}
+use Rattle.tc_link.proofs.Common.{replicate, not, inl, true, cond_both, marked_unit, S1, S2, clcw_step, locks, waits}
+use Rattle.tc_link.proofs.Common.{asks, pull_step, tick_step, after_repeat, after_stop, Open, FarmState, FlagsAgree}
+use Rattle.tc_link.proofs.Common.{report_of, after_extraction, spacecraft_report, acknowledging, Bool, retransmits}
+use Rattle.tc_link.proofs.Common.{after_new_value, heard_active, pulled_out, ticked, Event, goes_on}
 use Rattle.std.specs.Prelude.{IsSome}
 use Rattle.std.proofs.lemmas.List.{nil_from_length}
-use Rattle.std.proofs.lemmas.Bool.{false_from_ne_true, not-true, not-false}
-use Rattle.simulated_link.specs.World.{world_after_telemetry}
-use Rattle.simulated_link.proofs.Unchanged.{pulled}
-use Rattle.nodes.specs.declared.event.Event.TheVariants as events
+use Rattle.std.proofs.lemmas.Bool.{false_from_ne_true, not-true, not-false, lt-ltb}
 use Rattle.tm_link.specs.Encoding as telemetry_writing
+use Rattle.cop1.specs.FopTick.{tick_with, timer_ended, while_below}
+use Rattle.cop1.specs.Units.{is_none_sent}
+use Rattle.nodes.specs.Ground.{outstanding}
+use Rattle.nodes.specs.declared.event.Event.TheVariants as events
+use Rattle.simulated_link.specs.World.{world_after_telemetry}
+use Rattle.simulated_link.specs.Replies.{reply_to_alert}
+use Rattle.simulated_link.proofs.Unchanged.{pulled, up_arrives}
+use Rattle.simulated_link.proofs.Counted.{reported as report_cases}
 use Rattle.tc_link.specs.FalseAlarms.{alert_in}
-use Rattle.tc_link.specs.Progress.{awaits, most_sent, all_sent, reported, all_heard, are_marked, ticks_left}
-use Rattle.tc_link.specs.Progress.{timer_run_out, round_trip, exchange}
-use Rattle.tc_link.proofs.Downward.{used}
+use Rattle.tc_link.specs.Progress.{ticks_left, followed_by, all_taken, next_arrived, all_arrived, awaits, most_sent}
+use Rattle.tc_link.specs.Progress.{all_sent, reported, all_heard, are_marked, timer_run_out, round_trip, exchange}
+use Rattle.tc_link.proofs.Downward.{used, used_is}
 use Rattle.tc_link.proofs.Linked.{Tells}
-use Rattle.tc_link.proofs.ReportFrames.{tells_now, flags_are}
-use Rattle.tc_link.proofs.ProgressNodes.{Arrived, Taken, ground_takes, ground_arrives, ends_ticks, oldest_heard}
-use Rattle.tc_link.proofs.ProgressNodes.{alerted, with_same, with_config, IsBounded, bounded, HasNumbers, has_numbers}
-use Rattle.tc_link.proofs.ProgressNodes.{some_sent, heard_is}
-use Rattle.tc_link.proofs.ProgressRuns.{going_step, known, Ends, ends_then, ends_repeat, ends_once, ends_trip}
-use Rattle.tc_link.proofs.ProgressSender.{holds_more, Obeys, heard_fresh, HoldsNoMore, pull_no_more, report_holds}
-use Rattle.tc_link.proofs.ProgressSender.{active_report, tick_end, marked_all}
+use Rattle.tc_link.proofs.ProgressNumbers.{IsOctetReport, known, Ends, ends_then, ends_repeat, ends_times, ends_once}
+use Rattle.tc_link.proofs.ProgressNumbers.{going_step, ends_trip, IsCalm, no_directive, no_resumption}
+use Rattle.tc_link.proofs.ProgressSender.{Running, HoldsNoMore, tick_on, holds_more, Obeys, heard_fresh, pull_no_more}
+use Rattle.tc_link.proofs.ProgressSender.{report_holds, active_report, tick_end, marked_all, with_kept, hears_kept}
+use Rattle.tc_link.proofs.ProgressSender.{step_kept, words_kept}
+use Rattle.tc_link.proofs.Refilled.{refilled_keeps}
+use Rattle.tc_link.proofs.IdleStart.{tells_now, flags_are}
+
+-- What the events of an exchange do to the ground, and the numbers that are known of it.
+
+-- ---- the wait queue is refilled
+
+-- a sender is as another but for its wait queue
+pub record IsAs (f g : FopState SegmentView) : Type 0 where
+  pub state : f.state ≡ g.state
+  pub vs : f.vs ≡ g.vs
+  pub nn : f.nn ≡ g.nn
+  pub sent : f.sent ≡ g.sent
+  pub bypass : f.bypass ≡ g.bypass
+  pub window : f.window ≡ g.window
+  pub ticks : f.ticks ≡ g.ticks
+  pub control : f.control ≡ g.control
+  pub count : f.count ≡ g.count
+  pub limit : f.limit ≡ g.limit
+
+module _ (s : GroundState) (f : FopState SegmentView) where
+  pub with_same : IsAs (with_fop s f).fop f
+  with_same = refilled_keeps (λ (t : GroundState). IsAs t.fop f) (record s { fop = f })
+      (λ waiting pending on off. record {
+        state = refl;
+        vs = refl;
+        nn = refl;
+        sent = refl;
+        bypass = refl;
+        window = refl;
+        ticks = refl;
+        control = refl;
+        count = refl;
+        limit = refl;
+      })
+
+  pub with_config : (with_fop s f).config ≡ s.config
+  with_config = refilled_keeps (λ (t : GroundState). t.config ≡ s.config) (record s { fop = f })
+      (λ waiting pending on off. refl)
+
+  pub with_unsent : is_closed f.state ≡ false
+      → unsent_segments (with_fop s f) ≡ option_to_list f.waiting ++ s.pending
+  with_unsent = refilled_keeps (λ (t : GroundState). is_closed f.state ≡ false
+      → unsent_segments t ≡ option_to_list f.waiting ++ s.pending) (record s { fop = f })
+      (λ waiting pending on off running. on running)
+
+-- ---- how much the ground holds
+
+abbrev pub size : GroundState → ℕ
+size s = length (outstanding s)
+
+pub size_is : (s : GroundState) → size s ≡ length s.fop.sent + length (unsent_segments s)
+size_is s =
+    let units : length (units_of s.fop.sent) ≡ length s.fop.sent = length-map s.fop.sent (λ u. u.unit) in
+    omega (arith, units, length-append (units_of s.fop.sent) (unsent_segments s))
+
+-- it is Active, and holds so much at most, with this window
+pub record IsBounded (most k : ℕ) (s : GroundState) : Type 0 where
+  pub active : IsActive s.fop.state
+  pub holds : size s ≤ most
+  pub window : s.fop.window ≡ k
+
+pub bounded : (most k : ℕ) (s : GroundState) (f : FopState SegmentView) → IsBounded most k s
+    → HoldsNoMore s.fop s.pending f → IsBounded most k (with_fop s f)
+bounded most k s f b less =
+    let same = with_same s f in
+    let active : IsActive (with_fop s f).fop.state = rw same.state less.active in
+    let unsent = with_unsent s f (active_on f.state less.active) in
+    let sent : length (with_fop s f).fop.sent ≡ length f.sent = ap length same.sent in
+    record {
+      active = active;
+      holds = omega (arith, size_is s, size_is (with_fop s f), ap length unsent, sent, less.size, b.holds);
+      window = same.window ∙ less.window ∙ b.window;
+    }
+
+-- ---- the numbers, where it is Active
+
+pub record HasNumbers (w : World) : Type 0 where
+  pub numbered : ahead_by w.ground_node.fop.vs w.ground_node.fop.nn ≡ length w.ground_node.fop.sent
+  pub most : length w.ground_node.fop.sent ≤ 127
+  pub vs : w.ground_node.fop.vs < 256
+  pub nn : w.ground_node.fop.nn < 256
+  pub vr : w.spacecraft.farm.vr < 256
+
+pub has_numbers : (w : World) → IsReached w → IsActive w.ground_node.fop.state → HasNumbers w
+has_numbers w g active =
+    let k = (known w g).octets in
+    record {
+      numbered = k.sender.numbered (active_on w.ground_node.fop.state active);
+      most = k.sender.most;
+      vs = k.sender.vs;
+      nn = k.sender.nn;
+      vr = k.receiver.vr;
+    }
+
+-- units are sent where the numbers differ
+pub some_sent : (w : World) → HasNumbers w → w.ground_node.fop.nn ≢ w.ground_node.fop.vs
+    → 1 ≤ length w.ground_node.fop.sent
+some_sent w n apart = omega (arith, n.numbered, n.vs, n.nn, apart)
+
+-- ---- a report is heard
+
+pub heard_is : (w : World) (b : List ℕ) (bs : List (List ℕ)) (r : Clcw) → w.down ≡ b ∷ bs
+    → (t : Tells w.ground_node.config b r)
+    → world_step w events.DownDeliver
+    ≡ world_after_telemetry w bs (used w.ground_node (extract_step w.ground_node.extractor t.frame) r)
+heard_is w b bs r is t =
+    ap (down_deliver_step w) is
+    ∙ ap (world_after_telemetry w bs) (used_is w.ground_node.config w.ground_node b r refl t)
+
+-- whatever report is the oldest on its way
+pub oldest_heard : (P : WorldOutcome → Type 0) (w : World) → IsReached w → (b : List ℕ) (bs : List (List ℕ))
+    → w.down ≡ b ∷ bs
+    → ((r : Clcw) (x : Extracted) → P (world_after_telemetry w bs (used w.ground_node x r)))
+    → P (world_step w events.DownDeliver)
+oldest_heard P w g b bs is each =
+    let h = known w g in
+    let first = subst (AllByRecursion (IsOctetReport g.config)) is h.octets.down in
+    let r = first.0.0 in
+    let tells : Tells w.ground_node.config b r =
+    subst (λ c. Tells c b r) (sym h.holds.sound.ground_node.config) first.0.1 in
+    subst P (sym (heard_is w b bs r is tells)) (each r (extract_step w.ground_node.extractor tells.frame))
+
+pub alerted : (a : Option Alert) → IsSome a → IsSome (alert_in (Ok (reply_to_alert a)))
+alerted None is = absurd cc
+alerted (Some x) is = refl
+
+-- ---- frames arrive on board, and packets are taken there
+
+-- so much holds with so many frames on their way up, and so many packets are ready
+abbrev pub Taken : (ℕ → World → Type 0) → ℕ → ℕ → World → Type 0
+Taken P n m w = P n w × (length w.spacecraft.ready ≡ m)
+
+one_taken : (m : ℕ) (s : SpacecraftState) (ps : List PacketOn) → length ps ≡ suc m
+    → length (spacecraft_take s ps).after.ready ≡ m
+one_taken m s [] is = absurd (omega (arith, is))
+one_taken m s (p ∷ ps) is = omega (arith, is)
+
+module _ (P : ℕ → World → Type 0) (taken : (n : ℕ) (w : World) → P n w → P n (world_step w events.Take).after) where
+  pub takes : (n : ℕ) (w : World) → IsReached w → P n w → Ends (Taken P n zero) w (all_taken w)
+  takes n w g p =
+      ends_repeat (Taken P n) events.Take tt
+      (λ m v h q. inr (taken n v q.0, one_taken m v.spacecraft v.spacecraft.ready q.1)) (length w.spacecraft.ready) w g
+      (p, refl)
+
+  pub arrives : ((n : ℕ) (w : World) → IsReached w → Taken P (suc n) zero w → P n (world_step w events.UpDeliver).after)
+      → (w : World) → IsReached w → P (length w.up) w → Ends (P zero) w (all_arrived w)
+  arrives arrived w g p =
+      ends_times P (followed_by all_taken next_arrived)
+      (λ n v h q. ends_then (Taken P (suc n) zero) (P n) all_taken next_arrived v (takes (suc n) v h q)
+      (λ u i t. ends_once (P n) u events.UpDeliver tt i (inr (arrived n u i t)))) (length w.up) w g p
+
+-- whatever holds of the ground stays so
+module _ (P : GroundState → Type 0) where
+  abbrev pub Arrived : ℕ → World → Type 0
+  Arrived n w = P w.ground_node × (length w.up ≡ n)
+
+  up_first : (n : ℕ) (w : World) (bs : List (List ℕ)) → P w.ground_node → length bs ≡ suc n
+      → Arrived n (up_deliver_step w bs).after
+  up_first n w [] p is = absurd (omega (arith, is))
+  up_first n w (b ∷ bs) p is = (p, omega (arith, is))
+
+  pub ground_arrives : (w : World) → IsReached w → P w.ground_node → Ends (Arrived zero) w (all_arrived w)
+  ground_arrives w g p =
+      arrives Arrived (λ n v q. q) (λ n v h q. up_first n v v.up q.0.0 q.0.1) w g (p, refl)
+
+  pub ground_takes : (w : World) → IsReached w → Arrived zero w → Ends (Taken Arrived zero zero) w (all_taken w)
+  ground_takes = takes Arrived (λ n v q. q) zero
+
+-- ---- the timer runs_out out
+
+module _ (P Q : World → Type 0)
+    (goes : (w : World) (left : ℕ) → P w
+    → P (record w { ground_node = with_fop w.ground_node (record w.ground_node.fop { ticks = Some left }) }))
+    (ends : (w : World) → P w → w.ground_node.fop.ticks ≡ Some 1
+    → IsSome (alert_in (world_step w events.Tick).answer) ⊎ Q (world_step w events.Tick).after) where
+  abbrev Runs : ℕ → World → Type 0
+  Runs zero w = Q w
+  Runs (suc n) w = P w × (w.ground_node.fop.ticks ≡ Some (suc n))
+
+  runs_out : (n : ℕ) (w : World) → IsReached w → Runs (suc n) w
+      → IsSome (alert_in (world_step w events.Tick).answer) ⊎ Runs n (world_step w events.Tick).after
+  runs_out zero w g p = ends w p.0 p.1
+  runs_out (suc n) w g p =
+      let same = with_same w.ground_node (record w.ground_node.fop { ticks = Some (suc n) }) in
+      inr (subst (λ (o : FopOutcome SegmentView (Option Alert)). Runs (suc n)
+      (record w { ground_node = with_fop w.ground_node o.after })) (sym (tick_on w.ground_node.fop n p.1))
+      (goes w (suc n) p.0, same.ticks))
+
+  pub ends_ticks : (w : World) → IsReached w → P w → (ticks : Option ℕ) → w.ground_node.fop.ticks ≡ ticks
+      → Running ticks → Ends Q w (replicate (ticks_left ticks) events.Tick)
+  ends_ticks w g p None is on = elim on [ ]
+  ends_ticks w g p (Some zero) is on = absurd (omega (arith, on))
+  ends_ticks w g p (Some (suc n)) is on = ends_repeat Runs events.Tick tt runs_out (suc n) w g (p, is)
+
+-- An exchange from any moment: an alert comes, or the link is ready: nothing is on its way, NN(R) is V(R), and all
+-- that is not acknowledged is to be sent again.
 
 -- nothing is on its way, and the receiver is open and expects the number NN(R)
 pub record Quiet (w : World) : Type 0 where
@@ -312,3 +514,114 @@ module _ (most k : ℕ) where
   pub first_exchange : (w : World) → IsReached w → Bounded w → Ends ReadyWith w (exchange w)
   first_exchange w g b =
       ends_then Heard ReadyWith round_trip timer_run_out w (first_round_trip w g b) run_out
+
+-- The transmission count in an exchange, in any session.
+
+-- ---- units may be sent again: the count is below the limit, or all that was sent is to be sent again already
+
+abbrev pub IsBelow : FopState SegmentView → Type 0
+IsBelow s = s.count < s.limit
+
+abbrev pub IsFine : FopState SegmentView → Type 0
+IsFine s = IsBelow s ⊎ (are_marked s.sent ≡ true)
+
+-- they still may, where they may be sent more than once; and the limit stays, where no directive sets it
+module _ (s : FopState SegmentView) where
+  abbrev Goes : (FopState SegmentView → Type 0) → {A : Type 0} → FopOutcome SegmentView A → Type 0
+  Goes P o = (o.after.limit ≡ s.limit) × (2 ≤ s.limit → P s → P o.after)
+
+  again_goes : (again : Bool) → Goes IsFine (goes_on (retransmits s again))
+  again_goes true = (refl, λ two fine. inr (marked_all s.sent))
+  again_goes false = (refl, λ two fine. fine)
+
+  report_goes : (r : Clcw) → Goes IsFine (clcw_step s r)
+  report_goes r = report_cases s r (λ o. Goes IsFine o) (record {
+    active = λ active. heard_active s r (λ o. Goes IsFine o) (record {
+      locked = λ t. (refl, λ two fine. inr refl);
+      outside = λ t. (refl, λ two fine. inr refl);
+      wait_flag = λ none waiting. (refl, λ two fine. inr refl);
+      asks_none = λ asking at. (refl, λ two fine. inr refl);
+      same = (refl, λ two fine. fine);
+      ceases = λ none at were. (refl, λ two fine. inr refl);
+      moves = λ inside. (refl, λ two fine. inl two);
+      others_over = λ inside asking one. (refl, λ two fine. inr refl);
+      others_wait = λ inside asking. (refl, λ two fine. inl two);
+      others_again = λ inside asking. (refl, λ two fine. inr (marked_all (after_new_value s r.value).sent));
+      all_over = λ asking one. (refl, λ two fine. inr refl);
+      all_wait = λ asking. (refl, λ two fine. fine);
+      all_again = λ asking. again_goes;
+    });
+    alerted = λ is x cause. (refl, λ two fine. inr refl);
+    checked = λ is confirms. (refl, λ two fine. fine);
+    commanded = λ is confirms. (refl, λ two fine. fine);
+    same = (refl, λ two fine. fine);
+  })
+
+  pull_goes : Goes IsBelow (pull_step s)
+  pull_goes = pulled_out s (λ o. Goes IsBelow o) (record {
+    none = (refl, λ two below. below);
+    command = λ c is. (refl, λ two below. below);
+    bypass = λ u us is. (refl, λ two below. below);
+    again = λ on x is. (refl, λ two below. below);
+    first = λ on u is room. (
+      refl,
+      λ two below. cond_both (is_none_sent s.sent) 1 s.count (λ n. n < s.limit) (λ t. two) (λ t. below),
+    );
+  })
+
+  tick_limit : (tick_step s).after.limit ≡ s.limit
+  tick_limit = ticked s (λ o. o.after.limit ≡ s.limit) (record {
+    off = refl;
+    runs = λ left. refl;
+    stops = refl;
+    repeats = λ active. refl;
+    counts = refl;
+    commands = λ is. refl;
+    gives_up = refl;
+  })
+
+pub limit_stays : (w : World) (e : Event) → IsCalm e
+    → (world_step w e).after.ground_node.fop.limit ≡ w.ground_node.fop.limit
+limit_stays w e calm =
+    let s = w.ground_node.fop in
+    let Same : FopState SegmentView → Type 0 = λ f. f.limit ≡ s.limit in
+    step_kept Same (λ f waiting bypass is. is) w refl (tick_limit s) (pull_goes s).0
+    (hears_kept Same (λ f waiting bypass is. is) w refl (λ r. (report_goes s r).0))
+    (words_kept Same (λ f waiting bypass is. is) w refl (λ r. (report_goes s r).0)) e
+    (λ d is. no_directive e calm d is) (λ value is. no_resumption e calm value is)
+
+-- until the report is heard
+abbrev pub IsBefore : Event → Type 0
+IsBefore e = IsCalm e × (e ≢ events.Tick) × (e ≢ events.DownDeliver)
+
+module _ (w : World) (two : 2 ≤ w.ground_node.fop.limit) where
+  abbrev BelowAfter : WorldOutcome → Type 0
+  BelowAfter o = IsBelow o.after.ground_node.fop
+
+  pub step_below : IsBelow w.ground_node.fop → (e : Event) → IsBefore e → BelowAfter (world_step w e)
+  step_below below events.Send is = pulled w BelowAfter (λ reply up sent silent.
+      with_kept IsBelow (λ f waiting bypass is. is) w.ground_node (pull_step w.ground_node.fop).after
+      ((pull_goes w.ground_node.fop).1 two below))
+  step_below below events.UpDeliver is = up_arrives w BelowAfter below (λ b bs e. below)
+  step_below below events.Report is = below
+  step_below below events.Take is = below
+  step_below below events.Tick is = absurd (is.1 refl)
+  step_below below events.DownDeliver is = absurd (is.2 refl)
+  step_below below _ is = elim is.0 [ ]
+
+  pub hears_fine : IsFine w.ground_node.fop → IsFine (world_step w events.DownDeliver).after.ground_node.fop
+  hears_fine fine =
+      hears_kept IsFine (λ f waiting bypass is. is) w fine
+      (λ r. (report_goes w.ground_node.fop r).1 two fine)
+
+-- ---- the timer ends with no alert
+
+pub ends_silent : (s : FopState SegmentView) → s.ticks ≡ Some 1 → (s.state ≡ S1) ⊎ (s.state ≡ S2) → IsBelow s
+    → (tick_step s).answer ≡ None
+ends_silent s is state below =
+    let P : FopOutcome SegmentView (Option Alert) → Type 0 = λ o. o.answer ≡ None in
+    let goes : P (while_below (after_stop s) (after_repeat (after_stop s))) = rw (lt-ltb s.count s.limit below) refl in
+    subst P (sym (ap (tick_with s) is)) (elim state [
+      | inl one ↦ subst (λ m. P (timer_ended (after_stop s) m)) (sym one) goes
+      | inr two ↦ subst (λ m. P (timer_ended (after_stop s) m)) (sym two) goes
+    ])

@@ -1,43 +1,200 @@
--- An exchange once the link is ready: whatever is sent is accepted and acknowledged.
-use Rattle.tc_link.proofs.Common.{not, ◌≡◌, ◌≤◌, ◌⊎◌, inl, inr, ℕ, zero, suc, ◌+◌, ◌-◌, ◌%◌, Bool, true, false, List}
-use Rattle.tc_link.proofs.Common.{[], ◌∷◌, ◌++◌, length, Ok, refl, ap, sym, subst, ◌∙◌, arith, length-append, cond_both}
-use Rattle.tc_link.proofs.Common.{replicate, nat_lt, AllByRecursion, option_to_list, Clcw, On, SegmentView}
-use Rattle.tc_link.proofs.Common.{unmarked_unit, Ad, Bd, FopState, S1, S2, IsActive, clcw_step, waits, pull_step}
-use Rattle.tc_link.proofs.Common.{after_restart, without_oldest_mark, units_of, FopOutcome, PulledUnit, Idle, FarmState}
-use Rattle.tc_link.proofs.Common.{Open, farm_step, AdArrives, BufferReleased, verdict_of, after_verdict, Verdict}
-use Rattle.tc_link.proofs.Common.{Accepted, report_of, Config, IsConfig, FitsFrame, frame_of, frame_to_send, PacketOn}
+-- An exchange once the link is ready: what is sent is accepted and acknowledged, so that exchanges end with all
+-- delivered.
+use Rattle.tc_link.proofs.Common.{◌≡◌, ◌<◌, ◌≤◌, ◌⊎◌, inl, inr, ℕ, suc, ◌+◌, ◌/◌, ◌%◌, Bool, true, false, not, List, []}
+use Rattle.tc_link.proofs.Common.{◌∷◌, ◌++◌, length, Option, Some, None, Ok, refl, ap, sym, subst, ◌∙◌, arith, nat_lt}
+use Rattle.tc_link.proofs.Common.{◌==◌, cond_both, eqb-true, ltb-true, ltb-false, Clcw, On, SegmentView, Ad, Bd}
+use Rattle.tc_link.proofs.Common.{ahead_by, FopState, FopOutcome, S1, S2, Alert, Idle, oldest_marked}
+use Rattle.tc_link.proofs.Common.{without_oldest_mark, PulledUnit, pull_step, after_restart, report_while_active, locks}
+use Rattle.tc_link.proofs.Common.{waits, asks, goes_on, alerts, NnR, Synch, FarmState, Open, Accepted, verdict_of}
+use Rattle.tc_link.proofs.Common.{Config, frame_of, zero, ◌-◌, length-append, replicate, AllByRecursion, option_to_list}
+use Rattle.tc_link.proofs.Common.{unmarked_unit, IsActive, clcw_step, units_of, farm_step, AdArrives, BufferReleased}
+use Rattle.tc_link.proofs.Common.{after_verdict, Verdict, report_of, IsConfig, FitsFrame, frame_to_send, PacketOn}
 use Rattle.tc_link.proofs.Common.{GroundState, with_fop, unsent_segments, after_extraction, extract_step}
 use Rattle.tc_link.proofs.Common.{SpacecraftState, SpacecraftOutcome, spacecraft_take, spacecraft_report, body_outcome}
 use Rattle.tc_link.proofs.Common.{sequence_outcome, bypass_outcome, is_free, is_kept, limits_of, World, WorldOutcome}
 use Rattle.tc_link.proofs.Common.{world_step, world_after_pull, up_deliver_step, after_release, BodyView, IsReached}
-use Rattle.tc_link.proofs.Common.{active_on, acknowledging}
+use Rattle.tc_link.proofs.Common.{active_on, acknowledging, ◌*◌, world_run}
+use Rattle.std.specs.Prelude.{◌&&◌}
+use Rattle.std.proofs.lemmas.List.{drop_all, nil_from_length}
 use Rattle.std.proofs.lemmas.Bool.{lt-ltb, false_from_ne_true}
-use Rattle.std.proofs.lemmas.List.{nil_from_length}
 use Rattle.tc_frame.specs.Decoding.{frame_at}
 use Rattle.tc_frame.specs.Encoding.{spelling}
-use Rattle.cop1.specs.Farm.{after_type_b}
-use Rattle.cop1.specs.FopPull.{after_send_first, pulls, BypassPulled, SequencePulled, NothingPulled}
+use Rattle.tm_link.specs.Encoding as telemetry_writing
+use Rattle.cop1.specs.declared.vocabulary.Alert.TheVariants.{Lockout, Clcw as ClcwAlert}
+use Rattle.cop1.specs.Farm.{ad_verdict, place_at, after_type_b}
+use Rattle.cop1.specs.FopPull.{NothingPulled, BypassPulled, SequencePulled, pulls, pull_control, pull_bypass, pull_in}
+use Rattle.cop1.specs.FopPull.{pull_marked, pull_waiting, after_send_first}
+use Rattle.cop1.specs.FopReport.{nothing_new, move_on}
+use Rattle.cop1.specs.FopWords.{is_outside}
+use Rattle.cop1.specs.Units.{oldest_of}
 use Rattle.nodes.specs.declared.received.Received.{Received}
 use Rattle.nodes.specs.declared.event.Event.TheVariants as events
-use Rattle.tm_link.specs.Encoding as telemetry_writing
+use Rattle.nodes.specs.Ground.{outstanding}
 use Rattle.tc_link.specs.Progress.{awaits, all_sent, all_arrived, reported, all_heard, are_marked, ticks_left}
-use Rattle.tc_link.specs.Progress.{timer_run_out, round_trip, exchange}
+use Rattle.tc_link.specs.Progress.{timer_run_out, round_trip, exchange, times, EachMakesProgress, EachAcknowledges}
+use Rattle.tc_link.proofs.ProgressSender.{MarkedFrom, next_marked, open_flags, all_marked, marked_within, marked_push}
+use Rattle.tc_link.proofs.ProgressSender.{HoldsNoMore, pull_no_more, without_length, active_report}
 use Rattle.tc_link.proofs.Upward.{own_arrives}
-use Rattle.tc_link.proofs.FitFrames.{moved}
+use Rattle.tc_link.proofs.Readable.{moved, reads_back, fits_at}
 use Rattle.tc_link.proofs.Linked.{Tells}
 use Rattle.tc_link.proofs.Lists.{oldest_stands}
-use Rattle.tc_link.proofs.ReportFrames.{tells_now, flags_are}
+use Rattle.tc_link.proofs.IdleStart.{tells_now, flags_are}
 use Rattle.tc_link.proofs.Sound.{Commanded}
-use Rattle.tc_link.proofs.Spelled.{reads_back, fits_at}
-use Rattle.tc_link.proofs.ProgressLive.{open_flags}
-use Rattle.tc_link.proofs.ProgressFirst.{awaits_so, Ready}
-use Rattle.tc_link.proofs.ProgressNodes.{with_same, with_config, with_unsent, size, size_is, IsBounded, bounded}
-use Rattle.tc_link.proofs.ProgressNodes.{has_numbers, heard_is, Taken, takes, arrives}
-use Rattle.tc_link.proofs.ProgressPull.{NextPull, bypasses, again, first, none, next_pull, Consecutive, next_number}
-use Rattle.tc_link.proofs.ProgressPull.{next_bypass, accepts_expected, Acknowledged, all_acknowledged}
-use Rattle.tc_link.proofs.ProgressRuns.{known, Ends, ends_then, ends_repeat, ends_once, ends_so, ends_trip}
-use Rattle.tc_link.proofs.ProgressSender.{MarkedFrom, all_marked, marked_within, marked_push, HoldsNoMore, pull_no_more}
-use Rattle.tc_link.proofs.ProgressSender.{without_length, active_report}
+use Rattle.tc_link.proofs.ProgressFirst.{awaits_so, Ready, with_same, with_config, with_unsent, size, size_is}
+use Rattle.tc_link.proofs.ProgressFirst.{IsBounded, bounded, has_numbers, heard_is, Taken, takes, arrives, ReadyWith}
+use Rattle.tc_link.proofs.ProgressFirst.{first_exchange}
+use Rattle.tc_link.proofs.ProgressNumbers.{known, Ends, ends_then, ends_repeat, ends_once, ends_so, ends_trip}
+use Rattle.tc_link.proofs.ProgressNumbers.{idle_after, alerts_first, alerts_then, run_append, ends_times}
+use Rattle.tc_link.proofs.Promised.{promised}
+
+-- What goes on the link next in an exchange, where what is not acknowledged is to be sent again: units with the
+-- numbers from NN(R) on, one after another; and how the receiver takes them.
+
+-- ---- a pull
+
+pub data NextPull (s : FopState SegmentView) (j : ℕ) : Type 0 where
+  bypasses : (u : SegmentView) (us : List SegmentView) → s.bypass ≡ u ∷ us
+      → pull_step s ≡ pulls (record s { bypass = us }) (BypassPulled u) → NextPull s j
+  again : s.bypass ≡ [] → (u : SegmentView) → oldest_marked 0 s.sent ≡ Some (j, u)
+      → MarkedFrom (suc j) (without_oldest_mark s.sent)
+      → pull_step s ≡ pulls (record (after_restart s) { sent = without_oldest_mark s.sent })
+      (SequencePulled ((s.nn + j) % 256) u) → NextPull s j
+  first : s.bypass ≡ [] → j ≡ length s.sent → (u : SegmentView) → s.waiting ≡ Some u
+      → ahead_by s.vs s.nn < s.window → pull_step s ≡ pulls (after_send_first s u) (SequencePulled s.vs u)
+      → NextPull s j
+  none : s.bypass ≡ [] → j ≡ length s.sent → (s.waiting ≡ None) ⊎ (s.window ≤ ahead_by s.vs s.nn)
+      → pull_step s ≡ pulls s NothingPulled → NextPull s j
+
+module _ (s : FopState SegmentView) (j : ℕ) (state : (s.state ≡ S1) ⊎ (s.state ≡ S2)) (idle : s.control ≡ Idle)
+    (marked : MarkedFrom j s.sent) where
+  -- it goes on with the units
+  in_sequence : s.bypass ≡ [] → pull_step s ≡ pull_marked s (oldest_marked 0 s.sent)
+  in_sequence nothing =
+      ap (pull_control s) idle ∙ ap (λ us. pull_bypass s (oldest_of us)) nothing ∙ elim state [
+        | inl one ↦ ap (pull_in s) one
+        | inr two ↦ ap (pull_in s) two
+      ]
+
+  of_waiting : s.bypass ≡ [] → j ≡ length s.sent → oldest_marked 0 s.sent ≡ None → (o : Option SegmentView)
+      → s.waiting ≡ o → NextPull s j
+  of_waiting nothing at unmarked None is =
+      none nothing at (inl is) (in_sequence nothing ∙ ap (pull_marked s) unmarked ∙ ap (pull_waiting s) is)
+  of_waiting nothing at unmarked (Some u) is =
+      let goes : pull_step s ≡ pull_waiting s (Some u) =
+      in_sequence nothing ∙ ap (pull_marked s) unmarked ∙ ap (pull_waiting s) is in
+      cond_both (nat_lt (ahead_by s.vs s.nn) s.window) (pulls (after_send_first s u) (SequencePulled s.vs u))
+      (pulls s NothingPulled)
+      (λ (o : FopOutcome SegmentView (PulledUnit SegmentView)). pull_step s ≡ o → NextPull s j)
+      (λ t e. first nothing at u is (ltb-true (ahead_by s.vs s.nn) s.window t) e)
+      (λ t e. none nothing at (inr (ltb-false (ahead_by s.vs s.nn) s.window t)) e) goes
+
+  of_bypass : (us : List SegmentView) → s.bypass ≡ us → NextPull s j
+  of_bypass (u ∷ us) is =
+      bypasses u us is (ap (pull_control s) idle ∙ ap (λ us. pull_bypass s (oldest_of us)) is)
+  of_bypass [] is = elim (next_marked 0 j s.sent marked) [
+    | inl unmarked ↦ of_waiting is unmarked.1 unmarked.0 s.waiting refl
+    | inr some ↦ (
+        let oldest : oldest_marked 0 s.sent ≡ Some (j, some.0) =
+        some.1 ∙ ap (λ n. Some (n, some.0)) (omega arith) in
+        again is some.0 oldest some.2 (in_sequence is ∙ ap (pull_marked s) oldest))
+  ]
+
+  pub next_pull : NextPull s j
+  next_pull = of_bypass s.bypass refl
+
+-- ---- frames on their way up: units with the numbers from one to another, one after another, and bypass units
+
+abbrev pub Consecutive : Config → ℕ → List (List ℕ) → ℕ → Type 0
+Consecutive c v [] e = v ≡ e
+Consecutive c v (b ∷ bs) e =
+    ((u : SegmentView) × (frame_at On b ≡ Ok (frame_of c (Ad v u))) × Consecutive c ((v + 1) % 256) bs e)
+    ⊎ ((u : SegmentView) × (frame_at On b ≡ Ok (frame_of c (Bd u))) × Consecutive c v bs e)
+
+pub next_number : (c : Config) (v : ℕ) (bs : List (List ℕ)) (e : ℕ) (b : List ℕ) (u : SegmentView)
+    → frame_at On b ≡ Ok (frame_of c (Ad e u)) → Consecutive c v bs e → Consecutive c v (bs ++ b ∷ []) ((e + 1) % 256)
+next_number c v [] e b u reads is =
+    inl (u, subst (λ n. frame_at On b ≡ Ok (frame_of c (Ad n u))) (sym is) reads, ap (λ n. (n + 1) % 256) is)
+next_number c v (x ∷ bs) e b u reads is = elim is [
+  | inl t ↦ inl (t.0, t.1, next_number c ((v + 1) % 256) bs e b u reads t.2)
+  | inr t ↦ inr (t.0, t.1, next_number c v bs e b u reads t.2)
+]
+
+pub next_bypass : (c : Config) (v : ℕ) (bs : List (List ℕ)) (e : ℕ) (b : List ℕ) (u : SegmentView)
+    → frame_at On b ≡ Ok (frame_of c (Bd u)) → Consecutive c v bs e → Consecutive c v (bs ++ b ∷ []) e
+next_bypass c v [] e b u reads is = inr (u, reads, is)
+next_bypass c v (x ∷ bs) e b u reads is = elim is [
+  | inl t ↦ inl (t.0, t.1, next_bypass c ((v + 1) % 256) bs e b u reads t.2)
+  | inr t ↦ inr (t.0, t.1, next_bypass c v bs e b u reads t.2)
+]
+
+-- ---- the receiver accepts the number that it expects
+
+pub accepts_expected : (s : FarmState) (free : Bool) → s.vr < 256 → s.state ≡ Open → free ≡ true
+    → verdict_of s s.vr free ≡ Accepted
+accepts_expected s free octet opened is =
+    let none : ahead_by s.vr s.vr ≡ 0 = omega (arith, octet) in
+    ap (λ d. ad_verdict (place_at (s.width / 2) d) free s.state) none
+    ∙ ap (λ m. ad_verdict (place_at (s.width / 2) 0) free m) opened
+    ∙ ap (λ b. ad_verdict (place_at (s.width / 2) 0) b Open) is
+
+-- ---- a report that says that all was accepted
+
+pub record Acknowledged (s : FopState SegmentView) (o : FopOutcome SegmentView (Option Alert)) : Type 0 where
+  pub state : o.after.state ≡ S1
+  pub sent : o.after.sent ≡ []
+  pub vs : o.after.vs ≡ s.vs
+  pub nn : o.after.nn ≡ s.vs
+  pub waiting : o.after.waiting ≡ s.waiting
+  pub window : o.after.window ≡ s.window
+
+module _ (s : FopState SegmentView) (c : Clcw) (unlocked : locks c ≡ false) (free : waits c ≡ false)
+    (none : asks c ≡ false) (all : c.value ≡ s.vs) (numbered : ahead_by s.vs s.nn ≡ length s.sent)
+    (vs : s.vs < 256) (nn : s.nn < 256) where
+  abbrev Acks : FopOutcome SegmentView (Option Alert) → Type 0
+  Acks o = Acknowledged s o
+
+  gone : s.sent ≡ [] → s.state ≡ S1 → Acks (goes_on s)
+  gone empty is = record {
+    state = is;
+    sent = empty;
+    vs = refl;
+    nn = omega (arith, ap length empty, numbered, vs, nn);
+    waiting = refl;
+    window = refl;
+  }
+
+  pub all_acknowledged : (s.state ≡ S1) ⊎ (s.state ≡ S2) → (s.state ≡ S2 → 1 ≤ length s.sent)
+      → Acks (report_while_active s c)
+  all_acknowledged state asked =
+      cond_both (locks c) (alerts s Lockout) _ Acks (λ t. absurd (cc (t, unlocked)))
+      (λ t. cond_both (is_outside s c.value) (alerts s NnR) _ Acks
+      (λ t. absurd (let out : ahead_by s.vs s.nn < ahead_by c.value s.nn = ltb-true _ _ t in
+      omega (arith, out, ap (λ v. ahead_by v s.nn) all)))
+      (λ t. cond_both (not (asks c) && waits c) (alerts s ClcwAlert) _ Acks
+      (λ t. absurd (let it : (not false && false) ≡ true = rw (none, free) at t in cc it))
+      (λ t. cond_both (asks c && (c.value == s.vs)) (alerts s Synch) _ Acks
+      (λ t. absurd (let it : (false && (c.value == s.vs)) ≡ true = rw none at t in cc it))
+      (λ t. cond_both (not (asks c) && (c.value == s.nn)) (nothing_new s s.state) _ Acks
+      (λ t.
+      let it : (not false && (c.value == s.nn)) ≡ true = rw none at t in
+      let at : c.value ≡ s.nn = eqb-true c.value s.nn it in
+      let empty : length s.sent ≡ 0 = omega (arith, numbered, all, at, vs, nn) in
+      elim state [
+        | inl one ↦ subst (λ m. Acks (nothing_new s m)) (sym one) (gone (nil_from_length s.sent empty) one)
+        | inr two ↦ absurd (omega (arith, asked two, empty))
+      ])
+      (λ t. cond_both (not (asks c)) (move_on s c.value) _ Acks
+      (λ t. record {
+        state = refl;
+        sent = drop_all (ahead_by c.value s.nn) s.sent (omega (arith, numbered, ap (λ v. ahead_by v s.nn) all));
+        vs = refl;
+        nn = all;
+        waiting = refl;
+        window = refl;
+      })
+      (λ t. absurd (let it : not false ≡ false = rw none at t in cc it)))))))
+
+-- An exchange once the link is ready: whatever is sent is accepted and acknowledged.
 
 module _ (most k : ℕ) where
   -- ---- all is sent
@@ -499,3 +656,74 @@ module _ (most k : ℕ) where
       → Ends Advanced w (exchange w)
   next_exchange w g r b =
       ends_then Advanced Advanced round_trip timer_run_out w (next_round_trip w g r b) no_ticks
+
+-- Progress: exchanges end with an alert, or with all delivered.
+
+module _ (k : ℕ) where
+  -- the link is ready, and the ground holds no more than so many windows
+  abbrev Within : ℕ → World → Type 0
+  Within n w = Ready w × IsBounded (n * k) k w.ground_node
+
+  one_less : (n : ℕ) (w : World) → IsReached w → Within (suc n) w → Ends (Within n) w (exchange w)
+  one_less n w g p =
+      ends_so (λ v. Ready v × IsBounded (suc n * k - k) k v.ground_node) (Within n) w (exchange w)
+      (next_exchange (suc n * k) k w g p.0 p.1)
+      (λ v h q. (q.0, record { active = q.1.active; holds = omega (arith, q.1.holds); window = q.1.window }))
+
+  -- the ground is Active, and holds nothing
+  abbrev AtRest : World → Type 0
+  AtRest w = (w.ground_node.fop.state ≡ S1) × (outstanding w.ground_node ≡ [])
+
+  at_rest : (w : World) → IsReached w → Within zero w → AtRest w
+  at_rest w g p =
+      let none : size w.ground_node ≤ 0 = omega (arith, p.1.holds) in
+      let active : w.ground_node.fop.state ≡ S1 = elim p.0.quiet.state [
+        | inl one ↦ one
+        | inr two ↦ absurd (omega (arith, p.0.quiet.asked two, size_is w.ground_node, none))
+      ] in
+      (active, nil_from_length (outstanding w.ground_node) (omega (arith, none)))
+
+  makes_progress : (w : World) → IsReached w → IsActive w.ground_node.fop.state → w.ground_node.fop.window ≡ k → (n : ℕ)
+      → size w.ground_node ≤ n * k → Ends AtRest w (times (suc n) exchange w)
+  makes_progress w g active window n most =
+      ends_then (ReadyWith (n * k) k) AtRest exchange (times n exchange) w
+      (first_exchange (n * k) k w g (record { active = active; holds = most; window = window }))
+      (λ v h p. ends_so (Within zero) AtRest v (times n exchange v) (ends_times Within exchange one_less n v h p)
+      at_rest)
+
+pub each_makes_progress : EachMakesProgress
+each_makes_progress w g active n most =
+    elim (makes_progress w.ground_node.fop.window w g active refl n most) [
+      | inl alert ↦ inl alert
+      | inr t ↦ inr (record {
+        active = t.1.0;
+        nothing = t.1.1;
+        delivered = λ idle.
+            let v = world_run w (times (suc n) exchange w) in
+            (promised v t.0 (idle_after (suc n) w idle)).in_order.complete t.1.0 t.1.1;
+      })
+    ]
+
+-- two exchanges, one after the other
+pub each_acknowledges : EachAcknowledges
+each_acknowledges w g active =
+    let s = w.ground_node in
+    let k = s.fop.window in
+    elim (first_exchange (size s) k w g (record { active = active; holds = omega arith; window = refl })) [
+      | inl a ↦ inl (alerts_first w (exchange w) (times 1 exchange (world_run w (exchange w))) a)
+      | inr t ↦ (
+          let v = world_run w (exchange w) in
+          let most : ℕ = size v.ground_node in
+          let b : IsBounded most k v.ground_node =
+          record { active = t.1.1.active; holds = omega arith; window = t.1.1.window } in
+          let once : world_run w (times 1 exchange w) ≡ v = run_append w (exchange w) [] in
+          let twice : world_run w (times 2 exchange w) ≡ world_run v (exchange v) =
+          run_append w (exchange w) (times 1 exchange v) ∙ run_append v (exchange v) [] in
+          elim (next_exchange most k v t.0 t.1.0 b) [
+            | inl a ↦ inl (alerts_then w (exchange w) (times 1 exchange v) (alerts_first v (exchange v) [] a))
+            | inr u ↦ inr (subst
+                (λ (x : World). size x.ground_node ≤ size (world_run w (times 1 exchange w)).ground_node - k)
+                (sym twice) (subst (λ (x : World). size (world_run v (exchange v)).ground_node ≤ size x.ground_node - k)
+                (sym once) u.1.1.holds))
+          ])
+    ]

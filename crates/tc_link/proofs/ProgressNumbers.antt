@@ -1,5 +1,4 @@
--- The numbers of the sender, at every moment of a run, in any session: while it is on, those of the units that it sent
--- are the ones from NN(R) to V(S) - 1; and all numbers are octets, those that are on their way too.
+-- The numbers of the sender at every moment of a run, and how schedules are put together.
 use Rattle.tc_link.proofs.Common.{ap, ◌≡◌, ◌<◌, ◌≤◌, ℕ, ◌+◌, ◌%◌, Bool, true, false, List, [], ◌∷◌, ◌++◌, length, drop}
 use Rattle.tc_link.proofs.Common.{Option, Some, None, Result, Ok, refl, sym, subst, ◌∙◌, arith, cond_both, nat_lt}
 use Rattle.tc_link.proofs.Common.{ltb-true, ltb-false, length-append, length-drop, AllByRecursion, Clcw, On}
@@ -17,36 +16,39 @@ use Rattle.tc_link.proofs.Common.{SpacecraftState, SpacecraftOutcome, body_outco
 use Rattle.tc_link.proofs.Common.{is_free, is_kept, limits_of, spacecraft_take, spacecraft_take_bypass}
 use Rattle.tc_link.proofs.Common.{spacecraft_telemetry, is_to_send, Event, World, WorldOutcome, new_world, world_step}
 use Rattle.tc_link.proofs.Common.{world_after_pull, up_deliver_step, down_deliver_step, TmFault, closed_not, active_on}
-use Rattle.tc_link.proofs.Common.{spacecraft_report, FlagsAgree, acknowledging}
+use Rattle.tc_link.proofs.Common.{spacecraft_report, FlagsAgree, acknowledging, SetVs, ◌≢◌, ◌⊎◌, inl, inr, zero, suc}
+use Rattle.tc_link.proofs.Common.{replicate, world_run, IsIdle, IsSettled, IsReached, BeginsNoSession, option_map}
+use Rattle.tc_link.proofs.Common.{Opening, directive_of}
+use Rattle.std.specs.Prelude.{IsSome}
 use Rattle.tc_frame.specs.Decoding.{frame_at}
 use Rattle.tc_frame.specs.Encoding.{spelling}
+use Rattle.tm_link.specs.Encoding as telemetry_writing
 use Rattle.cop1.specs.declared.farm.FarmMode.TheVariants.{Lockout}
 use Rattle.cop1.specs.FopPull.{after_send_first}
 use Rattle.cop1.specs.FopWords.{is_outside}
 use Rattle.nodes.specs.declared.received.Received.{Received}
-use Rattle.simulated_link.specs.World.{world_after_telemetry}
-use Rattle.simulated_link.proofs.Unchanged.{AtEachLoss, lost, up_arrives, down_arrives}
-use Rattle.simulated_link.proofs.TelemetryCases.{reported}
 use Rattle.nodes.specs.declared.event.Event.TheVariants as events
+use Rattle.simulated_link.specs.World.{world_after_telemetry, directed}
+use Rattle.simulated_link.proofs.Unchanged.{AtEachLoss, lost, up_arrives, down_arrives, resumes}
+use Rattle.simulated_link.proofs.Counted.{reported as report_cases}
+use Rattle.tc_link.specs.FalseAlarms.{alert_in}
+use Rattle.tc_link.specs.Progress.{Schedule, followed_by, times, AlertsIn, all_sent, all_arrived, all_taken, reported}
+use Rattle.tc_link.specs.Progress.{all_heard, round_trip, awaits, most_sent, next_arrived, are_marked, ticks_left}
+use Rattle.tc_link.specs.Progress.{timer_run_out, exchange}
 use Rattle.tc_link.proofs.Upward.{own_arrives}
-use Rattle.tc_link.proofs.FitFrames.{moved}
-use Rattle.tc_link.proofs.Downward.{used_is}
-use Rattle.tc_link.proofs.Invariant.{Holding}
+use Rattle.tc_link.proofs.Readable.{moved, Goes, reads_back, fits_at}
+use Rattle.tc_link.proofs.Downward.{used_is, words_apart}
+use Rattle.tc_link.proofs.Invariant.{Holding, step_holds, opening_stays, idle_goes, new_holds}
 use Rattle.tc_link.proofs.Linked.{Tells}
-use Rattle.tm_link.specs.Encoding as telemetry_writing
 use Rattle.tc_link.proofs.Lists.{oldest_stands}
-use Rattle.tc_link.proofs.ReportFrames.{tells_now}
-use Rattle.tc_link.proofs.Senders.{with_kept, step_kept}
-use Rattle.tc_link.proofs.Sound.{Commanded}
-use Rattle.tc_link.proofs.Spelled.{Goes, reads_back, fits_at}
-use Rattle.tc_link.proofs.Submissions.{all_append}
-use Rattle.tc_link.proofs.ProgressSender.{without_length, marked_length}
-use Rattle.tc_link.proofs.ProgressLive.{WaitsFull, body_full, taken_full, bypass_taken_full, queued_full}
-use Rattle.tc_link.proofs.Common.{SetVs, ◌≢◌}
-use Rattle.tc_link.proofs.Downward.{words_apart}
-use Rattle.simulated_link.proofs.Unchanged.{resumes}
-use Rattle.simulated_link.specs.World.{directed}
-use Rattle.tc_link.proofs.Invariant.{step_holds}
+use Rattle.tc_link.proofs.IdleStart.{tells_now}
+use Rattle.tc_link.proofs.ProgressSender.{with_kept, step_kept, without_length, marked_length, WaitsFull, body_full}
+use Rattle.tc_link.proofs.ProgressSender.{taken_full, bypass_taken_full, queued_full, Timed, timed_empty, timed_step}
+use Rattle.tc_link.proofs.Sound.{Commanded, all_append}
+use Rattle.tc_link.proofs.Promised.{settled_goes, reached_step}
+
+-- The numbers of the sender, at every moment of a run, in any session: while it is on, those of the units that it sent
+-- are the ones from NN(R) to V(S) - 1; and all numbers are octets, those that are on their way too.
 
 -- ---- the sender
 
@@ -136,7 +138,7 @@ module _ (s : FopState SegmentView) (k : Numbered s) where
         })
 
     report_numbers : Numbers (clcw_step s r)
-    report_numbers = reported s r (λ o. Numbers o) (record {
+    report_numbers = report_cases s r (λ o. Numbers o) (record {
       active = λ active. active_numbers (active_on s.state active);
       alerted = λ is x cause. gives_up s refl k.nn;
       checked = λ is confirms. same_numbers (record s { state = S1; ticks = None }) refl refl refl (λ t. rw is refl)
@@ -509,3 +511,250 @@ new_octets c = record {
   up = tt;
   down = tt;
 }
+
+-- How schedules are put together: an alert comes in one of their parts, or each leads to what the next one starts from.
+
+-- ---- a session goes on
+
+-- an event of an exchange: nothing is lost, and no directive is given
+abbrev pub IsCalm : Event → Type 0
+IsCalm events.Send = Unit {0}
+IsCalm events.UpDeliver = Unit {0}
+IsCalm events.Report = Unit {0}
+IsCalm events.DownDeliver = Unit {0}
+IsCalm events.Tick = Unit {0}
+IsCalm events.Take = Unit {0}
+IsCalm _ = ⊥
+
+pub calm_fits : (e : Event) → IsCalm e → IsEvent e
+calm_fits events.Send calm = tt
+calm_fits events.UpDeliver calm = tt
+calm_fits events.Report calm = tt
+calm_fits events.DownDeliver calm = tt
+calm_fits events.Tick calm = tt
+calm_fits events.Take calm = tt
+calm_fits _ calm = elim calm [ ]
+
+pub no_directive : {A : Type 0} (e : Event) → IsCalm e → (d : Directive) → e ≡ events.Directive d → A
+no_directive e calm d is = absurd (let no : IsCalm (events.Directive d) = subst IsCalm is calm in no)
+
+pub no_resumption : {A : Type 0} (e : Event) → IsCalm e → (value : ℕ) → e ≡ events.Resume value → A
+no_resumption e calm value is = absurd (let no : IsCalm (events.Resume value) = subst IsCalm is calm in no)
+
+pub calm_goes : (w : World) (e : Event) → IsCalm e → BeginsNoSession w e
+calm_goes w events.Send calm = tt
+calm_goes w events.UpDeliver calm = tt
+calm_goes w events.Report calm = tt
+calm_goes w events.DownDeliver calm = tt
+calm_goes w events.Tick calm = tt
+calm_goes w events.Take calm = tt
+calm_goes w _ calm = elim calm [ ]
+
+pub going_step : (w : World) → IsReached w → (e : Event) → IsCalm e → IsReached (world_step w e).after
+going_step w g e calm = reached_step w e g (calm_fits e calm)
+
+-- what is known of it, at every moment of a run
+pub record Known (c : Config) (w : World) : Type 0 where
+  pub holds : Holding c w
+  pub sender : Timed w.ground_node.fop
+  pub octets : HasOctets c w
+
+run_known : (c : Config) (es : List Event) (w : World) → AllByRecursion IsEvent es → Known c w
+    → Known c (world_run w es)
+run_known c [] w fits k = k
+run_known c (e ∷ es) w fits k = run_known c es (world_step w e).after fits.1 (record {
+  holds = step_holds c w k.holds e fits.0;
+  sender = timed_step w k.sender e;
+  octets = step_octets c w k.holds k.octets e fits.0;
+})
+
+pub known : (w : World) → (r : IsReached w) → Known r.config w
+known w r =
+    subst (Known r.config) r.led (run_known r.config r.events (new_world r.config) r.octets (record {
+      holds = new_holds r.config r.ranges;
+      sender = timed_empty _ refl (λ e. absurd cc) r.ranges.timer.0 (omega arith) r.ranges.window.0;
+      octets = new_octets r.config;
+    }))
+
+-- ---- the session goes on
+
+pub idle_step : (w : World) (e : Event) → IsCalm e → IsIdle w → IsIdle (world_step w e).after
+idle_step w e calm idle = idle_goes w e idle (calm_goes w e calm)
+
+pub directive_stays : (w : World) (e : Event) → IsCalm e → directive_of (world_step w e).after ≡ directive_of w
+directive_stays w e calm =
+    ap (λ o. option_map (λ (o : Opening). o.directive) o) (opening_stays w e (calm_goes w e calm))
+
+pub settled_step : (w : World) → IsReached w → (e : Event) → IsCalm e → IsIdle w → IsSettled w
+    → IsSettled (world_step w e).after
+settled_step w g e calm idle settled =
+    let h = (known w g).holds in
+    settled_goes g.config w h.sound (h.session idle) e (calm_fits e calm) settled (calm_goes w e calm)
+
+-- ---- where a list of events leads
+
+pub run_append : (w : World) (es fs : List Event) → world_run w (es ++ fs) ≡ world_run (world_run w es) fs
+run_append w [] fs = refl
+run_append w (e ∷ es) fs = run_append (world_step w e).after es fs
+
+pub alerts_first : (w : World) (es fs : List Event) → AlertsIn w es → AlertsIn w (es ++ fs)
+alerts_first w [] fs a = absurd a
+alerts_first w (e ∷ es) fs a = elim a [
+  | inl now ↦ inl now
+  | inr later ↦ inr (alerts_first (world_step w e).after es fs later)
+]
+
+pub alerts_then : (w : World) (es fs : List Event) → AlertsIn (world_run w es) fs → AlertsIn w (es ++ fs)
+alerts_then w [] fs a = a
+alerts_then w (e ∷ es) fs a = inr (alerts_then (world_step w e).after es fs a)
+
+-- an alert is answered, or the session goes on and this holds
+abbrev pub Ends : (World → Type 0) → World → List Event → Type 0
+Ends P w es = AlertsIn w es ⊎ (IsReached (world_run w es) × P (world_run w es))
+
+module _ (P Q : World → Type 0) where
+  pub ends_then : (first next : Schedule) (w : World) → Ends P w (first w)
+      → ((v : World) → IsReached v → P v → Ends Q v (next v)) → Ends Q w (followed_by first next w)
+  ends_then first next w start more = elim start [
+    | inl a ↦ inl (alerts_first w (first w) (next (world_run w (first w))) a)
+    | inr s ↦ (
+        let v = world_run w (first w) in
+        elim (more v s.0 s.1) [
+          | inl a ↦ inl (alerts_then w (first w) (next v) a)
+          | inr t ↦ inr (subst (λ (x : World). IsReached x × Q x) (sym (run_append w (first w) (next v))) t)
+        ])
+  ]
+
+-- one event, so many times
+module _ (P : ℕ → World → Type 0) (e : Event) (calm : IsCalm e)
+    (each : (n : ℕ) (w : World) → IsReached w → P (suc n) w
+    → IsSome (alert_in (world_step w e).answer) ⊎ P n (world_step w e).after) where
+  pub ends_repeat : (n : ℕ) (w : World) → IsReached w → P n w → Ends (P zero) w (replicate n e)
+  ends_repeat zero w g p = inr (g, p)
+  ends_repeat (suc n) w g p = elim (each n w g p) [
+    | inl a ↦ inl (inl a)
+    | inr q ↦ elim (ends_repeat n (world_step w e).after (going_step w g e calm) q) [
+      | inl a ↦ inl (inr a)
+      | inr t ↦ inr t
+    ]
+  ]
+
+-- a schedule, so many times
+module _ (P : ℕ → World → Type 0) (schedule : Schedule)
+    (each : (n : ℕ) (w : World) → IsReached w → P (suc n) w → Ends (P n) w (schedule w)) where
+  pub ends_times : (n : ℕ) (w : World) → IsReached w → P n w → Ends (P zero) w (times n schedule w)
+  ends_times zero w g p = inr (g, p)
+  ends_times (suc n) w g p =
+      ends_then (P n) (P zero) schedule (times n schedule) w (each n w g p) (λ v h q. ends_times n v h q)
+
+-- one event
+pub ends_once : (P : World → Type 0) (w : World) (e : Event) → IsCalm e → IsReached w
+    → IsSome (alert_in (world_step w e).answer) ⊎ P (world_step w e).after → Ends P w (e ∷ [])
+ends_once P w e calm g one = elim one [
+  | inl a ↦ inl (inl a)
+  | inr p ↦ inr (going_step w g e calm, p)
+]
+
+-- what holds then says more
+pub ends_so : (P Q : World → Type 0) (w : World) (es : List Event) → Ends P w es
+    → ((v : World) → IsReached v → P v → Q v) → Ends Q w es
+ends_so P Q w es ends says = elim ends [
+  | inl a ↦ inl a
+  | inr t ↦ inr (t.0, says (world_run w es) t.0 t.1)
+]
+
+-- a round trip: all is sent, arrives and is taken, and a report is made and heard
+pub ends_trip : (A B C D Q : World → Type 0) (w : World) → Ends A w (all_sent w)
+    → ((v : World) → IsReached v → A v → Ends B v (all_arrived v))
+    → ((v : World) → IsReached v → B v → Ends C v (all_taken v))
+    → ((v : World) → IsReached v → C v → Ends D v (reported v))
+    → ((v : World) → IsReached v → D v → Ends Q v (all_heard v)) → Ends Q w (round_trip w)
+ends_trip A B C D Q w sent arrive take report hear =
+    let after_taking = followed_by reported all_heard in
+    let after_arriving = followed_by all_taken after_taking in
+    ends_then A Q all_sent (followed_by all_arrived after_arriving) w sent (λ v g p.
+    ends_then B Q all_arrived after_arriving v (arrive v g p) (λ v g p.
+    ends_then C Q all_taken after_taking v (take v g p) (λ v g p.
+    ends_then D Q reported all_heard v (report v g p) hear)))
+
+-- The events of an exchange, and that a session goes on with them.
+
+-- ---- lists of events of one kind
+
+module _ (K : Event → Type 0) where
+  abbrev pub All : List Event → Type 0
+  All es = AllByRecursion K es
+
+  pub all_same : (n : ℕ) (e : Event) → K e → All (replicate n e)
+  all_same zero e is = tt
+  all_same (suc n) e is = (is, all_same n e is)
+
+  pub all_then : (first next : Schedule) → ((w : World) → All (first w)) → ((w : World) → All (next w)) → (w : World)
+      → All (followed_by first next w)
+  all_then first next is so w =
+      all_append K (first w) (next (world_run w (first w))) (is w) (so (world_run w (first w)))
+
+  pub all_times : (n : ℕ) (schedule : Schedule) → ((w : World) → All (schedule w)) → (w : World)
+      → All (times n schedule w)
+  all_times zero schedule is w = tt
+  all_times (suc n) schedule is w = all_then schedule (times n schedule) is (all_times n schedule is) w
+
+  module _ (send : K events.Send) (deliver : K events.UpDeliver) (take : K events.Take) (report : K events.Report) where
+    sends_are : (w : World) → All (all_sent w)
+    sends_are w = all_same (most_sent w) events.Send send
+
+    takes_are : (w : World) → All (all_taken w)
+    takes_are w = all_same _ events.Take take
+
+    arrives_are : (w : World) → All (all_arrived w)
+    arrives_are w =
+        all_times (length w.up) (followed_by all_taken next_arrived)
+        (all_then all_taken next_arrived takes_are (λ w. (deliver, tt))) w
+
+    reports_are : (w : World) → All (reported w)
+    reports_are w = (report, tt)
+
+    pub befores_are : (w : World) → All (all_sent w) × All (all_arrived w) × All (all_taken w) × All (reported w)
+    befores_are w = (sends_are w, arrives_are w, takes_are w, reports_are w)
+
+    module _ (hear : K events.DownDeliver) where
+      hears_are : (w : World) → All (all_heard w)
+      hears_are w = all_same _ events.DownDeliver hear
+
+      pub trips_are : (w : World) → All (round_trip w)
+      trips_are =
+          let after_taking = followed_by reported all_heard in
+          let after_arriving = followed_by all_taken after_taking in
+          let after_sending = followed_by all_arrived after_arriving in
+          all_then all_sent after_sending sends_are (all_then all_arrived after_arriving arrives_are
+          (all_then all_taken after_taking takes_are (all_then reported all_heard reports_are hears_are)))
+
+-- the events of a round trip
+abbrev pub IsTalk : Event → Type 0
+IsTalk e = IsCalm e × (e ≢ events.Tick)
+
+pub talks_calm : (es : List Event) → AllByRecursion IsTalk es → AllByRecursion IsCalm es
+talks_calm [] all = tt
+talks_calm (e ∷ es) all = (all.0.0, talks_calm es all.1)
+
+pub trip_talks : (w : World) → AllByRecursion IsTalk (round_trip w)
+trip_talks = trips_are IsTalk (tt, λ is. absurd (cc is)) (tt, λ is. absurd (cc is)) (tt, λ is. absurd (cc is))
+    (tt, λ is. absurd (cc is)) (tt, λ is. absurd (cc is))
+
+pub timer_calm : (w : World) → AllByRecursion IsCalm (timer_run_out w)
+timer_calm w =
+    cond_both (awaits w.ground_node.fop.state (are_marked w.ground_node.fop.sent))
+    (replicate (ticks_left w.ground_node.fop.ticks) events.Tick) [] (λ es. AllByRecursion IsCalm es)
+    (λ t. all_same IsCalm _ events.Tick tt) (λ t. tt)
+
+pub exchange_calm : (w : World) → AllByRecursion IsCalm (exchange w)
+exchange_calm w =
+    all_append IsCalm (round_trip w) (timer_run_out (world_run w (round_trip w)))
+    (talks_calm (round_trip w) (trip_talks w)) (timer_calm (world_run w (round_trip w)))
+
+pub idle_run : (es : List Event) (w : World) → AllByRecursion IsCalm es → IsIdle w → IsIdle (world_run w es)
+idle_run [] w all idle = idle
+idle_run (e ∷ es) w all idle = idle_run es (world_step w e).after all.1 (idle_step w e all.0 idle)
+
+pub idle_after : (n : ℕ) (w : World) → IsIdle w → IsIdle (world_run w (times n exchange w))
+idle_after n w idle = idle_run (times n exchange w) w (all_times IsCalm n exchange exchange_calm w) idle

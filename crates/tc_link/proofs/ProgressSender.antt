@@ -1,21 +1,140 @@
--- What the sender does in an exchange.
-use Rattle.tc_link.proofs.Common.{◌≡◌, ◌≢◌, ◌≤◌, ◌⊎◌, inl, inr, ℕ, zero, suc, ◌+◌, ◌-◌, Bool, true, false, not, List}
-use Rattle.tc_link.proofs.Common.{[], ◌∷◌, ◌++◌, length, map, drop, Option, Some, None, refl, ap, sym, ◌∙◌, arith, ◌==◌}
-use Rattle.tc_link.proofs.Common.{nat_lt, cond_both, eqb-true, eq-eqb, and_parts, not-false, subst, ne_eqb, Clcw}
-use Rattle.tc_link.proofs.Common.{SegmentView, ahead_by, Alert, NnR, Synch, FopMode, S1, S2, S3, FopState, SentUnit}
-use Rattle.tc_link.proofs.Common.{FopOutcome, IsActive, oldest_marked, without_oldest_mark, unmarked_unit, marked_unit}
-use Rattle.tc_link.proofs.Common.{locks, waits, asks, report_while_active, after_move_on, after_new_value, retransmits}
-use Rattle.tc_link.proofs.Common.{after_acknowledge, after_repeat, after_stop, alerts, goes_on, tick_step, pull_step}
-use Rattle.tc_link.proofs.Common.{pulled_out, clcw_step, report_in, length-append, length-drop, length-map}
-use Rattle.tc_link.proofs.Common.{option_to_list, after_restart, heard_active, Sent}
+-- What the sender does in an exchange, and what is so of it at every moment of a run, in any session.
+use Rattle.tc_link.proofs.Common.{◌≡◌, ℕ, List, Option, Some, None, Result, Ok, Err, refl, SegmentView, Clcw, CopFault}
+use Rattle.tc_link.proofs.Common.{Alert, Directive, FopState, clcw_step, directive_step, pull_step, tick_step}
+use Rattle.tc_link.proofs.Common.{GroundState, with_fop, submit_fault, bypass_fault, LinkFault, after_submission}
+use Rattle.tc_link.proofs.Common.{after_bypass, unless_refused, directive_outcome, after_extraction, Event, World}
+use Rattle.tc_link.proofs.Common.{WorldOutcome, world_step, obeying, submitting, acknowledging, SetVs, InitUnlock, ◌≢◌}
+use Rattle.tc_link.proofs.Common.{◌≤◌, ◌⊎◌, inl, inr, zero, suc, ◌+◌, ◌-◌, Bool, true, false, not, [], ◌∷◌, ◌++◌}
+use Rattle.tc_link.proofs.Common.{length, map, drop, ap, sym, ◌∙◌, arith, ◌==◌, nat_lt, cond_both, eqb-true, eq-eqb}
+use Rattle.tc_link.proofs.Common.{and_parts, not-false, subst, ne_eqb, ahead_by, NnR, Synch, FopMode, S1, S2, S3}
+use Rattle.tc_link.proofs.Common.{SentUnit, FopOutcome, IsActive, oldest_marked, without_oldest_mark, unmarked_unit}
+use Rattle.tc_link.proofs.Common.{marked_unit, locks, waits, asks, report_while_active, after_move_on, after_new_value}
+use Rattle.tc_link.proofs.Common.{retransmits, after_acknowledge, after_repeat, after_stop, alerts, goes_on, pulled_out}
+use Rattle.tc_link.proofs.Common.{report_in, length-append, length-drop, length-map, option_to_list, after_restart}
+use Rattle.tc_link.proofs.Common.{heard_active, Sent, Control, Due, eqb-false, ltb-false, BodyView, Ad, Bd, Bc, S4, S5}
+use Rattle.tc_link.proofs.Common.{S6, Idle, after_alert, after_count, due_again, begun, InitWithoutCheck, InitWithCheck}
+use Rattle.tc_link.proofs.Common.{InitSetVr, FarmMode, Open, Wait, FarmState, FlagsAgree, state_of, farm_step}
+use Rattle.tc_link.proofs.Common.{after_unlock, after_set_vr, after_release, BufferReleased, Verdict, Accepted, Ahead}
+use Rattle.tc_link.proofs.Common.{NoBuffer, Outside, verdict_of, TmFault, PacketOn, SpacecraftState, SpacecraftOutcome}
+use Rattle.tc_link.proofs.Common.{body_outcome, sequence_outcome, bypass_outcome, is_free, is_kept, limits_of}
+use Rattle.tc_link.proofs.Common.{spacecraft_take, spacecraft_take_bypass, spacecraft_telemetry, is_to_send, Unlock}
+use Rattle.tc_link.proofs.Common.{SetVr, or_parts}
 use Rattle.std.proofs.lemmas.Bool.{not-true}
-use Rattle.std.specs.Prelude.{IsSome, ◌&&◌}
-use Rattle.tc_link.proofs.Lists.{units-without}
-use Rattle.cop1.specs.declared.vocabulary.Alert.TheVariants.{Lockout, Clcw as ClcwAlert, Limit, Timer}
-use Rattle.cop1.specs.FopReport.{nothing_new, move_on, ask_for_others, ask_for_all, goes_back_again}
+use Rattle.std.specs.Prelude.{IsSome, ◌&&◌, ◌||◌, nat_le, ◌/◌}
+use Rattle.std.proofs.Math.Seq.{drop-nil}
+use Rattle.tm_link.specs.Decoding as telemetry_reading
+use Rattle.cop1.specs.declared.vocabulary.Alert.TheVariants as alarms
+use Rattle.cop1.specs.declared.vocabulary.Alert.TheVariants.{Clcw as ClcwAlert, Limit, Timer}
+use Rattle.cop1.specs.FopReport.{nothing_new, move_on, ask_for_others, ask_for_all, goes_back_again, ticks_for}
 use Rattle.cop1.specs.FopTick.{tick_with, timer_ended, while_below}
 use Rattle.cop1.specs.FopWords.{is_outside, after_gone}
+use Rattle.cop1.specs.declared.farm.FarmMode.TheVariants.{Lockout}
+use Rattle.cop1.specs.declared.farm.Verdict.TheVariants.{Behind, Discarded}
+use Rattle.cop1.specs.declared.vocabulary.Directive.TheVariants.{Terminate, SetWindow, SetLimit, SetTimer}
+use Rattle.cop1.specs.Farm.{ad_verdict, place_at}
+use Rattle.cop1.specs.FopDirective.{obeys, from_S6, terminate_in}
+use Rattle.cop1.specs.Units.{is_none_sent}
+use Rattle.nodes.specs.declared.event.Event.TheVariants as events
+use Rattle.nodes.specs.Packets.{put_on_map}
+use Rattle.nodes.specs.Spacecraft.{assemble_step}
+use Rattle.simulated_link.specs.World.{directed as directed_by}
+use Rattle.simulated_link.proofs.Counted.{frame_seen, report_seen, reported}
+use Rattle.simulated_link.proofs.Unchanged.{AtEachLoss, lost, pulled, up_arrives, down_arrives, word_arrives, resumes}
 use Rattle.tc_link.specs.Progress.{are_marked}
+use Rattle.tc_link.proofs.Refilled.{refilled_keeps}
+use Rattle.tc_link.proofs.Lists.{units-without}
+
+-- What is so of the sender alone, whatever it queues, and stays so with each event.
+
+module _ (P : FopState SegmentView → Type 0)
+    (queues : (f : FopState SegmentView) (waiting : Option SegmentView) (bypass : List SegmentView) → P f
+    → P (record f { waiting = waiting; bypass = bypass })) where
+  pub with_kept : (s : GroundState) (f : FopState SegmentView) → P f → P (with_fop s f).fop
+  with_kept s f k =
+      refilled_keeps (λ (t : GroundState). P t.fop) (record s { fop = f })
+      (λ waiting pending on off. queues f waiting f.bypass k)
+
+  module _ (s : GroundState) (k : P s.fop) where
+    submitted : (m : ℕ) (octets : List ℕ) (o : Option LinkFault)
+        → P (unless_refused o s (after_submission s m octets)).after.fop
+    submitted m octets (Some fault) = k
+    submitted m octets None = with_kept (submitting s m octets) s.fop k
+
+    bypassed : (m : ℕ) (octets : List ℕ) (o : Option LinkFault)
+        → P (unless_refused o s (after_bypass s m octets)).after.fop
+    bypassed m octets (Some fault) = k
+    bypassed m octets None = queues s.fop s.fop.waiting (after_bypass s m octets).fop.bypass k
+
+    directed : (d : Directive) (r : Result (Option Alert) CopFault) (f : FopState SegmentView) → P f
+        → P (directive_outcome s d (record { after = f; answer = r; gone = 0 })).after.fop
+    directed d (Ok alert) f is = with_kept (obeying s d) f is
+    directed d (Err fault) f is = k
+
+  module _ (w : World) (k : P w.ground_node.fop) where
+    abbrev s : FopState SegmentView
+    s = w.ground_node.fop
+
+    abbrev pub After : WorldOutcome → Type 0
+    After o = P o.after.ground_node.fop
+
+    losses : AtEachLoss w After
+    losses = record {
+      refused = λ fault. k;
+      up = λ b bs is reply silent. k;
+      down = λ b bs is reply silent. k;
+    }
+
+    pub words_kept : ((report : Clcw) → P (clcw_step s report).after) → After (world_step w events.DownClcw)
+    words_kept reports = word_arrives w After losses (λ b bs is.
+        report_seen w.ground_node (λ t. P t.fop) k (λ report.
+        let f : FopState SegmentView = (clcw_step s report).after in
+        with_kept (acknowledging w.ground_node f) f (reports report)))
+
+    pub hears_kept : ((report : Clcw) → P (clcw_step s report).after) → After (world_step w events.DownDeliver)
+    hears_kept reports = down_arrives w After k (λ b bs is.
+        frame_seen w.ground_node (λ t. P t.fop) (record {
+          same = k;
+          extracts = λ x. k;
+          uses = λ x report.
+              let f : FopState SegmentView = (clcw_step s report).after in
+              with_kept (acknowledging (after_extraction w.ground_node x) f) f (reports report);
+        }) (telemetry_reading.frame_at w.ground_node.config.frame_length b))
+
+    -- with V(S) set, and a session begun by Unlock
+    pub resume_kept : (value : ℕ) → P (directive_step s (SetVs value)).after
+        → ((f : FopState SegmentView) → P f → P (directive_step f InitUnlock).after)
+        → After (world_step w (events.Resume value))
+    resume_kept value set begins = resumes w value After k (λ whole can.
+        let set_so = directed w.ground_node k (SetVs value) (directive_step s (SetVs value)).answer _ set in
+        let t : GroundState = (directed_by w (SetVs value)).ground_node in
+        directed t set_so InitUnlock (directive_step t.fop InitUnlock).answer _ (begins t.fop set_so))
+
+    -- where each report, tick, pull and directive keeps it
+    pub step_kept : P (tick_step s).after → P (pull_step s).after → After (world_step w events.DownDeliver)
+        → After (world_step w events.DownClcw) → (e : Event)
+        → ((d : Directive) → e ≡ events.Directive d → P (directive_step s d).after)
+        → ((value : ℕ) → e ≡ events.Resume value → After (world_step w (events.Resume value)))
+        → After (world_step w e)
+    step_kept tick pull hears words (events.Submit m octets) direct resumed =
+        submitted w.ground_node k m octets.now (submit_fault w.ground_node m octets.now)
+    step_kept tick pull hears words (events.Bypass m octets) direct resumed =
+        bypassed w.ground_node k m octets.now (bypass_fault w.ground_node m octets.now)
+    step_kept tick pull hears words (events.Directive d) direct resumed =
+        directed w.ground_node k d (directive_step s d).answer (directive_step s d).after (direct d refl)
+    step_kept tick pull hears words events.Send direct resumed =
+        pulled w After (λ reply up sent silent. with_kept w.ground_node (pull_step s).after pull)
+    step_kept tick pull hears words events.UpDeliver direct resumed = up_arrives w After k (λ b bs is. k)
+    step_kept tick pull hears words events.DownDeliver direct resumed = hears
+    step_kept tick pull hears words events.DownClcw direct resumed = words
+    step_kept tick pull hears words (events.Resume value) direct resumed = resumed value refl
+    step_kept tick pull hears words events.Tick direct resumed = with_kept w.ground_node (tick_step s).after tick
+    step_kept tick pull hears words events.Report direct resumed = k
+    step_kept tick pull hears words events.Take direct resumed = k
+    step_kept tick pull hears words events.TakeBypass direct resumed = k
+    step_kept tick pull hears words (events.Telemetry octets) direct resumed = k
+    step_kept tick pull hears words e direct resumed = lost w After losses e tt
+
+-- What the sender does in an exchange.
 
 -- ---- a report that the receiver makes once all has arrived: it does not wait
 
@@ -89,7 +208,7 @@ module _ (s : FopState SegmentView) (c : Clcw) where
 
   pub heard_fresh : IsActive s.state → waits c ≡ false → AlertsOrObeys (report_while_active s c)
   heard_fresh active free =
-      cond_both (locks c) (alerts s Lockout) _ AlertsOrObeys (λ t. inl refl)
+      cond_both (locks c) (alerts s alarms.Lockout) _ AlertsOrObeys (λ t. inl refl)
       (λ unlocked. cond_both (is_outside s c.value) (alerts s NnR) _ AlertsOrObeys (λ t. inl refl)
       (λ inside. cond_both (not (asks c) && waits c) (alerts s ClcwAlert) _ AlertsOrObeys (λ t. inl refl)
       (λ runs. cond_both (asks c && (c.value == s.vs)) (alerts s Synch) _ AlertsOrObeys (λ t. inl refl)
@@ -258,3 +377,351 @@ tick_end s is state =
       | inl one ↦ subst (λ m. P (timer_ended (after_stop s) m)) (sym one) below
       | inr two ↦ subst (λ m. P (timer_ended (after_stop s) m)) (sym two) below
     ])
+
+-- What progress rests on, at every moment of a run, in any session: the timer runs where a unit is sent and not
+-- acknowledged, and a receiver waits only where no buffer is free.
+
+-- ---- the sender's timer
+
+abbrev pub Running : Option ℕ → Type 0
+Running None = ⊥
+Running (Some left) = 1 ≤ left
+
+abbrev pub IsDueNow : Control → Type 0
+IsDueNow (Due command) = Unit {0}
+IsDueNow _ = ⊥
+
+pub record Timed (f : FopState SegmentView) : Type 0 where
+  pub active : IsActive f.state ⊎ (f.sent ≡ [])
+  pub running : (f.sent ≡ []) ⊎ Running f.ticks
+  -- in S5 the timer runs once the command is pulled
+  pub command : f.state ≡ S5 → IsDueNow f.control ⊎ Running f.ticks
+  pub timer : 1 ≤ f.timer
+  pub count : 1 ≤ f.count
+  pub window : 1 ≤ f.window
+
+pub timed_empty : (f : FopState SegmentView) → f.sent ≡ [] → (f.state ≡ S5 → IsDueNow f.control) → 1 ≤ f.timer
+    → 1 ≤ f.count → 1 ≤ f.window → Timed f
+timed_empty f none due timer count window = record {
+  active = inr none;
+  running = inl none;
+  command = λ is. inl (due is);
+  timer = timer;
+  count = count;
+  window = window;
+}
+
+module _ (s : FopState SegmentView) (k : Timed s) where
+  abbrev Times : {A : Type 0} → FopOutcome SegmentView A → Type 0
+  Times o = Timed o.after
+
+  -- the sender is active, and none is sent that was not before
+  fewer : (f : FopState SegmentView) → IsActive f.state → (s.sent ≡ [] → f.sent ≡ []) → f.ticks ≡ s.ticks
+      → f.timer ≡ s.timer → 1 ≤ f.count → f.window ≡ s.window → Timed f
+  fewer f active sent ticks timer count window = record {
+    active = inl active;
+    running = elim k.running [ inl none ↦ inl (sent none) | inr runs ↦ inr (rw ticks runs) ];
+    command = λ is. absurd (let no : IsActive S5 = rw is at active in no);
+    timer = rw timer k.timer;
+    count = count;
+    window = rw window k.window;
+  }
+
+  -- with these settings it is as it was
+  same_as : (f : FopState SegmentView) → f.state ≡ s.state → f.sent ≡ s.sent → f.ticks ≡ s.ticks
+      → f.control ≡ s.control → f.count ≡ s.count → 1 ≤ f.timer → 1 ≤ f.window → Timed f
+  same_as f state sent ticks control count timer window = record {
+    active = rw (state, sent) k.active;
+    running = rw (sent, ticks) k.running;
+    command = rw (state, ticks, control) k.command;
+    timer = timer;
+    count = rw count k.count;
+    window = window;
+  }
+
+  restarted : (f : FopState SegmentView) → IsActive f.state ⊎ (f.sent ≡ []) → f.ticks ≡ Some s.timer
+      → f.timer ≡ s.timer → 1 ≤ f.count → f.window ≡ s.window → Timed f
+  restarted f active ticks timer count window =
+      record {
+        active = active;
+        running = inr (rw ticks k.timer);
+        command = λ is. inr (rw ticks k.timer);
+        timer = rw timer k.timer;
+        count = count;
+        window = rw window k.window;
+      }
+
+  gives_up : (f : FopState SegmentView) → f.timer ≡ s.timer → 1 ≤ f.count → f.window ≡ s.window
+      → Timed (after_alert f)
+  gives_up f timer count window =
+      timed_empty (after_alert f) refl (λ e. absurd cc) (rw timer k.timer) count (rw window k.window)
+
+  -- in S4 to S6 none is sent
+  none_in : (m : FopMode) → s.state ≡ m → (IsActive m → ⊥) → s.sent ≡ []
+  none_in m is not_active = elim k.active [
+    | inl active ↦ absurd (not_active (rw is at active))
+    | inr none ↦ none
+  ]
+
+  -- ---- a report
+
+  moved_ticks : (sent : List (SentUnit SegmentView)) → (sent ≡ []) ⊎ Running (ticks_for (record s { sent = sent }))
+  moved_ticks [] = inl refl
+  moved_ticks (u ∷ us) = inr k.timer
+
+  module _ (r : Clcw) (active : IsActive s.state) where
+    drops : s.sent ≡ [] → drop (ahead_by r.value s.nn) s.sent ≡ []
+    drops none = rw none (drop-nil (ahead_by r.value s.nn))
+
+    again_timed : (repeats : Bool) → Timed (retransmits s repeats)
+    again_timed true = restarted (retransmits s true) (inl tt) refl refl (omega arith) refl
+    again_timed false = fewer (retransmits s false) tt (λ none. none) refl refl k.count refl
+
+    active_timed : Times (report_while_active s r)
+    active_timed = heard_active s r (λ o. Times o) (record {
+      locked = λ t. gives_up s refl k.count refl;
+      outside = λ t. gives_up s refl k.count refl;
+      wait_flag = λ none waiting. gives_up s refl k.count refl;
+      asks_none = λ asking at. gives_up s refl k.count refl;
+      same = k;
+      ceases = λ none at were. gives_up s refl k.count refl;
+      moves = λ inside. record {
+        active = inl tt;
+        running = moved_ticks (drop (ahead_by r.value s.nn) s.sent);
+        command = λ e. absurd cc;
+        timer = k.timer;
+        count = omega arith;
+        window = k.window;
+      };
+      others_over = λ inside asking one. gives_up (after_new_value s r.value) refl (omega arith) refl;
+      others_wait = λ inside asking. fewer (record (after_new_value s r.value) { state = S3 }) tt drops refl refl
+          (omega arith) refl;
+      others_again = λ inside asking. restarted (retransmits (after_new_value s r.value) true) (inl tt) refl refl
+          (omega arith) refl;
+      all_over = λ asking one. gives_up s refl k.count refl;
+      all_wait = λ asking. fewer (record s { state = S3 }) tt (λ none. none) refl refl k.count refl;
+      all_again = λ asking. again_timed;
+    })
+
+  report_timed : (r : Clcw) → Times (clcw_step s r)
+  report_timed r = reported s r (λ o. Times o) (record {
+    active = λ active. active_timed r active;
+    alerted = λ is x cause. gives_up s refl k.count refl;
+    checked = λ is confirms. timed_empty (record s { state = S1; ticks = None }) (none_in S4 is (λ a. a))
+        (λ e. absurd cc) k.timer k.count k.window;
+    commanded = λ is confirms. timed_empty (record s { state = S1; ticks = None; control = Idle })
+        (none_in S5 is (λ a. a)) (λ e. absurd cc) k.timer k.count k.window;
+    same = k;
+  })
+
+  -- ---- a tick
+
+  below : (next : FopState SegmentView) → Timed next → Times (while_below (after_stop s) next)
+  below next is = cond_both (nat_lt s.count s.limit) (goes_on next) (alerts (after_stop s) Timer) (λ o. Times o)
+      (λ t. is) (λ t. gives_up (after_stop s) refl k.count refl)
+
+  repeated : IsActive s.state → Timed (after_repeat (after_stop s))
+  repeated active = restarted (after_repeat (after_stop s)) (inl active) refl refl (omega arith) refl
+
+  ended_timed : (m : FopMode) → s.state ≡ m → Times (timer_ended (after_stop s) m)
+  ended_timed S1 is = below (after_repeat (after_stop s)) (repeated (rw is tt))
+  ended_timed S2 is = below (after_repeat (after_stop s)) (repeated (rw is tt))
+  ended_timed S3 is =
+      below (after_count (after_stop s))
+      (restarted (after_count (after_stop s)) k.active refl refl (omega arith) refl)
+  ended_timed S4 is = gives_up (after_stop s) refl k.count refl
+  ended_timed S5 is =
+      let f = record (after_count (after_stop s)) { control = due_again s.control } in
+      below f (restarted f k.active refl refl (omega arith) refl)
+  ended_timed S6 is =
+      timed_empty (after_stop s) (none_in S6 is (λ a. a)) (λ e. absurd (cc (e, is))) k.timer k.count k.window
+
+  runs_on : (left : ℕ) → s.ticks ≡ Some left → (left == 1) ≡ false → Running s.ticks → Running (Some (left - 1))
+  runs_on left is t runs =
+      let more : Running (Some left) = rw is at runs in
+      let one : left ≢ 1 = eqb-false left 1 t in
+      omega (arith, more, one)
+
+  ticked_timed : (ticks : Option ℕ) → s.ticks ≡ ticks → Times (tick_with s ticks)
+  ticked_timed None is = k
+  ticked_timed (Some left) is =
+      cond_both (left == 1) (timer_ended (after_stop s) s.state) (goes_on (record s { ticks = Some (left - 1) }))
+      (λ o. Times o) (λ t. ended_timed s.state refl)
+      (λ t. record {
+        active = k.active;
+        running = elim k.running [ inl none ↦ inl none | inr runs ↦ inr (runs_on left is t runs) ];
+        command = λ e. elim (k.command e) [ inl due ↦ inl due | inr runs ↦ inr (runs_on left is t runs) ];
+        timer = k.timer;
+        count = k.count;
+        window = k.window;
+      })
+
+  -- ---- a pull
+
+  pull_timed : Times (pull_step s)
+  pull_timed = pulled_out s (λ o. Times o) (record {
+    none = k;
+    command = λ command is. restarted (record (after_restart s) { control = Sent command }) k.active refl refl k.count
+        refl;
+    bypass = λ u us is. same_as (record s { bypass = us }) refl refl refl refl refl k.timer k.window;
+    again = λ active x is. restarted (record (after_restart s) { sent = without_oldest_mark s.sent }) (inl active) refl
+        refl k.count refl;
+    first = λ active u is room. record {
+      active = inl active;
+      running = inr k.timer;
+      command = λ e. inr k.timer;
+      timer = k.timer;
+      count = cond_both (is_none_sent s.sent) 1 s.count (λ n. 1 ≤ n) (λ t. omega arith) (λ t. k.count);
+      window = k.window;
+    };
+  })
+
+  -- ---- a directive
+
+  begun_timed : (d : Directive) → Timed (begun s d)
+  begun_timed InitWithoutCheck =
+      timed_empty (begun s InitWithoutCheck) refl (λ e. absurd cc) k.timer (omega arith) k.window
+  begun_timed InitWithCheck = timed_empty (begun s InitWithCheck) refl (λ e. absurd cc) k.timer (omega arith) k.window
+  begun_timed InitUnlock = timed_empty (begun s InitUnlock) refl (λ e. tt) k.timer (omega arith) k.window
+  begun_timed (InitSetVr x) = timed_empty (begun s (InitSetVr x)) refl (λ e. tt) k.timer (omega arith) k.window
+  begun_timed _ = k
+
+  from_timed : (m : FopMode) (next : FopState SegmentView) → Timed next → Times (from_S6 s m next)
+  from_timed S6 next is = is
+  from_timed _ next is = k
+
+  terminated_timed : (m : FopMode) → Times (terminate_in s m)
+  terminated_timed S6 = k
+  terminated_timed _ = gives_up s refl k.count refl
+
+  directive_timed : (d : Directive) → Times (directive_step s d)
+  directive_timed InitWithoutCheck = from_timed s.state (begun s InitWithoutCheck) (begun_timed InitWithoutCheck)
+  directive_timed InitWithCheck = from_timed s.state (begun s InitWithCheck) (begun_timed InitWithCheck)
+  directive_timed InitUnlock = from_timed s.state (begun s InitUnlock) (begun_timed InitUnlock)
+  directive_timed (InitSetVr x) = from_timed s.state (begun s (InitSetVr x)) (begun_timed (InitSetVr x))
+  directive_timed Terminate = terminated_timed s.state
+  directive_timed (SetVs x) =
+      from_timed s.state (record s { vs = x; nn = x })
+      (same_as (record s { vs = x; nn = x }) refl refl refl refl refl k.timer k.window)
+  directive_timed (SetWindow n) =
+      cond_both ((n == 0) || nat_lt s.room n) _ (obeys (record s { window = n })) (λ o. Times o) (λ t. k)
+      (λ t. same_as (record s { window = n }) refl refl refl refl refl k.timer
+      (omega (arith, eqb-false n 0 (or_parts (n == 0) (nat_lt s.room n) t).0)))
+  directive_timed (SetLimit n) =
+      cond_both (n == 0) _ (obeys (record s { limit = n })) (λ o. Times o) (λ t. k)
+      (λ t. same_as (record s { limit = n }) refl refl refl refl refl k.timer k.window)
+  directive_timed (SetTimer n) =
+      cond_both (n == 0) _ (obeys (record s { timer = n })) (λ o. Times o) (λ t. k)
+      (λ t. same_as (record s { timer = n }) refl refl refl refl refl (omega (arith, eqb-false n 0 t)) k.window)
+
+-- whatever waits
+queued_timed : (f : FopState SegmentView) (waiting : Option SegmentView) (bypass : List SegmentView) → Timed f
+    → Timed (record f { waiting = waiting; bypass = bypass })
+queued_timed f waiting bypass k = record {
+  active = k.active;
+  running = k.running;
+  command = k.command;
+  timer = k.timer;
+  count = k.count;
+  window = k.window;
+}
+
+pub timed_step : (w : World) → Timed w.ground_node.fop → (e : Event) → Timed (world_step w e).after.ground_node.fop
+timed_step w k e =
+    let s = w.ground_node.fop in
+    step_kept Timed queued_timed w k (ticked_timed s k s.ticks refl) (pull_timed s k)
+    (hears_kept Timed queued_timed w k (report_timed s k)) (words_kept Timed queued_timed w k (report_timed s k)) e
+    (λ d is. directive_timed s k d)
+    (λ value is. resume_kept Timed queued_timed w k value (directive_timed s k (SetVs value))
+    (λ f kept. directive_timed f kept InitUnlock))
+
+-- ---- on board: a receiver that waits has no buffer
+
+abbrev NoneFree : Bool → Verdict → Type 0
+NoneFree free v = v ≡ NoBuffer → free ≡ false
+
+-- the verdict NoBuffer comes only where no buffer is free: one cell for each place
+in_cells : (free : Bool) (m : FarmMode) → NoneFree free (ad_verdict (place_at 127 0) free m)
+    × NoneFree free (ad_verdict (place_at 127 1) free m) × NoneFree free (ad_verdict (place_at 127 255) free m)
+    × NoneFree free (ad_verdict (place_at 127 128) free m)
+in_cells false m = (λ e. refl, λ e. refl, λ e. refl, λ e. refl)
+in_cells true Open = (λ e. absurd cc, λ e. absurd cc, λ e. absurd cc, λ e. absurd cc)
+in_cells true Wait = (λ e. absurd cc, λ e. absurd cc, λ e. absurd cc, λ e. absurd cc)
+in_cells true Lockout = (λ e. absurd cc, λ e. absurd cc, λ e. absurd cc, λ e. absurd cc)
+
+no_buffer : (s : FarmState) (n : ℕ) (free : Bool) → NoneFree free (verdict_of s n free)
+no_buffer s n free =
+    let cells = in_cells free s.state in
+    let d = ahead_by n s.vr in
+    let half = s.width / 2 in
+    cond_both (d == 0) _ _ (λ p. NoneFree free (ad_verdict p free s.state)) (λ t. cells.0)
+    (λ t. cond_both (nat_lt d half) _ _ (λ p. NoneFree free (ad_verdict p free s.state)) (λ t. cells.1)
+    (λ t. cond_both (nat_le (256 - half) d) _ _ (λ p. NoneFree free (ad_verdict p free s.state)) (λ t. cells.2)
+    (λ t. cells.3)))
+
+abbrev pub WaitsFull : SpacecraftState → Type 0
+WaitsFull s = s.farm.wait ≡ true → s.config.ready_slots ≤ length s.ready
+
+pub open_flags : (lockout wait : Bool) → Open ≡ state_of lockout wait → (lockout ≡ false) × (wait ≡ false)
+open_flags true wait e = absurd cc
+open_flags false true e = absurd cc
+open_flags false false e = (refl, refl)
+
+module _ (s : SpacecraftState) (flags : FlagsAgree s.farm) (k : WaitsFull s) where
+  full_where : is_free s ≡ false → s.config.ready_slots ≤ length s.ready
+  full_where busy = ltb-false (length s.ready) s.config.ready_slots busy
+
+  sequence_full : (n : ℕ) (u : SegmentView) (v : Verdict) → verdict_of s.farm n (is_free s) ≡ v
+      → WaitsFull (sequence_outcome s n u v).after
+  sequence_full n u Accepted is waits =
+      let old : s.farm.wait ≡ true = rw is at waits in
+      omega (arith, k old, length-append s.ready (put_on_map u.header.map (assemble_step s u).packets))
+  sequence_full n u NoBuffer is waits =
+      full_where (no_buffer s.farm n (is_free s) is)
+  sequence_full n u Ahead is waits = k (rw is at waits)
+  sequence_full n u Behind is waits = k (rw is at waits)
+  sequence_full n u Outside is waits = k (rw is at waits)
+  sequence_full n u Discarded is waits = k (rw is at waits)
+
+  bypass_full : (u : SegmentView) (kept : Bool) → WaitsFull (bypass_outcome s u kept).after
+  bypass_full u true waits = k waits
+  bypass_full u false waits = k waits
+
+  unlock_full : (m : FarmMode) → (after_unlock s.farm m).wait ≡ true → s.config.ready_slots ≤ length s.ready
+  unlock_full Open waits = k waits
+  unlock_full Wait waits = absurd cc
+  unlock_full Lockout waits = absurd cc
+
+  set_full : (x : ℕ) (m : FarmMode) → (after_set_vr s.farm x m).wait ≡ true → s.config.ready_slots ≤ length s.ready
+  set_full x Open waits = k waits
+  set_full x Wait waits = absurd cc
+  set_full x Lockout waits = k waits
+
+  pub body_full : (f : BodyView) → WaitsFull (body_outcome s f).after
+  body_full (Ad n u) = sequence_full n u (verdict_of s.farm n (is_free s)) refl
+  body_full (Bd u) = bypass_full u (is_kept (limits_of s.config) u)
+  body_full (Bc Unlock) = unlock_full s.farm.state
+  body_full (Bc (SetVr x)) = set_full x s.farm.state
+
+  -- a receiver that is released does not wait
+  released : (m : FarmMode) → s.farm.state ≡ m → (after_release s.farm m).wait ≡ false
+  released Wait is = refl
+  released Lockout is = refl
+  released Open is = (open_flags s.farm.lockout s.farm.wait (sym is ∙ flags.state)).1
+
+  pub taken_full : (ps : List PacketOn) → WaitsFull (spacecraft_take s ps).after
+  taken_full [] = k
+  taken_full (p ∷ left) =
+      cond_both (nat_lt (length left) s.config.ready_slots) (farm_step s.farm BufferReleased) s.farm
+      (λ (farm : FarmState). WaitsFull (record s { ready = left; farm = farm }))
+      (λ t waits. absurd (let no = released s.farm.state refl in cc (waits, no)))
+      (λ t waits. ltb-false (length left) s.config.ready_slots t)
+
+  pub bypass_taken_full : (ps : List PacketOn) → WaitsFull (spacecraft_take_bypass s ps).after
+  bypass_taken_full [] = k
+  bypass_taken_full (p ∷ left) = k
+
+  pub queued_full : (octets : List ℕ) → WaitsFull (spacecraft_telemetry s octets).after
+  queued_full octets =
+      cond_both (is_to_send octets) _ _ (λ (o : SpacecraftOutcome (Result (Unit {0}) TmFault)). WaitsFull o.after)
+      (λ t. k) (λ t. k)

@@ -1,30 +1,445 @@
--- No alert comes in exchanges, in a session begun by CLCW check, Unlock or Set V(R), where the count is below the
--- limit.
-use Rattle.tc_link.proofs.Common.{IsReached, IsActive, not, true, ◌∙◌, IsIdle, IsSettled, ◌≡◌, ◌≤◌, ◌⊎◌, inl, inr, ℕ}
-use Rattle.tc_link.proofs.Common.{zero, suc, ◌-◌, ◌*◌, List, [], ◌∷◌, ◌++◌, length, Option, Some, None, Ok, refl, ap}
-use Rattle.tc_link.proofs.Common.{sym, subst, arith, cond_both, replicate, AllByRecursion, Alert, NnR, Synch, Limit}
-use Rattle.tc_link.proofs.Common.{FopState, S1, S2, FopOutcome, tick_step, with_fop, Event, World, world_step}
-use Rattle.tc_link.proofs.Common.{world_run, directive_of, IsChecking}
+-- Exchanges while a session is not confirmed yet, and exchanges in which no alert comes.
+use Rattle.tc_link.proofs.Common.{IsIdle, is_closed, ◌*◌, zero, S6, false, IsReached, ◌≡◌, ◌<◌, ◌≤◌, ◌⊎◌, inl, inr, ℕ}
+use Rattle.tc_link.proofs.Common.{suc, ◌+◌, ◌-◌, true, List, [], ◌∷◌, ◌++◌, length, Option, Some, None, refl, ap, sym}
+use Rattle.tc_link.proofs.Common.{subst, ◌∙◌, arith, length-append, cond_both, replicate, nat_lt, not, ◌==◌, Clcw}
+use Rattle.tc_link.proofs.Common.{SegmentView, Alert, NnR, Synch, Control, Idle, Due, Sent, FopState, FopOutcome}
+use Rattle.tc_link.proofs.Common.{FopMode, S1, S2, S4, S5, IsActive, locks, waits, asks, confirms, clcw_step, report_in}
+use Rattle.tc_link.proofs.Common.{pull_step, pulled_out, tick_step, ticked, after_stop, after_count, due_again, goes_on}
+use Rattle.tc_link.proofs.Common.{alerts, GroundState, with_fop, after_extraction, World, WorldOutcome, world_step}
+use Rattle.tc_link.proofs.Common.{world_run, is_initialising, spacecraft_report, acknowledging, IsSettled, Ok}
+use Rattle.tc_link.proofs.Common.{AllByRecursion, Limit, Event, directive_of, IsChecking}
 use Rattle.std.specs.Prelude.{IsSome}
+use Rattle.std.proofs.lemmas.Bool.{ltb-true}
+use Rattle.tm_link.specs.Encoding as telemetry_writing
 use Rattle.cop1.specs.declared.vocabulary.Alert.TheVariants.{Lockout, Clcw as ClcwAlert, Timer, Terminated}
-use Rattle.simulated_link.specs.Replies.{reply_to_alert}
+use Rattle.cop1.specs.FopPull.{pull_control, pull_bypass, pull_in}
+use Rattle.cop1.specs.FopTick.{tick_with, timer_ended, while_below}
+use Rattle.cop1.specs.Units.{oldest_of}
+use Rattle.nodes.specs.Ground.{outstanding}
 use Rattle.nodes.specs.declared.event.Event.TheVariants as events
+use Rattle.simulated_link.specs.Replies.{reply_to_alert}
+use Rattle.simulated_link.proofs.Unchanged.{pulled}
 use Rattle.tc_link.specs.FalseAlarms.{alert_in, IsUnderCheck, HasCause}
-use Rattle.tc_link.specs.Progress.{awaits, Schedule, followed_by, times, all_sent, all_taken, all_arrived, reported}
-use Rattle.tc_link.specs.Progress.{all_heard, are_marked, ticks_left, timer_run_out, round_trip, exchange, AlertsIn}
-use Rattle.tc_link.specs.Progress.{EachIsDelivered}
-use Rattle.tc_link.proofs.Early.{early_off}
+use Rattle.tc_link.specs.Progress.{times, most_sent, all_sent, reported, all_heard, are_marked, ticks_left, awaits}
+use Rattle.tc_link.specs.Progress.{timer_run_out, round_trip, exchange, AlertsIn, EachBegins, EachEnds, IsDone}
+use Rattle.tc_link.specs.Progress.{Schedule, followed_by, all_taken, all_arrived, EachIsDelivered}
+use Rattle.tc_link.proofs.ProgressFirst.{Arrived, Taken, ground_takes, ground_arrives, ends_ticks, oldest_heard}
+use Rattle.tc_link.proofs.ProgressFirst.{alerted, with_same, limit_stays, IsBelow, IsFine, IsBefore, step_below}
+use Rattle.tc_link.proofs.ProgressFirst.{hears_fine, ends_silent, awaits_so, Quiet, Ready, ReadyWith, Heard}
+use Rattle.tc_link.proofs.ProgressFirst.{first_round_trip, first_exchange, IsBounded}
+use Rattle.tc_link.proofs.ProgressSender.{holds_more, IsDueNow, Running, tick_on}
+use Rattle.tc_link.proofs.ProgressNext.{each_makes_progress, Advanced, next_round_trip, next_exchange}
+use Rattle.tc_link.proofs.ProgressNumbers.{idle_run, exchange_calm, ends_trip, known, Ends, ends_then, ends_repeat}
+use Rattle.tc_link.proofs.ProgressNumbers.{ends_once, alerts_first, alerts_then, run_append, ends_so, befores_are}
+use Rattle.tc_link.proofs.ProgressNumbers.{IsTalk, talks_calm, trip_talks, timer_calm, going_step, IsCalm, calm_fits}
+use Rattle.tc_link.proofs.ProgressNumbers.{directive_stays, idle_step, settled_step}
+use Rattle.tc_link.proofs.Linked.{early_off}
 use Rattle.tc_link.proofs.Invariant.{reached_holds}
 use Rattle.tc_link.proofs.Promised.{promised_of}
-use Rattle.tc_link.proofs.Progress.{each_makes_progress}
-use Rattle.tc_link.proofs.ProgressCount.{limit_stays, IsBelow, IsFine, IsBefore, step_below, hears_fine, ends_silent}
-use Rattle.tc_link.proofs.ProgressFirst.{awaits_so, Quiet, Ready, ReadyWith, Heard, first_round_trip, first_exchange}
-use Rattle.tc_link.proofs.ProgressNodes.{with_same, IsBounded}
-use Rattle.tc_link.proofs.ProgressLists.{befores_are, IsTalk, talks_calm, trip_talks, timer_calm}
-use Rattle.tc_link.proofs.ProgressNext.{Advanced, next_round_trip, next_exchange}
-use Rattle.tc_link.proofs.ProgressRuns.{going_step, IsCalm, calm_fits, run_append, Ends, directive_stays, known}
-use Rattle.tc_link.proofs.ProgressRuns.{idle_step, settled_step}
-use Rattle.tc_link.proofs.ProgressSender.{tick_on}
+
+-- Exchanges while a session is not confirmed yet, in S4 and S5: each ends with an alert or with the sender Active,
+-- or one transmission less is left.
+
+abbrev IsBeginning : FopMode → Type 0
+IsBeginning m = (m ≡ S4) ⊎ (m ≡ S5)
+
+-- ---- the sender
+
+module _ (s : FopState SegmentView) (begins : IsBeginning s.state) where
+  not_active : {A : Type 0} → IsActive s.state → A
+  not_active active = elim begins [
+    | inl four ↦ absurd (let no : IsActive S4 = rw four at active in no)
+    | inr five ↦ absurd (let no : IsActive S5 = rw five at active in no)
+  ]
+
+  -- a pull leaves it in its state, with its count and its limit
+  record Stays (t : FopState SegmentView) : Type 0 where
+    state : t.state ≡ s.state
+    count : t.count ≡ s.count
+    limit : t.limit ≡ s.limit
+
+  stays : (t : FopState SegmentView) → t.state ≡ s.state → t.count ≡ s.count → t.limit ≡ s.limit → Stays t
+  stays t state count limit = record { state = state; count = count; limit = limit }
+
+  pull_stays : Stays (pull_step s).after
+  pull_stays = pulled_out s (λ o. Stays o.after) (record {
+    none = stays s refl refl refl;
+    command = λ c is. stays _ refl refl refl;
+    bypass = λ u us is. stays _ refl refl refl;
+    again = λ active x is. not_active active;
+    first = λ active u is room. not_active active;
+  })
+
+  in_control : (m : FopMode) → IsBeginning m → (pull_in s m).after.control ≡ s.control
+  in_control S1 is = elim is [ inl four ↦ absurd (cc four) | inr five ↦ absurd (cc five) ]
+  in_control S2 is = elim is [ inl four ↦ absurd (cc four) | inr five ↦ absurd (cc five) ]
+  in_control _ is = refl
+
+  bypass_control : (us : List SegmentView) → (pull_bypass s (oldest_of us)).after.control ≡ s.control
+  bypass_control [] = in_control s.state begins
+  bypass_control (u ∷ us) = refl
+
+  -- and no command is due then
+  command_pulled : (control : Control) → s.control ≡ control → IsDueNow (pull_control s control).after.control → ⊥
+  command_pulled (Due c) is due = due
+  command_pulled Idle is due =
+      let same : (pull_control s Idle).after.control ≡ Idle = bypass_control s.bypass ∙ is in
+      let it : IsDueNow Idle = subst IsDueNow same due in it
+  command_pulled (Sent c) is due =
+      let same : (pull_control s (Sent c)).after.control ≡ Sent c = bypass_control s.bypass ∙ is in
+      let it : IsDueNow (Sent c) = subst IsDueNow same due in it
+
+  -- ---- a report: in S4 an alert comes, or the sender is Active; in S5 it is, or nothing changes
+  abbrev LedBy : FopOutcome SegmentView (Option Alert) → Type 0
+  LedBy o = IsSome o.answer ⊎ (IsActive o.after.state ⊎ ((s.state ≡ S5) × (o ≡ goes_on s)))
+
+  in_S4 : (r : Clcw) → LedBy (report_in s r S4)
+  in_S4 r =
+      cond_both (locks r) (alerts s Lockout) _ LedBy (λ t. inl refl)
+      (λ t. cond_both (not (r.value == s.vs)) (alerts s NnR) _ LedBy (λ t. inl refl)
+      (λ t. cond_both (asks r) (alerts s Synch) _ LedBy (λ t. inl refl)
+      (λ t. cond_both (waits r) (alerts s ClcwAlert) (goes_on (record s { state = S1; ticks = None })) LedBy
+      (λ t. inl refl) (λ t. inr (inl tt)))))
+
+  in_S5 : (r : Clcw) → s.state ≡ S5 → LedBy (report_in s r S5)
+  in_S5 r is =
+      cond_both (confirms s r) (goes_on (record s { state = S1; ticks = None; control = Idle })) (goes_on s) LedBy
+      (λ t. inr (inl tt)) (λ t. inr (inr (is, refl)))
+
+  report_leads : (r : Clcw) → LedBy (clcw_step s r)
+  report_leads r = elim begins [
+    | inl four ↦ subst (λ m. LedBy (report_in s r m)) (sym four) (in_S4 r)
+    | inr five ↦ subst (λ m. LedBy (report_in s r m)) (sym five) (in_S5 r five)
+  ]
+
+-- the timer ends in S5: an alert comes, or the command is due again, and counted
+retried : (s : FopState SegmentView) → s.ticks ≡ Some 1 → s.state ≡ S5
+    → IsSome (tick_step s).answer ⊎ ((s.count < s.limit)
+    × (tick_step s ≡ goes_on (record (after_count (after_stop s)) { control = due_again s.control })))
+retried s is five =
+    let f : FopState SegmentView = record (after_count (after_stop s)) { control = due_again s.control } in
+    let P : FopOutcome SegmentView (Option Alert) → Type 0 =
+    λ o. IsSome o.answer ⊎ ((s.count < s.limit) × (o ≡ goes_on f)) in
+    let below : P (while_below (after_stop s) f) =
+    cond_both (nat_lt s.count s.limit) (goes_on f) (alerts (after_stop s) Timer) P
+    (λ t. inr (ltb-true s.count s.limit t, refl)) (λ t. inl refl) in
+    subst P (sym (ap (tick_with s) is)) (subst (λ m. P (timer_ended (after_stop s) m)) (sym five) below)
+
+-- a tick while it is Active
+tick_active : (s : FopState SegmentView) → IsActive s.state
+    → IsSome (tick_step s).answer ⊎ IsActive (tick_step s).after.state
+tick_active s active = ticked s (λ o. IsSome o.answer ⊎ IsActive o.after.state) (record {
+  off = inr active;
+  runs = λ left. inr active;
+  stops = inr active;
+  repeats = λ on. inr active;
+  counts = inr active;
+  commands = λ is. inr active;
+  gives_up = inl refl;
+})
+
+-- ---- the exchange
+
+abbrev Active : World → Type 0
+Active w = IsActive w.ground_node.fop.state
+
+-- with this transmission count and this limit
+module _ (count limit : ℕ) where
+  record Begins (s : GroundState) : Type 0 where
+    state : IsBeginning s.fop.state
+    count_is : s.fop.count ≡ count
+    limit_is : s.fop.limit ≡ limit
+
+  begins_with : (s : GroundState) (f : FopState SegmentView) → (b : Begins s) → Stays s.fop b.state f
+      → Begins (with_fop s f)
+  begins_with s f b kept =
+      let same = with_same s f in
+      record {
+        state = rw (same.state, kept.state) b.state;
+        count_is = same.count ∙ kept.count ∙ b.count_is;
+        limit_is = same.limit ∙ kept.limit ∙ b.limit_is;
+      }
+
+  -- no command is due
+  abbrev Pulled : GroundState → Type 0
+  Pulled s = IsDueNow s.fop.control → ⊥
+
+  module _ (most : ℕ) where
+    abbrev Sends : ℕ → World → Type 0
+    Sends n w = Begins w.ground_node × (Pulled w.ground_node ⊎ (n ≡ suc most))
+
+    sends_one : (n : ℕ) (w : World) → Sends (suc n) w → Sends n (world_step w events.Send).after
+    sends_one n w p =
+        let s = w.ground_node.fop in
+        let f = (pull_step s).after in
+        pulled w (λ (o : WorldOutcome). Sends n o.after) (λ reply up sent silent. (
+          begins_with w.ground_node f p.0 (pull_stays s p.0.state),
+          inl (λ due. command_pulled s p.0.state s.control refl
+              (subst IsDueNow (with_same w.ground_node f).control due)),
+        ))
+
+  abbrev IsReady : GroundState → Type 0
+  IsReady s = Begins s × Pulled s
+
+  abbrev ReadyNow : World → Type 0
+  ReadyNow w = IsReady w.ground_node
+
+  sends : (w : World) → IsReached w → Begins w.ground_node → Ends ReadyNow w (all_sent w)
+  sends w g b =
+      let most : ℕ = length w.ground_node.fop.bypass + length (outstanding w.ground_node) in
+      ends_so (Sends most zero) ReadyNow w (all_sent w)
+      (ends_repeat (Sends most) events.Send tt (λ n v h p. inr (sends_one most n v p)) (most_sent w) w g (b, inr refl))
+      (λ v h p. (p.0, elim p.1 [ inl gone ↦ gone | inr more ↦ absurd (omega (arith, more)) ]))
+
+  -- ---- the reports are heard
+
+  -- in S4 one is still to come
+  abbrev Hears : ℕ → World → Type 0
+  Hears n w = (length w.down ≡ n) × (Active w ⊎ (ReadyNow w × ((w.ground_node.fop.state ≡ S5) ⊎ (1 ≤ n))))
+
+  length-push : (ds : List (List ℕ)) (d : List ℕ) → length (ds ++ d ∷ []) ≡ suc (length ds)
+  length-push ds d = omega (arith, length-append ds (d ∷ []))
+
+  reports : (w : World) → IsReached w → ReadyNow w → Ends (λ v. (n : ℕ) × Hears (suc n) v) w (reported w)
+  reports w g b =
+      ends_once (λ v. (n : ℕ) × Hears (suc n) v) w events.Report tt g (inr (
+        length w.down,
+        (
+          length-push w.down (telemetry_writing.spelling (spacecraft_report w.spacecraft).answer),
+          inr (
+            (record { state = b.0.state; count_is = b.0.count_is; limit_is = b.0.limit_is }, b.1),
+            inr (omega arith),
+          ),
+        ),
+      ))
+
+  module _ (n : ℕ) (w : World) (g : IsReached w) (p : Hears (suc n) w) where
+    abbrev HeardOne : WorldOutcome → Type 0
+    HeardOne o = IsSome (alert_in o.answer) ⊎ Hears n o.after
+
+    hears_one : (ds : List (List ℕ)) → w.down ≡ ds → HeardOne (world_step w events.DownDeliver)
+    hears_one [] is = absurd (omega (arith, ap length is, p.0))
+    hears_one (b ∷ bs) is =
+        let count : length bs ≡ n = omega (arith, ap length is, p.0) in
+        oldest_heard HeardOne w g b bs is (λ r x.
+        let f : FopState SegmentView = (clcw_step w.ground_node.fop r).after in
+        let s : GroundState = acknowledging (after_extraction w.ground_node x) f in
+        let same = with_same s f in
+        elim p.1 [
+          | inl active ↦ elim (holds_more w.ground_node.fop w.ground_node.pending r active) [
+            | inl a ↦ inl a
+            | inr less ↦ inr (count, inl (rw same.state less.active))
+          ]
+          | inr begun ↦ elim (report_leads w.ground_node.fop begun.0.0.state r) [
+            | inl a ↦ inl a
+            | inr led ↦ elim led [
+              | inl active ↦ inr (count, inl (rw same.state active))
+              | inr ignored ↦ (
+                  let still : f ≡ w.ground_node.fop = ap (λ o. o.after) ignored.1 in
+                  let state : (with_fop s f).fop.state ≡ S5 =
+                  same.state ∙ ap (λ f. f.state) still ∙ ignored.0 in
+                  inr (
+                    count,
+                    inr (
+                      (
+                        record {
+                          state = inr state;
+                          count_is = same.count ∙ ap (λ f. f.count) still ∙ begun.0.0.count_is;
+                          limit_is = same.limit ∙ ap (λ f. f.limit) still ∙ begun.0.0.limit_is;
+                        },
+                        λ due. begun.0.1 (subst IsDueNow (same.control ∙ ap (λ f. f.control) still) due),
+                      ),
+                      inl state,
+                    ),
+                  ))
+            ]
+          ]
+        ])
+
+  -- Active, or in S5 with the command on its way
+  abbrev Asked : World → Type 0
+  Asked w = Active w ⊎ (ReadyNow w × (w.ground_node.fop.state ≡ S5))
+
+  heard_all : (w : World) → IsReached w → (n : ℕ) × Hears (suc n) w → Ends Asked w (all_heard w)
+  heard_all w g p =
+      ends_so (Hears zero) Asked w (all_heard w)
+      (ends_repeat Hears events.DownDeliver tt (λ n v h q. hears_one n v h q v.down refl) (length w.down) w g
+      (subst (λ n. Hears n w) (sym p.1.0) p.1))
+      (λ v h q. elim q.1 [
+        | inl active ↦ inl active
+        | inr t ↦ elim t.1 [ inl five ↦ inr (t.0, five) | inr more ↦ absurd (omega (arith, more)) ]
+      ])
+
+  -- ---- the timer runs out
+
+  -- one transmission less is left
+  record Again (w : World) : Type 0 where
+    five : w.ground_node.fop.state ≡ S5
+    less : suc (w.ground_node.fop.limit - w.ground_node.fop.count) ≤ limit - count
+
+  abbrev Begun : World → Type 0
+  Begun w = Active w ⊎ Again w
+
+  active_ticks : (n : ℕ) (w : World) → IsReached w → Active w → Ends Begun w (replicate n events.Tick)
+  active_ticks n w g active =
+      ends_so Active Begun w (replicate n events.Tick)
+      (ends_repeat (λ n. Active) events.Tick tt (λ n v h on. elim (tick_active v.ground_node.fop on) [
+        | inl a ↦ inl (alerted (tick_step v.ground_node.fop).answer a)
+        | inr on ↦ inr (rw (with_same v.ground_node (tick_step v.ground_node.fop).after).state on)
+      ]) n w g active) (λ v h on. inl on)
+
+  abbrev Repeats : World → Type 0
+  Repeats w = Begins w.ground_node × (w.ground_node.fop.state ≡ S5)
+
+  ends : (w : World) → Repeats w → w.ground_node.fop.ticks ≡ Some 1
+      → IsSome (alert_in (world_step w events.Tick).answer) ⊎ Begun (world_step w events.Tick).after
+  ends w p is =
+      let s = w.ground_node.fop in
+      let f : FopState SegmentView = record (after_count (after_stop s)) { control = due_again s.control } in
+      elim (retried s is p.1) [
+        | inl a ↦ inl (alerted (tick_step s).answer a)
+        | inr again ↦ (
+            let same = with_same w.ground_node f in
+            let next : Begun (record w { ground_node = with_fop w.ground_node f }) = inr (record {
+              five = same.state ∙ p.1;
+              less = omega (arith, same.limit, same.count, again.0, p.0.count_is, p.0.limit_is);
+            }) in
+            inr (subst (λ (o : FopOutcome SegmentView (Option Alert)). Begun
+            (record w { ground_node = with_fop w.ground_node o.after })) (sym again.1) next))
+      ]
+
+  runs : (w : World) (left : ℕ) → Repeats w
+      → Repeats (record w { ground_node = with_fop w.ground_node (record w.ground_node.fop { ticks = Some left }) })
+  runs w left p =
+      let f : FopState SegmentView = record w.ground_node.fop { ticks = Some left } in (
+        begins_with w.ground_node f p.0 (stays w.ground_node.fop p.0.state f refl refl refl),
+        (with_same w.ground_node f).state ∙ p.1,
+      )
+
+  run_out : (w : World) → IsReached w → Asked w → Ends Begun w (timer_run_out w)
+  run_out w g p =
+      let s = w.ground_node.fop in
+      let ticks : ℕ = ticks_left s.ticks in
+      elim p [
+        | inl active ↦ cond_both (awaits s.state (are_marked s.sent)) (replicate ticks events.Tick) []
+            (λ es. Ends Begun w es) (λ t. active_ticks ticks w g active) (λ t. inr (g, inl active))
+        | inr t ↦ (
+            let waits : awaits s.state (are_marked s.sent) ≡ true = rw t.1 refl in
+            let on : Running s.ticks = elim ((known w g).sender.command t.1) [
+              | inl due ↦ absurd (t.0.1 due)
+              | inr runs ↦ runs
+            ] in
+            cond_both (awaits s.state (are_marked s.sent)) (replicate ticks events.Tick) [] (λ es. Ends Begun w es)
+            (λ e. ends_ticks Repeats Begun runs ends w g (t.0.0, t.1) s.ticks refl on) (λ e. absurd (cc (e, waits))))
+      ]
+
+  exchange_begins : (w : World) → IsReached w → Begins w.ground_node → Ends Begun w (exchange w)
+  exchange_begins w g b =
+      ends_then Asked Begun round_trip timer_run_out w
+      (ends_trip ReadyNow (Arrived IsReady zero) (Taken (Arrived IsReady) zero zero) (λ v. (n : ℕ) × Hears (suc n) v)
+      Asked w (sends w g b) (ground_arrives IsReady) (ground_takes IsReady) (λ v h p. reports v h p.0.0) heard_all)
+      run_out
+
+-- ---- as many exchanges as transmissions are left, and one more
+
+one_first : (Q : World → Type 0) (w : World) (m : ℕ)
+    → AlertsIn (world_run w (exchange w)) (times m exchange (world_run w (exchange w)))
+    ⊎ Q (world_run (world_run w (exchange w)) (times m exchange (world_run w (exchange w))))
+    → AlertsIn w (times (suc m) exchange w) ⊎ Q (world_run w (times (suc m) exchange w))
+one_first Q w m so =
+    let v = world_run w (exchange w) in
+    elim so [
+      | inl a ↦ inl (alerts_then w (exchange w) (times m exchange v) a)
+      | inr q ↦ inr (subst Q (sym (run_append w (exchange w) (times m exchange v))) q)
+    ]
+
+-- an alert comes, or the sender is Active, or one transmission less is left, and the next exchange begins
+module _ (Leads : ℕ → World → ℕ → Type 0)
+    (alert : (most : ℕ) (w : World) → AlertsIn w (exchange w) → Leads (suc most) w 1)
+    (active : (most : ℕ) (w : World) → IsReached w → Active w → (m : ℕ) × Leads most w m)
+    (later : (most : ℕ) (w : World) (m : ℕ) → Leads most (world_run w (exchange w)) m → Leads (suc most) w (suc m))
+  where
+    leads : (most : ℕ) (w : World) → IsReached w → IsBeginning w.ground_node.fop.state
+        → w.ground_node.fop.limit - w.ground_node.fop.count < most → (m : ℕ) × Leads most w m
+    leads zero w g begins few = absurd (omega (arith, few))
+    leads (suc most) w g begins few =
+        let s = w.ground_node.fop in
+        let v = world_run w (exchange w) in
+        let on : (m : ℕ) × Leads most v m → (m : ℕ) × Leads (suc most) w m =
+        λ x. (suc x.0, later most w x.0 x.1) in
+        elim (exchange_begins s.count s.limit w g (record { state = begins; count_is = refl; limit_is = refl })) [
+          | inl a ↦ (1, alert most w a)
+          | inr t ↦ on (elim t.1 [
+            | inl begun ↦ active most v t.0 begun
+            | inr again ↦ leads most v t.0 (inr again.five) (omega (arith, again.less, few))
+          ])
+        ]
+
+-- within so many exchanges
+abbrev Within : ℕ → World → ℕ → Type 0
+Within most w m = (m ≤ most) × (AlertsIn w (times m exchange w) ⊎ Active (world_run w (times m exchange w)))
+
+beginning : (m : FopMode) → is_initialising m ≡ true → IsBeginning m
+beginning S4 is = inl refl
+beginning S5 is = inr refl
+beginning _ is = absurd cc
+
+pub each_begins : EachBegins
+each_begins w reached begins =
+    let most : ℕ = suc (w.ground_node.fop.limit - w.ground_node.fop.count) in
+    let m =
+    leads Within (λ most w a. (omega arith, inl (alerts_first w (exchange w) [] a)))
+    (λ most w g on. (zero, (omega arith, inr on))) (λ most w m t. (omega (arith, t.0), one_first Active w m t.1)) most
+    w reached (beginning w.ground_node.fop.state begins) (omega arith) in
+    (m.0, m.1.0, m.1.1)
+
+-- ---- and on to the end
+
+-- with so many exchanges, or an alert comes
+abbrev Done : World → ℕ → Type 0
+Done w m = AlertsIn w (times m exchange w) ⊎ IsDone w (world_run w (times m exchange w))
+
+-- the first exchange is made, in the same session
+then_done : (w : World) (m : ℕ) → Done (world_run w (exchange w)) m → Done w (suc m)
+then_done w m done =
+    let v = world_run w (exchange w) in
+    let idle : IsIdle w → IsIdle v = idle_run (exchange w) w (exchange_calm w) in
+    one_first (IsDone w) w m (elim done [
+      | inl a ↦ inl a
+      | inr d ↦ inr (record {
+        active = d.active;
+        nothing = d.nothing;
+        delivered = λ is. d.delivered (idle is);
+      })
+    ])
+
+no_less : (n k : ℕ) → 1 ≤ k → n ≤ n * k
+no_less zero k one = omega arith
+no_less (suc n) k one = omega (arith, no_less n k one, one)
+
+-- while it is Active
+ends_active : (w : World) → IsReached w → Active w → (m : ℕ) × Done w m
+ends_active w reached active =
+    let n = length (outstanding w.ground_node) in
+    let window = (known w reached).sender.window in
+    (suc n, each_makes_progress w reached active n (no_less n w.ground_node.fop.window window))
+
+pub each_ends : EachEnds
+each_ends w reached on = in_mode w.ground_node.fop.state refl on
+  where
+    from_start : IsBeginning w.ground_node.fop.state → (m : ℕ) × Done w m
+    from_start begins =
+        leads (λ most. Done) (λ most w a. inl (alerts_first w (exchange w) [] a)) (λ most. ends_active)
+        (λ most. then_done) (suc (w.ground_node.fop.limit - w.ground_node.fop.count)) w reached begins (omega arith)
+
+    in_mode : (m : FopMode) → w.ground_node.fop.state ≡ m → is_closed m ≡ false → (m : ℕ) × Done w m
+    in_mode S4 is on = from_start (inl is)
+    in_mode S5 is on = from_start (inr is)
+    in_mode S6 is on = absurd cc
+    in_mode _ is on = ends_active w reached (rw is tt)
+
+-- No alert comes in exchanges, in a session begun by CLCW check, Unlock or Set V(R), where the count is below the
+-- limit.
 
 -- ---- alerts
 

@@ -1,23 +1,152 @@
--- What a world that a run leads to promises.
-use Rattle.tc_link.proofs.Common.{◌≡◌, ◌<◌, ℕ, ◌+◌, get_or, length, take, List, [], ◌∷◌, ◌++◌, Result, Ok, Err, OnOk}
-use Rattle.tc_link.proofs.Common.{inl, refl, ap, sym, subst, ◌∙◌, AllByRecursion, Config, Event, SimFault}
-use Rattle.tc_link.proofs.Common.{ConfirmsExactly, IsHistory, HasPlainHistory, GoesOnByAStep, IsConfig, IsPromised}
-use Rattle.tc_link.proofs.Common.{IsPromisedOf, AllReadable, IsEvent, IsReached, SimState, sim_run, World, new_world}
-use Rattle.tc_link.proofs.Common.{world_step, world_run, IsClean, IsIdle, IsSettled, BeginsNoSession, directive_of}
-use Rattle.tc_link.proofs.Common.{IsChecking, HasNoFalseAlarm}
+-- What a world that a run leads to promises, whatever came before; and a session's plain link is one link.
+use Rattle.tc_link.proofs.Common.{false, inl, inr, Config, Event, GoesOnByAStep, IsEvent, World, IsSettled}
+use Rattle.tc_link.proofs.Common.{BeginsNoSession, world_step, ◌≡◌, ℕ, ◌+◌, ◌-◌, ◌/◌, ◌%◌, ◌≤◌, Bool, true, List, []}
+use Rattle.tc_link.proofs.Common.{◌∷◌, map, Some, refl, sym, subst, arith, ◌==◌, AllByRecursion, cond_both, eqb-false}
+use Rattle.tc_link.proofs.Common.{Clcw, Directive, is_closed, WereAccepted, Rises, ◌<◌, get_or, length, take, ◌++◌}
+use Rattle.tc_link.proofs.Common.{Result, Ok, Err, OnOk, ap, ◌∙◌, SimFault, ConfirmsExactly, IsHistory, HasPlainHistory}
+use Rattle.tc_link.proofs.Common.{IsConfig, IsPromised, IsPromisedOf, AllReadable, IsReached, SimState, sim_run}
+use Rattle.tc_link.proofs.Common.{new_world, world_run, IsClean, IsIdle, directive_of, IsChecking, HasNoFalseAlarm}
+use Rattle.tc_link.proofs.Common.{TcFault, On, SegmentView, BodyView, Ad, Bd, Bc, Verdict, Accepted, TmFault, clcw_step}
+use Rattle.tc_link.proofs.Common.{GroundState, SpacecraftState, SpacecraftOutcome, frame_outcome, body_outcome}
+use Rattle.tc_link.proofs.Common.{sequence_outcome, bypass_outcome, verdict_of, is_free, is_kept, limits_of}
+use Rattle.tc_link.proofs.Common.{is_own_frame, telemetry_outcome, FarmState, FarmEvent, AdArrives, farm_step}
+use Rattle.tc_link.proofs.Common.{after_verdict, after_report, acknowledging, length-take-le, length-map}
+use Rattle.tc_link.proofs.Common.{segment_octets, IsNear, number_of, numbered, PlainLink, PlainRun, AtMostOneStep}
+use Rattle.tc_link.proofs.Common.{new_link, more, KeepsSession, accepted, Option, CopFault, Alert, InitWithoutCheck}
+use Rattle.tc_link.proofs.Common.{InitWithCheck, InitUnlock, InitSetVr, directive_step, FopState, FopOutcome, begun}
+use Rattle.tc_link.proofs.Common.{obeyed, is_initiation, directive_outcome, closed_is, obeying}
 use Rattle.std.proofs.Common.{OnErr}
 use Rattle.std.proofs.lemmas.List.{take_more}
+use Rattle.tc_frame.specs.Layout.{FrameView}
+use Rattle.tc_frame.specs.Decoding as command
+use Rattle.clcw.specs.Decoding.{clcw_at}
+use Rattle.clcw.specs.declared.fault.ClcwFault.{ClcwFault}
+use Rattle.tm_link.specs.Extractor.{ExtractorState, new_extractor, extract_step}
+use Rattle.tm_link.specs.Layout as telemetry
+use Rattle.tm_link.specs.Decoding as telemetry_reading
+use Rattle.cop1.specs.declared.farm.Verdict.TheVariants.{Behind, Discarded}
+use Rattle.nodes.specs.Spacecraft.{after_farm, restarted_spacecraft}
+use Rattle.nodes.specs.Ground.{GroundOutcome, report_outcome, is_own_telemetry, new_ground, ground_take_telemetry}
+use Rattle.nodes.specs.declared.heard.HeardClcw.{HeardClcw}
+use Rattle.nodes.specs.declared.heard.Heard.{Heard}
+use Rattle.nodes.specs.declared.received.Received.{Received}
+use Rattle.nodes.specs.declared.spacecraft.KeptNumbers.{KeptNumbers}
+use Rattle.simulated_link.specs.World.{Session}
+use Rattle.tc_link.specs.Accepted.{SaysHowMany, SaysWhatWasAccepted}
+use Rattle.tc_link.specs.InTransit.{values_down}
 use Rattle.tc_link.specs.Promises.{HoldsAt, HoldsThroughout}
-use Rattle.tc_link.proofs.Accepted.{says_what_was_accepted}
-use Rattle.tc_link.proofs.Readable.{all_readable}
-use Rattle.tc_link.proofs.InOrder.{is_in_order, has_plain_history}
-use Rattle.tc_link.proofs.Invariant.{Holding, reached_holds}
-use Rattle.tc_link.proofs.Known.{moves_with_records}
-use Rattle.tc_link.proofs.Submissions.{all_push}
-use Rattle.tc_link.proofs.Locks.{has_no_false_alarm, confirms_exactly}
-use Rattle.tc_link.proofs.History.{goes_on_by_a_step}
-use Rattle.tc_link.proofs.InTransit.{keeps_to_window, is_confirmed_exactly}
-use Rattle.tc_link.proofs.Whole.{delivers_whole}
+use Rattle.tc_link.specs.AnyPast.{LinkStep, Happens, TakeTelemetry, Receives, Hears, HearsReport, ForgetTelemetry}
+use Rattle.tc_link.specs.AnyPast.{NewGround, NewSpacecraft, AreNumbers, IsLinkStep, with_nodes, received, heard}
+use Rattle.tc_link.specs.AnyPast.{EachGoesOnAsKept, heard_word, link_step, link_run, ReportsDoAsFrames, HasAnyPast}
+use Rattle.tc_link.specs.AnyPast.{HoldsAfterAnyPast, RunsAsEvents}
+use Rattle.tc_link.specs.OneLink.{HistoriesAre, HasOneLink, IsUnsent, EachHasOneLink, EachGoesOnAsOne}
+use Rattle.tc_link.specs.PlainLink.{PlainStep, none}
+use Rattle.tc_link.specs.CountsOn.{SetsNone, CountsFrom, KeepsWhatIsKnown}
+use Rattle.tc_link.specs.Known.{MovesWithRecords}
+use Rattle.tc_link.proofs.IdleStart.{InSession}
+use Rattle.tc_link.proofs.InOrder.{is_history, unsettled, ends_as, said_is, were_accepted, accepted_length, settled_as}
+use Rattle.tc_link.proofs.InOrder.{is_in_order, has_plain_history, delivers_whole}
+use Rattle.tc_link.proofs.Invariant.{late_step, Holding, reached_holds, moves_with_records, new_holds, step_holds}
+use Rattle.tc_link.proofs.Invariant.{idle_goes, with_same, octet, began_at, begun_session}
+use Rattle.tc_link.proofs.Linked.{Next, In, kept_of, DownIs, rises_to, beside, run_to}
+use Rattle.tc_link.proofs.Sound.{step_sound, Sound, all_push, refilled_so, report_so, sequence_so, bypass_so, body_so}
+use Rattle.tc_link.proofs.Sound.{new_sound, GroundNodeSteady, SpacecraftSteady}
+use Rattle.tc_link.proofs.Readable.{accepts_no_more, all_readable, GroundFits, with_fits, heard_fits}
+use Rattle.tc_link.proofs.Locks.{reports_of, has_no_false_alarm, confirms_exactly, keeps_to_window}
+use Rattle.tc_link.proofs.Locks.{is_confirmed_exactly}
+use Rattle.tc_link.proofs.Upward.{eases_keep, bypass_eases}
+use Rattle.tc_link.proofs.Downward.{apart, words_apart, words_say}
+
+-- An event takes the run of a settled session's plain link on by at most one step.
+
+pub goes_on_by_a_step : (c : Config) (w : World) (k : Sound c w) (s : InSession c w) (e : Event) → IsEvent e
+    → IsSettled w → BeginsNoSession w e → GoesOnByAStep w (world_step w e).after
+goes_on_by_a_step c w k s e fits settled goes = elim s.session [
+  | inl g ↦ absurd (unsettled c s.directive s.base w g settled)
+  | inr g ↦ (
+      let new : World = (world_step w e).after in
+      let next : Next false c s.directive s.base g.plain new =
+      late_step c s.directive s.base w k g e fits goes in
+      record {
+        base = s.base;
+        before = g.plain;
+        ran = g.ran;
+        was = is_history false c s.directive s.base w g k;
+        after = next.plain;
+        step = next.ran;
+        is = is_history false c s.directive s.base new next (step_sound c w k e fits);
+      })
+]
+
+-- What the reports on their way say of the segments that are not acknowledged.
+
+-- each value between what is acknowledged and what was accepted
+each_value : (P : ℕ → Type 0) (base a r low : ℕ)
+    → ((value v : ℕ) → value ≡ (base + v) % 256 → a ≤ v → v ≤ r → P value) → (rs : List Clcw) (vs : List ℕ)
+    → a ≤ low → DownIs base rs vs → Rises low vs r → AllByRecursion P (map (λ (r : Clcw). r.value) rs)
+each_value P base a r low each [] [] above down up = tt
+each_value P base a r low each [] (v ∷ vs) above down up = elim down [ ]
+each_value P base a r low each (c ∷ cs) [] above down up = elim down [ ]
+each_value P base a r low each (c ∷ cs) (v ∷ vs) above down up =
+    let high : v ≤ r = rises_to v r vs up.1 in (
+      each c.value v down.0 (omega (arith, above, up.0)) high,
+      each_value P base a r v each cs vs (omega (arith, above, up.0)) down.1 up.1,
+    )
+
+module _ (c : Config) (w : World) (k : Sound c w) (early : Bool) (d : Directive) (base : ℕ) (g : In early c d base w)
+  where
+    half_most : c.width / 2 ≤ 127
+    half_most = omega (arith, k.ranges.width)
+
+    were : (i : ℕ) → g.plain.a + i ≤ g.plain.r → WereAccepted w i
+    were = were_accepted early c d base w g k
+
+    -- where V(S) is NN(R) it says so of none
+    none_said : w.ground_node.fop.vs ≡ w.ground_node.fop.nn → (value : ℕ) → SaysHowMany w value
+    none_said one value =
+        let s = w.ground_node.fop in (
+          0,
+          cond_both (s.vs == s.nn) (Some 0) _ (λ o. o ≡ Some 0) (λ t. refl) (λ t. absurd (eqb-false _ _ t one)),
+          were 0 (omega (arith, g.linked.a_r)),
+        )
+
+    how_many : (value v : ℕ) → value ≡ (base + v) % 256 → g.plain.a ≤ v → v ≤ g.plain.r → SaysHowMany w value
+    how_many value v is low high = elim (kept_of (is_closed w.ground_node.fop.state) _ _ _ _ _ _ _ _ g.linked.held) [
+      | inl both ↦ (
+        v - g.plain.a,
+        said_is early c d base w g half_most both value v is low high,
+        were (v - g.plain.a) (omega (arith, low, high)),
+      )
+      | inr one ↦ none_said one value
+    ]
+
+    each_down : IsSettled w → AllByRecursion (SaysHowMany w) (values_down w)
+    each_down settled =
+        let l = g.linked in
+        let down_is = (settled_as early c d base w g settled).down_is in
+        subst (λ (rs : List Clcw). AllByRecursion (SaysHowMany w) (map (λ (r : Clcw). r.value) rs))
+        (sym (reports_of c w g.reports k.ground_node.config l.reporting)) (each_value (SaysHowMany w) base g.plain.a
+        g.plain.r g.plain.a how_many g.reports g.plain.down (omega arith) down_is l.rises)
+
+    says : SaysWhatWasAccepted w
+    says =
+        let l = g.linked in
+        record {
+          each = each_down;
+          now = λ settled still. (
+            g.plain.r - g.plain.a,
+            said_is early c d base w g half_most (ends_as early c d base w g still) w.spacecraft.farm.vr
+                g.plain.r (settled_as early c d base w g settled).vr_is l.a_r (omega arith),
+            omega (arith, accepted_length early c d base w g k, l.acked_is, l.a_r),
+          );
+          no_more = accepts_no_more c w k;
+        }
+
+pub says_what_was_accepted : (c : Config) (w : World) → Sound c w → InSession c w → SaysWhatWasAccepted w
+says_what_was_accepted c w k s =
+    elim s.session [ inl g ↦ says c w k true s.directive s.base g | inr g ↦ says c w k false s.directive s.base g ]
+
+-- What a world that a run leads to promises.
 
 module _ (c : Config) (w : World) (h : Holding c w) where
   readable_so : AllReadable w
@@ -156,3 +285,492 @@ pub one_more : (events : List Event) (i : ℕ) (d : Event) → i < length events
 one_more events i d lt all is =
     subst (AllByRecursion IsEvent) (sym (take_more events i d lt))
     (all_push IsEvent (take i events) (get_or events i d) all is)
+
+-- Whatever came before, the world is sound, and so is a session that had an idle start.
+
+-- ---- the session goes on
+
+-- with another extractor, and other packets of telemetry
+abbrev with_telemetry : World → ExtractorState → List (List ℕ) → World
+with_telemetry w extractor packets = record w { ground_node = apart w.ground_node extractor packets }
+
+module _ (c : Config) (w : World) (x : ExtractorState) (packets : List (List ℕ)) where
+  heard_in : (early : Bool) (d : Directive) (base : ℕ) → In early c d base w
+      → In early c d base (with_telemetry w x packets)
+  heard_in early d base g = beside g (with_telemetry w x packets) g.ran (assumption g.linked) g.stage
+
+  heard_session : InSession c w → InSession c (with_telemetry w x packets)
+  heard_session s = record {
+    directive = s.directive;
+    base = s.base;
+    session = elim s.session [
+      | inl g ↦ inl (heard_in true s.directive s.base g)
+      | inr g ↦ inr (heard_in false s.directive s.base g)
+    ];
+  }
+
+  telemetry_holds : Holding c w → Holding c (with_telemetry w x packets)
+  telemetry_holds h = record {
+    sound = record {
+      ranges = h.sound.ranges;
+      ground_node = assumption h.sound.ground_node;
+      spacecraft = h.sound.spacecraft;
+      before = h.sound.before;
+    };
+    reports = h.reports;
+    carried = record {
+      frames = h.carried.frames;
+      carries = h.carried.carries;
+      fits = record { sent = h.carried.fits.sent; unsent = h.carried.fits.unsent };
+    };
+    clean = h.clean;
+    session = λ is. heard_session (h.session is);
+  }
+
+-- where a Type-BD frame arrived
+module _ (c : Config) (w : World) (h : Holding c w) (u : SegmentView) (kept : Bool) where
+  abbrev bypassed : World
+  bypassed = record w { spacecraft = (bypass_outcome w.spacecraft u kept).after }
+
+  same_accepted : (kept : Bool) → (bypass_outcome w.spacecraft u kept).after.accepted ≡ w.spacecraft.accepted
+  same_accepted true = refl
+  same_accepted false = refl
+
+  bypassed_in : (early : Bool) (d : Directive) (base : ℕ) → In early c d base w → In early c d base bypassed
+  bypassed_in early d base g =
+      run_to g (eases_keep early c d base w h.sound g (bypass_outcome w.spacecraft u kept).after (same_accepted kept)
+      (bypass_eases d base g.front w.spacecraft u kept))
+
+  bypassed_session : InSession c w → InSession c bypassed
+  bypassed_session s = record {
+    directive = s.directive;
+    base = s.base;
+    session = elim s.session [
+      | inl g ↦ inl (bypassed_in true s.directive s.base g)
+      | inr g ↦ inr (bypassed_in false s.directive s.base g)
+    ];
+  }
+
+  bypassed_holds : Holding c bypassed
+  bypassed_holds = record {
+    sound = record {
+      ranges = h.sound.ranges;
+      ground_node = h.sound.ground_node;
+      spacecraft = (bypass_so c w.spacecraft h.sound.spacecraft u kept).steady;
+      before = rw (same_accepted kept) h.sound.before;
+    };
+    reports = h.reports;
+    carried = record { frames = h.carried.frames; carries = h.carried.carries; fits = h.carried.fits };
+    clean = h.clean;
+    session = λ is. bypassed_session (h.session is);
+  }
+
+-- ---- each step
+
+module _ (c : Config) (w : World) (h : Holding c w) where
+  take_holds : (packets : List (List ℕ))
+      → Holding c (record w { ground_node = (ground_take_telemetry w.ground_node packets).after })
+  take_holds [] = h
+  take_holds (packet ∷ left) = telemetry_holds c w w.ground_node.extractor left h
+
+  -- no session goes on with these nodes
+  nodes_hold : (ground_node : GroundState) (spacecraft : SpacecraftState) → GroundNodeSteady c ground_node
+      → GroundFits ground_node → SpacecraftSteady c spacecraft → Holding c (with_nodes w ground_node spacecraft)
+  nodes_hold ground_node spacecraft steady fits board = record {
+    sound = record { ranges = h.sound.ranges; ground_node = steady; spacecraft = board; before = omega arith };
+    reports = h.reports;
+    carried = record { frames = h.carried.frames; carries = h.carried.carries; fits = fits };
+    clean = λ is. absurd cc;
+    session = λ is. absurd cc;
+  }
+
+  -- ---- the spacecraft receives octets
+
+  abbrev Receives_well : SpacecraftOutcome Received → Type 0
+  Receives_well o = Holding c (received w o)
+
+  board_holds : (after : SpacecraftState) → SpacecraftSteady c after → Holding c (with_nodes w w.ground_node after)
+  board_holds after steady = nodes_hold w.ground_node after h.sound.ground_node h.carried.fits steady
+
+  -- the receiver leaves the frame, and is as it was
+  left_holds : (e : FarmEvent) → farm_step w.spacecraft.farm e ≡ w.spacecraft.farm
+      → Holding c (record w { spacecraft = after_farm w.spacecraft e })
+  left_holds e same =
+      subst (λ (farm : FarmState). Holding c (record w { spacecraft = record w.spacecraft { farm = farm } }))
+      (sym same) h
+
+  sequence_holds : (n : ℕ) (u : SegmentView) (v : Verdict) → verdict_of w.spacecraft.farm n (is_free w.spacecraft) ≡ v
+      → Receives_well (sequence_outcome w.spacecraft n u v)
+  sequence_holds n u Behind is =
+      left_holds (AdArrives n (is_free w.spacecraft)) (ap (after_verdict w.spacecraft.farm) is)
+  sequence_holds n u Discarded is =
+      left_holds (AdArrives n (is_free w.spacecraft)) (ap (after_verdict w.spacecraft.farm) is)
+  sequence_holds n u Accepted is = board_holds _ (sequence_so c w.spacecraft h.sound.spacecraft n u Accepted).steady
+  sequence_holds n u v is = board_holds _ (sequence_so c w.spacecraft h.sound.spacecraft n u v).steady
+
+  bypass_holds : (u : SegmentView) (kept : Bool) → Receives_well (bypass_outcome w.spacecraft u kept)
+  bypass_holds u true = bypassed_holds c w h u true
+  bypass_holds u false = bypassed_holds c w h u false
+
+  body_holds : (f : BodyView) → Receives_well (body_outcome w.spacecraft f)
+  body_holds (Ad n u) = sequence_holds n u (verdict_of w.spacecraft.farm n (is_free w.spacecraft)) refl
+  body_holds (Bd u) = bypass_holds u (is_kept (limits_of w.spacecraft.config) u)
+  body_holds (Bc command) = board_holds _ (body_so c w.spacecraft h.sound.spacecraft (Bc command)).steady
+
+  received_holds : (r : Result FrameView TcFault) → Receives_well (frame_outcome w.spacecraft r)
+  received_holds (Err fault) = h
+  received_holds (Ok frame) =
+      cond_both (is_own_frame w.spacecraft.config frame) (body_outcome w.spacecraft frame.body) _ Receives_well
+      (λ t. body_holds frame.body) (λ t. h)
+
+  -- ---- the ground hears octets
+
+  abbrev Hears_well : GroundOutcome Heard → Type 0
+  Hears_well o = Holding c (heard w o)
+
+  -- ---- a report, beside such telemetry
+
+  used_holds : (x : ExtractorState) (packets : List (List ℕ)) (report : Clcw) → Holding c
+      (with_nodes w (after_report (apart w.ground_node x packets) (clcw_step w.ground_node.fop report).after)
+      w.spacecraft)
+  used_holds x packets report =
+      let s : GroundState = w.ground_node in
+      let k = h.sound.ground_node in
+      let f : FopState SegmentView = (clcw_step s.fop report).after in
+      let t : GroundState = acknowledging (apart s x packets) f in
+      nodes_hold _ w.spacecraft (refilled_so c (record t { fop = f }) k.config (report_so c s.fop k.fop report))
+      (with_fits t f (heard_fits s.fop s.pending h.carried.fits report))
+      h.sound.spacecraft
+
+  word_holds : (x : ExtractorState) (packets : List (List ℕ)) (r : Result Clcw ClcwFault)
+      → Holding c (heard_word w (report_outcome (apart w.ground_node x packets) r))
+  word_holds x packets (Err fault) = telemetry_holds c w x packets h
+  word_holds x packets (Ok report) =
+      cond_both (report.vcid == w.ground_node.config.vcid) _ _
+      (λ (o : GroundOutcome HeardClcw). Holding c (heard_word w o)) (λ t. used_holds x packets report)
+      (λ t. telemetry_holds c w x packets h)
+
+  heard_holds : (r : Result telemetry.FrameView TmFault) → Hears_well (telemetry_outcome w.ground_node r)
+  heard_holds (Err fault) = h
+  heard_holds (Ok frame) =
+      cond_both (is_own_telemetry w.ground_node.config frame) _ _ Hears_well
+      (λ t. word_holds (extract_step w.ground_node.extractor frame).after _ (clcw_at frame.ocf)) (λ t. h)
+
+  -- ---- a node is new
+
+  new_ground_steady : GroundNodeSteady c (new_ground w.ground_node.config)
+  new_ground_steady = rw h.sound.ground_node.config (new_sound c h.sound.ranges).ground_node
+
+  restarted_steady : (kept : KeptNumbers) → AreNumbers kept
+      → SpacecraftSteady c (restarted_spacecraft w.spacecraft.config kept)
+  restarted_steady kept numbers = rw h.sound.spacecraft.config (record {
+    config = refl;
+    farm = record { width = refl; farm_b = numbers.farm_b; flags = record { asks = λ t. absurd cc; state = refl } };
+    builder = record { scid = refl; vcid = refl; total = refl };
+    idle_left = omega arith;
+  })
+
+  pub link_step_holds : (s : LinkStep) → IsLinkStep s → Holding c (link_step w s)
+  link_step_holds (Happens event) fits = step_holds c w h event fits
+  link_step_holds TakeTelemetry fits = take_holds w.ground_node.telemetry
+  link_step_holds (Receives octets) fits = received_holds (command.frame_at On octets)
+  link_step_holds (Hears octets) fits =
+      heard_holds (telemetry_reading.frame_at w.ground_node.config.frame_length octets)
+  link_step_holds (HearsReport octets) fits =
+      word_holds w.ground_node.extractor w.ground_node.telemetry (clcw_at octets)
+  link_step_holds ForgetTelemetry fits = telemetry_holds c w new_extractor w.ground_node.telemetry h
+  link_step_holds NewGround fits =
+      nodes_hold (new_ground w.ground_node.config) w.spacecraft new_ground_steady
+      (record { sent = λ running. tt; unsent = λ running. tt }) h.sound.spacecraft
+  link_step_holds (NewSpacecraft kept) fits =
+      board_holds (restarted_spacecraft w.spacecraft.config kept) (restarted_steady kept fits)
+
+-- ---- a run
+
+link_run_holds : (c : Config) (steps : List LinkStep) (w : World) → AllByRecursion IsLinkStep steps → Holding c w
+    → Holding c (link_run w steps)
+link_run_holds c [] w fits h = h
+link_run_holds c (s ∷ steps) w fits h =
+    link_run_holds c steps (link_step w s) fits.1 (link_step_holds c w h s fits.0)
+
+pub past_holds : (w : World) → (p : HasAnyPast w) → Holding p.config w
+past_holds w p =
+    subst (Holding p.config) p.led
+    (link_run_holds p.config p.steps (new_world p.config) p.numbers (new_holds p.config p.ranges))
+
+pub holds_after_any_past : HoldsAfterAnyPast
+holds_after_any_past c steps event ranges all fits =
+    holds_so c (link_run (new_world c) steps)
+    (link_run_holds c steps (new_world c) all (new_holds c ranges)) event fits
+
+events_run : (w : World) (events : List Event) → link_run w (map (λ event. Happens event) events) ≡ world_run w events
+events_run w [] = refl
+events_run w (e ∷ es) = events_run (world_step w e).after es
+
+pub runs_as_events : RunsAsEvents
+runs_as_events c events = events_run (new_world c) events
+
+pub each_goes_on_as_kept : EachGoesOnAsKept
+each_goes_on_as_kept s = record { mc_count = refl; vc_count = refl; value = refl; farm_b = refl }
+
+pub reports_do_as_frames : ReportsDoAsFrames
+reports_do_as_frames w past =
+    let h = past_holds w past in
+    record {
+      after = words_apart past.config w h.sound h.reports;
+      answer = words_say past.config w h.sound h.reports;
+    }
+
+-- The plain link of a session is one link, since the records and what is on its way leave no choice.
+
+-- ---- what is on its way
+
+-- the pairs on their way up lie less than 256 apart
+up_is_one : (b c h : ℕ) (p q : PlainLink) → b % 256 ≡ c % 256 → p.r ≡ q.r → p.n ≡ q.n → p.n ≤ p.r + h → h ≤ 127
+    → (xs ys : List (ℕ × SegmentView)) → map (numbered b) xs ≡ map (numbered c) ys
+    → AllByRecursion (IsNear p h) xs → AllByRecursion (IsNear q h) ys → xs ≡ ys
+up_is_one b c h p q base r n most small [] [] is near_x near_y = refl
+up_is_one b c h p q base r n most small [] (y ∷ ys) is near_x near_y = absurd cc
+up_is_one b c h p q base r n most small (x ∷ xs) [] is near_x near_y = absurd cc
+up_is_one b c h p q base r n most small (x ∷ xs) (y ∷ ys) is near_x near_y =
+    let first : numbered b x ≡ numbered c y = cc in
+    let rest : map (numbered b) xs ≡ map (numbered c) ys = cc in
+    let number : (b + x.0) % 256 ≡ (c + y.0) % 256 = ap (λ (t : ℕ × SegmentView). t.0) first in
+    let place : x.0 ≡ y.0 = omega (arith, number, base, r, n, most, small, near_x.0, near_y.0) in
+    let unit : x.1 ≡ y.1 = ap (λ (t : ℕ × SegmentView). t.1) first in
+    ap (λ (i : ℕ). (i, x.1) ∷ xs) place
+    ∙ ap (λ (u : SegmentView). (y.0, u) ∷ xs) unit
+    ∙ ap (λ (zs : List (ℕ × SegmentView)). y ∷ zs)
+    (up_is_one b c h p q base r n most small xs ys rest near_x.1 near_y.1)
+
+-- and so do the numbers on their way down
+down_is_one : (b c a high low least : ℕ) → b % 256 ≡ c % 256 → high ≤ a + 127 → a ≤ low → a ≤ least
+    → (vs us : List ℕ) → map (number_of b) vs ≡ map (number_of c) us → Rises low vs high → Rises least us high → vs ≡ us
+down_is_one b c a high low least base small above over [] [] is up rises = refl
+down_is_one b c a high low least base small above over [] (u ∷ us) is up rises = absurd cc
+down_is_one b c a high low least base small above over (v ∷ vs) [] is up rises = absurd cc
+down_is_one b c a high low least base small above over (v ∷ vs) (u ∷ us) is up rises =
+    let first : (b + v) % 256 ≡ (c + u) % 256 = cc in
+    let rest : map (number_of b) vs ≡ map (number_of c) us = cc in
+    let most_v : v ≤ high = rises_to v high vs up.1 in
+    let most_u : u ≤ high = rises_to u high us rises.1 in
+    let one : v ≡ u = omega (arith, first, base, small, above, over, up.0, rises.0, most_v, most_u) in
+    ap (λ (x : ℕ). x ∷ vs) one
+    ∙ ap (λ (xs : List ℕ). u ∷ xs) (down_is_one b c a high v u base small (omega (arith, above, up.0))
+    (omega (arith, over, rises.0)) vs us rest up.1 rises.1)
+
+none_near : (p : PlainLink) (h : ℕ) → p.n ≡ 0 → (xs : List (ℕ × SegmentView)) → AllByRecursion (IsNear p h) xs → xs ≡ []
+none_near p h n [] near = refl
+none_near p h n (x ∷ xs) near = absurd (omega (arith, n, near.0.0))
+
+all_zero : (vs : List ℕ) (low : ℕ) → Rises low vs 0 → AllByRecursion (λ v. v ≡ 0) vs
+all_zero [] low up = tt
+all_zero (v ∷ vs) low up = (omega (arith, rises_to v 0 vs up.1), all_zero vs v up.1)
+
+-- ---- in all worlds
+
+module _ (w : World) (b : ℕ) (p : PlainLink) (h : IsHistory w b p) where
+  pub sent_count : length w.session.sent ≡ p.n
+  sent_count =
+      ap length h.sent ∙ length-map (take p.n p.units) segment_octets ∙ length-take-le p.n p.units h.order.2
+
+  pub accepted_count : length (accepted w) ≡ p.r
+  accepted_count =
+      ap length h.accepted_so
+      ∙ length-map (take p.r p.units) segment_octets
+      ∙ length-take-le p.r p.units (omega (arith, h.order.1, h.order.2))
+
+  unsent : w.session.sent ≡ [] → IsUnsent p
+  unsent nothing =
+      let n : p.n ≡ 0 = sym sent_count ∙ ap length nothing in
+      let r : p.r ≡ 0 = omega (arith, n, h.order.1) in
+      record {
+        a = omega (arith, r, h.order.0);
+        r = r;
+        n = n;
+        up = none_near p (w.ground_node.config.width / 2) n p.up h.near;
+        down = all_zero p.down p.a (subst (Rises p.a p.down) r h.rises);
+      }
+
+link_is : (p q : PlainLink) → p.units ≡ q.units → p.a ≡ q.a → p.r ≡ q.r → p.n ≡ q.n → p.up ≡ q.up → p.down ≡ q.down
+    → p ≡ q
+link_is p q units a r n up down =
+    ap (λ (x : List SegmentView). record p { units = x }) units
+    ∙ ap (λ (x : ℕ). record p { units = q.units; a = x }) a
+    ∙ ap (λ (x : ℕ). record p { units = q.units; a = q.a; r = x }) r
+    ∙ ap (λ (x : ℕ). record p { units = q.units; a = q.a; r = q.r; n = x }) n
+    ∙ ap (λ (x : List (ℕ × SegmentView)). record q { up = x; down = p.down }) up
+    ∙ ap (λ (x : List ℕ). record q { down = x }) down
+
+one_link : (w : World) → IsConfig w.ground_node.config → HasOneLink w
+one_link w ranges settled b c p q h k =
+    let small : w.ground_node.config.width / 2 ≤ 127 = omega (arith, ranges.width) in
+    let a : p.a ≡ q.a = sym h.acknowledged ∙ k.acknowledged in
+    let r : p.r ≡ q.r = sym (accepted_count w b p h) ∙ accepted_count w c q k in
+    let n : p.n ≡ q.n = sym (sent_count w b p h) ∙ sent_count w c q k in
+    let both : (b + p.r) % 256 ≡ (c + q.r) % 256 = sym (h.vr settled) ∙ k.vr settled in
+    let base : b % 256 ≡ c % 256 = omega (arith, both, r) in
+    let most : p.n ≤ p.r + w.ground_node.config.width / 2 = omega (arith, h.order.0, h.window) in
+    let up : p.up ≡ q.up =
+    up_is_one b c (w.ground_node.config.width / 2) p q base r n most small p.up q.up (sym h.up ∙ k.up) h.near k.near in
+    let high : p.r ≤ p.a + 127 = omega (arith, h.order.1, h.window, small) in
+    let rises : Rises q.a q.down p.r = subst (Rises q.a q.down) (sym r) k.rises in
+    let down : p.down ≡ q.down =
+    down_is_one b c p.a p.r p.a q.a base high (omega arith) (omega (arith, a)) p.down q.down
+    (sym (h.down settled) ∙ k.down settled) h.rises rises in
+    (link_is p q (h.units ∙ sym k.units) a r n up down, base)
+
+pub each_has_one_link : EachHasOneLink
+each_has_one_link w ranges = (one_link w ranges, λ nothing base plain h. unsent w base plain h nothing)
+
+-- ---- from one moment to the next
+
+-- a settled session stays so
+pub settled_goes : (c : Config) (w : World) (k : Sound c w) (s : InSession c w) (e : Event) → IsEvent e → IsSettled w
+    → BeginsNoSession w e → IsSettled (world_step w e).after
+settled_goes c w k s e fits settled goes = elim s.session [
+  | inl g ↦ absurd (unsettled c s.directive s.base w g settled)
+  | inr g ↦ (
+      let next = late_step c s.directive s.base w k g e fits goes in
+      elim settled [
+        | inl confirmed ↦ inl (next.stage.confirmed_is (g.stage.confirmed_so confirmed))
+        | inr without ↦ inr (next.linked.opened ∙ sym g.linked.opened ∙ without)
+      ])
+]
+
+one_in : (c : Config) (w : World) → Sound c w → HasOneLink w
+one_in c w k = one_link w (subst IsConfig (sym k.ground_node.config) k.ranges)
+
+after_step : (p q s : PlainLink) → PlainStep p q → PlainRun q s → PlainRun p s
+after_step p q s step none = more none step
+after_step p q s step (more ran last) = more (after_step p q _ step ran) last
+
+on_by : (p q s : PlainLink) → AtMostOneStep p q → PlainRun q s → PlainRun p s
+on_by p q s (inl same) ran = subst (λ (x : PlainLink). PlainRun x s) same ran
+on_by p q s (inr step) ran = after_step p q s step ran
+
+module _ (c : Config) where
+  steps : (w : World) → Holding c w → IsIdle w → IsSettled w → (e : Event) → IsEvent e → BeginsNoSession w e
+      → HistoriesAre AtMostOneStep w (world_step w e).after
+  steps w h idle settled e fits goes b d p q was is =
+      let s = h.session idle in
+      let t : GoesOnByAStep w (world_step w e).after = goes_on_by_a_step c w h.sound s e fits settled goes in
+      let after = settled_goes c w h.sound s e fits settled goes in
+      let old = one_in c w h.sound settled t.base b t.before p t.was was in
+      let new = one_in c (world_step w e).after (step_holds c w h e fits).sound after t.base d t.after q t.is is in
+      let step : AtMostOneStep p t.after = subst (λ (x : PlainLink). AtMostOneStep x t.after) old.0 t.step in
+      (subst (AtMostOneStep p) new.0 step, sym old.1 ∙ new.1)
+
+  runs : (w : World) → Holding c w → IsIdle w → IsSettled w → (es : List Event) → AllByRecursion IsEvent es
+      → KeepsSession w es → HistoriesAre PlainRun w (world_run w es)
+  runs w h idle settled [] fits keeps b d p q was is =
+      let one = one_in c w h.sound settled b d p q was is in
+      (subst (PlainRun p) one.0 none, one.1)
+  runs w h idle settled (e ∷ es) fits keeps b d p q was is =
+      let new : World = (world_step w e).after in
+      let holds = step_holds c w h e fits.0 in
+      let started = idle_goes w e idle keeps.0 in
+      let after = settled_goes c w h.sound (h.session idle) e fits.0 settled keeps.0 in
+      let t : HasPlainHistory new = has_plain_history c new holds.sound (holds.session started) in
+      let step = steps w h idle settled e fits.0 keeps.0 b t.base p t.plain was t.is in
+      let rest = runs new holds started after es fits.1 keeps.1 t.base d t.plain q t.is is in
+      (on_by p t.plain q step.0 rest.0, step.1 ∙ rest.1)
+
+  ran : (w : World) → Holding c w → IsIdle w → IsSettled w → (b : ℕ) (p : PlainLink) → IsHistory w b p
+      → PlainRun new_link p
+  ran w h idle settled b p is =
+      let t : HasPlainHistory w = has_plain_history c w h.sound (h.session idle) in
+      subst (PlainRun new_link) (one_in c w h.sound settled t.base b t.plain p t.is is).0 t.ran
+
+pub each_goes_on_as_one : EachGoesOnAsOne
+each_goes_on_as_one w r idle settled =
+    let h = past_holds w r in
+    record {
+      ran = ran r.config w h idle settled;
+      steps = steps r.config w h idle settled;
+      runs = runs r.config w h idle settled;
+    }
+
+-- V(S) and NN(R) count on from the beginning of a session.
+
+-- an initiation sets NN(R) to V(S)
+begun_equal : (f : FopState SegmentView) (d : Directive) → is_initiation d ≡ true → (begun f d).nn ≡ (begun f d).vs
+begun_equal f InitWithoutCheck is = refl
+begun_equal f InitWithCheck is = refl
+begun_equal f InitUnlock is = refl
+begun_equal f (InitSetVr x) is = refl
+begun_equal f _ is = absurd cc
+
+module _ (w : World) where
+  abbrev StartsEqual : Directive → FopOutcome SegmentView (Result (Option Alert) CopFault) → Type 0
+  StartsEqual d o = is_initiation d ≡ true → is_closed w.ground_node.fop.state ≡ true
+      → (directive_outcome w.ground_node d o).after.fop.nn ≡ (directive_outcome w.ground_node d o).after.fop.vs
+
+  starts_equal : (d : Directive) → StartsEqual d (directive_step w.ground_node.fop d)
+  starts_equal =
+      let s = w.ground_node.fop in
+      obeyed s StartsEqual (record {
+        refused = λ d fault on is off. absurd (on is (closed_is s.state off));
+        begins = λ d is off so closed.
+            let same = with_same (obeying w.ground_node d) (begun s d) in same.1 ∙ begun_equal s d is ∙ sym same.0;
+        terminated = λ is off. absurd cc;
+        numbers = λ x same is off. absurd cc;
+        sets = λ d k n ticks plain most is off. absurd (cc (plain, is));
+      })
+
+-- V(S) and NN(R) count on
+record Counts (base : ℕ) (w : World) : Type 0 where
+  vs : w.ground_node.fop.vs ≡ (base + length w.session.sent) % 256
+  nn : w.ground_node.fop.nn ≡ (base + w.session.acknowledged) % 256
+
+counts_on : (base : ℕ) (old new : World) → Counts base old → MovesWithRecords old new
+    → new.ground_node.fop.vs < 256 → new.ground_node.fop.nn < 256 → Counts base new
+counts_on base old new t moves vs nn = record {
+  vs = omega (arith, t.vs, moves.vs, vs);
+  nn = omega (arith, t.nn, moves.nn, nn);
+}
+
+module _ (c : Config) (base : ℕ) where
+  -- as many as were sent and are not acknowledged are fewer than 256
+  all_of : (w : World) (h : Holding c w) → IsIdle w → Counts base w → CountsFrom base w
+  all_of w h idle t =
+      let p = has_plain_history c w h.sound (h.session idle) in
+      let n = sent_count w p.base p.plain p.is in
+      let half : w.ground_node.config.width / 2 ≤ 127 =
+      let it : c.width / 2 ≤ 127 = omega (arith, h.sound.ranges.width) in rw h.sound.ground_node.config it in
+      record {
+        vs = t.vs;
+        nn = t.nn;
+        all = λ equal.
+            omega (arith, equal, t.vs, t.nn, n, p.is.acknowledged, p.is.order.0, p.is.order.1, p.is.window, half);
+      }
+
+  count_on : (w : World) → Holding c w → IsIdle w → Counts base w → (es : List Event) → AllByRecursion IsEvent es
+      → KeepsSession w es → SetsNone w es → CountsFrom base (world_run w es)
+  count_on w h idle t [] fits keeps quiet = all_of w h idle t
+  count_on w h idle t (e ∷ es) fits keeps quiet =
+      let new : World = (world_step w e).after in
+      let after = step_holds c w h e fits.0 in
+      let still = idle_goes w e idle keeps.0 in
+      let moved = moves_with_records c w h e fits.0 idle keeps.0 quiet.0 in
+      let octet_nn = octet c new after.sound (after.session still) in
+      count_on new after still (counts_on base w new t moved after.sound.ground_node.fop.vs_octet octet_nn) es fits.1
+      keeps.1 quiet.1
+
+pub keeps_what_is_known : KeepsWhatIsKnown
+keeps_what_is_known w e since r b keeps quiet fits idle =
+    let start : World = (world_step w e).after in
+    let h = step_holds r.config w (past_holds w r) e fits.0 in
+    let f = start.ground_node.fop in
+    let at = began_at w e b in
+    let s = begun_session w e at in
+    let equal =
+    subst (λ (x : World). x.ground_node.fop.nn ≡ x.ground_node.fop.vs) (sym at.is)
+    (starts_equal at.start at.directive at.initiates at.closed) in
+    let small = h.sound.ground_node.fop.vs_octet in
+    let sent : length start.session.sent ≡ 0 = ap (λ (s : Session). length s.sent) s in
+    let acked : start.session.acknowledged ≡ 0 = ap (λ (s : Session). s.acknowledged) s in
+    count_on r.config f.vs start h idle (record {
+      vs = omega (arith, small, sent);
+      nn = omega (arith, small, acked, equal);
+    }) since fits.1 keeps quiet

@@ -1,30 +1,281 @@
--- Each string on its way up is a frame of the ground's, and what the ground holds to be sent fits into frames.
-use Rattle.tc_link.proofs.Common.{◌≡◌, ℕ, ◌+◌, ◌%◌, true, false, Bool, if◌then◌else◌, List, [], ◌∷◌, ◌++◌, length}
-use Rattle.tc_link.proofs.Common.{Result, Ok, Err, refl, sym, subst, ◌∙◌, ◌==◌, ◌||◌, nat_lt, not, AllByRecursion}
-use Rattle.tc_link.proofs.Common.{eqb-true, or_parts, not-false, Clcw, On, SegmentView, BodyView, Ad, Bd, Bc, units_of}
-use Rattle.tc_link.proofs.Common.{PulledUnit, pull_step, FopOutcome, pulled_out, TmFault, Config, FitsFrame, with_fop}
-use Rattle.tc_link.proofs.Common.{frame_of, frame_to_send, submit_fault, bypass_fault, Event, AllReadable, World}
-use Rattle.tc_link.proofs.Common.{WorldOutcome, world_step, world_after_pull}
-use Rattle.tc_frame.specs.Encoding.{spelling}
-use Rattle.tm_link.specs.Decoding.{frame_at, is_length_wrong}
-use Rattle.tc_link.specs.Readable.{IsCommandOf, IsTelemetryOf}
-use Rattle.tc_link.proofs.Common.{active_on}
-use Rattle.tc_link.proofs.FitFrames.{GroundFits, directive_fits, tick_refilled, pull_refilled, submission_fits}
-use Rattle.tc_link.proofs.FitFrames.{bypass_refilled, telemetry_fits, moved}
-use Rattle.simulated_link.proofs.Unchanged.{AtEachLoss, lost, up_arrives, down_arrives}
-use Rattle.tc_link.proofs.Linked.{Carries, Reporting, carries_push}
-use Rattle.tc_link.proofs.Lists.{oldest_stands}
-use Rattle.tc_link.proofs.Spelled.{Goes, reads_back, fits_at}
-use Rattle.tc_link.proofs.ReportsDown.{HasReports}
-use Rattle.tm_link.specs.declared.fault.TmFault.TheVariants as faults
+-- What the ground holds to be sent fits into frames, and each string on its way up is one of these and is read as
+-- such.
+use Rattle.tc_link.proofs.Common.{◌≡◌, ◌≤◌, ℕ, zero, suc, true, List, [], ◌∷◌, length, Some, Ok, refl, subst, arith}
+use Rattle.tc_link.proofs.Common.{slice_get, AllByRecursion, On, Unlock, SetVr, SegmentView, BodyView, Ad, Bd, Bc}
+use Rattle.tc_link.proofs.Common.{Config, IsConfig, FitsFrame, frame_of, Bool, false, ◌++◌, drop, Option, None, Result}
+use Rattle.tc_link.proofs.Common.{option_to_list, ap, sym, ◌∙◌, append_assoc, Clcw, segments_of, ahead_by, CopFault}
+use Rattle.tc_link.proofs.Common.{Alert, Idle, Sent, Directive, InitWithoutCheck, InitWithCheck, InitUnlock, InitSetVr}
+use Rattle.tc_link.proofs.Common.{S1, S2, S3, S6, is_initiation, directive_step, units_of, pull_step}
+use Rattle.tc_link.proofs.Common.{without_oldest_mark, FopState, FopOutcome, clcw_step, report_while_active}
+use Rattle.tc_link.proofs.Common.{after_move_on, retransmits, after_new_value, tick_step, after_count, due_again}
+use Rattle.tc_link.proofs.Common.{after_acknowledge, after_repeat, after_alert, after_stop, after_restart, heard_active}
+use Rattle.tc_link.proofs.Common.{obeyed, begun, pulled_out, ticked, TmFault, Extracted, LinkFault, GroundState}
+use Rattle.tc_link.proofs.Common.{is_closed, unsent_segments, refill_step, with_fop, directive_outcome, submit_fault}
+use Rattle.tc_link.proofs.Common.{after_submission, after_bypass, unless_refused, segments_on, after_extraction}
+use Rattle.tc_link.proofs.Common.{telemetry_outcome, segments_fit, closed_not, active_on, SetVs, obeying, submitting}
+use Rattle.tc_link.proofs.Common.{acknowledging, ClcwFault, ◌+◌, ◌%◌, if◌then◌else◌, Err, ◌==◌, ◌||◌, nat_lt, not}
+use Rattle.tc_link.proofs.Common.{eqb-true, or_parts, not-false, PulledUnit, frame_to_send, bypass_fault, Event}
+use Rattle.tc_link.proofs.Common.{AllReadable, World, WorldOutcome, world_step, world_after_pull, IsEvent, ◌<◌, map}
+use Rattle.tc_link.proofs.Common.{cond_both, TcFault, segment_octets, FopMode, report_in, IsActive, is_to_send, is_kept}
+use Rattle.tc_link.proofs.Common.{PacketOn, limits_of, SpacecraftState, SpacecraftOutcome, frame_outcome, body_outcome}
+use Rattle.tc_link.proofs.Common.{bypass_outcome, is_own_frame, spacecraft_take, spacecraft_take_bypass}
+use Rattle.tc_link.proofs.Common.{spacecraft_telemetry, number_in, in_frame, world_after_directive, BeginsNoSession}
+use Rattle.tc_link.proofs.Common.{accepted, Fates}
+use Rattle.std.proofs.lemmas.Bool.{lt-ltb, le-leb}
+use Rattle.std.specs.Prelude.{flat_map}
+use Rattle.tc_frame.specs.Layout.{body_fits, FrameView}
+use Rattle.tc_frame.specs.Decoding as reading
+use Rattle.tc_frame.specs.Encoding.{frame_fits, spelling, total_of}
+use Rattle.tc_frame.proofs.Spelled.{frame_again, spelling_is}
 use Rattle.tm_link.specs.Layout as telemetry
+use Rattle.tm_link.specs.Decoding.{frame_at, is_length_wrong}
+use Rattle.tm_link.specs.declared.fault.TmFault.TheVariants as faults
+use Rattle.tm_link.specs.Decoding as telemetry_reading
+use Rattle.nodes.specs.Ground.{report_outcome}
 use Rattle.nodes.specs.declared.event.Event.TheVariants as events
-use Rattle.tc_link.proofs.Sound.{Sound}
-use Rattle.tc_link.proofs.Common.{SetVs, InitUnlock, Directive, IsEvent, ◌<◌}
-use Rattle.simulated_link.proofs.Unchanged.{word_arrives, resumes}
 use Rattle.simulated_link.specs.World.{directed}
-use Rattle.tc_link.proofs.FitFrames.{word_fits}
-use Rattle.tc_link.proofs.SteadyWorld.{directive_sound}
+use Rattle.simulated_link.proofs.Counted.{reported, frame_seen, report_seen}
+use Rattle.simulated_link.proofs.Unchanged.{AtEachLoss, lost, up_arrives, down_arrives, word_arrives, resumes}
+use Rattle.simulated_link.proofs.Unchanged.{resumes_not}
+use Rattle.tc_link.specs.Readable.{IsCommandOf, IsTelemetryOf}
+use Rattle.tc_link.specs.Accepted.{AcceptsNoMore}
+use Rattle.tc_link.specs.InTransit.{numbers_up}
+use Rattle.tc_link.proofs.Sound.{taken_is, all_append, GroundNodeSteady, Sound, directive_sound, step_sound}
+use Rattle.tc_link.proofs.Lists.{units-marked, units-drop, units-push, units-without, oldest_stands}
+use Rattle.tc_link.proofs.Refilled.{refilled_keeps}
+use Rattle.tc_link.proofs.Linked.{Carries, Reporting, carries_push}
+use Rattle.tc_link.proofs.IdleStart.{HasReports}
+
+-- What is put on the link is read from it.
+
+-- a body that fits a frame
+abbrev pub Goes : BodyView → Type 0
+Goes (Ad n s) = FitsFrame s
+Goes (Bd s) = FitsFrame s
+Goes (Bc command) = Unit {0}
+
+body_goes : (f : BodyView) → Goes f → body_fits f ≡ true
+body_goes (Ad n s) h = rw (lt-ltb s.header.map 64 h.map, lt-ltb 0 (length s.payload) h.least) refl
+body_goes (Bd s) h = rw (lt-ltb s.header.map 64 h.map, lt-ltb 0 (length s.payload) h.least) refl
+body_goes (Bc Unlock) h = refl
+body_goes (Bc (SetVr x)) h = refl
+
+total_goes : (c : Config) (f : BodyView) → Goes f → total_of On (frame_of c f) ≤ 1024
+total_goes c (Ad n s) h = omega (arith, h.most)
+total_goes c (Bd s) h = omega (arith, h.most)
+total_goes c (Bc Unlock) h = omega arith
+total_goes c (Bc (SetVr x)) h = omega arith
+
+goes_fits : (c : Config) (f : BodyView) → IsConfig c → Goes f → frame_fits On (frame_of c f) ≡ true
+goes_fits c f is h =
+    rw (
+      lt-ltb c.scid 1024 (omega (arith, is.scid)),
+      lt-ltb c.vcid 64 (omega (arith, is.vcid)),
+      body_goes f h,
+      le-leb (total_of On (frame_of c f)) 1024 (total_goes c f h),
+    )
+    refl
+
+pub reads_back : (c : Config) (f : BodyView) → IsConfig c → Goes f
+    → reading.frame_at On (spelling On (frame_of c f)) ≡ Ok (frame_of c f)
+reads_back c f is h =
+    frame_again On (spelling On (frame_of c f)) (frame_of c f) (spelling_is On (frame_of c f) (goes_fits c f is h))
+
+pub fits_at : (units : List SegmentView) (i : ℕ) (u : SegmentView) → AllByRecursion FitsFrame units
+    → slice_get units i ≡ Some u → FitsFrame u
+fits_at [] i u all e = absurd cc
+fits_at (x ∷ xs) zero u all e = let same : x ≡ u = cc in subst FitsFrame same all.0
+fits_at (x ∷ xs) (suc i) u all e = fits_at xs i u all.1 e
+
+-- What the ground holds to be sent fits into frames, at every moment while its sender is on.
+
+abbrev pub All : List SegmentView → Type 0
+All us = AllByRecursion FitsFrame us
+
+all_drop : (k : ℕ) (us : List SegmentView) → All us → All (drop k us)
+all_drop zero us all = all
+all_drop (suc k) [] all = all
+all_drop (suc k) (u ∷ us) all = all_drop k us all.1
+
+pub record Fit (f : FopState SegmentView) (pending : List SegmentView) : Type 0 where
+  pub sent : is_closed f.state ≡ false → All (units_of f.sent)
+  pub unsent : is_closed f.state ≡ false → All (option_to_list f.waiting ++ pending)
+
+module _ (s : FopState SegmentView) (pending : List SegmentView) (k : Fit s pending) where
+  abbrev Fits : {A : Type 0} → FopOutcome SegmentView A → Type 0
+  Fits o = Fit o.after pending
+
+  -- the sender is off
+  off : (f : FopState SegmentView) → f.state ≡ S6 → Fit f pending
+  off f is = record { sent = λ on. closed_not f.state is on; unsent = λ on. closed_not f.state is on }
+
+  -- fewer are in the sent queue, or the same
+  fewer : (f : FopState SegmentView) (n : ℕ) → (is_closed f.state ≡ false → is_closed s.state ≡ false)
+      → units_of f.sent ≡ units_of (drop n s.sent) → f.waiting ≡ s.waiting → Fit f pending
+  fewer f n on sent waiting = record {
+    sent = λ running. subst All (sym (sent ∙ units-drop n s.sent)) (all_drop n (units_of s.sent) (k.sent (on running)));
+    unsent = λ running. rw waiting (k.unsent (on running));
+  }
+
+  same : (f : FopState SegmentView) → (is_closed f.state ≡ false → is_closed s.state ≡ false)
+      → units_of f.sent ≡ units_of s.sent → f.waiting ≡ s.waiting → Fit f pending
+  same f on sent waiting = record {
+    sent = λ running. subst All (sym sent) (k.sent (on running));
+    unsent = λ running. rw waiting (k.unsent (on running));
+  }
+
+  pub as_was : (f : FopState SegmentView) → f.state ≡ s.state → f.sent ≡ s.sent → f.waiting ≡ s.waiting → Fit f pending
+  as_was f state sent waiting = same f (λ running. rw state at running) (ap units_of sent) waiting
+
+  -- ---- a report
+
+  module _ (r : Clcw) (on : is_closed s.state ≡ false) where
+    again : (repeats : Bool) → Fit (retransmits s repeats) pending
+    again true = same (record (after_repeat s) { state = S2 }) (λ t. on) (units-marked s.sent) refl
+    again false = same (record s { state = S2 }) (λ t. on) refl refl
+
+    active : Fits (report_while_active s r)
+    active = heard_active s r (λ o. Fits o) (record {
+      locked = λ t. off (after_alert s) refl;
+      outside = λ t. off (after_alert s) refl;
+      wait_flag = λ none waiting. off (after_alert s) refl;
+      asks_none = λ asking at. off (after_alert s) refl;
+      same = k;
+      ceases = λ none at were. off (after_alert s) refl;
+      moves = λ inside. fewer (after_move_on (after_acknowledge s r.value)) (ahead_by r.value s.nn) (λ t. on) refl refl;
+      others_over = λ inside asking one. off (after_alert (after_new_value s r.value)) refl;
+      others_wait = λ inside asking. fewer (record (after_new_value s r.value) { state = S3 })
+          (ahead_by r.value s.nn) (λ t. on) refl refl;
+      others_again = λ inside asking. fewer (record (after_repeat (after_new_value s r.value)) { state = S2 })
+          (ahead_by r.value s.nn) (λ t. on) (units-marked (drop (ahead_by r.value s.nn) s.sent)) refl;
+      all_over = λ asking one. off (after_alert s) refl;
+      all_wait = λ asking. same (record s { state = S3 }) (λ t. on) refl refl;
+      all_again = λ asking. again;
+    })
+
+  pub heard_fits : (r : Clcw) → Fits (clcw_step s r)
+  heard_fits r = reported s r (λ o. Fits o) (record {
+    active = λ runs. active r (active_on s.state runs);
+    alerted = λ is x cause. off (after_alert s) refl;
+    checked = λ is confirms. same (record s { state = S1; ticks = None }) (λ t. rw is refl) refl refl;
+    commanded = λ is confirms. same (record s { state = S1; ticks = None; control = Idle }) (λ t. rw is refl) refl refl;
+    same = k;
+  })
+
+  -- ---- a tick
+
+  pub tick_fits : Fits (tick_step s)
+  tick_fits = ticked s (λ o. Fits o) (record {
+    off = k;
+    runs = λ left. as_was (record s { ticks = Some left }) refl refl refl;
+    stops = as_was (after_stop s) refl refl refl;
+    repeats = λ active. same (after_repeat (after_stop s)) (λ t. t) (units-marked s.sent) refl;
+    counts = as_was (after_count (after_stop s)) refl refl refl;
+    commands = λ is. as_was (record (after_count (after_stop s)) { control = due_again s.control }) refl refl refl;
+    gives_up = off (after_alert (after_stop s)) refl;
+  })
+
+  -- ---- a pull
+
+  pub moved : (u : SegmentView) → s.waiting ≡ Some u → is_closed s.state ≡ false → FitsFrame u × All pending
+  moved u is on = let all : All (option_to_list (Some u) ++ pending) = rw is at (k.unsent on) in (all.0, all.1)
+
+  pub pull_fits : Fits (pull_step s)
+  pull_fits = pulled_out s (λ o. Fits o) (record {
+    none = k;
+    command = λ command is. as_was (record (after_restart s) { control = Sent command }) refl refl refl;
+    bypass = λ u us is. as_was (record s { bypass = us }) refl refl refl;
+    again = λ active x is. same (record (after_restart s) { sent = without_oldest_mark s.sent }) (λ t. t)
+        (units-without s.sent) refl;
+    first = λ active u is room. record {
+      sent = λ running. subst All (sym (units-push s.sent u))
+          (all_append FitsFrame (units_of s.sent) (u ∷ []) (k.sent running) ((moved u is running).0, tt));
+      unsent = λ running. (moved u is running).1;
+    };
+  })
+
+-- ---- the ground
+
+abbrev pub GroundFits : GroundState → Type 0
+GroundFits s = Fit s.fop s.pending
+
+pub refilled_fits : (s : GroundState) → GroundFits s → GroundFits (refill_step s)
+refilled_fits s k = refilled_keeps GroundFits s (λ waiting pending on off. record {
+  sent = k.sent;
+  unsent = λ running. subst All (sym (on running)) (k.unsent running);
+})
+
+pub with_fits : (s : GroundState) (f : FopState SegmentView) → Fit f s.pending → GroundFits (with_fop s f)
+with_fits s f k = refilled_fits (record s { fop = f }) k
+
+module _ (c : Config) (s : GroundState) (g : GroundNodeSteady c s) (k : GroundFits s) where
+  begun_fits : (d : Directive) → is_initiation d ≡ true → s.pending ≡ [] → Fit (begun s.fop d) s.pending
+  begun_fits InitWithoutCheck is none = record { sent = λ running. tt; unsent = λ running. rw none tt }
+  begun_fits InitWithCheck is none = record { sent = λ running. tt; unsent = λ running. rw none tt }
+  begun_fits InitUnlock is none = record { sent = λ running. tt; unsent = λ running. rw none tt }
+  begun_fits (InitSetVr x) is none = record { sent = λ running. tt; unsent = λ running. rw none tt }
+  begun_fits _ is none = absurd cc
+
+  abbrev Directed : Directive → FopOutcome SegmentView (Result (Option Alert) CopFault) → Type 0
+  Directed d o = GroundFits (directive_outcome s d o).after
+
+  pub directive_fits : (d : Directive) → Directed d (directive_step s.fop d)
+  directive_fits = obeyed s.fop Directed (record {
+    refused = λ d fault on. k;
+    begins = λ d is off. with_fits (obeying s d) (begun s.fop d) (begun_fits d is (g.pending_none (rw off refl)));
+    terminated = with_fits s (after_alert s.fop) (off s.fop s.pending k (after_alert s.fop) refl);
+    numbers = λ x is. with_fits (obeying s (SetVs x)) (record s.fop { vs = x; nn = x })
+        (as_was s.fop s.pending k (record s.fop { vs = x; nn = x }) refl refl refl);
+    sets = λ d n limit ticks plain most.
+        let f : FopState SegmentView = record s.fop { window = n; limit = limit; timer = ticks } in
+        with_fits (obeying s d) f (as_was s.fop s.pending k f refl refl refl);
+  })
+
+  pub tick_refilled : GroundFits (with_fop s (tick_step s.fop).after)
+  tick_refilled = with_fits s (tick_step s.fop).after (tick_fits s.fop s.pending k)
+
+  pub pull_refilled : GroundFits (with_fop s (pull_step s.fop).after)
+  pull_refilled = with_fits s (pull_step s.fop).after (pull_fits s.fop s.pending k)
+
+  pub submission_fits : IsConfig c → (m : ℕ) (octets : List ℕ) (o : Option LinkFault) → submit_fault s m octets ≡ o
+      → GroundFits (unless_refused o s (after_submission s m octets)).after
+  submission_fits ranges m octets (Some fault) is = k
+  submission_fits ranges m octets None is =
+      let t = taken_is c s m octets g.config is in
+      let new : All (segments_of c.part m octets) =
+      segments_fit c.part m octets ranges.part.0 ranges.part.1 t.on_map in
+      let cut : segments_on s m octets ≡ segments_of c.part m octets =
+      ap (λ x. segments_of x.part m octets) g.config in
+      let added : All (segments_on s m octets) = subst All (sym cut) new in
+      refilled_fits (submitting s m octets) (record {
+        sent = k.sent;
+        unsent = λ running. subst All (append_assoc (option_to_list s.fop.waiting) s.pending (segments_on s m octets))
+            (all_append FitsFrame (unsent_segments s) (segments_on s m octets) (k.unsent running) added);
+      })
+
+  pub bypass_refilled : (m : ℕ) (octets : List ℕ) (o : Option LinkFault)
+      → GroundFits (unless_refused o s (after_bypass s m octets)).after
+  bypass_refilled m octets (Some fault) = k
+  bypass_refilled m octets None = record { sent = k.sent; unsent = k.unsent }
+
+  extracted : (x : Extracted) → GroundFits (after_extraction s x)
+  extracted x = record { sent = k.sent; unsent = k.unsent }
+
+  pub telemetry_fits : (r : Result telemetry.FrameView TmFault) → GroundFits (telemetry_outcome s r).after
+  telemetry_fits = frame_seen s GroundFits (record {
+    same = k;
+    extracts = extracted;
+    uses = λ x report.
+        let f : FopState SegmentView = (clcw_step s.fop report).after in
+        with_fits (acknowledging (after_extraction s x) f) f (heard_fits s.fop s.pending k report);
+  })
+
+  pub word_fits : (r : Result Clcw ClcwFault) → GroundFits (report_outcome s r).after
+  word_fits = report_seen s GroundFits k (λ report.
+      let f : FopState SegmentView = (clcw_step s.fop report).after in
+      with_fits (acknowledging s f) f (heard_fits s.fop s.pending k report))
+
+-- Each string on its way up is a frame of the ground's, and what the ground holds to be sent fits into frames.
 
 pub record Carried (c : Config) (w : World) : Type 0 where
   pub frames : List BodyView
@@ -202,3 +453,264 @@ all_readable c w k g t = record {
   down = subst (λ (x : Config). AllByRecursion (IsTelemetryOf x) w.down) (sym k.ground_node.config)
       (down_readable c w.down t.reports t.reporting);
 }
+
+-- In S6, with no Type-AD frame on its way up, no more segments are accepted until a session begins.
+
+-- ---- no Type-AD frame on its way
+
+abbrev numbers_in : Result FrameView TcFault → List ℕ
+numbers_in r = in_frame number_in r
+
+abbrev numbers : List (List ℕ) → List ℕ
+numbers bs = flat_map (λ octets. in_frame number_in (reading.frame_at On octets)) bs
+
+first_none : (xs ys : List ℕ) → xs ++ ys ≡ [] → xs ≡ []
+first_none [] ys e = refl
+first_none (x ∷ xs) ys e = absurd cc
+
+rest_none : (xs ys : List ℕ) → xs ++ ys ≡ [] → ys ≡ []
+rest_none [] ys e = e
+rest_none (x ∷ xs) ys e = absurd cc
+
+push_none : (bs : List (List ℕ)) (b : List ℕ) → numbers bs ≡ [] → numbers_in (reading.frame_at On b) ≡ []
+    → numbers (bs ++ b ∷ []) ≡ []
+push_none [] b none new = ap (λ (ns : List ℕ). ns ++ []) new
+push_none (x ∷ xs) b none new =
+    ap (λ (ns : List ℕ). ns ++ numbers (xs ++ b ∷ []))
+    (first_none (numbers_in (reading.frame_at On x)) (numbers xs) none)
+    ∙ push_none xs b (rest_none (numbers_in (reading.frame_at On x)) (numbers xs) none) new
+
+-- ---- one event
+
+-- the sender stays in S6, no Type-AD frame is sent, and none is accepted
+record Over (old new : World) : Type 0 where
+  closed : new.ground_node.fop.state ≡ S6
+  none_up : numbers_up new ≡ []
+  same : accepted new ≡ accepted old
+
+-- the ground's sender, with what is pending moved up
+closed_with : (s : GroundState) (f : FopState SegmentView) → f.state ≡ S6 → (with_fop s f).fop.state ≡ S6
+closed_with s f off = refilled_keeps (λ t. t.fop.state ≡ S6) (record s { fop = f }) (λ waiting pending on closed. off)
+
+submitted_closed : (s : GroundState) (m : ℕ) (octets : List ℕ) (o : Option LinkFault) → s.fop.state ≡ S6
+    → (unless_refused o s (after_submission s m octets)).after.fop.state ≡ S6
+submitted_closed s m octets (Some fault) off = off
+submitted_closed s m octets None off =
+    refilled_keeps (λ t. t.fop.state ≡ S6) (submitting s m octets)
+    (λ waiting pending on closed. off)
+
+bypassed_closed : (s : GroundState) (m : ℕ) (octets : List ℕ) (o : Option LinkFault) → s.fop.state ≡ S6
+    → (unless_refused o s (after_bypass s m octets)).after.fop.state ≡ S6
+bypassed_closed s m octets (Some fault) off = off
+bypassed_closed s m octets None off = off
+
+heard_in : (f : FopState SegmentView) (r : Clcw) (m : FopMode) → m ≡ S6 → f.state ≡ S6
+    → (report_in f r m).after.state ≡ S6
+heard_in f r S6 is off = off
+heard_in f r _ is off = absurd cc
+
+module _ (s : GroundState) (off : s.fop.state ≡ S6) where
+  telemetry_closed : (r : Result telemetry.FrameView TmFault) → (telemetry_outcome s r).after.fop.state ≡ S6
+  telemetry_closed = frame_seen s (λ t. t.fop.state ≡ S6) (record {
+    same = off;
+    extracts = λ x. off;
+    uses = λ x report.
+        let f : FopState SegmentView = (clcw_step s.fop report).after in
+        closed_with (acknowledging (after_extraction s x) f) f (heard_in s.fop report s.fop.state off off);
+  })
+
+  word_closed : (r : Result Clcw ClcwFault) → (report_outcome s r).after.fop.state ≡ S6
+  word_closed = report_seen s (λ t. t.fop.state ≡ S6) off (λ report.
+      let f : FopState SegmentView = (clcw_step s.fop report).after in
+      closed_with (acknowledging s f) f (heard_in s.fop report s.fop.state off off))
+
+-- on board a frame that is not of Type-AD adds no segment to those accepted
+module _ (s : SpacecraftState) where
+  bypass_same : (u : SegmentView) (kept : Bool) → (bypass_outcome s u kept).after.accepted ≡ s.accepted
+  bypass_same u true = refl
+  bypass_same u false = refl
+
+  body_same : (f : BodyView) → number_in f ≡ [] → (body_outcome s f).after.accepted ≡ s.accepted
+  body_same (Ad n u) none = absurd cc
+  body_same (Bd u) none = bypass_same u (is_kept (limits_of s.config) u)
+  body_same (Bc command) none = refl
+
+  arrived_same : (r : Result FrameView TcFault) → numbers_in r ≡ [] → (frame_outcome s r).after.accepted ≡ s.accepted
+  arrived_same (Err fault) none = refl
+  arrived_same (Ok frame) none =
+      cond_both (is_own_frame s.config frame) (body_outcome s frame.body) _ (λ o. o.after.accepted ≡ s.accepted)
+      (λ t. body_same frame.body none) (λ t. refl)
+
+  taken_same : (ps : List PacketOn) → (spacecraft_take s ps).after.accepted ≡ s.accepted
+  taken_same [] = refl
+  taken_same (p ∷ left) = refl
+
+  bypass_taken_same : (ps : List PacketOn) → (spacecraft_take_bypass s ps).after.accepted ≡ s.accepted
+  bypass_taken_same [] = refl
+  bypass_taken_same (p ∷ left) = refl
+
+  queued_same : (octets : List ℕ) → (spacecraft_telemetry s octets).after.accepted ≡ s.accepted
+  queued_same octets =
+      cond_both (is_to_send octets) _ _ (λ (o : SpacecraftOutcome (Result (Unit {0}) TmFault)). o.after.accepted
+      ≡ s.accepted) (λ t. refl) (λ t. refl)
+
+abbrev IsOff : World → Type 0
+IsOff w = w.ground_node.fop.state ≡ S6
+
+module _ (c : Config) (w : World) (k : Sound c w) (off : IsOff w) (none_up : numbers_up w ≡ []) where
+  abbrev Stays : WorldOutcome → Type 0
+  Stays o = Over w o.after
+
+  stays : Over w w
+  stays = record { closed = off; none_up = none_up; same = refl }
+
+  ground_so : (g : GroundState) → g.fop.state ≡ S6 → Over w (record w { ground_node = g })
+  ground_so g closed = record { closed = closed; none_up = none_up; same = refl }
+
+  with_so : (f : FopState SegmentView) → f.state ≡ S6 → Over w (record w { ground_node = with_fop w.ground_node f })
+  with_so f closed = ground_so (with_fop w.ground_node f) (closed_with w.ground_node f closed)
+
+  counted_so : (fates : Fates) (f : FopState SegmentView) → f.state ≡ S6
+      → Over w (record w { ground_node = with_fop (record w.ground_node { fates = fates }) f })
+  counted_so fates f closed =
+      let s : GroundState = record w.ground_node { fates = fates } in
+      ground_so (with_fop s f) (closed_with s f closed)
+
+  spacecraft_so : (s : SpacecraftState) → s.accepted ≡ w.spacecraft.accepted → Over w (record w { spacecraft = s })
+  spacecraft_so s same = record {
+    closed = off;
+    none_up = none_up;
+    same = ap (λ (xs : List SegmentView). map segment_octets (drop w.session.before xs)) same;
+  }
+
+  abbrev ObeyedSo : Directive → FopOutcome SegmentView (Result (Option Alert) CopFault) → Type 0
+  ObeyedSo d o = BeginsNoSession w (events.Directive d)
+      → Stays (world_after_directive w d (directive_outcome w.ground_node d o))
+
+  directive_so : (d : Directive) → ObeyedSo d (directive_step w.ground_node.fop d)
+  directive_so =
+      let s = w.ground_node.fop in
+      obeyed s ObeyedSo (record {
+        refused = λ d fault on goes. stays;
+        begins = λ d is closed goes. closed_not s.state closed (goes is);
+        terminated = λ goes. with_so (after_alert s) refl;
+        numbers = λ x is goes. counted_so _ (record s { vs = x; nn = x }) off;
+        sets = λ d k n ticks plain most goes. rw plain
+            (counted_so _ (record s { window = k; limit = n; timer = ticks }) off);
+      })
+
+  tick_so : Over w (record w { ground_node = with_fop w.ground_node (tick_step w.ground_node.fop).after })
+  tick_so =
+      let s = w.ground_node.fop in
+      ticked s (λ o. Over w (record w { ground_node = with_fop w.ground_node o.after })) (record {
+        off = with_so s off;
+        runs = λ left. with_so (record s { ticks = Some left }) off;
+        stops = with_so (after_stop s) off;
+        repeats = λ active. with_so (after_repeat (after_stop s)) off;
+        counts = with_so (after_count (after_stop s)) off;
+        commands = λ is. with_so (record (after_count (after_stop s)) { control = due_again s.control }) off;
+        gives_up = with_so (after_alert (after_stop s)) refl;
+      })
+
+  -- a frame that is sent is no Type-AD frame
+  abbrev SendsSo : FopOutcome SegmentView (PulledUnit SegmentView) → Type 0
+  SendsSo o = Stays (world_after_pull w (with_fop w.ground_node o.after) (frame_to_send w.ground_node.config o.answer))
+
+  not_active : {A : Type 0} → IsActive w.ground_node.fop.state → A
+  not_active active = closed_not w.ground_node.fop.state off (active_on w.ground_node.fop.state active)
+
+  sent_none : (f : BodyView) → Goes f → number_in f ≡ []
+      → numbers (w.up ++ spelling On (frame_of w.ground_node.config f) ∷ []) ≡ []
+  sent_none f goes none =
+      let own : IsConfig w.ground_node.config = rw k.ground_node.config k.ranges in
+      push_none w.up (spelling On (frame_of w.ground_node.config f)) none_up
+      (ap numbers_in (reads_back w.ground_node.config f own goes) ∙ none)
+
+  send_so : SendsSo (pull_step w.ground_node.fop)
+  send_so =
+      let s = w.ground_node.fop in
+      pulled_out s SendsSo (record {
+        none = with_so s off;
+        command = λ command is. record {
+          closed = closed_with w.ground_node (record (after_restart s) { control = Sent command }) off;
+          none_up = sent_none (Bc command) tt refl;
+          same = refl;
+        };
+        bypass = λ u us is.
+            let fit : AllByRecursion FitsFrame (u ∷ us) = rw is at k.ground_node.fop.bypass_fits in
+            record {
+              closed = closed_with w.ground_node (record s { bypass = us }) off;
+              none_up = sent_none (Bd u) fit.0 refl;
+              same = refl;
+            };
+        again = λ active x is. not_active active;
+        first = λ active u is room. not_active active;
+      })
+
+  -- a frame arrives on board
+  all_none : (bs : List (List ℕ)) → w.up ≡ bs → numbers bs ≡ []
+  all_none bs is = subst (λ (xs : List (List ℕ)). numbers xs ≡ []) is none_up
+
+  up_rest : (b : List ℕ) (bs : List (List ℕ)) → w.up ≡ b ∷ bs → numbers bs ≡ []
+  up_rest b bs is = rest_none (numbers_in (reading.frame_at On b)) (numbers bs) (all_none (b ∷ bs) is)
+
+  up_first : (b : List ℕ) (bs : List (List ℕ)) → w.up ≡ b ∷ bs → numbers_in (reading.frame_at On b) ≡ []
+  up_first b bs is = first_none (numbers_in (reading.frame_at On b)) (numbers bs) (all_none (b ∷ bs) is)
+
+  lost_so : AtEachLoss w Stays
+  lost_so = record {
+    refused = λ fault. stays;
+    up = λ b bs is reply silent. record { closed = off; none_up = up_rest b bs is; same = refl };
+    down = λ b bs is reply silent. record { closed = off; none_up = none_up; same = refl };
+  }
+
+  step_over : (e : Event) → BeginsNoSession w e → Stays (world_step w e)
+  step_over (events.Submit m octets) goes = record {
+    closed = submitted_closed w.ground_node m octets.now (submit_fault w.ground_node m octets.now) off;
+    none_up = none_up;
+    same = refl;
+  }
+  step_over (events.Bypass m octets) goes = record {
+    closed = bypassed_closed w.ground_node m octets.now (bypass_fault w.ground_node m octets.now) off;
+    none_up = none_up;
+    same = refl;
+  }
+  step_over (events.Directive d) goes = directive_so d goes
+  step_over (events.Resume value) goes = subst Stays (sym (resumes_not w value goes)) stays
+  step_over events.Send goes = send_so
+  step_over events.UpDeliver goes = up_arrives w Stays stays (λ b bs is. record {
+    closed = off;
+    none_up = up_rest b bs is;
+    same = ap (λ (xs : List SegmentView). map segment_octets (drop w.session.before xs))
+        (arrived_same w.spacecraft (reading.frame_at On b) (up_first b bs is));
+  })
+  step_over events.Report goes = record { closed = off; none_up = none_up; same = refl }
+  step_over events.DownDeliver goes = down_arrives w Stays stays (λ b bs is. record {
+    closed = telemetry_closed w.ground_node off (telemetry_reading.frame_at w.ground_node.config.frame_length b);
+    none_up = none_up;
+    same = refl;
+  })
+  step_over events.DownClcw goes = word_arrives w Stays lost_so (λ b bs is r. record {
+    closed = word_closed w.ground_node off r;
+    none_up = none_up;
+    same = refl;
+  })
+  step_over events.Tick goes = tick_so
+  step_over events.Take goes =
+      spacecraft_so (spacecraft_take w.spacecraft w.spacecraft.ready).after
+      (taken_same w.spacecraft w.spacecraft.ready)
+  step_over events.TakeBypass goes =
+      spacecraft_so (spacecraft_take_bypass w.spacecraft w.spacecraft.bypass).after
+      (bypass_taken_same w.spacecraft w.spacecraft.bypass)
+  step_over (events.Telemetry octets) goes =
+      spacecraft_so (spacecraft_telemetry w.spacecraft octets.now).after (queued_same w.spacecraft octets.now)
+  step_over e goes = lost w Stays lost_so e tt
+
+-- ---- all events
+
+pub accepts_no_more : (c : Config) (w : World) → Sound c w → IsOff w → numbers_up w ≡ [] → AcceptsNoMore w
+accepts_no_more c w k off none_up [] fits goes = refl
+accepts_no_more c w k off none_up (e ∷ es) fits goes =
+    let new : World = (world_step w e).after in
+    let over : Over w new = step_over c w k off none_up e goes.0 in
+    accepts_no_more c new (step_sound c w k e fits.0) over.closed over.none_up es fits.1 goes.1 ∙ over.same

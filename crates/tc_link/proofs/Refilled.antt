@@ -2,12 +2,18 @@
 use Rattle.tc_link.proofs.Common.{◌≡◌, ℕ, ◌+◌, ◌*◌, ◌<◌, Bool, true, false, List, [], ◌∷◌, ◌++◌, drop, Option, Some}
 use Rattle.tc_link.proofs.Common.{None, option_to_list, refl, ◌∙◌, arith, inl, cond_both, SegmentView, Control}
 use Rattle.tc_link.proofs.Common.{Directive, FopMode, S6, FopState, SentUnit, units_of, Config, GroundState, is_closed}
-use Rattle.tc_link.proofs.Common.{unsent_segments, refill_step, with_fop, IsChecked, PlainLink, World, Fates}
-use Rattle.nodes.specs.Ground.{after_moving_up}
-use Rattle.tc_link.proofs.Early.{IsEarly, ControlFits}
-use Rattle.tc_link.proofs.Linked.{In, Held, Kept, Next, SessionBy, WithSender, Calm, beside}
-use Rattle.tc_link.proofs.Reports.{IsLate, asked}
-use Rattle.tc_link.proofs.Transit.{Ranks, bit, ranks_lower}
+use Rattle.tc_link.proofs.Common.{unsent_segments, refill_step, with_fop, IsChecked, PlainLink, World, Fates, Result}
+use Rattle.tc_link.proofs.Common.{Ok, Err, ap, eq-eqb, Alert, CopFault, tick_step, pull_step, directive_step, LinkFault}
+use Rattle.tc_link.proofs.Common.{GroundOutcome, unless_refused, submit_fault, bypass_fault, after_submission}
+use Rattle.tc_link.proofs.Common.{after_bypass, after_acknowledging, obeying, submitting, moved_by}
+use Rattle.std.specs.Prelude.{◌^◌}
+use Rattle.nodes.specs.Ground.{after_moving_up, GroundEvent, Submit, Bypass, Direct, Resume, Pull, Tick, Telemetry}
+use Rattle.nodes.specs.Ground.{ControlWord, TakeTelemetry, ForgetTelemetry, ground_step, ground_take_telemetry}
+use Rattle.nodes.specs.Ground.{can_resume, after_directive}
+use Rattle.nodes.specs.Fates.{whole_with, kept_after, counted_from}
+use Rattle.tc_link.specs.Repeated.{BringsNoReport}
+use Rattle.tc_link.proofs.Linked.{IsEarly, ControlFits, In, Held, Kept, Next, SessionBy, WithSender, Calm, beside}
+use Rattle.tc_link.proofs.Linked.{IsLate, asked, Ranks, bit, ranks_lower}
 
 abbrev pub queued_as : GroundState → Option SegmentView → List SegmentView → GroundState
 queued_as s waiting pending = record s { fop = record s.fop { waiting = waiting }; pending = pending }
@@ -141,3 +147,60 @@ module _ (early : Bool) (c : Config) (d : Directive) (base : ℕ) where
         → Next early c d base g.plain (record w { ground_node = with_fop (record w.ground_node { fates = fates }) f })
     off_keeps fates f state nn_octet fits kept =
         goes_keeps fates f (rw state kept) nn_octet (sender_off early c d base w g f.state f.control state fits)
+
+-- What is known of the submissions is the same where a report comes again.
+
+-- the number of submissions that are acknowledged is one modulo 2^64
+abbrev pub Counts : Fates → Type 0
+Counts k = k.acknowledged < 2 ^ 64
+
+-- no segment more is acknowledged
+pub counted_same : (n : ℕ) (k : Fates) → Counts k → after_acknowledging (moved_by n n) k ≡ k
+counted_same n k small =
+    let none : moved_by n n ≡ 0 = rw (eq-eqb n n refl) refl in
+    let whole : whole_with 0 k ≡ k.acknowledged = omega (arith, small) in
+    ap (λ (j : ℕ). after_acknowledging j k) none ∙ ap (λ (j : ℕ). record k { acknowledged = j }) whole
+
+pub refilled_counts : (s : GroundState) → Counts s.fates → Counts (refill_step s).fates
+refilled_counts s k = refilled_keeps (λ (g : GroundState). Counts g.fates) s (λ waiting pending on off. k)
+
+module _ (s : GroundState) (k : Counts s.fates) where
+  abbrev Counted : GroundState → Type 0
+  Counted g = Counts g.fates
+
+  submits_count : (m : ℕ) (octets : List ℕ) (o : Option LinkFault)
+      → Counted (unless_refused o s (after_submission s m octets)).after
+  submits_count m octets (Some fault) = k
+  submits_count m octets None = refilled_counts (submitting s m octets) k
+
+  bypasses_count : (m : ℕ) (octets : List ℕ) (o : Option LinkFault)
+      → Counted (unless_refused o s (after_bypass s m octets)).after
+  bypasses_count m octets (Some fault) = k
+  bypasses_count m octets None = k
+
+  counted_anew : (o : Option Bool) → Counts (counted_from o s.fates)
+  counted_anew None = k
+  counted_anew (Some kept) = omega arith
+
+  directs_count : (d : Directive) (r : Result (Option Alert) CopFault) (f : FopState SegmentView)
+      → Counted (after_directive s d r f)
+  directs_count d (Ok alert) f = refilled_counts (record (obeying s d) { fop = f }) (counted_anew (kept_after d))
+  directs_count d (Err fault) f = k
+
+  takes_count : (packets : List (List ℕ)) → Counted (ground_take_telemetry s packets).after
+  takes_count [] = k
+  takes_count (packet ∷ left) = k
+
+  pub step_counts : (e : GroundEvent) → BringsNoReport s e → Counted (ground_step s e).after
+  step_counts (Submit m octets) goes = submits_count m octets (submit_fault s m octets)
+  step_counts (Bypass m octets) goes = bypasses_count m octets (bypass_fault s m octets)
+  step_counts (Direct d) goes = directs_count d (directive_step s.fop d).answer (directive_step s.fop d).after
+  step_counts (Resume value) goes =
+      cond_both (can_resume s value) _ _ (λ (o : GroundOutcome (Result ℕ LinkFault)). Counted o.after)
+      (λ t. absurd (cc (t, goes))) (λ t. k)
+  step_counts Pull goes = refilled_counts (record s { fop = (pull_step s.fop).after }) k
+  step_counts Tick goes = refilled_counts (record s { fop = (tick_step s.fop).after }) k
+  step_counts (Telemetry octets) goes = elim goes [ ]
+  step_counts (ControlWord octets) goes = elim goes [ ]
+  step_counts TakeTelemetry goes = takes_count s.telemetry
+  step_counts ForgetTelemetry goes = k

@@ -1,17 +1,16 @@
 -- A report that comes again, and no other since, changes nothing.
 use Rattle.tc_link.proofs.Common.{◌≡◌, ◌≢◌, ◌≤◌, ◌<◌, ℕ, Bool, true, false, List, [], ◌∷◌, Option, Some, None, refl}
-use Rattle.tc_link.proofs.Common.{Result, Ok, Err, Idle, not, ◌+◌, ◌%◌, ◌∙◌, sym, ap, subst, arith, cond_both}
-use Rattle.tc_link.proofs.Common.{eqb-true, eq-eqb, ne_eqb, not-false, ltb-true, nat_lt, ◌==◌, ◌||◌, Clcw, ClcwFault}
-use Rattle.tc_link.proofs.Common.{SegmentView, Directive, InitWithoutCheck, InitWithCheck, InitUnlock, InitSetVr, S1}
-use Rattle.tc_link.proofs.Common.{S2, S3, S4, S5, S6, FopMode, FopState, FopOutcome, Alert, CopFault, IsActive, NnR}
-use Rattle.tc_link.proofs.Common.{Synch, Limit, locks, waits, asks, confirms, clcw_step, report_in, report_while_active}
+use Rattle.tc_link.proofs.Common.{Result, Ok, Err, Idle, not, ◌+◌, ◌%◌, ◌∙◌, sym, ap, subst, arith, cond_both, eqb-true}
+use Rattle.tc_link.proofs.Common.{eq-eqb, ne_eqb, not-false, ltb-true, nat_lt, ◌==◌, ◌||◌, Clcw, ClcwFault, SegmentView}
+use Rattle.tc_link.proofs.Common.{Directive, InitWithoutCheck, InitWithCheck, InitUnlock, InitSetVr, S1, S2, S3, S4, S5}
+use Rattle.tc_link.proofs.Common.{S6, FopMode, FopState, FopOutcome, Alert, CopFault, IsActive, NnR, Synch, Limit}
+use Rattle.tc_link.proofs.Common.{locks, waits, asks, confirms, clcw_step, report_in, report_while_active}
 use Rattle.tc_link.proofs.Common.{after_new_value, retransmits, goes_on, alerts, after_alert, ahead_by, ticked}
 use Rattle.tc_link.proofs.Common.{pulled_out, heard_active, obeyed, begun, is_initiation, tick_step, pull_step}
 use Rattle.tc_link.proofs.Common.{directive_step, Config, LinkFault, IsConfig, GroundState, GroundOutcome, is_closed}
-use Rattle.tc_link.proofs.Common.{telemetry_outcome, obeying, submitting, acknowledging}
-use Rattle.tc_link.proofs.Common.{and_parts, extract_step, refill_step, with_fop, unless_refused, submit_fault}
-use Rattle.tc_link.proofs.Common.{after_submission, bypass_fault, after_bypass, after_extraction, TmFault}
-use Rattle.tc_link.proofs.Common.{Fates, after_report}
+use Rattle.tc_link.proofs.Common.{telemetry_outcome, obeying, submitting, acknowledging, and_parts, extract_step}
+use Rattle.tc_link.proofs.Common.{refill_step, with_fop, unless_refused, submit_fault, after_submission, bypass_fault}
+use Rattle.tc_link.proofs.Common.{after_bypass, after_extraction, TmFault, Fates, after_report}
 use Rattle.std.specs.Prelude.{◌&&◌, ◌/◌, IfOk, slice_index}
 use Rattle.std.proofs.lemmas.Bool.{not-true}
 use Rattle.octets.specs.Number.{IsOctets}
@@ -22,7 +21,7 @@ use Rattle.cop1.specs.FopWords.{is_outside, after_gone}
 use Rattle.cop1.specs.declared.vocabulary.Alert.TheVariants.{Lockout, Clcw as ClcwAlert}
 use Rattle.cop1.specs.declared.vocabulary.Directive.TheVariants.{Terminate, SetVs, SetWindow, SetLimit, SetTimer}
 use Rattle.tm_link.specs.Decoding.{frame_at}
-use Rattle.simulated_link.proofs.TelemetryCases.{reported, report_seen, frame_seen}
+use Rattle.simulated_link.proofs.Counted.{reported, report_seen, frame_seen}
 use Rattle.tm_link.specs.Layout.{FrameView}
 use Rattle.nodes.specs.declared.heard.Heard.{Heard}
 use Rattle.nodes.specs.declared.heard.HeardClcw.{HeardClcw}
@@ -33,8 +32,7 @@ use Rattle.nodes.specs.Ground.{after_directive, report_outcome, is_own_telemetry
 use Rattle.nodes.specs.Ground.{Resume, can_resume, ground_resume, ground_directive}
 use Rattle.tc_link.specs.Repeated.{ground_run, BringsNoReport, BringNoReport, repeated_outcome, RepeatsNothing}
 use Rattle.tc_link.specs.Repeated.{RepeatsNothingOfFrames, word_of}
-use Rattle.tc_link.proofs.Refilled.{refilled_keeps}
-use Rattle.tc_link.proofs.RepeatedCounts.{Counts, counted_same, refilled_counts, step_counts}
+use Rattle.tc_link.proofs.Refilled.{refilled_keeps, Counts, counted_same, refilled_counts, step_counts}
 
 -- ---- what is so of the configuration and the sender, whatever waits, is so after each call
 

@@ -1,11 +1,10 @@
 -- A program that resumes after each alert has a prefix of what it wants delivered.
-use Rattle.tc_link.proofs.Common.{◌≡◌, ℕ, zero, suc, ◌+◌, ◌%◌, ◌<◌, ◌≤◌, Bool, true, false, List, [], ◌∷◌, ◌++◌}
-use Rattle.tc_link.proofs.Common.{length, take, drop, Some, Result, Ok, Err, refl, ap, sym, subst}
-use Rattle.tc_link.proofs.Common.{◌∙◌, arith, length-append, length-map, take-append-drop, AllByRecursion}
-use Rattle.tc_link.proofs.Common.{inl, inr, Opening, segments_of, length-drop}
-use Rattle.tc_link.proofs.Common.{option_map, SetVs, InitUnlock, is_closed, Config, GroundState, PacketOn}
+use Rattle.tc_link.proofs.Common.{◌≡◌, ℕ, zero, suc, ◌+◌, ◌%◌, ◌<◌, ◌≤◌, Bool, true, false, List, [], ◌∷◌, ◌++◌, length}
+use Rattle.tc_link.proofs.Common.{take, drop, Some, Result, Ok, Err, refl, ap, sym, subst, ◌∙◌, arith, length-append}
+use Rattle.tc_link.proofs.Common.{length-map, take-append-drop, AllByRecursion, inl, inr, Opening, segments_of}
+use Rattle.tc_link.proofs.Common.{length-drop, option_map, SetVs, InitUnlock, is_closed, Config, GroundState, PacketOn}
 use Rattle.tc_link.proofs.Common.{Event, World, world_step, world_run, KeepsSession, BeginsNoSession, IsIdle, IsEvent}
-use Rattle.tc_link.proofs.Common.{session_begun_by, delivered, ahead_by}
+use Rattle.tc_link.proofs.Common.{session_begun_by, delivered, ahead_by, cond}
 use Rattle.std.specs.Prelude.{◌^◌, ◌==◌, ◌&&◌, nat_lt}
 use Rattle.std.specs.List.{flat_map, filter, list_all}
 use Rattle.std.proofs.lemmas.Bool.{cases_Bool, and_parts, not-true, ltb-false, eqb-true}
@@ -20,15 +19,12 @@ use Rattle.nodes.specs.Ground.{ground_step, Resume, can_resume, after_resuming, 
 use Rattle.nodes.specs.Ground.{GroundOutcome}
 use Rattle.nodes.specs.declared.fault.LinkFault.{LinkFault}
 use Rattle.nodes.specs.declared.fault.LinkFault.TheVariants.{NotKnown}
-use Rattle.tc_link.proofs.Common.{cond}
 use Rattle.nodes.specs.declared.event.Event.TheVariants as events
 use Rattle.simulated_link.specs.World.{Session, is_idle, is_none, reports_as, report_now}
-use Rattle.tc_link.proofs.AnyPast.{past_holds}
+use Rattle.tc_link.proofs.Promised.{past_holds, promised_so}
 use Rattle.tc_link.proofs.Fates.{knows_fates}
-use Rattle.tc_link.proofs.Invariant.{Holding, idle_goes}
-use Rattle.tc_link.proofs.Known.{octet}
-use Rattle.tc_link.proofs.Promised.{promised_so}
-use Rattle.tc_link.proofs.Submissions.{all_push}
+use Rattle.tc_link.proofs.Invariant.{Holding, idle_goes, octet, began_at, begun_session, can_off}
+use Rattle.tc_link.proofs.Sound.{all_push}
 use Rattle.tc_link.specs.AnyPast.{HasAnyPast, LinkStep, Happens, IsLinkStep, link_run, link_step}
 use Rattle.tc_link.specs.CountsOn.{SetsNone}
 use Rattle.tc_link.specs.Fates.{CountsSubmissions}
@@ -37,7 +33,6 @@ use Rattle.tc_link.specs.Resumed.{packets_on_map, Sessions, first, goes_on, resu
 use Rattle.tc_link.specs.Taken.{BeginsSession}
 use Rattle.tc_link.specs.Whole.{on_board, IsOneGroup, AreSingle, DeliversWhole}
 use Rattle.tm_link.specs.Decoding as telemetry_reading
-use Rattle.tc_link.proofs.Invariant.{began_at, begun_session, can_off}
 use Rattle.simulated_link.specs.Replies.{Resumed}
 use Rattle.simulated_link.specs.World.{world_after_resuming}
 

@@ -1,12 +1,61 @@
--- Frames that are sent and come one by one: those that came, and what an extractor makes of them.
+-- Telemetry over a run: what each event does to it, what holds at every moment, and that it is what is promised.
 use Rattle.tc_link.proofs.Common.{◌≡◌, ℕ, Bool, true, false, if◌then◌else◌, not, List, [], ◌∷◌, ◌++◌, length, drop}
 use Rattle.tc_link.proofs.Common.{refl, sym, ap, subst, ◌∙◌, arith, append_assoc, AllByRecursion, append-nil}
 use Rattle.tc_link.proofs.Common.{all_extracted, state_after, ExtractorState, without_idle, extract_step, choice}
-use Rattle.tc_link.proofs.Common.{AreSomeOf}
-use Rattle.tm_link.specs.Extractor.{is_idle}
+use Rattle.tc_link.proofs.Common.{AreSomeOf, Option, Some, None, Result, Ok, Err, ◌+◌, ◌==◌, cond_both, and_parts}
+use Rattle.tc_link.proofs.Common.{eqb-true, Clcw, ClcwFault, TcFault, SegmentView, BodyView, Ad, Bd, Bc, CopFault}
+use Rattle.tc_link.proofs.Common.{Verdict, Accepted, Alert, clcw_step, FopState, BuilderState, is_to_send, after_queue}
+use Rattle.tc_link.proofs.Common.{idle_tail, Extracted, held_by, IsLaidOutBy, LinkFault, is_kept, PacketOn, limits_of}
+use Rattle.tc_link.proofs.Common.{SpacecraftState, frame_outcome, body_outcome, sequence_outcome, bypass_outcome}
+use Rattle.tc_link.proofs.Common.{is_own_frame, spacecraft_take, spacecraft_take_bypass, GroundState, GroundOutcome}
+use Rattle.tc_link.proofs.Common.{with_fop, refill_step, after_submission, after_bypass, unless_refused}
+use Rattle.tc_link.proofs.Common.{after_extraction, own_frame_outcome, Directive, obeying, submitting, acknowledging}
+use Rattle.tc_link.proofs.Common.{◌<◌, ◌≤◌, map, length-append, eq-eqb, map-append, On, directive_step, pull_step}
+use Rattle.tc_link.proofs.Common.{tick_step, TmFault, data_size, Config, telemetry_outcome, ground_telemetry, Heard}
+use Rattle.tc_link.proofs.Common.{submit_fault, bypass_fault, SpacecraftOutcome, report_octets, IsConfig, Event}
+use Rattle.tc_link.proofs.Common.{NotDetectable, Up, Down, World, WorldOutcome, world_step, world_run, new_world}
+use Rattle.tc_link.proofs.Common.{down_deliver_step, down_lose_step, down_damage_step, down_damage_outcome}
+use Rattle.tc_link.proofs.Common.{up_lose_step, up_damage_step, up_damage_outcome, up_deliver_step, world_refusal}
+use Rattle.tc_link.proofs.Common.{world_reply, world_after_queueing, SetVs, InitUnlock}
+use Rattle.std.specs.List.{concat}
+use Rattle.std.proofs.lemmas.List.{drop_at}
+use Rattle.octets.specs.Records.{IsRecord}
+use Rattle.octets.proofs.Streams.{split_of}
+use Rattle.space_packet.specs.Laws.{extent_has_header}
+use Rattle.space_packet.specs.Packets.{is_packet, packets_in, rest_in}
+use Rattle.space_packet.specs.Decoding.{extent_at}
+use Rattle.tc_frame.specs.Layout as command_layout
+use Rattle.tc_frame.specs.Decoding as command
+use Rattle.clcw.specs.Decoding.{clcw_at}
+use Rattle.tm_link.specs.Extractor.{is_idle, new_extractor}
 use Rattle.tm_link.specs.Layout.{FrameView}
-use Rattle.tm_link.specs.Stream.{are_received, complete_packets}
-use Rattle.tc_link.specs.Telemetry.{none, one, without}
+use Rattle.tm_link.specs.Stream.{are_received, complete_packets, carried_octets, IsLaidOut, IsClose, marks_of}
+use Rattle.tm_link.specs.Stream.{arrived_packets}
+use Rattle.tm_link.specs.Layout as telemetry
+use Rattle.tm_link.specs.Arrivals.{IsInRange}
+use Rattle.tm_link.specs.Builder.{build_step}
+use Rattle.tm_link.specs.Decoding.{frame_at}
+use Rattle.tm_link.specs.Encoding.{spelling}
+use Rattle.tm_link.proofs.Laid.{packet_after, laid_again, new_laid}
+use Rattle.tm_link.proofs.Passed.{cut_more}
+use Rattle.tm_link.proofs.Choices.{all_handed_out, extraction_exact}
+use Rattle.tm_link.proofs.BuiltFrames.{build_laid}
+use Rattle.nodes.specs.Ground.{after_directive, report_outcome, ground_take_telemetry}
+use Rattle.nodes.specs.declared.heard.HeardClcw.{HeardClcw}
+use Rattle.nodes.specs.declared.heard.Heard.TheVariants as heard_cases
+use Rattle.nodes.specs.declared.received.Received.TheVariants as received_cases
+use Rattle.nodes.specs.declared.event.Event.TheVariants as events
+use Rattle.simulated_link.specs.World.{resumed, directed, world_after_word, down_word_outcome, down_clcw_step}
+use Rattle.simulated_link.proofs.Counted.{report_seen}
+use Rattle.simulated_link.proofs.Unchanged.{first_on, pulled, up_arrives, down_arrives, resumes}
+use Rattle.tc_link.specs.Telemetry.{none, one, without, Downlink, DownlinkStep, Happens, TakeTelemetry, IsDownlinkStep}
+use Rattle.tc_link.specs.Telemetry.{new_downlink, after_event, after_taking, downlink_step, downlink_run, packets_down}
+use Rattle.tc_link.specs.Telemetry.{IsTelemetryInOrder, downlink_of}
+use Rattle.tc_link.proofs.Refilled.{refilled_keeps}
+use Rattle.tc_link.proofs.Sound.{all_push, step_sound, new_sound, Sound}
+use Rattle.tc_link.proofs.IdleStart.{data_length, reads_now}
+
+-- Frames that are sent and come one by one: those that came, and what an extractor makes of them.
 
 -- ---- the frames that came, of those that are no longer on their way
 
@@ -90,3 +139,581 @@ pub arrived_some : (all queued : List (List ℕ)) (marks : List Bool) → withou
     → AreSomeOf (without_idle (complete_packets all marks)) queued
 arrived_some all queued marks sent =
     subst (AreSomeOf (without_idle (complete_packets all marks))) sent (idle_some (complete_some all marks))
+
+-- What each event does to the builder on board, to the extractor and to the packets on the ground.
+
+-- ---- a packet is queued
+
+lone_record : (octets : List ℕ) (ps : List (List ℕ)) (rest : List ℕ) → octets ≡ concat ps ++ rest
+    → AllByRecursion (IsRecord 6 extent_at) ps → length ps ≡ 1 → length rest ≡ 0 → IsRecord 6 extent_at octets
+lone_record octets [] rest e each single over = absurd (omega arith)
+lone_record octets (p ∷ q ∷ ps) rest e each single over = absurd (omega arith)
+lone_record octets (p ∷ []) (x ∷ rest) e each single over = absurd (omega arith)
+lone_record octets (p ∷ []) [] e each single over =
+    subst (IsRecord 6 extent_at) (sym (e ∙ append-nil (p ++ []) ∙ append-nil p)) each.0
+
+packet_record : (octets : List ℕ) → is_packet octets ≡ true → IsRecord 6 extent_at octets
+packet_record octets h =
+    let both = and_parts (length (packets_in octets) == 1) (length (rest_in octets) == 0) h in
+    let split = split_of 6 extent_at (omega arith) extent_has_header octets in
+    lone_record octets (packets_in octets) (rest_in octets) split.whole split.each (eqb-true _ _ both.0)
+    (eqb-true _ _ both.1)
+
+pub queued_laid : (s : BuilderState) (octets : List ℕ) (packets : List (List ℕ)) (frames : List telemetry.FrameView)
+    → is_to_send octets ≡ true → IsLaidOutBy s packets frames
+    → IsLaidOutBy (after_queue s octets) (packets ++ octets ∷ []) frames
+queued_laid s octets packets frames sends h =
+    let both = and_parts (is_packet octets) (not (is_idle octets)) sends in
+    let handed : without_idle (octets ∷ []) ≡ octets ∷ [] = rw both.1 refl in
+    let x = packet_after packets (packets ++ octets ∷ []) frames (held_by s) octets h.laid
+    (packet_record octets both.0) (ap (λ (ps : List (List ℕ)). packets ++ ps) handed) in
+    let held : held_by s ++ octets ≡ held_by (after_queue s octets) =
+    append_assoc (idle_tail s.idle_left) s.pending octets in
+    let cut = cut_more h.laid.all (length (carried_octets frames)) (s.idle_left + s.begun) s.sizes octets h.cut in
+    laid_again (after_queue s octets) (packets ++ octets ∷ []) frames (held_by s ++ octets) (h.laid.all ++ octets ∷ [])
+    x.0 x.1 held h.next cut
+
+-- ---- the builder stays
+
+module _ (s : SpacecraftState) where
+  abbrev pub Builds : SpacecraftState → Type 0
+  Builds t = t.builder ≡ s.builder
+
+  sequence_builds : (n : ℕ) (u : SegmentView) (v : Verdict) → Builds (sequence_outcome s n u v).after
+  sequence_builds n u Accepted = refl
+  sequence_builds n u _ = refl
+
+  bypass_builds : (u : SegmentView) (kept : Bool) → Builds (bypass_outcome s u kept).after
+  bypass_builds u true = refl
+  bypass_builds u false = refl
+
+  body_builds : (f : BodyView) → Builds (body_outcome s f).after
+  body_builds (Ad n u) = sequence_builds n u _
+  body_builds (Bd u) = bypass_builds u (is_kept (limits_of s.config) u)
+  body_builds (Bc command) = refl
+
+  pub arrived_builds : (r : Result command_layout.FrameView TcFault) → Builds (frame_outcome s r).after
+  arrived_builds (Err fault) = refl
+  arrived_builds (Ok frame) =
+      cond_both (is_own_frame s.config frame) (body_outcome s frame.body) _ (λ o. Builds o.after)
+      (λ t. body_builds frame.body) (λ t. refl)
+
+  pub take_builds : (ps : List PacketOn) → Builds (spacecraft_take s ps).after
+  take_builds [] = refl
+  take_builds (p ∷ left) = refl
+
+  pub bypass_take_builds : (ps : List PacketOn) → Builds (spacecraft_take_bypass s ps).after
+  bypass_take_builds [] = refl
+  bypass_take_builds (p ∷ left) = refl
+
+-- ---- the extractor and the packets stay
+
+module _ (s : GroundState) where
+  abbrev pub Extracts : GroundState → Type 0
+  Extracts t = (t.extractor ≡ s.extractor) × (t.telemetry ≡ s.telemetry)
+
+  refilled_extracts : Extracts (refill_step s)
+  refilled_extracts = refilled_keeps Extracts s (λ waiting pending on off. (refl, refl))
+
+  pub bypass_extracts : (m : ℕ) (octets : List ℕ) (o : Option LinkFault)
+      → Extracts (unless_refused o s (after_bypass s m octets)).after
+  bypass_extracts m octets (Some fault) = (refl, refl)
+  bypass_extracts m octets None = (refl, refl)
+
+pub with_extracts : (s : GroundState) (f : FopState SegmentView) → Extracts s (with_fop s f)
+with_extracts s f = refilled_extracts (record s { fop = f })
+
+pub directed_extracts : (s : GroundState) (d : Directive) (r : Result (Option Alert) CopFault)
+    (fop : FopState SegmentView) → Extracts s (after_directive s d r fop)
+directed_extracts s d (Ok alert) fop = with_extracts (obeying s d) fop
+directed_extracts s d (Err fault) fop = (refl, refl)
+
+pub submitted_extracts : (s : GroundState) (m : ℕ) (octets : List ℕ) (o : Option LinkFault)
+    → Extracts s (unless_refused o s (after_submission s m octets)).after
+submitted_extracts s m octets (Some fault) = (refl, refl)
+submitted_extracts s m octets None = refilled_extracts (submitting s m octets)
+
+-- ---- a frame is heard
+
+abbrev pub IsExtracted : GroundState → Extracted → GroundState → Type 0
+IsExtracted s x t = (t.extractor ≡ x.after) × (t.telemetry ≡ s.telemetry ++ x.packets)
+
+pub word_extracts : (s : GroundState) (x : Extracted) (r : Result Clcw ClcwFault)
+    → IsExtracted s x (own_frame_outcome s x r).after
+word_extracts s x (Err fault) = (refl, refl)
+word_extracts s x (Ok report) =
+    cond_both (report.vcid == s.config.vcid) _ _ (λ (o : GroundOutcome HeardClcw). IsExtracted s x o.after)
+    (λ t.
+    let f : FopState SegmentView = (clcw_step s.fop report).after in
+    with_extracts (acknowledging (after_extraction s x) f) f) (λ t. (refl, refl))
+
+-- ---- a control word by itself
+
+pub report_extracts : (s : GroundState) (r : Result Clcw ClcwFault) → Extracts s (report_outcome s r).after
+report_extracts s = report_seen s (Extracts s) (refl, refl) (λ report.
+    let f : FopState SegmentView = (clcw_step s.fop report).after in with_extracts (acknowledging s f) f)
+
+-- Telemetry over a run: what holds at every moment, and that it is what is promised.
+
+-- a frame that was sent: of the link's channel, and read as it was sent
+pub record IsSentBy (c : Config) (f : FrameView) : Type 0 where
+  pub range : IsInRange f
+  pub reads : frame_at c.frame_length (spelling f) ≡ Ok f
+  pub scid : f.scid ≡ c.scid
+  pub vcid : f.vcid ≡ c.tm_vcid
+
+-- Of the frames that were sent the first are no longer on their way, and the others are. Those of them
+-- that came led a new extractor to where it is, and gave the packets on the ground.
+pub record Came (sent : List FrameView) (came : List Bool) (down : List (List ℕ)) (extractor : ExtractorState)
+    (packets : List (List ℕ)) : Type 0 where
+  pub gone : List FrameView
+  pub going : List FrameView
+  pub parts : sent ≡ gone ++ going
+  pub counted : length came ≡ length gone
+  pub down_is : map spelling going ≡ down
+  pub state : extractor ≡ state_after new_extractor (choice gone came)
+  pub given : packets ≡ all_extracted new_extractor (choice gone came)
+
+pub record Laid (c : Config) (d : Downlink) : Type 0 where
+  pub sound : Sound c d.world
+  pub laid : IsLaidOutBy d.world.spacecraft.builder d.queued d.sent
+  pub count : d.world.spacecraft.builder.vc_count < 256
+  pub each : AllByRecursion (IsSentBy c) d.sent
+  pub way : Came d.sent d.came d.world.down d.world.ground_node.extractor (packets_down d)
+
+pub new_downlink_laid : (c : Config) → IsConfig c → Laid c (new_downlink c)
+new_downlink_laid c ranges = record {
+  sound = new_sound c ranges;
+  laid = new_laid c.scid c.tm_vcid c.frame_length 0 0;
+  count = omega arith;
+  each = tt;
+  way = record { gone = []; going = []; parts = refl; counted = refl; down_is = refl; state = refl; given = refl };
+}
+
+-- ---- what each event adds
+
+-- The first frame on its way, where its octets are these.
+record First (c : Config) (d : Downlink) (gone : List FrameView) (b : List ℕ) (bs : List (List ℕ)) : Type 0 where
+  frame : FrameView
+  after : List FrameView
+  parts : d.sent ≡ (gone ++ frame ∷ []) ++ after
+  is : spelling frame ≡ b
+  rest : map spelling after ≡ bs
+  sent : IsSentBy c frame
+
+each_at : (c : Config) (gone after : List FrameView) (f : FrameView) → AllByRecursion (IsSentBy c) (gone ++ f ∷ after)
+    → IsSentBy c f
+each_at c [] after f each = each.0
+each_at c (x ∷ gone) after f each = each_at c gone after f each.1
+
+parts_of : (x y : List ℕ) (xs ys : List (List ℕ)) → x ∷ xs ≡ y ∷ ys → (x ≡ y) × (xs ≡ ys)
+parts_of x y xs ys e = (cc, cc)
+
+first_of : (c : Config) (d : Downlink) (gone going : List FrameView) (b : List ℕ) (bs : List (List ℕ))
+    → AllByRecursion (IsSentBy c) d.sent → d.sent ≡ gone ++ going → map spelling going ≡ b ∷ bs → First c d gone b bs
+first_of c d gone [] b bs each parts e = absurd cc
+first_of c d gone (f ∷ after) b bs each parts e =
+    let both = parts_of (spelling f) b (map spelling after) bs e in
+    record {
+      frame = f;
+      after = after;
+      parts = parts ∙ sym (append_assoc gone (f ∷ []) after);
+      is = both.0;
+      rest = both.1;
+      sent = each_at c gone after f (subst (AllByRecursion (IsSentBy c)) parts each);
+    }
+
+-- the lists are the same
+laid_at : (c : Config) (world : World) (taken : List (List ℕ)) {queued more : List (List ℕ)}
+    {sent frames : List FrameView} {came marks : List Bool} → more ≡ queued → frames ≡ sent → marks ≡ came
+    → Laid c (record { world = world; queued = queued; sent = sent; came = came; taken = taken })
+    → Laid c (record { world = world; queued = more; sent = frames; came = marks; taken = taken })
+laid_at c world taken first second third g = rw (first, second, third) g
+
+module _ (c : Config) (d : Downlink) (g : Laid c d) where
+  -- nothing of telemetry changes
+  stays : (new : World) → Sound c new → new.spacecraft.builder ≡ d.world.spacecraft.builder → new.down ≡ d.world.down
+      → Extracts d.world.ground_node new.ground_node
+      → Laid c (record {
+        world = new;
+        queued = d.queued ++ [];
+        sent = d.sent ++ [];
+        came = d.came ++ [];
+        taken = d.taken;
+      })
+  stays new sound builder down ground =
+      laid_at c new d.taken (append-nil d.queued) (append-nil d.sent) (append-nil d.came) (record {
+        sound = sound;
+        laid = rw builder g.laid;
+        count = rw builder g.count;
+        each = g.each;
+        way = rw (down, ground.0, ground.1) g.way;
+      })
+
+  -- ---- on board
+
+  queued : (octets : List ℕ) → is_to_send octets ≡ true
+      → Sound c (record d.world {
+        spacecraft = record d.world.spacecraft { builder = after_queue d.world.spacecraft.builder octets };
+      })
+      → Laid c (record {
+        world = record d.world {
+          spacecraft = record d.world.spacecraft { builder = after_queue d.world.spacecraft.builder octets };
+        };
+        queued = d.queued ++ octets ∷ [];
+        sent = d.sent ++ [];
+        came = d.came ++ [];
+        taken = d.taken;
+      })
+  queued octets sends sound =
+      laid_at c (record d.world {
+        spacecraft = record d.world.spacecraft { builder = after_queue d.world.spacecraft.builder octets };
+      }) d.taken refl (append-nil d.sent) (append-nil d.came) (record {
+        sound = sound;
+        laid = queued_laid d.world.spacecraft.builder octets d.queued d.sent sends g.laid;
+        count = g.count;
+        each = g.each;
+        way = g.way;
+      })
+
+  reported : Sound c (world_step d.world events.Report).after → Laid c (downlink_step d (Happens events.Report))
+  reported sound =
+      let b : BuilderState = d.world.spacecraft.builder in
+      let ocf : List ℕ = report_octets d.world.spacecraft in
+      let f : FrameView = (build_step b ocf).0 in
+      let k = g.sound.spacecraft in
+      let v = g.way in
+      let total : b.total ≡ c.frame_length = k.builder.total in
+      let most : b.total ≤ 2048 = omega (arith, total, g.sound.ranges.frame_length) in
+      let size : length f.payload ≡ data_size b = data_length b k.idle_left in
+      let some : 0 < length f.payload = omega (arith, size, total, g.sound.ranges.frame_length) in
+      laid_at c (world_step d.world events.Report).after d.taken (append-nil d.queued) refl (append-nil d.came)
+      (record {
+        sound = sound;
+        laid = build_laid b ocf d.queued d.sent k.idle_left most g.laid;
+        count = omega arith;
+        each = all_push (IsSentBy c) d.sent f g.each (record {
+          range = record { count = g.count; some = some };
+          reads = reads_now c d.world g.sound;
+          scid = k.builder.scid;
+          vcid = k.builder.vcid;
+        });
+        way = record {
+          gone = v.gone;
+          going = v.going ++ f ∷ [];
+          parts = ap (λ (fs : List FrameView). fs ++ f ∷ []) v.parts ∙ append_assoc v.gone v.going (f ∷ []);
+          counted = v.counted;
+          down_is = map-append spelling v.going (f ∷ [])
+              ∙ ap (λ (bs : List (List ℕ)). bs ++ spelling f ∷ []) v.down_is;
+          state = v.state;
+          given = v.given;
+        };
+      })
+
+  abbrev Keeps : Event → WorldOutcome → Type 0
+  Keeps e o = Sound c o.after → Laid c (after_event d e o)
+
+  -- ---- the first frame on its way down is there no more
+
+  module _ (b : List ℕ) (bs : List (List ℕ)) (is : d.world.down ≡ b ∷ bs) where
+    first : First c d g.way.gone b bs
+    first = first_of c d g.way.gone g.way.going b bs g.each g.way.parts (g.way.down_is ∙ is)
+
+    -- the frames that came, this one too or not
+    abbrev came_with : Bool → List FrameView
+    came_with came = choice (g.way.gone ++ first.frame ∷ []) (d.came ++ came ∷ [])
+
+    gone : (came : Bool) (new : World) → Sound c new → new.spacecraft.builder ≡ d.world.spacecraft.builder
+        → new.down ≡ bs → new.ground_node.extractor ≡ state_after new_extractor (came_with came)
+        → d.taken ++ new.ground_node.telemetry ≡ all_extracted new_extractor (came_with came)
+        → Laid c (record {
+          world = new;
+          queued = d.queued ++ [];
+          sent = d.sent ++ [];
+          came = d.came ++ came ∷ [];
+          taken = d.taken;
+        })
+    gone came new sound builder down state given =
+        laid_at c new d.taken (append-nil d.queued) (append-nil d.sent) refl (record {
+          sound = sound;
+          laid = rw builder g.laid;
+          count = rw builder g.count;
+          each = g.each;
+          way = record {
+            gone = g.way.gone ++ first.frame ∷ [];
+            going = first.after;
+            parts = first.parts;
+            counted = omega (
+              arith,
+              length-append d.came (came ∷ []),
+              length-append g.way.gone (first.frame ∷ []),
+              g.way.counted,
+            );
+            down_is = first.rest ∙ sym down;
+            state = state;
+            given = given;
+          };
+        })
+
+    lost : Sound c (record d.world { down = bs })
+        → Laid c (record {
+          world = record d.world { down = bs };
+          queued = d.queued ++ [];
+          sent = d.sent ++ [];
+          came = d.came ++ false ∷ [];
+          taken = d.taken;
+        })
+    lost sound =
+        let v = g.way in
+        let same : came_with false ≡ choice v.gone d.came =
+        choice_more v.gone first.frame d.came false v.counted ∙ append-nil (choice v.gone d.came) in
+        gone false (record d.world { down = bs }) sound refl refl (rw same v.state) (rw same v.given)
+
+    -- its control word alone reaches the ground
+    word_lost : (r : Result Clcw ClcwFault)
+        → Keeps events.DownClcw (world_after_word d.world bs (report_outcome d.world.ground_node r))
+    word_lost r sound =
+        let v = g.way in
+        let s : GroundState = d.world.ground_node in
+        let t = report_extracts s r in
+        let same : came_with false ≡ choice v.gone d.came =
+        choice_more v.gone first.frame d.came false v.counted ∙ append-nil (choice v.gone d.came) in
+        let state : s.extractor ≡ state_after new_extractor (came_with false) = rw same v.state in
+        let given : d.taken ++ s.telemetry ≡ all_extracted new_extractor (came_with false) = rw same v.given in
+        gone false (world_after_word d.world bs (report_outcome s r)).after sound refl refl (t.0 ∙ state)
+        (ap (λ (ps : List (List ℕ)). d.taken ++ ps) t.1 ∙ given)
+
+    word_seen : (r : Result FrameView TmFault) → Keeps events.DownClcw (down_word_outcome d.world bs r)
+    word_seen (Ok frame) = word_lost (clcw_at frame.ocf)
+    word_seen (Err fault) = lost
+
+    extracts : IsExtracted d.world.ground_node (extract_step d.world.ground_node.extractor first.frame)
+        (down_deliver_step d.world (b ∷ bs)).after.ground_node
+    extracts =
+        let s : GroundState = d.world.ground_node in
+        let f : FrameView = first.frame in
+        let reads : frame_at s.config.frame_length b ≡ Ok f =
+        ap (λ (x : Config). frame_at x.frame_length b) g.sound.ground_node.config
+        ∙ ap (frame_at c.frame_length) (sym first.is) ∙ first.sent.reads in
+        let scid : f.scid == s.config.scid ≡ true =
+        eq-eqb f.scid s.config.scid (first.sent.scid ∙ sym (ap (λ (x : Config). x.scid) g.sound.ground_node.config)) in
+        let vcid : f.vcid == s.config.tm_vcid ≡ true =
+        eq-eqb f.vcid s.config.tm_vcid
+        (first.sent.vcid ∙ sym (ap (λ (x : Config). x.tm_vcid) g.sound.ground_node.config)) in
+        let same : ground_telemetry s b ≡ own_frame_outcome s (extract_step s.extractor f) (clcw_at f.ocf) =
+        ap (telemetry_outcome s) reads ∙ rw (scid, vcid) refl in
+        subst (λ (o : GroundOutcome Heard). IsExtracted s (extract_step s.extractor f) o.after) (sym same)
+        (word_extracts s (extract_step s.extractor f) (clcw_at f.ocf))
+
+    arrives : Sound c (down_deliver_step d.world (b ∷ bs)).after
+        → Laid c (after_event d events.DownDeliver (down_deliver_step d.world (b ∷ bs)))
+    arrives sound =
+        let x = first in
+        let v = g.way in
+        let s : GroundState = d.world.ground_node in
+        let t : List FrameView = choice v.gone d.came in
+        let more : came_with true ≡ t ++ x.frame ∷ [] = choice_more v.gone x.frame d.came true v.counted in
+        gone true (down_deliver_step d.world (b ∷ bs)).after sound refl refl
+        (extracts.0 ∙ ap (λ e. (extract_step e x.frame).after) v.state ∙ sym (state_more new_extractor t x.frame)
+        ∙ ap (state_after new_extractor) (sym more))
+        (ap (λ (ps : List (List ℕ)). d.taken ++ ps) extracts.1
+        ∙ sym (append_assoc d.taken s.telemetry (extract_step s.extractor x.frame).packets)
+        ∙ ap (λ (ps : List (List ℕ)). ps ++ (extract_step s.extractor x.frame).packets) v.given
+        ∙ ap (λ e. all_extracted new_extractor t ++ (extract_step e x.frame).packets) v.state
+        ∙ sym (extracted_more new_extractor t x.frame) ∙ ap (all_extracted new_extractor) (sym more))
+
+  -- ---- all events
+
+  up_seen : (P : WorldOutcome → Type 0) (bs : List (List ℕ)) → P (world_refusal d.world NotDetectable)
+      → ((fault : TcFault) → P (world_reply (Up (received_cases.Invalid fault)) (record d.world { up = bs })))
+      → (r : Result command_layout.FrameView TcFault) → P (up_damage_outcome d.world bs r)
+  up_seen P bs refused seen (Ok frame) = refused
+  up_seen P bs refused seen (Err fault) = seen fault
+
+  down_seen : (P : WorldOutcome → Type 0) (bs : List (List ℕ)) → P (world_refusal d.world NotDetectable)
+      → ((fault : TmFault) → P (world_reply (Down (heard_cases.Invalid fault)) (record d.world { down = bs })))
+      → (r : Result FrameView TmFault) → P (down_damage_outcome d.world bs r)
+  down_seen P bs refused seen (Ok frame) = refused
+  down_seen P bs refused seen (Err fault) = seen fault
+
+  refused : Sound c d.world
+      → Laid c (record {
+        world = d.world;
+        queued = d.queued ++ [];
+        sent = d.sent ++ [];
+        came = d.came ++ [];
+        taken = d.taken;
+      })
+  refused sound = stays d.world sound refl refl (refl, refl)
+
+  keeps : (e : Event) → Keeps e (world_step d.world e)
+  keeps (events.Submit m octets) =
+      let s : GroundState = d.world.ground_node in
+      λ sound. stays (world_step d.world (events.Submit m octets)).after sound refl refl
+      (submitted_extracts s m octets.now (submit_fault s m octets.now))
+  keeps (events.Bypass m octets) =
+      let s : GroundState = d.world.ground_node in
+      λ sound. stays (world_step d.world (events.Bypass m octets)).after sound refl refl
+      (bypass_extracts s m octets.now (bypass_fault s m octets.now))
+  keeps (events.Directive x) =
+      let s : GroundState = d.world.ground_node in
+      λ sound. stays (world_step d.world (events.Directive x)).after sound refl refl
+      (directed_extracts s x (directive_step s.fop x).answer (directive_step s.fop x).after)
+  keeps events.Send =
+      let s : GroundState = d.world.ground_node in
+      pulled d.world (Keeps events.Send) (λ reply up sent silent sound.
+      stays (record d.world {
+        ground_node = with_fop s (pull_step s.fop).after;
+        up = up;
+        session = record d.world.session { sent = sent };
+      }) sound refl refl (with_extracts s (pull_step s.fop).after))
+  keeps events.UpDeliver =
+      up_arrives d.world (Keeps events.UpDeliver) refused (λ b bs is sound.
+      stays (up_deliver_step d.world (b ∷ bs)).after sound
+      (arrived_builds d.world.spacecraft (command.frame_at On b)) refl (refl, refl))
+  keeps events.UpLose =
+      first_on (Keeps events.UpLose) (up_lose_step d.world) d.world.up refused (λ b bs is sound.
+      stays (record d.world { up = bs }) sound refl refl (refl, refl))
+  keeps (events.UpDamage octets) =
+      first_on (Keeps (events.UpDamage octets)) (λ bs. up_damage_step d.world bs octets.now) d.world.up refused
+      (λ b bs is. up_seen (Keeps (events.UpDamage octets)) bs refused
+      (λ fault sound. stays (record d.world { up = bs }) sound refl refl (refl, refl))
+      (command.frame_at On octets.now))
+  keeps events.Report = reported
+  keeps events.DownDeliver = down_arrives d.world (Keeps events.DownDeliver) refused (λ b bs is. arrives b bs is)
+  keeps events.DownLose =
+      first_on (Keeps events.DownLose) (down_lose_step d.world) d.world.down refused (λ b bs is. lost b bs is)
+  keeps (events.DownDamage octets) =
+      first_on (Keeps (events.DownDamage octets)) (λ bs. down_damage_step d.world bs octets.now) d.world.down refused
+      (λ b bs is. down_seen (Keeps (events.DownDamage octets)) bs refused (λ fault. lost b bs is)
+      (frame_at d.world.ground_node.config.frame_length octets.now))
+  keeps events.DownClcw =
+      first_on (Keeps events.DownClcw) (down_clcw_step d.world) d.world.down refused (λ b bs is.
+      word_seen b bs is (frame_at d.world.ground_node.config.frame_length b))
+  keeps (events.Resume value) =
+      let s : GroundState = d.world.ground_node in
+      let t : GroundState = (directed d.world (SetVs value)).ground_node in
+      let set = directed_extracts s (SetVs value) (directive_step s.fop (SetVs value)).answer
+      (directive_step s.fop (SetVs value)).after in
+      let begun = directed_extracts t InitUnlock (directive_step t.fop InitUnlock).answer
+      (directive_step t.fop InitUnlock).after in
+      resumes d.world value (Keeps (events.Resume value)) refused (λ whole can sound.
+      stays (resumed d.world value) sound refl refl (begun.0 ∙ set.0, begun.1 ∙ set.1))
+  keeps events.Tick =
+      let s : GroundState = d.world.ground_node in
+      λ sound. stays (world_step d.world events.Tick).after sound refl refl (with_extracts s (tick_step s.fop).after)
+  keeps events.Take =
+      λ sound. stays (world_step d.world events.Take).after sound
+      (take_builds d.world.spacecraft d.world.spacecraft.ready) refl (refl, refl)
+  keeps events.TakeBypass =
+      λ sound. stays (world_step d.world events.TakeBypass).after sound
+      (bypass_take_builds d.world.spacecraft d.world.spacecraft.bypass) refl (refl, refl)
+  keeps (events.Telemetry octets) =
+      cond_both (is_to_send octets.now) _ _
+      (λ (o : SpacecraftOutcome (Result (Unit {0}) TmFault)).
+      Keeps (events.Telemetry octets) (world_after_queueing d.world o))
+      (λ sends. queued octets.now sends) (λ t. refused)
+
+  -- ---- a packet is taken on the ground
+
+  taking : (ps : List (List ℕ)) → d.world.ground_node.telemetry ≡ ps
+      → Laid c (after_taking d (ground_take_telemetry d.world.ground_node ps))
+  taking [] is = record {
+    sound = g.sound;
+    laid = g.laid;
+    count = g.count;
+    each = g.each;
+    way = rw (append-nil d.taken) g.way;
+  }
+  taking (p ∷ left) is =
+      let same : (d.taken ++ p ∷ []) ++ left ≡ packets_down d =
+      append_assoc d.taken (p ∷ []) left ∙ ap (λ (ps : List (List ℕ)). d.taken ++ ps) (sym is) in
+      record {
+        sound = record {
+          ranges = g.sound.ranges;
+          ground_node = record {
+            config = g.sound.ground_node.config;
+            fop = g.sound.ground_node.fop;
+            pending_none = g.sound.ground_node.pending_none;
+            moved = g.sound.ground_node.moved;
+          };
+          spacecraft = g.sound.spacecraft;
+          before = g.sound.before;
+        };
+        laid = g.laid;
+        count = g.count;
+        each = g.each;
+        way = subst (Came d.sent d.came d.world.down d.world.ground_node.extractor) (sym same) g.way;
+      }
+
+  step_laid : (step : DownlinkStep) → IsDownlinkStep step → Laid c (downlink_step d step)
+  step_laid (Happens e) fits = keeps e (step_sound c d.world g.sound e fits)
+  step_laid TakeTelemetry fits = taking d.world.ground_node.telemetry refl
+
+-- ---- what is promised
+
+all_came : (spelled : List FrameView) → map spelling spelled ≡ [] → spelled ≡ []
+all_came [] e = refl
+all_came (f ∷ fs) e = absurd cc
+
+pub in_range : (c : Config) (frames : List FrameView) → AllByRecursion (IsSentBy c) frames
+    → AllByRecursion IsInRange frames
+in_range c [] each = tt
+in_range c (f ∷ frames) each = (each.0.range, in_range c frames each.1)
+
+module _ (c : Config) (d : Downlink) (g : Laid c d) where
+  pub chosen : choice d.sent d.came ≡ choice g.way.gone d.came
+  chosen = ap (λ fs. choice fs d.came) g.way.parts ∙ choice_front g.way.gone g.way.going d.came g.way.counted
+
+  arrived : IsClose d.came → packets_down d ≡ arrived_packets g.laid.laid.all d.sent d.came
+  arrived close =
+      g.way.given ∙ ap (all_extracted new_extractor) (sym chosen)
+      ∙ extraction_exact d.queued d.sent (held_by d.world.spacecraft.builder) g.laid.laid d.came
+      (in_range c d.sent g.each) close
+
+  whole : AllByRecursion (λ (came : Bool). came ≡ true) d.came → d.world.down ≡ []
+      → held_by d.world.spacecraft.builder ≡ [] → packets_down d ≡ d.queued
+  whole all down nothing =
+      let none : g.way.going ≡ [] = all_came g.way.going (g.way.down_is ∙ down) in
+      let sent : d.sent ≡ g.way.gone =
+      g.way.parts ∙ ap (λ fs. g.way.gone ++ fs) none ∙ append-nil g.way.gone in
+      let laid : IsLaidOut d.queued g.way.gone [] =
+      subst (λ fs. IsLaidOut d.queued fs []) sent
+      (subst (λ (rest : List ℕ). IsLaidOut d.queued d.sent rest) nothing g.laid.laid) in
+      g.way.given ∙ ap (all_extracted new_extractor) (choice_whole g.way.gone d.came g.way.counted all)
+      ∙ all_handed_out d.queued g.way.gone laid (subst (AllByRecursion IsInRange) sent (in_range c d.sent g.each))
+
+  in_order : IsTelemetryInOrder d
+  in_order = record {
+    laid = g.laid.laid;
+    down = ap (λ fs. map spelling (drop (length d.came) fs)) g.way.parts
+        ∙ ap (map spelling) (drop_at g.way.gone g.way.going (length d.came) (sym g.way.counted)) ∙ g.way.down_is;
+    counted = omega (arith, g.way.counted, ap length g.way.parts, length-append g.way.gone g.way.going);
+    arrived = arrived;
+    in_order = λ close. subst (λ (ps : List (List ℕ)). AreSomeOf ps d.queued) (sym (arrived close))
+        (arrived_some g.laid.laid.all d.queued (marks_of d.sent d.came) g.laid.laid.sent);
+    complete = whole;
+  }
+
+pub run_laid : (c : Config) (steps : List DownlinkStep) (d : Downlink) → AllByRecursion IsDownlinkStep steps → Laid c d
+    → Laid c (downlink_run d steps)
+run_laid c [] d all g = g
+run_laid c (step ∷ steps) d all g = run_laid c steps (downlink_step d step) all.1 (step_laid c d g step all.0)
+
+pub comes_down : (c : Config) (steps : List DownlinkStep) → IsConfig c → AllByRecursion IsDownlinkStep steps
+    → IsTelemetryInOrder (downlink_run (new_downlink c) steps)
+comes_down c steps ranges all =
+    let d : Downlink = downlink_run (new_downlink c) steps in
+    in_order c d (run_laid c steps (new_downlink c) all (new_downlink_laid c ranges))
+
+-- ---- events alone
+
+run_of : (d : Downlink) (es : List Event)
+    → ((downlink_run d (map (λ e. Happens e) es)).world ≡ world_run d.world es)
+    × ((downlink_run d (map (λ e. Happens e) es)).taken ≡ d.taken)
+run_of d [] = (refl, refl)
+run_of d (e ∷ es) = run_of (downlink_step d (Happens e)) es
+
+pub runs_as_the_link : (c : Config) (es : List Event)
+    → ((downlink_of c es).world ≡ world_run (new_world c) es) × ((downlink_of c es).taken ≡ [])
+runs_as_the_link c es = run_of (new_downlink c) es

@@ -1,23 +1,157 @@
--- A frame that arrives, or doesn't, keeps what holds in a session.
-use Rattle.tc_link.proofs.Common.{◌≡◌, ℕ, ◌+◌, ◌*◌, ◌/◌, ◌<◌, ◌≤◌, ◌⊎◌, inl, inr, max, Bool, true, false, List, []}
-use Rattle.tc_link.proofs.Common.{◌∷◌, ◌++◌, take, drop, Some, Result, Ok, refl, ap, sym, subst, ◌∙◌, arith, slice_get}
-use Rattle.tc_link.proofs.Common.{eq-eqb, drop-append-le, TcFault, On, SegmentView, BodyView, Ad, Bd, Bc, Verdict}
-use Rattle.tc_link.proofs.Common.{Accepted, Ahead, NoBuffer, Outside, Directive, InitWithCheck, FarmState, verdict_of}
-use Rattle.tc_link.proofs.Common.{after_verdict, Config, limits_of, is_kept, SpacecraftState, frame_outcome}
-use Rattle.tc_link.proofs.Common.{body_outcome, sequence_outcome, bypass_outcome, is_free, frame_of, World}
-use Rattle.tc_link.proofs.Common.{up_deliver_step, Rises}
+-- What the ground sends, and a frame that arrives on board or doesn't, keep what holds in a session.
+use Rattle.tc_link.proofs.Common.{◌≡◌, ℕ, ◌⊎◌, inl, inr, Bool, true, false, refl, ◌∙◌, Command, Unlock, SetVr}
+use Rattle.tc_link.proofs.Common.{SegmentView, Bc, FarmMode, Open, Wait, Directive, InitWithCheck, InitUnlock}
+use Rattle.tc_link.proofs.Common.{InitSetVr, FarmState, after_unlock, after_set_vr, after_release, SpacecraftState}
+use Rattle.tc_link.proofs.Common.{body_outcome, bypass_outcome, ◌+◌, ◌-◌, ◌/◌, ◌%◌, ◌<◌, ◌≤◌, arith, ◌==◌, nat_lt}
+use Rattle.tc_link.proofs.Common.{cond_both, eqb-true, eqb-false, ltb-true, ltb-false, ahead_by, verdict_of, Verdict}
+use Rattle.tc_link.proofs.Common.{Accepted, Ahead, NoBuffer, Outside, ◌*◌, max, List, [], ◌∷◌, ◌++◌, take, drop, Some}
+use Rattle.tc_link.proofs.Common.{Result, Ok, ap, sym, subst, slice_get, eq-eqb, drop-append-le, TcFault, On, BodyView}
+use Rattle.tc_link.proofs.Common.{Ad, Bd, after_verdict, Config, limits_of, is_kept, frame_outcome, sequence_outcome}
+use Rattle.tc_link.proofs.Common.{is_free, frame_of, World, up_deliver_step, Rises, length, farm_step, BufferReleased}
+use Rattle.tc_link.proofs.Common.{is_to_send, after_queue, PacketOn, spacecraft_take, spacecraft_take_bypass}
+use Rattle.tc_link.proofs.Common.{spacecraft_telemetry, world_after_take, world_after_queueing, map, option_to_list}
+use Rattle.tc_link.proofs.Common.{AllByRecursion, ne_eqb, append-nil, map-append, length-take-le, segment_octets}
+use Rattle.tc_link.proofs.Common.{Control, Idle, Due, Sent, FopMode, S5, units_of, PulledUnit, pull_step, oldest_marked}
+use Rattle.tc_link.proofs.Common.{without_oldest_mark, unmarked_unit, FopState, FopOutcome, IsActive, after_restart}
+use Rattle.tc_link.proofs.Common.{FitsFrame, is_closed, unsent_segments, with_fop, frame_to_send, world_after_pull}
+use Rattle.tc_link.proofs.Common.{IsChecked, pulled_out, active_on, Option, after_count, tick_step, due_again}
+use Rattle.tc_link.proofs.Common.{after_alert, after_repeat, after_stop, directive_outcome, is_initiation}
+use Rattle.tc_link.proofs.Common.{world_after_directive, IsDirective, obeyed, ticked, Alert, CopFault, directive_step}
+use Rattle.tc_link.proofs.Common.{closed_not}
+use Rattle.std.specs.Prelude.{nat_le}
+use Rattle.std.proofs.lemmas.Bool.{leb-true, leb-false}
+use Rattle.std.proofs.lemmas.Option.{slice_get_within}
 use Rattle.tc_frame.specs.Layout.{FrameView}
 use Rattle.tc_frame.specs.Decoding.{frame_at}
+use Rattle.tc_frame.specs.Encoding.{spelling}
+use Rattle.cop1.specs.declared.farm.FarmMode.TheVariants.{Lockout}
+use Rattle.cop1.specs.Farm.{place_at, ad_verdict}
+use Rattle.cop1.specs.declared.farm.Verdict.TheVariants.{Behind, Discarded}
+use Rattle.cop1.specs.FopPull.{SequencePulled, pulls, after_send_first}
 use Rattle.nodes.specs.Spacecraft.{after_segment}
-use Rattle.tc_link.specs.PlainLink.{takes, leaves}
-use Rattle.tc_link.proofs.Lists.{take_next}
-use Rattle.tc_link.proofs.Verdicts.{VerdictFits, verdict_in_window}
-use Rattle.tc_link.proofs.Reports.{asked}
-use Rattle.tc_link.proofs.Transit.{UpIs, Fits, Ranks, bit, fits_less, rises_higher, ranks_higher}
-use Rattle.tc_link.proofs.Eased.{Eases, eased_same, bypass_eases, control_eases}
-use Rattle.tc_link.proofs.Early.{WouldConfirm, Lasts, lasts_on, AllSame}
-use Rattle.tc_link.proofs.Linked.{In, Late, WithReceiver, Carries, Next, stays}
-use Rattle.tc_link.proofs.Sound.{Sound}
+use Rattle.simulated_link.specs.World.{first_sent}
+use Rattle.tc_link.specs.PlainLink.{leaves, puts_next, puts_again}
+use Rattle.tc_link.specs.PlainLink as link_steps
+use Rattle.tc_link.proofs.Linked.{CommandFits, asked, UpIs, Fits, Ranks, bit, fits_less, rises_higher, ranks_higher}
+use Rattle.tc_link.proofs.Linked.{WouldConfirm, Lasts, lasts_on, AllSame, In, Late, WithReceiver, Carries, Next, stays}
+use Rattle.tc_link.proofs.Linked.{IsLate, up_push, up_push_bypass, up_push_control, fits_push, fits_further}
+use Rattle.tc_link.proofs.Linked.{ControlFits, early_off, Begun, Stage, WithSender, Calm, Held, carries_push, holds_on}
+use Rattle.tc_link.proofs.Linked.{Kept, kept_of}
+use Rattle.tc_link.proofs.Lists.{take_next, drop_cons_get, drop_cons_rest, get_drop, get_take, units-push}
+use Rattle.tc_link.proofs.Lists.{units-without, oldest_stands, units-marked}
+use Rattle.tc_link.proofs.Sound.{Sound, Commanded}
+use Rattle.tc_link.proofs.Refilled.{same_keeps as ground_same, session_refilled, held_same, off_keeps}
+use Rattle.tc_link.proofs.Readable.{Goes, reads_back, fits_at}
+
+-- What a frame past the sequence control and a release do to the receiver: no flag comes up.
+
+-- what a report says, but for the wait flag, is the same
+abbrev pub SaysTheSame : FarmState → FarmState → Type 0
+SaysTheSame s t = (t.lockout ≡ s.lockout) × (t.retransmit ≡ s.retransmit) × (t.vr ≡ s.vr)
+
+-- the control command of a session that counts from `base` on came before any Type-AD frame
+abbrev pub IsCommanded : Directive → ℕ → Bool → FarmState → FarmState → Type 0
+IsCommanded d base front s t = (front ≡ true) × (d ≡ InitWithCheck → ⊥) × ((t.vr ≡ s.vr) ⊎ (t.vr ≡ base))
+
+pub record Eases (d : Directive) (base : ℕ) (front : Bool) (s t : FarmState) : Type 0 where
+  pub lockout : s.lockout ≡ false → t.lockout ≡ false
+  pub wait : s.wait ≡ false → t.wait ≡ false
+  pub retransmit : s.retransmit ≡ false → t.retransmit ≡ false
+  pub so : SaysTheSame s t ⊎ IsCommanded d base front s t
+
+module _ (d : Directive) (base : ℕ) (front : Bool) (s : FarmState) where
+  pub eased_same : (t : FarmState) → t.lockout ≡ s.lockout → t.wait ≡ s.wait → t.retransmit ≡ s.retransmit
+      → t.vr ≡ s.vr → Eases d base front s t
+  eased_same t lockout wait retransmit vr = record {
+    lockout = λ e. lockout ∙ e;
+    wait = λ e. wait ∙ e;
+    retransmit = λ e. retransmit ∙ e;
+    so = inl (lockout, retransmit, vr);
+  }
+
+  pub release_eases : (mode : FarmMode) → Eases d base front s (after_release s mode)
+  release_eases Open = eased_same s refl refl refl refl
+  release_eases _ =
+      record { lockout = λ e. e; wait = λ e. refl; retransmit = λ e. e; so = inl (refl, refl, refl) }
+
+  unlock_eases : (mode : FarmMode) → front ≡ true → (d ≡ InitWithCheck → ⊥) → Eases d base front s (after_unlock s mode)
+  unlock_eases Open is other =
+      record { lockout = λ e. e; wait = λ e. e; retransmit = λ e. refl; so = inr (is, other, inl refl) }
+  unlock_eases Wait is other =
+      record { lockout = λ e. e; wait = λ e. refl; retransmit = λ e. refl; so = inr (is, other, inl refl) }
+  unlock_eases Lockout is other =
+      record { lockout = λ e. refl; wait = λ e. refl; retransmit = λ e. refl; so = inr (is, other, inl refl) }
+
+  set_eases : (x : ℕ) (mode : FarmMode) → x ≡ base → front ≡ true → (d ≡ InitWithCheck → ⊥)
+      → Eases d base front s (after_set_vr s x mode)
+  set_eases x Open value is other =
+      record { lockout = λ e. e; wait = λ e. e; retransmit = λ e. refl; so = inr (is, other, inr value) }
+  set_eases x Wait value is other =
+      record { lockout = λ e. e; wait = λ e. refl; retransmit = λ e. refl; so = inr (is, other, inr value) }
+  set_eases x Lockout value is other = eased_same (after_set_vr s x Lockout) refl refl refl refl
+
+module _ (d : Directive) (base : ℕ) (front : Bool) (s : SpacecraftState) where
+  pub bypass_eases : (u : SegmentView) (kept : Bool) → Eases d base front s.farm (bypass_outcome s u kept).after.farm
+  bypass_eases u true = eased_same d base front s.farm (bypass_outcome s u true).after.farm refl refl refl refl
+  bypass_eases u false = eased_same d base front s.farm (bypass_outcome s u false).after.farm refl refl refl refl
+
+  control_by : (command : Command) (e : Directive) → e ≡ d → front ≡ true → CommandFits e base command
+      → Eases d base front s.farm (body_outcome s (Bc command)).after.farm
+  control_by Unlock InitUnlock is ahead fits =
+      unlock_eases d base front s.farm s.farm.state ahead (λ x. absurd (cc (is, x)))
+  control_by (SetVr y) (InitSetVr x) is ahead fits =
+      set_eases d base front s.farm y s.farm.state fits ahead (λ x. absurd (cc (is, x)))
+  control_by _ _ is ahead fits = elim fits [ ]
+
+  pub control_eases : (command : Command) → front ≡ true → CommandFits d base command
+      → Eases d base front s.farm (body_outcome s (Bc command)).after.farm
+  control_eases command ahead fits = control_by command d refl ahead fits
+
+-- What the receiver's table says of a number within the window.
+
+abbrev pub VerdictFits : ℕ → ℕ → Verdict → Type 0
+VerdictFits r i Accepted = i ≡ r
+VerdictFits r i Ahead = r < i
+VerdictFits r i NoBuffer = i ≡ r
+VerdictFits r i Behind = i < r
+VerdictFits r i Outside = ⊥
+VerdictFits r i Discarded = Unit {0}
+
+judged : (base h r i d : ℕ) (free : Bool) (mode : FarmMode) → h ≤ 127 → r ≤ i + h → i + 1 ≤ r + h
+    → d ≡ ahead_by ((base + i) % 256) ((base + r) % 256)
+    → (i ≡ r → VerdictFits r i (ad_verdict (place_at 127 0) free mode))
+    → (r < i → VerdictFits r i (ad_verdict (place_at 127 1) free mode))
+    → (i < r → VerdictFits r i (ad_verdict (place_at 127 255) free mode))
+    → VerdictFits r i (ad_verdict (place_at h d) free mode)
+judged base h r i d free mode most low high e here ahead behind =
+    cond_both (d == 0) _ _ (λ p. VerdictFits r i (ad_verdict p free mode)) (λ t. here (omega (arith, eqb-true d 0 t)))
+    (λ f.
+    let apart = eqb-false d 0 f in
+    cond_both (nat_lt d h) _ _ (λ p. VerdictFits r i (ad_verdict p free mode))
+    (λ t. ahead (omega (arith, ltb-true d h t, apart))) (λ g.
+    cond_both (nat_le (256 - h) d) _ _ (λ p. VerdictFits r i (ad_verdict p free mode))
+    (λ t. behind (omega (arith, leb-true (256 - h) d t)))
+    (λ k. absurd (omega (arith, apart, ltb-false d h g, leb-false (256 - h) d k)))))
+
+-- the table's row for a number that is the expected one, or in the positive or the negative window
+in_mode : (r i : ℕ) (free : Bool) (mode : FarmMode)
+    → (i ≡ r → VerdictFits r i (ad_verdict (place_at 127 0) free mode))
+    × (r < i → VerdictFits r i (ad_verdict (place_at 127 1) free mode))
+    × (i < r → VerdictFits r i (ad_verdict (place_at 127 255) free mode))
+in_mode r i true Open = (λ x. x, λ x. x, λ x. x)
+in_mode r i true Wait = (λ x. tt, λ x. tt, λ x. tt)
+in_mode r i true Lockout = (λ x. tt, λ x. tt, λ x. tt)
+in_mode r i false Open = (λ x. x, λ x. x, λ x. x)
+in_mode r i false Wait = (λ x. tt, λ x. tt, λ x. tt)
+in_mode r i false Lockout = (λ x. tt, λ x. tt, λ x. tt)
+
+pub verdict_in_window : (s : FarmState) (base h r i n : ℕ) (free : Bool) → s.width / 2 ≡ h → h ≤ 127
+    → s.vr ≡ (base + r) % 256 → n ≡ (base + i) % 256 → r ≤ i + h → i + 1 ≤ r + h → VerdictFits r i (verdict_of s n free)
+verdict_in_window s base h r i n free half most vr number low high =
+    let row = in_mode r i free s.state in
+    rw half (judged base h r i (ahead_by n s.vr) free s.state most low high (rw (vr, number) refl) row.0 row.1 row.2)
+
+-- A frame that arrives, or doesn't, keeps what holds in a session.
 
 bit_most : (b : Bool) → bit b ≤ 1
 bit_most true = omega arith
@@ -34,11 +168,11 @@ abbrev accepted_by : SpacecraftState → SegmentView → Verdict → SpacecraftS
 accepted_by s u Accepted = after_segment s u
 accepted_by s u _ = s
 
-abbrev judged : SpacecraftState → SegmentView → Verdict → SpacecraftState
-judged s u v = record (accepted_by s u v) { farm = after_verdict s.farm v }
+abbrev after_judging : SpacecraftState → SegmentView → Verdict → SpacecraftState
+after_judging s u v = record (accepted_by s u v) { farm = after_verdict s.farm v }
 
 judged_is : (s : SpacecraftState) (n : ℕ) (u : SegmentView) (v : Verdict) → verdict_of s.farm n (is_free s) ≡ v
-    → (sequence_outcome s n u v).after ≡ judged s u v
+    → (sequence_outcome s n u v).after ≡ after_judging s u v
 judged_is s n u Accepted e = ap (λ v. record (after_segment s u) { farm = after_verdict s.farm v }) e
 judged_is s n u _ e = ap (λ v. record s { farm = after_verdict s.farm v }) e
 
@@ -132,7 +266,7 @@ module _ (c : Config) (d : Directive) (base : ℕ) (w : World) (k : Sound c w) (
   judged_keeps : (i : ℕ) (x u : SegmentView) (qs : List (ℕ × SegmentView)) (v : Verdict) → g.plain.up ≡ (i, x) ∷ qs
       → u ≡ x → UpIs d base false fs qs → Fits (c.width / 2) g.plain.n g.plain.units g.plain.r ((i, x) ∷ qs)
       → VerdictFits g.plain.r i v
-      → Next false c d base g.plain (record w { up = bs; spacecraft = judged w.spacecraft u v })
+      → Next false c d base g.plain (record w { up = bs; spacecraft = after_judging w.spacecraft u v })
   judged_keeps i x u qs Accepted also same up fit at_r =
       let p = g.plain in
       let l = g.linked in
@@ -149,7 +283,7 @@ module _ (c : Config) (d : Directive) (base : ℕ) (w : World) (k : Sound c w) (
       let rises : Rises p.a p.down (p.r + 1) = rises_higher p.a p.r (p.r + 1) p.down (omega arith) l.rises in
       record {
         plain = record p { r = p.r + 1; up = qs };
-        ran = inr (takes arrives);
+        ran = inr (link_steps.takes arrives);
         front = false;
         frames = fs;
         reports = g.reports;
@@ -216,11 +350,11 @@ module _ (early : Bool) (c : Config) (d : Directive) (base : ℕ) (w : World) (k
         stage = eased early c d base w g spacecraft.farm eases;
       }
 
-  bypass_keeps : (u : SegmentView) (kept : Bool) → UpIs d base g.front fs g.plain.up
+  bypass_arrives : (u : SegmentView) (kept : Bool) → UpIs d base g.front fs g.plain.up
       → Next early c d base g.plain (record w { up = bs; spacecraft = (bypass_outcome w.spacecraft u kept).after })
-  bypass_keeps u true up =
+  bypass_arrives u true up =
       other_keeps (bypass_outcome w.spacecraft u true).after up refl (bypass_eases d base g.front w.spacecraft u true)
-  bypass_keeps u false up =
+  bypass_arrives u false up =
       other_keeps (bypass_outcome w.spacecraft u false).after up refl (bypass_eases d base g.front w.spacecraft u false)
 
   -- it is lost
@@ -256,7 +390,7 @@ module _ (early : Bool) (c : Config) (d : Directive) (base : ℕ) (w : World) (k
         → Fits (c.width / 2) g.plain.n g.plain.units g.plain.r qs
         → Next early c d base g.plain (record w { up = bs; spacecraft = (body_outcome w.spacecraft f).after })
     body_keeps bs fs rest (Bd s) qs also up fit =
-        bypass_keeps early c d base w k g bs fs rest s (is_kept (limits_of w.spacecraft.config) s) (rw also up)
+        bypass_arrives early c d base w k g bs fs rest s (is_kept (limits_of w.spacecraft.config) s) (rw also up)
     body_keeps bs fs rest (Bc command) qs also up fit =
         other_keeps early c d base w k g bs fs rest (body_outcome w.spacecraft (Bc command)).after (rw also up.2) refl
         (control_eases d base g.front w.spacecraft command up.0 up.1)
@@ -294,3 +428,363 @@ module _ (early : Bool) (c : Config) (d : Directive) (base : ℕ) (w : World) (k
 
     pub up_delivers : Next early c d base g.plain (up_deliver_step w w.up).after
     up_delivers = delivers w.up g.frames g.linked.carries g.linked.up_is
+
+-- What is taken and queued on board keeps what holds in a session.
+
+module _ (early : Bool) (c : Config) (d : Directive) (base : ℕ) (w : World) (k : Sound c w) (g : In early c d base w)
+  where
+    pub eases_keep : (spacecraft : SpacecraftState) → spacecraft.accepted ≡ w.spacecraft.accepted
+        → Eases d base g.front w.spacecraft.farm spacecraft.farm
+        → Next early c d base g.plain (record w { spacecraft = spacecraft })
+    eases_keep spacecraft accepted eases =
+        other_keeps early c d base w k g w.up g.frames g.linked.carries spacecraft g.linked.up_is accepted eases
+
+    same_keeps : (spacecraft : SpacecraftState) → spacecraft.accepted ≡ w.spacecraft.accepted
+        → spacecraft.farm ≡ w.spacecraft.farm → Next early c d base g.plain (record w { spacecraft = spacecraft })
+    same_keeps spacecraft accepted farm =
+        eases_keep spacecraft accepted
+        (rw farm (eased_same d base g.front w.spacecraft.farm w.spacecraft.farm refl refl refl refl))
+
+    take_keeps : (packets : List PacketOn)
+        → Next early c d base g.plain (world_after_take w (spacecraft_take w.spacecraft packets)).after
+    take_keeps [] = stays g
+    take_keeps (packet ∷ left) =
+        cond_both (nat_lt (length left) w.spacecraft.config.ready_slots) (farm_step w.spacecraft.farm BufferReleased)
+        w.spacecraft.farm (λ (farm : FarmState). Next early c d base g.plain
+        (record w { spacecraft = record w.spacecraft { ready = left; farm = farm } }))
+        (λ t. eases_keep (record w.spacecraft { ready = left; farm = farm_step w.spacecraft.farm BufferReleased }) refl
+        (release_eases d base g.front w.spacecraft.farm w.spacecraft.farm.state))
+        (λ t. same_keeps (record w.spacecraft { ready = left }) refl refl)
+
+    pub takes : Next early c d base g.plain (world_after_take w (spacecraft_take w.spacecraft w.spacecraft.ready)).after
+    takes = take_keeps w.spacecraft.ready
+
+    bypass_keeps : (packets : List PacketOn)
+        → Next early c d base g.plain (world_after_take w (spacecraft_take_bypass w.spacecraft packets)).after
+    bypass_keeps [] = stays g
+    bypass_keeps (packet ∷ left) = same_keeps (record w.spacecraft { bypass = left }) refl refl
+
+    pub takes_bypass : Next early c d base g.plain
+        (world_after_take w (spacecraft_take_bypass w.spacecraft w.spacecraft.bypass)).after
+    takes_bypass = bypass_keeps w.spacecraft.bypass
+
+    pub queues : (octets : List ℕ)
+        → Next early c d base g.plain (world_after_queueing w (spacecraft_telemetry w.spacecraft octets)).after
+    queues octets =
+        cond_both (is_to_send octets) _ _ (λ o. Next early c d base g.plain (world_after_queueing w o).after)
+        (λ t. same_keeps (record w.spacecraft { builder = after_queue w.spacecraft.builder octets }) refl refl)
+        (λ t. stays g)
+
+-- The ground sends a frame in a session.
+
+-- ---- what a stage says of a frame that is sent
+
+none_fit : (h n : ℕ) (units : List SegmentView) (r : ℕ) (qs : List (ℕ × SegmentView)) → n ≡ 0 → Fits h n units r qs
+    → qs ≡ []
+none_fit h n units r [] none fit = refl
+none_fit h n units r (q ∷ qs) none fit = absurd (omega (arith, none, fit.1))
+
+-- before the confirmation no Type-AD frame is on its way
+pub early_up : (c : Config) (d : Directive) (base : ℕ) (w : World) (g : Begun c d base w) → UpIs d base true g.frames []
+early_up c d base w g =
+    let l = g.linked in
+    let none : g.plain.up ≡ [] =
+    none_fit (c.width / 2) g.plain.n g.plain.units g.plain.r g.plain.up g.stage.none_sent l.fits in
+    rw (g.stage.front_is, none) at l.up_is
+
+idle : (m : FopMode) (control : Control) → IsLate m → Commanded m control → control ≡ Idle
+idle S5 control late is = elim late [ ]
+idle _ control late is = is
+
+-- a control command is the session's own, and comes before the confirmation alone
+commanded : (early : Bool) (c : Config) (d : Directive) (base : ℕ) (w : World) (k : Sound c w)
+    (g : In early c d base w) (command : Command) → w.ground_node.fop.control ≡ Due command
+    → UpIs d base g.front (g.frames ++ Bc command ∷ []) g.plain.up
+    × WithSender g w.ground_node.fop.state (Sent command)
+commanded true c d base w k g command is =
+    let l = g.linked in
+    let s = g.stage in
+    let command_is : CommandFits d base command =
+    let it : ControlFits d base (Due command) = rw is at s.command_is in it in
+    let none : g.plain.up ≡ [] =
+    none_fit (c.width / 2) g.plain.n g.plain.units g.plain.r g.plain.up s.none_sent l.fits in
+    let up = up_push_control d base command g.frames command_is (early_up c d base w g) in
+    (rw (s.front_is, none) up, assumption (command_is, s))
+commanded false c d base w k g command is =
+    absurd (let none : w.ground_node.fop.control ≡ Idle =
+    idle w.ground_node.fop.state w.ground_node.fop.control g.stage.late k.ground_node.fop.commanded in cc (none, is))
+
+-- a unit is sent after it alone
+one_more : (early : Bool) (c : Config) (d : Directive) (base : ℕ) (w : World) (g : In early c d base w)
+    → IsActive w.ground_node.fop.state
+    → Stage early d base w.ground_node.fop.state w.ground_node.fop.control w.spacecraft.farm w.session.confirmed g.front
+    g.reports g.plain.a g.plain.r (g.plain.n + 1) g.plain.down
+one_more true c d base w g active = absurd (early_off d w.ground_node.fop.state g.stage.early active)
+one_more false c d base w g active =
+    let s = g.stage in
+    let p = g.plain in
+    let calm : IsChecked d → Calm w.ground_node.fop.state w.spacecraft.farm g.front g.reports p.a p.r (p.n + 1) p.down =
+    λ checked.
+    let m = s.calm checked in
+    let rank_most : 2 * p.r + bit w.spacecraft.farm.retransmit ≤ 2 * (p.n + 1) = omega (arith, m.rank_most) in
+    assumption (rank_most, m) in
+    assumption (calm, s)
+
+module _ (early : Bool) (c : Config) (d : Directive) (base : ℕ) (w : World) (k : Sound c w) (g : In early c d base w)
+  where
+    abbrev Leaves : FopOutcome SegmentView (PulledUnit SegmentView) → Type 0
+    Leaves o = Next early c d base g.plain (world_after_pull w (with_fop w.ground_node o.after)
+        (frame_to_send w.ground_node.config o.answer)).after
+
+    carries : (f : BodyView) → Goes f
+        → Carries c (w.up ++ spelling On (frame_of w.ground_node.config f) ∷ []) (g.frames ++ f ∷ [])
+    carries f goes =
+        carries_push c (spelling On (frame_of w.ground_node.config f)) f w.up g.frames
+        (rw k.ground_node.config (reads_back c f k.ranges goes)) g.linked.carries
+
+    -- a frame that is no Type-AD frame, from a sender that holds the same
+    sends : (f : BodyView) (fop : FopState SegmentView) → fop.vs ≡ w.ground_node.fop.vs → fop.nn ≡ w.ground_node.fop.nn
+        → fop.state ≡ w.ground_node.fop.state → fop.sent ≡ w.ground_node.fop.sent
+        → fop.waiting ≡ w.ground_node.fop.waiting → Goes f → UpIs d base g.front (g.frames ++ f ∷ []) g.plain.up
+        → WithSender g fop.state fop.control
+        → Next early c d base g.plain (record w {
+          ground_node = with_fop w.ground_node fop;
+          up = w.up ++ spelling On (frame_of w.ground_node.config f) ∷ [];
+          session = record w.session { sent = w.session.sent ++ [] };
+        })
+    sends f fop vs nn state sent waiting goes up_is stage =
+        let p = g.plain in
+        let l = g.linked in
+        let up : Carries c (w.up ++ spelling On (frame_of w.ground_node.config f) ∷ []) (g.frames ++ f ∷ []) =
+        carries f goes in
+        let held = held_same base w.ground_node fop p.a p.n p.units vs nn state (ap units_of sent) waiting l.held in
+        let nn_octet : fop.nn < 256 = rw nn l.nn_octet in
+        let sent_is : w.session.sent ++ [] ≡ map segment_octets (take p.n p.units) =
+        append-nil w.session.sent ∙ l.sent_is in
+        session_refilled early c d base (record w {
+          ground_node = record w.ground_node { fop = fop };
+          up = w.up ++ spelling On (frame_of w.ground_node.config f) ∷ [];
+          session = record w.session { sent = w.session.sent ++ [] };
+        }) (record {
+          plain = p;
+          ran = inl refl;
+          front = g.front;
+          frames = g.frames ++ f ∷ [];
+          reports = g.reports;
+          linked = assumption (up, up_is, held, nn_octet, sent_is, l);
+          stage = stage;
+        })
+
+    module _ (active : IsActive w.ground_node.fop.state) where
+      on : is_closed w.ground_node.fop.state ≡ false
+      on = active_on w.ground_node.fop.state active
+
+      -- a unit is sent for the first time
+      first_keeps : (u : SegmentView) → w.ground_node.fop.waiting ≡ Some u
+          → nat_lt (ahead_by w.ground_node.fop.vs w.ground_node.fop.nn) w.ground_node.fop.window ≡ true
+          → Leaves (pulls (after_send_first w.ground_node.fop u) (SequencePulled w.ground_node.fop.vs u))
+      first_keeps u is room =
+          let p = g.plain in
+          let l = g.linked in
+          let was = holds_on l on in
+          let s = w.ground_node.fop in
+          let below : ahead_by s.vs s.nn < s.window = ltb-true (ahead_by s.vs s.nn) s.window room in
+          let rest : u ∷ w.ground_node.pending ≡ drop p.n p.units =
+          let it : option_to_list s.waiting ++ w.ground_node.pending ≡ drop p.n p.units =
+          was.rest_is in rw is at it in
+          let unit_is : slice_get p.units p.n ≡ Some u = drop_cons_get p.units p.n u w.ground_node.pending (sym rest) in
+          let n_most : p.n + 1 ≤ length p.units = omega (arith, slice_get_within p.units p.n u unit_is) in
+          let n_a : p.n + 1 ≤ p.a + c.width / 2 =
+          omega (arith, was.vs_is, was.nn_is, below, k.ground_node.fop.window, k.ranges.width) in
+          let r_n : p.r ≤ p.n + 1 = omega arith in
+          let vs_is : (s.vs + 1) % 256 ≡ (base + (p.n + 1)) % 256 = omega (arith, was.vs_is) in
+          let a_most : p.a ≤ length (take p.n p.units) = omega (arith, length-take-le p.n p.units l.n_most) in
+          let queue : units_of (s.sent ++ unmarked_unit u ∷ []) ≡ drop p.a (take (p.n + 1) p.units) =
+          units-push s.sent u ∙ ap (λ xs. xs ++ u ∷ []) was.sent_is
+          ∙ sym (ap (drop p.a) (take_next p.units p.n u unit_is)
+          ∙ drop-append-le p.a (take p.n p.units) (u ∷ []) a_most) in
+          let left : w.ground_node.pending ≡ drop (p.n + 1) p.units =
+          sym (drop_cons_rest p.units p.n u w.ground_node.pending (sym rest)) in
+          let held : Held (is_closed s.state) base ((s.vs + 1) % 256) s.nn (s.sent ++ unmarked_unit u ∷ [])
+          w.ground_node.pending p.a (p.n + 1) p.units =
+          rw on (record { vs_is = vs_is; nn_is = was.nn_is; sent_is = queue; rest_is = left }) in
+          let frame : BodyView = Ad s.vs u in
+          let up : Carries c (w.up ++ spelling On (frame_of w.ground_node.config frame) ∷ []) (g.frames ++ frame ∷ []) =
+          carries frame (fits_at p.units p.n u l.units_fit unit_is) in
+          let up_is : UpIs d base g.front (g.frames ++ frame ∷ []) (p.up ++ (p.n, u) ∷ []) =
+          up_push d base s.vs p.n u g.front g.frames p.up was.vs_is l.up_is in
+          let fits : Fits (c.width / 2) (p.n + 1) p.units p.r (p.up ++ (p.n, u) ∷ []) =
+          fits_push (c.width / 2) (p.n + 1) p.n u p.units p.r p.up (omega arith) (omega (arith, k.ranges.width))
+          (omega arith) unit_is (fits_further (c.width / 2) p.n (p.n + 1) p.units p.r p.up (omega arith) l.fits) in
+          let field : first_sent s.vs frame ≡ segment_octets u ∷ [] = rw (eq-eqb s.vs s.vs refl) refl in
+          let sent_is : w.session.sent ++ first_sent s.vs frame ≡ map segment_octets (take (p.n + 1) p.units) =
+          ap (λ xs. w.session.sent ++ xs) field ∙ ap (λ xs. xs ++ segment_octets u ∷ []) l.sent_is
+          ∙ sym (ap (map segment_octets) (take_next p.units p.n u unit_is)
+          ∙ map-append segment_octets (take p.n p.units) (u ∷ [])) in
+          session_refilled early c d base (record w {
+            ground_node =
+                record w.ground_node { fop = after_send_first s u };
+            up =
+                w.up ++ spelling On (frame_of w.ground_node.config frame) ∷ [];
+            session =
+                record w.session { sent = w.session.sent ++ first_sent s.vs frame };
+          }) (record {
+            plain = record p { n = p.n + 1; up = p.up ++ (p.n, u) ∷ [] };
+            ran = inr (puts_next unit_is);
+            front = g.front;
+            frames = g.frames ++ frame ∷ [];
+            reports = g.reports;
+            linked = assumption (held, n_most, n_a, r_n, up, up_is, fits, sent_is, l);
+            stage = one_more early c d base w g active;
+          })
+
+      -- a unit that is sent again is one of those that were sent, and not the next one
+      was_sent : (x : ℕ × SegmentView) → oldest_marked 0 w.ground_node.fop.sent ≡ Some x
+          → (g.plain.a + x.0 < g.plain.n) × (slice_get g.plain.units (g.plain.a + x.0) ≡ Some x.1)
+      was_sent x is =
+          let p = g.plain in
+          let l = g.linked in
+          let stands = oldest_stands 0 w.ground_node.fop.sent x is in
+          let within : slice_get (drop p.a (take p.n p.units)) x.0 ≡ Some x.1 =
+          let place : stands.0 ≡ x.0 = omega (arith, stands.1) in rw (← (holds_on l on).sent_is, ← place) stands.2 in
+          let in_sent : slice_get (take p.n p.units) (p.a + x.0) ≡ Some x.1 =
+          get_drop (take p.n p.units) p.a x.0 x.1 within in
+          let below : p.a + x.0 < p.n =
+          omega (arith, slice_get_within _ (p.a + x.0) x.1 in_sent, length-take-le p.n p.units l.n_most) in
+          (below, get_take p.units p.n (p.a + x.0) x.1 in_sent)
+
+      pub not_next : (x : ℕ × SegmentView) → oldest_marked 0 w.ground_node.fop.sent ≡ Some x
+          → ((w.ground_node.fop.nn + x.0) % 256 == w.ground_node.fop.vs) ≡ false
+      not_next x is =
+          let l = g.linked in
+          let was = holds_on l on in
+          let below = (was_sent x is).0 in
+          ne_eqb ((w.ground_node.fop.nn + x.0) % 256) w.ground_node.fop.vs
+          (λ e. omega (arith, was.nn_is, was.vs_is, below, l.n_a, k.ranges.width))
+
+      -- a unit is sent again
+      again_keeps : (x : ℕ × SegmentView) → oldest_marked 0 w.ground_node.fop.sent ≡ Some x
+          → Leaves (pulls (record (after_restart w.ground_node.fop)
+          { sent = without_oldest_mark w.ground_node.fop.sent })
+          (SequencePulled ((w.ground_node.fop.nn + x.0) % 256) x.1))
+      again_keeps x is =
+          let p = g.plain in
+          let l = g.linked in
+          let was = holds_on l on in
+          let s = w.ground_node.fop in
+          let sent = was_sent x is in
+          let below : p.a + x.0 < p.n = sent.0 in
+          let unit_is : slice_get p.units (p.a + x.0) ≡ Some x.1 = sent.1 in
+          let number_is : (s.nn + x.0) % 256 ≡ (base + (p.a + x.0)) % 256 = omega (arith, was.nn_is) in
+          let held : Held (is_closed s.state) base s.vs s.nn (without_oldest_mark s.sent)
+          (unsent_segments w.ground_node) p.a p.n p.units =
+          rw on (record {
+            vs_is =
+                was.vs_is;
+            nn_is = was.nn_is;
+            sent_is = units-without s.sent ∙ was.sent_is;
+            rest_is = was.rest_is;
+          }) in
+          let frame : BodyView = Ad ((s.nn + x.0) % 256) x.1 in
+          let up : Carries c (w.up ++ spelling On (frame_of w.ground_node.config frame) ∷ []) (g.frames ++ frame ∷ []) =
+          carries frame (fits_at p.units (p.a + x.0) x.1 l.units_fit unit_is) in
+          let up_is : UpIs d base g.front (g.frames ++ frame ∷ []) (p.up ++ (p.a + x.0, x.1) ∷ []) =
+          up_push d base ((s.nn + x.0) % 256) (p.a + x.0) x.1 g.front g.frames p.up number_is l.up_is in
+          let fits : Fits (c.width / 2) p.n p.units p.r (p.up ++ (p.a + x.0, x.1) ∷ []) =
+          fits_push (c.width / 2) p.n (p.a + x.0) x.1 p.units p.r p.up l.r_n (omega arith) below unit_is l.fits in
+          let field : first_sent s.vs frame ≡ [] = rw (not_next x is) refl in
+          let sent_is : w.session.sent ++ first_sent s.vs frame ≡ map segment_octets (take p.n p.units) =
+          ap (λ xs. w.session.sent ++ xs) field ∙ append-nil w.session.sent ∙ l.sent_is in
+          session_refilled early c d base (record w {
+            ground_node =
+                record w.ground_node { fop = record (after_restart s) { sent = without_oldest_mark s.sent } };
+            up =
+                w.up ++ spelling On (frame_of w.ground_node.config frame) ∷ [];
+            session =
+                record w.session { sent = w.session.sent ++ first_sent s.vs frame };
+          }) (record {
+            plain = record p { up = p.up ++ (p.a + x.0, x.1) ∷ [] };
+            ran = inr (puts_again (omega arith) below unit_is);
+            front = g.front;
+            frames = g.frames ++ frame ∷ [];
+            reports = g.reports;
+            linked = assumption (held, up, up_is, fits, sent_is, l);
+            stage = g.stage;
+          })
+
+    pub pulls_keep : Leaves (pull_step w.ground_node.fop)
+    pulls_keep =
+        let s = w.ground_node.fop in
+        pulled_out s Leaves (record {
+          none = ground_same early c d base w g w.ground_node.fates s refl refl refl refl refl (λ fits. fits);
+          command = λ command is.
+              let both = commanded early c d base w k g command is in
+              sends (Bc command) (record (after_restart s) { control = Sent command }) refl refl refl refl refl tt
+              both.0 both.1;
+          bypass = λ u us is.
+              let fit : AllByRecursion FitsFrame (u ∷ us) = rw is at k.ground_node.fop.bypass_fits in
+              sends (Bd u) (record s { bypass = us }) refl refl refl refl refl fit.0
+              (up_push_bypass d base u g.front g.frames g.plain.up g.linked.up_is) g.stage;
+          again = again_keeps;
+          first = first_keeps;
+        })
+
+-- A tick and a directive within a session keep what holds in it.
+
+due_fits : (d : Directive) (base : ℕ) (control : Control) → ControlFits d base control
+    → ControlFits d base (due_again control)
+due_fits d base Idle fits = fits
+due_fits d base (Due command) fits = fits
+due_fits d base (Sent command) fits = fits
+
+module _ (early : Bool) (c : Config) (d : Directive) (base : ℕ) (w : World) (g : In early c d base w) where
+  abbrev SenderLeaves : {A : Type 0} → FopOutcome SegmentView A → Type 0
+  SenderLeaves o = Next early c d base g.plain (record w { ground_node = with_fop w.ground_node o.after })
+
+  kept : Kept base w.ground_node.fop.vs w.ground_node.fop.nn g.plain.a g.plain.n
+  kept = kept_of (is_closed w.ground_node.fop.state) _ _ _ _ _ _ _ _ g.linked.held
+
+  same : (f : FopState SegmentView) → f.vs ≡ w.ground_node.fop.vs → f.nn ≡ w.ground_node.fop.nn
+      → f.state ≡ w.ground_node.fop.state → f.sent ≡ w.ground_node.fop.sent → f.waiting ≡ w.ground_node.fop.waiting
+      → f.control ≡ w.ground_node.fop.control
+      → Next early c d base g.plain (record w { ground_node = with_fop w.ground_node f })
+  same f vs nn state sent waiting control =
+      ground_same early c d base w g w.ground_node.fates f vs nn state (ap units_of sent) waiting
+      (λ fits. rw control fits)
+
+  pub ticks : SenderLeaves (tick_step w.ground_node.fop)
+  ticks =
+      let s = w.ground_node.fop in
+      ticked s (λ o. SenderLeaves o) (record {
+        off = same s refl refl refl refl refl refl;
+        runs = λ left. same (record s { ticks = Some left }) refl refl refl refl refl refl;
+        stops = same (after_stop s) refl refl refl refl refl refl;
+        repeats = λ active. ground_same early c d base w g w.ground_node.fates (after_repeat (after_stop s)) refl refl
+            refl (units-marked s.sent) refl (λ fits. fits);
+        counts = same (after_count (after_stop s)) refl refl refl refl refl refl;
+        commands = λ is. ground_same early c d base w g w.ground_node.fates
+            (record (after_count (after_stop s)) { control = due_again s.control }) refl refl refl refl refl
+            (due_fits d base s.control);
+        gives_up = off_keeps early c d base w g w.ground_node.fates
+            (after_alert (after_stop s)) refl g.linked.nn_octet (λ fits. tt) kept;
+      })
+
+  -- a directive that begins no session
+  abbrev Keeps : Directive → FopOutcome SegmentView (Result (Option Alert) CopFault) → Type 0
+  Keeps e o = IsDirective e → (is_initiation e ≡ true → is_closed w.ground_node.fop.state ≡ false)
+      → Next early c d base g.plain (world_after_directive w e (directive_outcome w.ground_node e o)).after
+
+  pub directs : (e : Directive) → Keeps e (directive_step w.ground_node.fop e)
+  directs =
+      let s = w.ground_node.fop in
+      obeyed s Keeps (record {
+        refused = λ e fault on fits goes. stays g;
+        begins = λ e is off fits goes. absurd (closed_not s.state off (goes is));
+        terminated = λ fits goes. off_keeps early c d base w g w.ground_node.fates
+            (after_alert s) refl g.linked.nn_octet (λ fits. tt) kept;
+        numbers = λ x is fits goes. off_keeps early c d base w g _ (record s { vs = x; nn = x }) is fits
+            (λ so. so) (inr refl);
+        sets = λ e k n ticks plain most fits goes. rw plain
+            (ground_same early c d base w g _ (record s { window = k; limit = n; timer = ticks }) refl refl refl refl
+            refl (λ fits. fits));
+      })

@@ -78,7 +78,7 @@ impl<U: Drop> Fop<U> {
         self.show(next)
     }
 
-    #[tactic(auto, using(crate::proofs::Marks::marks))]
+    #[tactic(auto, using(crate::proofs::UnitsFollow::marks))]
     fn show(&self, next: Next<U>) -> Pulled<'_, U>
         requires { IsPlaced (units_of self.now.sent) next }
         ensures { pulled_view result ≡ seen_at (units_of self.now.sent) next }

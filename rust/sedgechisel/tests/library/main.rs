@@ -11,6 +11,5 @@ mod machines;
 mod memory;
 #[cfg(feature = "nodes")]
 mod nodes;
-mod session;
 mod telemetry;
 mod tool;

@@ -4,8 +4,7 @@ use Rattle.listings.specs.Devices.{gained}
 use Rattle.line_stream.specs.Lines.{lines_of}
 use Rattle.line_stream.specs.Playing.{answers_of, after_text}
 use Rattle.encode_lines.specs.declared.encoder.Encoder.{Encoder}
-use Rattle.encode_lines.specs.Octets.{octets_in}
-use Rattle.encode_lines.specs.Encoding.{encoding}
+use Rattle.encode_lines.specs.Octets.{octets_in, encoding}
 use Rattle.encode_lines.proofs.Runs.{written, refused}
 use Rattle.encode_lines.proofs.encoder.encode_stream.Goals as goal
 

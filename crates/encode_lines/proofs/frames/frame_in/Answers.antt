@@ -1,7 +1,7 @@
 use Rattle.std.proofs.Common.{◌≡◌, ◌<◌, length, map, sym, arith, Bor, List, ℕ}
 use Rattle.std.proofs.lemmas.Bool.{ltb-true, ltb-false}
 use Rattle.std.proofs.lemmas.List.{length-map}
-use Rattle.encode_lines.proofs.FrameWords.{frame_in-few, frame_in-many}
+use Rattle.encode_lines.proofs.Words.{frame_in-few, frame_in-many}
 use Rattle.encode_lines.proofs.frames.frame_in.Goals as goal
 use Rattle.encode_lines.proofs.frames.frame_in.Goals.{
   in_default-via-then-words-lt4,

@@ -1,5 +1,4 @@
-use Rattle.encode_lines.proofs.ReadFrames.{frame_line_read}
-use Rattle.encode_lines.proofs.SpelledFrames.{frame_line_said, frame_octets_read}
+use Rattle.encode_lines.proofs.FrameLines.{frame_line_read, frame_line_said, frame_octets_read}
 use Rattle.encode_lines.proofs.laws.law_of_frame_lines.Goals as goal
 
 pub returns-clause-says : goal.returns-clause-says

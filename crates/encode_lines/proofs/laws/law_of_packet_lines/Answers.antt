@@ -1,5 +1,4 @@
-use Rattle.encode_lines.proofs.ReadPackets.{packet_line_read}
-use Rattle.encode_lines.proofs.SpelledPackets.{packet_line_said, packet_octets_read}
+use Rattle.encode_lines.proofs.PacketLines.{packet_line_read, packet_line_said, packet_octets_read}
 use Rattle.encode_lines.proofs.laws.law_of_packet_lines.Goals as goal
 
 pub returns-clause-says : goal.returns-clause-says

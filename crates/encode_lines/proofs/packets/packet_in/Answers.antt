@@ -1,7 +1,7 @@
 use Rattle.std.proofs.Common.{◌≡◌, ◌<◌, length, map, sym, arith, Bor, List, ℕ}
 use Rattle.std.proofs.lemmas.Bool.{ltb-true, ltb-false}
 use Rattle.std.proofs.lemmas.List.{length-map}
-use Rattle.encode_lines.proofs.FrameWords.{packet_in-few, packet_in-many}
+use Rattle.encode_lines.proofs.Words.{packet_in-few, packet_in-many}
 use Rattle.encode_lines.proofs.packets.packet_in.Goals as goal
 use Rattle.encode_lines.proofs.packets.packet_in.Goals.{
   in_default-via-then-words-lt7,

@@ -5,7 +5,7 @@ use Rattle.std.proofs.lemmas.List.{append-nil}
 use Rattle.tc_frame.specs.Layout.{frame_view, FrameView}
 use Rattle.encode_lines.specs.Fields.{octets_of_digits}
 use Rattle.encode_lines.specs.Frames.{digits_of, frame_octets}
-use Rattle.encode_lines.proofs.FrameWords.{frame_decoded-none}
+use Rattle.encode_lines.proofs.Words.{frame_decoded-none}
 use Rattle.encode_lines.proofs.spellings.put_frame.Goals as goal
 
 pub returns-in_default : goal.returns-in_default

@@ -2,7 +2,7 @@ use Rattle.std.proofs.Common.{rules, ◌==◌, ◌∙◌, sym, refl, ℕ}
 use borrow.Author.Tests.{tests}
 use Rattle.std.proofs.lemmas.Iterator.{YieldsList-from_slice}
 use Rattle.std.proofs.lemmas.Iterator.Search.{position_from_yields_List}
-use Rattle.line_stream.proofs.Cutting.{cut_at, cut_nowhere}
+use Rattle.line_stream.proofs.Pieces.{cut_at, cut_nowhere}
 use Rattle.line_stream.proofs.parts.cut.Goals as goal
 
 pub returns-in-Some-clause-parts : goal.returns-in-Some-clause-parts

@@ -1,4 +1,4 @@
-use Rattle.listings.proofs.ListedPackets.{told_of_all}
+use Rattle.listings.proofs.ListedMaps.{told_of_all}
 use Rattle.listings.proofs.maps.law_of_listed_packets.Goals as goal
 
 pub returns : goal.returns

@@ -1,4 +1,4 @@
-use Rattle.listings.proofs.OneMapLines.{as_all}
+use Rattle.listings.proofs.ListedMaps.{as_all}
 use Rattle.listings.proofs.one_map.law_of_one_map.Goals as goal
 
 pub returns : goal.returns

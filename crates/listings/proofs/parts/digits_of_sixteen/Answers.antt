@@ -1,4 +1,4 @@
-use Rattle.listings.proofs.Lanes.{digits_in_turn}
+use Rattle.listings.proofs.Digits.{digits_in_turn}
 use Rattle.listings.proofs.parts.digits_of_sixteen.Goals as goal
 
 pub returns : goal.returns

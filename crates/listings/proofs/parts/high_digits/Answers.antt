@@ -1,7 +1,7 @@
 use Rattle.std.proofs.Common.{◌/◌, arith}
 use Rattle.std.proofs.lemmas.Simd.{zip2_splat}
 use Rattle.listings.specs.declared.parts.TheConstants.{UPPER}
-use Rattle.listings.proofs.Lanes.{shifted, high_ok, looked_up}
+use Rattle.listings.proofs.Digits.{shifted, high_ok, looked_up}
 use Rattle.listings.proofs.parts.high_digits.Goals as goal
 
 pub swizzle : goal.swizzle

@@ -1,7 +1,7 @@
 use Rattle.std.proofs.Common.{◌%◌, ◌∙◌, bit_and, arith}
 use Rattle.std.proofs.lemmas.Simd.{zip2_splat}
 use Rattle.listings.specs.declared.parts.TheConstants.{UPPER}
-use Rattle.listings.proofs.Lanes.{low_ok, looked_up, masked}
+use Rattle.listings.proofs.Digits.{low_ok, looked_up, masked}
 use Rattle.listings.proofs.parts.low_digits.Goals as goal
 
 pub swizzle : goal.swizzle

@@ -1,6 +1,6 @@
 use Rattle.std.proofs.Common.{◌≡◌, ◌+◌, ◌*◌, ◌-◌, ◌/◌, length, arith}
 use Rattle.hex.specs.Hex.{upper_digits}
-use Rattle.listings.proofs.Lanes.{sixteen_more, all_sixteen, none_yet}
+use Rattle.listings.proofs.Digits.{sixteen_more, all_sixteen, none_yet}
 use Rattle.listings.proofs.parts.write_many.Goals as goal
 
 pub sixteens-init : goal.sixteens-init

@@ -5,8 +5,7 @@ use Rattle.listings.specs.Layouts.{first_by}
 use Rattle.listings.specs.Listing.{listed, rest_line}
 use Rattle.listings.specs.Text.{written}
 use Rattle.listings.specs.Listing.{standing, where_refused}
-use Rattle.listings.proofs.Pieces.{begins_more, begins_same}
-use Rattle.listings.proofs.Listed.{rest_line-refused}
+use Rattle.listings.proofs.Listed.{begins_more, begins_same, rest_line-refused}
 use Rattle.listings.proofs.stream.list_piece.Given.{Over}
 use Rattle.listings.proofs.stream.list_piece.Goals as goal
 use Rattle.listings.proofs.stream.list_piece.Goals.{In-Ok}

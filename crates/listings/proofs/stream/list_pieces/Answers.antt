@@ -2,8 +2,8 @@ use Rattle.std.proofs.Common.{◌≡◌, ◌∙◌, ◌++◌, List, [], ℕ, Opt
 use Rattle.std.proofs.Common.{true, Result, Ok, length, take, inr, arith}
 use Rattle.std.specs.Io.KnownBytes.{Consumes}
 use Rattle.listings.specs.Devices.{gained, writes_failed_in}
-use Rattle.listings.proofs.Pieces.{gained_more, gained_nothing, on_ok_from, adds_piece, at_end, stops, is_bad}
-use Rattle.listings.proofs.Pieces.{same_summary}
+use Rattle.listings.proofs.Listed.{gained_more, gained_nothing, on_ok_from, adds_piece, at_end, stops, is_bad, bare}
+use Rattle.listings.proofs.Listed.{listed-nothing, first_record-nothing, same_summary}
 use Rattle.std.proofs.lemmas.List.{append-nil, length-append, length-take-le}
 use Rattle.std.proofs.lemmas.Result.{on_err_weaker}
 use Rattle.octets.specs.Beginning.{IsBeginning}
@@ -12,7 +12,6 @@ use Rattle.listings.specs.Listing.{Standing, fresh, listed, standing}
 use Rattle.listings.specs.declared.fault.ListingFault.{ListingFault}
 use Rattle.listings.specs.declared.stream.Course.{Course}
 use Rattle.listings.specs.declared.stream.Course.TheVariants.{Open, Refused}
-use Rattle.listings.proofs.Listed.{bare, listed-nothing, first_record-nothing}
 use Rattle.listings.proofs.stream.list_pieces.Goals as goal
 
 -- What reads leave of the octets that are known to remain.

@@ -5,7 +5,7 @@ use Rattle.listings.specs.Devices.{gained}
 use Rattle.listings.specs.Layouts.{first_by}
 use Rattle.listings.specs.Listing.{standing}
 use Rattle.listings.specs.declared.stream.TheConstants.{MOST_OCTETS}
-use Rattle.listings.proofs.Pieces.{IsUpTo}
+use Rattle.listings.proofs.Listed.{IsUpTo}
 use Rattle.listings.proofs.stream.list_pieces.Given as goal
 
 -- the octets so far are listed and written, and what is left of them is held

@@ -2,7 +2,7 @@ use Rattle.std.proofs.Common.{ℕ, ◌++◌, codes, decimal, length}
 use Rattle.octets.specs.Beginning.{Appends}
 use Rattle.nodes.specs.Fates.{submitted, whole_with}
 use Rattle.nodes.specs.Ground.{outstanding, sent_beyond}
-use Rattle.node_lines.proofs.Numbers.{four}
+use Rattle.node_lines.proofs.Answered.{four}
 use Rattle.node_lines.proofs.ground.push_submissions.Goals as goal
 
 pub returns : goal.returns

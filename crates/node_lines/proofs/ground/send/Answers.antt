@@ -1,7 +1,7 @@
 use Rattle.std.proofs.Common.{rules, sym, subst, replicate, refl}
 use Rattle.octets.specs.Beginning.{Appends}
 use Rattle.nodes.specs.Ground.{ground_step, Pull}
-use Rattle.node_lines.proofs.Frames.{pulled}
+use Rattle.node_lines.proofs.Answered.{pulled}
 use Rattle.node_lines.proofs.ground.send.Goals as goal
 
 pub returns-in-Some : goal.returns-in-Some

@@ -1,5 +1,5 @@
 use Rattle.nodes.specs.Ground.{submit_fault, after_submission}
-use Rattle.node_lines.proofs.Refused.{refused}
+use Rattle.node_lines.proofs.Answered.{refused}
 use Rattle.node_lines.proofs.ground.submit.Goals as goal
 
 pub returns-in-Err : goal.returns-in-Err

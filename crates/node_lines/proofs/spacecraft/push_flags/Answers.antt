@@ -2,7 +2,7 @@ use Rattle.std.proofs.Common.{ℕ, ◌++◌, codes, decimal, ap}
 use Rattle.octets.specs.Beginning.{Appends}
 use Rattle.clcw.specs.declared.word.Clcw.{Clcw}
 use Rattle.listings.specs.Text.{flag_number}
-use Rattle.node_lines.proofs.Numbers.{four}
+use Rattle.node_lines.proofs.Answered.{four}
 use Rattle.node_lines.proofs.spacecraft.push_flags.Goals as goal
 
 pub returns : goal.returns

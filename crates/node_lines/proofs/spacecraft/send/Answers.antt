@@ -3,7 +3,7 @@ use Rattle.octets.specs.Beginning.{Appends}
 use Rattle.tm_link.specs.Encoding.{spelling}
 use Rattle.nodes.specs.Spacecraft.{spacecraft_step, Report}
 use Rattle.node_answers.specs.Answers.{sent_text}
-use Rattle.node_lines.proofs.Frames.{front_is}
+use Rattle.node_lines.proofs.Answered.{front_is}
 use Rattle.node_lines.proofs.spacecraft.send.Goals as goal
 
 pub returns : goal.returns

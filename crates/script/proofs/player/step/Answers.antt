@@ -1,6 +1,6 @@
 use Rattle.std.proofs.Common.{rules, ◌≡◌, ◌≢◌, Result, Ok, Err, IfOk, IfErr, OnOk, OnErr, IsOkUnless, refl, ap, sym}
 use Rattle.std.proofs.Common.{◌∙◌}
-use Rattle.simulated_link.proofs.Refusals.{refused_keeps}
+use Rattle.simulated_link.proofs.Unchanged.{refused_keeps}
 use Rattle.simulated_link.specs.Replies.{ReplyView}
 use Rattle.simulated_link.specs.World.{World, WorldOutcome, world_step}
 use Rattle.simulated_link.specs.declared.fault.SimFault.{SimFault}

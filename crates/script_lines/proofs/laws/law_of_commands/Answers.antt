@@ -1,4 +1,4 @@
-use Rattle.script_lines.proofs.ReadLines.{says, unreadable}
+use Rattle.script_lines.proofs.Lines.{says, unreadable}
 use Rattle.script_lines.proofs.laws.law_of_commands.Goals as goal
 
 pub returns-clause-spelled : goal.returns-clause-spelled

@@ -1,4 +1,4 @@
-use Rattle.script_lines.proofs.HexWords.{octets_as_words}
+use Rattle.script_lines.proofs.Spelled.{octets_as_words}
 use Rattle.script_lines.proofs.laws.law_of_octets.Goals as goal
 
 pub returns : goal.returns

@@ -4,7 +4,7 @@ use Rattle.script_lines.specs.Words.{lines_in, parts_from}
 use Rattle.script_lines.specs.Lines.{ScriptLine, line_view}
 use Rattle.script_lines.specs.Scripts.{script_in, with_lines}
 use Rattle.script_lines.specs.Programs.{played, played_of}
-use Rattle.script_lines.proofs.Programs.{script_begins, goes_past}
+use Rattle.script_lines.proofs.Parts.{script_begins, goes_past}
 use Rattle.script_lines.proofs.scripts.read_script.Goals as goal
 
 pub lines-preserved : goal.lines-preserved

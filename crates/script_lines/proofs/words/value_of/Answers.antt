@@ -1,7 +1,7 @@
 use Rattle.std.proofs.Common.{◌<◌, ◌^◌, sym, subst, ℕ, List, Option}
 use Rattle.std.specs.Option.{SomeIff}
 use Rattle.std.specs.Str.Parse.{digits_value, ParsesUnsigned}
-use Rattle.script_lines.proofs.Numerals.{numeral_utf8, numeral_parsed, ok_some}
+use Rattle.script_lines.proofs.Spelled.{numeral_utf8, numeral_parsed, ok_some}
 use Rattle.script_lines.proofs.words.value_of.Goals as goal
 
 pub returns-in-Ok : goal.returns-in-Ok

@@ -1,6 +1,6 @@
 use Rattle.simulated_link.proofs.Common.{◌∙◌, replicate, spacecraft_step, Report}
 use Rattle.tm_link.specs.Encoding.{spelling}
-use Rattle.simulated_link.proofs.FirstOctets.{front_is}
+use Rattle.simulated_link.proofs.Lists.{front_is}
 use Rattle.simulated_link.proofs.down_frame.put_report.Goals as goal
 
 pub returns-clause-frame : goal.returns-clause-frame

@@ -1,5 +1,5 @@
 use Rattle.simulated_link.proofs.Common.{length, arith, packets_view}
-use Rattle.simulated_link.proofs.MapLists.{append_at, has_room}
+use Rattle.simulated_link.proofs.Lists.{append_at, has_room}
 use Rattle.simulated_link.proofs.map_lists.append_on.Goals as goal
 
 pub append-requires : goal.append-requires

@@ -1,5 +1,5 @@
 use Rattle.simulated_link.proofs.Common.{Result, Ok, Err, OnOk, ap, arith, octets_of}
-use Rattle.simulated_link.proofs.MapLists.{same_at, room_at}
+use Rattle.simulated_link.proofs.Lists.{same_at, room_at}
 use Rattle.simulated_link.proofs.map_lists.make_room.Goals as goal
 
 on_ok : {A E P Q : Type 0} (r : Result A E) → (P → Q) → OnOk r P → OnOk r Q

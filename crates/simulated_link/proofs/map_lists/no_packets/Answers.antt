@@ -1,6 +1,6 @@
 use Rattle.simulated_link.proofs.Common.{◌≡◌, [], get_or, map, ap, arith}
 use Rattle.std.proofs.Common.{rules}
-use Rattle.simulated_link.proofs.MapLists.{none_at}
+use Rattle.simulated_link.proofs.Lists.{none_at}
 use Rattle.simulated_link.proofs.map_lists.no_packets.Goals as goal
 
 pub returns-clause-none : goal.returns-clause-none

@@ -1,6 +1,5 @@
-use Rattle.tc_link.proofs.ProgressBegin.{each_begins, each_ends}
-use Rattle.tc_link.proofs.Progress.{each_makes_progress, each_acknowledges}
-use Rattle.tc_link.proofs.ProgressSure.{each_is_delivered}
+use Rattle.tc_link.proofs.ProgressSure.{each_begins, each_ends, each_is_delivered}
+use Rattle.tc_link.proofs.ProgressNext.{each_makes_progress, each_acknowledges}
 use Rattle.tc_link.proofs.laws.law_of_progress.Goals as goal
 
 pub returns-clause-progress : goal.returns-clause-progress

@@ -1,4 +1,4 @@
-use Rattle.tc_link.proofs.TelemetryKept.{comes_down, runs_as_the_link}
+use Rattle.tc_link.proofs.Telemetry.{comes_down, runs_as_the_link}
 use Rattle.tc_link.proofs.telemetry_law.law_of_telemetry.Goals as goal
 
 pub returns-clause-in_order : goal.returns-clause-in_order

@@ -3,7 +3,7 @@ use Rattle.script.specs.Ending.{remaining_answers}
 use Rattle.script.specs.Player.{answers_from}
 use Rattle.script_lines.specs.Programs.{lines_left}
 use Rattle.octets.specs.Beginning.{IsBeginning}
-use Rattle.listings.proofs.Pieces.{begins_more}
+use Rattle.listings.proofs.Listed.{begins_more}
 use Rattle.tctool.proofs.simulation.write_answers.Goals as goal
 
 pub returns-in-Err-clause-beginning : goal.returns-in-Err-clause-beginning

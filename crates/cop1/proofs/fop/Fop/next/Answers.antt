@@ -1,8 +1,7 @@
 use Rattle.std.proofs.Common.{is_some, drop, sym, ap, ◌∙◌, arith}
 use Rattle.std.specs.Prelude.{if◌then◌else◌}
 use Rattle.cop1.specs.FopPull.{pull_step}
-use Rattle.cop1.proofs.Marks.{map-unit-marked_last}
-use Rattle.cop1.proofs.UnitsFollow.{next-goes}
+use Rattle.cop1.proofs.UnitsFollow.{map-unit-marked_last, next-goes}
 use Rattle.cop1.proofs.fop.Fop.next.Goals as goal
 
 pub take_first-requires : goal.take_first-requires

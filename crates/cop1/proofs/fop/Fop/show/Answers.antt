@@ -1,6 +1,6 @@
 use Rattle.std.proofs.Common.{◌<◌, length, sym, subst, ap, ◌∙◌}
 use Rattle.cop1.specs.UnitsNext.{units_of, IsPlaced}
-use Rattle.cop1.proofs.Marks.{slice_get-within, map-unit-marked_last, is_some_copied}
+use Rattle.cop1.proofs.UnitsFollow.{slice_get-within, map-unit-marked_last, is_some_copied}
 use Rattle.cop1.proofs.fop.Fop.show.Goals as goal
 
 pub unwrap-requires : goal.unwrap-requires

@@ -13,8 +13,7 @@ use Rattle.nodes.specs.Ground.{unsent_segments}
 use Rattle.nodes.specs.GroundFields.{state_of, IsSound}
 use Rattle.nodes.specs.Parameters.{IsConfig, limits_of}
 use Rattle.nodes.specs.Submissions.{segments_held, IsSubmissionAt}
-use Rattle.nodes.proofs.Fates.{most_left}
-use Rattle.nodes.proofs.Owed.{AreOwed, owed_with}
+use Rattle.nodes.proofs.Owed.{most_left, AreOwed, owed_with}
 use Rattle.nodes.proofs.Submissions.{IsAccepted, is_accepted, some_segments}
 use Rattle.nodes.proofs.ground_node.Ground.commit.Goals.{in-One, in-Several}
 use Rattle.nodes.proofs.ground_node.Ground.commit.Goals as goal

@@ -6,7 +6,7 @@ use Rattle.cop1.specs.declared.fault.CopFault.{CopFault}
 use Rattle.cop1.specs.declared.vocabulary.Alert.{Alert}
 use Rattle.cop1.specs.declared.vocabulary.Directive.{Directive}
 use Rattle.cop1.specs.FopDirective.{directive_step}
-use Rattle.cop1.proofs.DirectiveCases.{obeyed}
+use Rattle.cop1.proofs.Cases.{obeyed}
 use Rattle.std.proofs.lemmas.Result.{IfErr-at_err}
 use Rattle.nodes.specs.Fates.{Fates}
 use Rattle.nodes.specs.Ground.{GroundState, ground_step, Direct, after_directive, with_fop}

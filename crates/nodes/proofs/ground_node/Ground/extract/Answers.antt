@@ -4,7 +4,7 @@ use Rattle.map_service.proofs.Handed.{AreWhole}
 use Rattle.tm_link.specs.Extractor.{octets_of, extract_step}
 use Rattle.tm_link.specs.Layout.{FrameView, frame_view}
 use Rattle.nodes.specs.Ground.{GroundState}
-use Rattle.nodes.proofs.FinishedPackets.{whole_append, extracted_whole}
+use Rattle.nodes.proofs.Delivery.{whole_append, extracted_whole}
 use Rattle.nodes.proofs.ground_node.Ground.extract.Goals as goal
 
 pub returns-clause-count : goal.returns-clause-count

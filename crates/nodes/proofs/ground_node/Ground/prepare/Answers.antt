@@ -11,10 +11,8 @@ use Rattle.nodes.specs.declared.fault.LinkFault.TheVariants.{NotOpen, ClosedMap,
 use Rattle.nodes.specs.declared.ground_node.submission.Submission.{Submission}
 use Rattle.nodes.specs.Ground.{GroundState, is_closed, is_over_slots, submit_fault}
 use Rattle.nodes.specs.Parameters.{limits_of}
-use Rattle.nodes.proofs.SubmissionFaults.{no_session, no_such_map, no_commands, but_for_places, IsRefusal, for_reason}
-use Rattle.nodes.proofs.SubmissionFaults.{passed_on}
-use Rattle.nodes.proofs.SubmissionFaults.{for_places}
-use Rattle.nodes.proofs.Submissions.{not_refused}
+use Rattle.nodes.proofs.Submissions.{no_session, no_such_map, no_commands, but_for_places, IsRefusal, for_reason}
+use Rattle.nodes.proofs.Submissions.{passed_on, for_places, not_refused}
 use Rattle.nodes.proofs.ground_node.Ground.prepare.Goals as goal
 
 none_is : {A : Type 0} (o : Option A) (P : A → Type 0) → o ≡ None → IfSome o P

@@ -1,7 +1,7 @@
 use Rattle.std.proofs.Common.{◌≡◌, ◌<◌, ◌+◌, ℕ, List, ◌∷◌, length, drop, refl, sym, ap, ◌∙◌, arith, slice_index_or}
 use Rattle.std.proofs.lemmas.List.{drop_more}
 use Rattle.nodes.specs.Fates.{whole_within}
-use Rattle.nodes.proofs.Fates.{Needs, none_whole, one_whole}
+use Rattle.nodes.proofs.Owed.{Needs, none_whole, one_whole}
 use Rattle.nodes.proofs.ground_node.fates.whole_within.Goals as goal
 
 -- the submissions from this place on are the one that is looked at, and those after it

@@ -12,7 +12,7 @@ use Rattle.map_service.specs.Exactness.{AssemblerState, HasPartsOf, part_on_map,
 use Rattle.map_service.specs.Views.{ready_view}
 use Rattle.nodes.specs.Spacecraft.{SpacecraftState, is_free}
 use Rattle.nodes.specs.SpacecraftFields.{state_of}
-use Rattle.nodes.proofs.PacketCounts.{taken_few}
+use Rattle.nodes.proofs.Delivery.{taken_few}
 use Rattle.nodes.proofs.spacecraft.Spacecraft.hand_on.Goals as goal
 
 -- The packets that come of a segment are packets on its MAP.

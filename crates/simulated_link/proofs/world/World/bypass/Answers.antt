@@ -7,7 +7,7 @@ use Rattle.simulated_link.specs.declared.reply.NodeFault.TheVariants.{Link}
 use Rattle.simulated_link.specs.Events.{LetsHappen}
 use Rattle.simulated_link.specs.Replies.{reply_to_submission}
 use Rattle.simulated_link.specs.WorldFields.{world_of}
-use Rattle.simulated_link.proofs.Refusals.{refused, bypass_never}
+use Rattle.simulated_link.proofs.Unchanged.{refused, bypass_never}
 use Rattle.simulated_link.proofs.Transit.{happens, lacks}
 use Rattle.simulated_link.proofs.world.World.bypass.Goals.{in-Ok, in-Err}
 use Rattle.simulated_link.proofs.world.World.bypass.Goals as goal

@@ -1,6 +1,8 @@
 use Rattle.simulated_link.proofs.Common.{◌≡◌, ◌++◌, ◌∷◌, [], ℕ, List, map, filter, length, Bool, true, false, refl, ap}
 use Rattle.simulated_link.proofs.Common.{sym, ◌∙◌, arith, append-nil, ◌==◌, if◌then◌else◌, filter-append, packets_view}
-use Rattle.simulated_link.proofs.Common.{GroundState, submit_fault, PacketOn, packet_on, None, IfSome}
+use Rattle.simulated_link.proofs.Common.{GroundState, submit_fault, PacketOn, packet_on, None, IfSome, Option, Some}
+use Rattle.simulated_link.proofs.Common.{Result, Ok, Err, Event, LinkFault, World, GroundOutcome, unless_refused}
+use Rattle.simulated_link.proofs.Common.{after_submission}
 use Rattle.std.specs.List.{flat_map}
 use Rattle.std.specs.Option.{is_some}
 use Rattle.std.proofs.lemmas.Grind.{flat_map-append}
@@ -9,8 +11,6 @@ use Rattle.map_service.specs.Packets.{packets_in}
 use Rattle.nodes.specs.declared.ground_node.submission.Submission.{Submission}
 use Rattle.nodes.specs.Packets.{packet_view}
 use Rattle.nodes.specs.declared.event.Event.TheVariants as events
-use Rattle.simulated_link.proofs.Common.{Option, Some, Result, Ok, Err, Event, LinkFault, World, GroundOutcome}
-use Rattle.simulated_link.proofs.Common.{unless_refused, after_submission}
 use Rattle.simulated_link.specs.declared.fault.SimFault.TheVariants.{Memory}
 use Rattle.simulated_link.specs.declared.reply.NodeFault.TheVariants.{Link}
 use Rattle.simulated_link.specs.declared.reply.Reply.TheVariants as replies
@@ -18,7 +18,7 @@ use Rattle.simulated_link.specs.Events.{LetsHappen}
 use Rattle.simulated_link.specs.Replies.{reply_to_submission}
 use Rattle.simulated_link.specs.World.{submission_of, world_after_submission}
 use Rattle.simulated_link.specs.WorldFields.{world_of}
-use Rattle.simulated_link.proofs.Refusals.{refused, submit_never}
+use Rattle.simulated_link.proofs.Unchanged.{refused, submit_never}
 use Rattle.simulated_link.proofs.Counted.{submit_same}
 use Rattle.simulated_link.proofs.Transit.{happens, lacks}
 use Rattle.simulated_link.proofs.world.World.submit.Goals.{then-is_err-via-then-is_err}

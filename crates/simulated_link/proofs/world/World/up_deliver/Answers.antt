@@ -20,8 +20,7 @@ use Rattle.simulated_link.specs.Events.{LetsHappen}
 use Rattle.simulated_link.specs.WorldFields.{world_of}
 use Rattle.simulated_link.proofs.Transit.{IsFirst, none_there, first_there, happens, lacks}
 use Rattle.simulated_link.specs.declared.acceptance.Acceptance.{Acceptance}
-use Rattle.simulated_link.proofs.AcceptedSegments.{field_behind}
-use Rattle.simulated_link.proofs.Gained.{delivered_by, gained}
+use Rattle.simulated_link.proofs.Gained.{field_behind, delivered_by, gained}
 use Rattle.simulated_link.specs.declared.reply.Reply.TheVariants as replies
 use Rattle.simulated_link.proofs.world.World.up_deliver.Goals.{After-deref}
 use Rattle.simulated_link.proofs.world.World.up_deliver.Goals as goal

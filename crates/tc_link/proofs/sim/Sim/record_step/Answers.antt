@@ -1,7 +1,7 @@
 use Rattle.std.proofs.Common.{rules, ◌≡◌, ◌≢◌, List, [], ◌∷◌, ◌++◌, map, Result, Ok, Err, IfOk, IfErr, OnOk, OnErr}
 use Rattle.std.proofs.Common.{IsOkUnless, refl, ap, sym, ◌∙◌}
 use Rattle.octets.specs.Outcome.{map_ok}
-use Rattle.simulated_link.proofs.Refusals.{refused_keeps}
+use Rattle.simulated_link.proofs.Unchanged.{refused_keeps}
 use Rattle.simulated_link.specs.Replies.{ReplyView, reply_view}
 use Rattle.simulated_link.specs.declared.reply.Reply.{Reply}
 use Rattle.simulated_link.specs.declared.fault.SimFault.TheVariants.{Memory}

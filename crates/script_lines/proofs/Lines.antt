@@ -1,33 +1,119 @@
--- A line that is read is spelled so.
-use Rattle.std.proofs.Common.{◌≡◌, ◌∙◌, ◌≤◌, ◌<◌, ◌^◌, ◌==◌, ◌&&◌, ◌++◌, ℕ, Bool, true, false, cond, List, [], ◌∷◌}
-use Rattle.std.proofs.Common.{Option, Some, None, inl, inr, refl, sym, ap, subst, arith}
-use Rattle.std.specs.Prelude.{codes, decimal, ◌↔◌, ◌⊎◌, option_map, option_and_then}
-use Rattle.std.specs.List.{find, join_with_byte}
-use Rattle.std.specs.Map.{lookup}
+-- A line that is spelled is read so, and a line that is read is spelled so.
+use denote.Bor.{Bor}
+use Rattle.std.proofs.Common.{◌≡◌, ◌∙◌, ◌≤◌, ◌<◌, ◌^◌, ℕ, zero, suc, true, List, [], ◌∷◌, ◌++◌, Option, Some, refl, sym}
+use Rattle.std.proofs.Common.{ap, arith, ◌==◌, ◌&&◌, Bool, false, cond, None, inl, inr, subst}
+use Rattle.std.specs.Prelude.{◌⊎◌, codes, decimal, length, map, slice_index_or, ◌↔◌, option_map, option_and_then}
+use Rattle.std.specs.List.{Contains, find, join_with_byte}
 use Rattle.std.specs.Option.{unwrap_or, option_or}
+use Rattle.std.specs.Map.{lookup}
 use Rattle.std.specs.Str.{bytes_eq}
 use Rattle.std.proofs.lemmas.Bool.{and_parts, eqb-true}
 use Rattle.std.proofs.lemmas.Map.Views.{Contains-from_lookup}
 use Rattle.std.proofs.lemmas.List.Splits.{join_with_byte-slice_split}
 use Rattle.std.proofs.lemmas.Slice.Eq.{bytes_eq-Decides}
 use Rattle.std.proofs.lemmas.Option.{same_Some}
-use denote.Bor.{Bor}
 use Rattle.cop1.specs.declared.vocabulary.Directive.{Directive}
 use Rattle.cop1.specs.declared.vocabulary.Directive.TheVariants as directives
 use Rattle.nodes.specs.declared.parameter.Parameter.{Parameter}
 use Rattle.nodes.specs.declared.parameter.Parameter.TheVariants as parameters
-use Rattle.nodes.specs.Parameters.{all_in_order, row_of, parameter_named}
+use Rattle.nodes.specs.Parameters.{row_of, all_in_order, parameter_named}
 use Rattle.nodes.specs.declared.event.Event.{Event}
 use Rattle.nodes.specs.declared.event.Event.TheVariants as events
-use Rattle.script_lines.specs.Lines.{ScriptLine, Skipped, Setting, Happening, Showing, Unreadable, borrow_of}
-use Rattle.script_lines.specs.Lines.{plain_events, plain_line, line_of_two_words, submission_line, most_for}
-use Rattle.script_lines.specs.Lines.{setting_line, line_of_three_words, line_of_words, readable_line, line_in}
+use Rattle.nodes.proofs.InRange.{named}
+use Rattle.script_lines.specs.Lines.{ScriptLine, Setting, Happening, Unreadable, most_for, setting_line, plain_events}
+use Rattle.script_lines.specs.Lines.{line_of_words, line_in, Skipped, Showing, borrow_of, plain_line, line_of_two_words}
+use Rattle.script_lines.specs.Lines.{submission_line, line_of_three_words, readable_line}
 use Rattle.script_lines.specs.Words.{words_in, number_in_word, octets_in_word}
 use Rattle.script_lines.specs.Spelling as spelling
 use Rattle.script_lines.specs.Spelling.{Spells, IsHex}
-use Rattle.script_lines.proofs.HexWords.{read_octets}
-use Rattle.script_lines.proofs.Numerals.{read}
-use Rattle.script_lines.proofs.SpelledLines.{spelled, most_small}
+use Rattle.script_lines.proofs.Spelled.{spelled_octets, printed, is_word, number_word, hex_word, two_words, three_words}
+use Rattle.script_lines.proofs.Spelled.{read_octets, read}
+
+-- A line that is spelled is read so.
+
+abbrev meant : List (List ℕ) → ScriptLine
+meant words = unwrap_or (line_of_words words) Unreadable
+
+-- ---- settings
+
+name_word : (p : Parameter) → is_word (row_of p).name ≡ true
+name_word parameters.Maps = refl
+name_word p = refl
+
+pub most_small : (p : Parameter) → most_for p < 2 ^ 64
+most_small parameters.Maps = omega arith
+most_small p = omega arith
+
+least_most : (p : Parameter) (n : ℕ) → (n ≤ 65542) ⊎ (n ≤ (row_of p).most) → n ≤ most_for p
+least_most parameters.Maps n fits = omega (arith, fits)
+least_most p n fits = omega (arith, fits)
+
+set : (p : Parameter) (n : ℕ) → n ≤ most_for p → setting_line (row_of p).name (decimal n) ≡ Some (Setting p n)
+set p n le = let number = printed (most_for p) n (most_small p) le in rw (named p, number) refl
+
+-- ---- lines
+
+agree_at : {A B : Type 0} (f g : A → B) (all : List A) (a : A) (k : ℕ) → map f all ≡ map g all → k < length all
+    → slice_index_or all k a ≡ a → f a ≡ g a
+agree_at f g [] a k same less is = absurd (omega (arith, less))
+agree_at f g (one ∷ more) a zero same less is = ap f (sym is) ∙ cc same ∙ ap g is
+agree_at f g (one ∷ more) a (suc k) same less is = agree_at f g more a k (cc same) (omega (arith, less)) is
+
+-- two functions that make one list of a table agree at each of its rows
+agree : {A B : Type 0} (f g : A → B) (all : List A) (a : A) → map f all ≡ map g all → Contains all a → f a ≡ g a
+agree f g all a same has = agree_at f g all a has.0 same has.1 has.2
+
+-- a name and a number
+numbered : (name : List ℕ) (x : ℕ) → is_word name ≡ true → x < 2 ^ 64
+    → meant (words_in (name ++ 32 ∷ decimal x)) ≡ meant (name ∷ decimal x ∷ [])
+numbered name x is small = ap meant (two_words name (decimal x) is (number_word x small))
+
+pub spelled : {line : List ℕ} {what : ScriptLine} → Spells what line → line_in line ≡ what
+spelled spelling.empty = refl
+spelled (spelling.note text) = refl
+spelled spelling.show = refl
+spelled (spelling.plain event line has) =
+    agree (λ row. line_in row.0) (λ row. Happening row.1) plain_events (line, event) refl has
+spelled (spelling.config p n fits) =
+    let le = least_most p n fits in
+    let below : n < 2 ^ 64 = omega (arith, le, most_small p) in
+    ap meant (three_words (codes "config") (row_of p).name (decimal n) refl (name_word p) (number_word n below))
+    ∙ ap (λ (o : Option ScriptLine). unwrap_or o Unreadable) (set p n le)
+spelled (spelling.submit map octets hex le is) =
+    let number = printed 255 map (omega arith) le in
+    let read = spelled_octets octets hex is in
+    ap meant (three_words (codes "submit") (decimal map) hex refl (number_word map (omega arith)) (hex_word is))
+    ∙ rw (number, read) refl
+spelled (spelling.bypass map octets hex le is) =
+    let number = printed 255 map (omega arith) le in
+    let read = spelled_octets octets hex is in
+    ap meant (three_words (codes "bypass") (decimal map) hex refl (number_word map (omega arith)) (hex_word is))
+    ∙ rw (number, read) refl
+spelled (spelling.telemetry octets hex is) =
+    let read = spelled_octets octets hex is in
+    ap meant (two_words (codes "telemetry") hex refl (hex_word is)) ∙ rw read refl
+spelled (spelling.init_set x le) =
+    let number = printed 255 x (omega arith) le in
+    ap meant (three_words (codes "init") (codes "set") (decimal x) refl refl (number_word x (omega arith)))
+    ∙ rw number refl
+spelled (spelling.vs x le) =
+    numbered (codes "vs") x refl (omega arith) ∙ rw (printed 255 x (omega arith) le) refl
+spelled (spelling.window x le) =
+    numbered (codes "window") x refl (omega arith) ∙ rw (printed 255 x (omega arith) le) refl
+spelled (spelling.limit x le) =
+    numbered (codes "limit") x refl (omega arith) ∙ rw (printed 255 x (omega arith) le) refl
+spelled (spelling.timer x le) =
+    numbered (codes "timer") x refl (omega arith) ∙ rw (printed 65535 x (omega arith) le) refl
+spelled (spelling.resume x le) =
+    numbered (codes "resume") x refl (omega arith) ∙ rw (printed 255 x (omega arith) le) refl
+spelled (spelling.up_damage octets hex is) =
+    let read = spelled_octets octets hex is in
+    ap meant (three_words (codes "up") (codes "damage") hex refl refl (hex_word is)) ∙ rw read refl
+spelled (spelling.down_damage octets hex is) =
+    let read = spelled_octets octets hex is in
+    ap meant (three_words (codes "down") (codes "damage") hex refl refl (hex_word is)) ∙ rw read refl
+
+-- A line that is read is spelled so.
 
 -- ---- what is found
 
@@ -73,8 +159,8 @@ moved : {what other : ScriptLine} {text line : List ℕ} → Spells what text �
 moved {what = what} {other = other} {text = text} {line = line} spells same is =
     subst (λ w. Spells w line) same (subst (λ t. Spells what t) (sym is) spells)
 
-one_more : {name text word spelled : List ℕ} → name ≡ text → word ≡ spelled → name ++ 32 ∷ word ≡ text ++ 32 ∷ spelled
-one_more {name = name} {text = text} {word = word} {spelled = spelled} is same =
+one_more : {name text word said : List ℕ} → name ≡ text → word ≡ said → name ++ 32 ∷ word ≡ text ++ 32 ∷ said
+one_more {name = name} {text = text} {word = word} {said = said} is same =
     ap (λ (n : List ℕ). n ++ 32 ∷ word) is ∙ ap (λ (w : List ℕ). text ++ 32 ∷ w) same
 
 -- ---- lines with neither a number nor octets
@@ -109,8 +195,8 @@ module _ (name word : List ℕ) where
       let o = mapped (λ octets. Happening (event octets)) (octets_in_word word) a e in
       moved (spells o.0 word (read_octets o.0 word o.1)) o.2 (one_more is refl)
 
-  two_words : (what : ScriptLine) → line_of_two_words name word ≡ Some what → Pair what
-  two_words what e =
+  read_two_words : (what : ScriptLine) → line_of_two_words name word ≡ Some what → Pair what
+  read_two_words what e =
       let sets = λ (directive : ℕ → Directive) (x : ℕ). events.Directive (directive x) in
       tested Pair e (with_number (codes "vs") 255 (sets directives.SetVs) what (omega arith) spelling.vs) (λ f.
       tested Pair f (with_number (codes "window") 255 (sets directives.SetWindow) what (omega arith) spelling.window)
@@ -128,25 +214,25 @@ small_or_in_range : (p : Parameter) (n : ℕ) → n ≤ most_for p → (n ≤ 65
 small_or_in_range parameters.Maps n le = inr le
 small_or_in_range p n le = inl le
 
-named : (word : List ℕ) (all : List Parameter) (p : Parameter)
+name_found : (word : List ℕ) (all : List Parameter) (p : Parameter)
     → find (λ one. bytes_eq word (row_of one).name) all ≡ Some p → word ≡ (row_of p).name
-named word [] p e = cc e
-named word (one ∷ more) p e =
+name_found word [] p e = cc e
+name_found word (one ∷ more) p e =
     tested (λ (q : Parameter). word ≡ (row_of q).name) e
-    (λ is same. is ∙ ap (λ (q : Parameter). (row_of q).name) (same_Some one p same)) (named word more p)
+    (λ is same. is ∙ ap (λ (q : Parameter). (row_of q).name) (same_Some one p same)) (name_found word more p)
 
 module _ (name first second : List ℕ) where
   abbrev Three : ScriptLine → Type 0
   Three what = Spells what (name ++ 32 ∷ (first ++ 32 ∷ second))
 
-  set : (what : ScriptLine) → name ≡ codes "config" → setting_line first second ≡ Some what → Three what
-  set what is e =
+  parameter_set : (what : ScriptLine) → name ≡ codes "config" → setting_line first second ≡ Some what → Three what
+  parameter_set what is e =
       let p = chained (λ q. option_map (λ n. Setting q n) (number_in_word (most_for q) second)) (parameter_named first)
       what e in
       let n = mapped (λ x. Setting p.0 x) (number_in_word (most_for p.0) second) what p.2 in
       let number = read (most_for p.0) n.0 second (most_small p.0) n.1 in
       moved (spelling.config p.0 n.0 (small_or_in_range p.0 n.0 number.1)) n.2
-      (one_more is (one_more (named first all_in_order p.0 p.1) number.0))
+      (one_more is (one_more (name_found first all_in_order p.0 p.1) number.0))
 
   submitted : (text : List ℕ) (event : ℕ → Bor (List ℕ) → Event) (what : ScriptLine)
       → ((map : ℕ) (octets hex : List ℕ) → map ≤ 255 → IsHex octets hex
@@ -176,9 +262,9 @@ module _ (name first second : List ℕ) where
       let o = mapped (λ octets. Happening (event octets)) (octets_in_word second) what e in
       moved (spells o.0 second (read_octets o.0 second o.1)) o.2 (one_more is (one_more kind refl))
 
-  three_words : (what : ScriptLine) → line_of_three_words name first second ≡ Some what → Three what
-  three_words what e =
-      tested Three e (set what) (λ f.
+  read_three_words : (what : ScriptLine) → line_of_three_words name first second ≡ Some what → Three what
+  read_three_words what e =
+      tested Three e (parameter_set what) (λ f.
       tested Three f (submitted (codes "submit") events.Submit what spelling.submit) (λ g.
       tested Three g (submitted (codes "bypass") events.Bypass what spelling.bypass) (λ h.
       tested_both Three h (set_vr what) (λ i.
@@ -191,8 +277,8 @@ module _ (name first second : List ℕ) where
 
 spelled_words : (words : List (List ℕ)) (what : ScriptLine) → line_of_words words ≡ Some what
     → Spells what (join_with_byte 32 words)
-spelled_words (name ∷ word ∷ []) what e = two_words name word what e
-spelled_words (name ∷ first ∷ second ∷ []) what e = three_words name first second what e
+spelled_words (name ∷ word ∷ []) what e = read_two_words name word what e
+spelled_words (name ∷ first ∷ second ∷ []) what e = read_three_words name first second what e
 spelled_words words what e = cc e
 
 by_words : (line : List ℕ) (what : ScriptLine) → line_of_words (words_in line) ≡ Some what → Spells what line

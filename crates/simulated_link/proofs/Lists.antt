@@ -1,12 +1,29 @@
--- Lists of packets for each MAP, one of which changes.
-use Rattle.simulated_link.proofs.Common.{◌≡◌, ◌<◌, ◌≤◌, ℕ, zero, suc, ◌+◌, List, [], ◌∷◌, ◌++◌, length, map, get_or}
-use Rattle.simulated_link.proofs.Common.{refl, sym, ap, ◌∙◌, arith, inl, inr, ◌==◌, if◌then◌else◌, vec_len}
-use Rattle.simulated_link.proofs.Common.{vec_capacity, cases_eq, eq-eqb, ne_eqb, length-map, append-nil, packets_view}
+-- Lists of which the first octets or one place changes.
+use Rattle.simulated_link.proofs.Common.{◌≡◌, ◌≤◌, ℕ, List, ◌++◌, length, take, drop, ap, ◌∙◌, arith, length-append}
+use Rattle.simulated_link.proofs.Common.{length-drop, ◌<◌, zero, suc, ◌+◌, [], ◌∷◌, map, get_or, refl, sym, inl, inr}
+use Rattle.simulated_link.proofs.Common.{◌==◌, if◌then◌else◌, vec_len, vec_capacity, cases_eq, eq-eqb, ne_eqb}
+use Rattle.simulated_link.proofs.Common.{length-map, append-nil, packets_view}
 use Rattle.std.proofs.Common.{set}
+use Rattle.std.proofs.lemmas.List.{take_at, map-set, get_or-map, get_or-set_same, get_or-set_other}
 use Rattle.std.specs.declared.vec.Vec.{Vec}
 use Rattle.std.proofs.Math.Seq.{map-set_same}
-use Rattle.std.proofs.lemmas.List.{map-set, get_or-map, get_or-set_same, get_or-set_other}
 use Rattle.simulated_link.specs.MapLists.{packets_at, HasRoom}
+
+-- What was written over the first octets is the first octets.
+
+pub front_is : (n : ℕ) (out front old : List ℕ) → out ≡ front ++ drop n old → length out ≡ length old → n ≤ length old
+    → take n out ≡ front
+front_is n out front old written same within =
+    ap (take n) written
+    ∙ take_at front (drop n old) n (omega (
+      arith,
+      ap length written,
+      length-append front (drop n old),
+      length-drop n
+          old,
+    ))
+
+-- Lists of packets for each MAP, one of which changes.
 
 -- where each list is empty
 pub none_at : {Y Z : Type 0} (lists : List (Vec (Vec ℕ Y) Z))
