@@ -16,7 +16,7 @@ use crate::text::Text;
 use cop1::{Farm, FarmMode, Verdict};
 use octets::Splitter;
 use std::alloc::AllocError;
-use tc_frame::{Body, Check, Command, FrameLayout, TcFault, check_if, decode};
+use tc_frame::{Body, Command, FrameLayout, TcFault, check_if, decode};
 
 #[inline(always)]
 fn put_state(room: &mut [u8], at: usize, state: FarmMode) -> usize
@@ -31,7 +31,7 @@ fn put_state(room: &mut [u8], at: usize, state: FarmMode) -> usize
     }
 }
 
-#[inline(always)]
+#[inline(never)]
 fn put_verdict(room: &mut [u8], at: usize, verdict: Verdict) -> usize
     requires { at + 9 ≤ length room.old }
     ensures put { take result room.new ≡ take at room.old ++ (verdict_row verdict).1 }
@@ -84,7 +84,7 @@ fn put_ad(room: &mut [u8], at: usize, n: u8, verdict: Verdict) -> usize
     put_word::<1>(room, next, b" ")
 }
 
-#[inline(always)]
+#[inline(never)]
 fn put_set_vr(room: &mut [u8], at: usize, vr: u8) -> usize
     requires { at + 32 ≤ length room.old }
     ensures put { take result room.new ≡ take at room.old
@@ -161,18 +161,17 @@ fn put_frame(
 
 /// Gives a record to the receiver, appends its line, and answers whether it is a frame.
 #[inline(always)]
-fn push_frame(
+fn push_frame<const CHECKED: bool>(
     text: &mut Text,
     farm: &mut Farm,
-    check: Check,
     index: &RecordNumber,
     octets: &[u8],
 ) -> Result<bool, AllocError>
-    ensures text { Appends result text.old text.new (farm_line check farm.old index.now octets.now) }
-    ensures farm { OnOk result (farm.new ≡ after_record check farm.old octets.now) }
-    ensures good { IfOk result (λ good. good ≡ is_ok (frame_at check octets.now)) }
+    ensures text { Appends result text.old text.new (farm_line (check_if CHECKED) farm.old index.now octets.now) }
+    ensures farm { OnOk result (farm.new ≡ after_record (check_if CHECKED) farm.old octets.now) }
+    ensures good { IfOk result (λ good. good ≡ is_ok (frame_at (check_if CHECKED) octets.now)) }
 {
-    match decode(octets, check) {
+    match decode(octets, check_if(CHECKED)) {
         Ok(frame) => {
             text.make_room(128)?;
             text.len = put_frame(
@@ -191,13 +190,14 @@ fn push_frame(
 impl<const CHECKED: bool> Listing<Splitter<FrameLayout<CHECKED>>> for Farm {
     ghost lines = { farm_lines (check_if CHECKED) };
 
+    #[inline(always)]
     fn take(
         &mut self,
         text: &mut Text,
         index: &RecordNumber,
         octets: &[u8],
     ) -> Result<bool, AllocError> {
-        push_frame(text, self, check_if(CHECKED), index, octets)
+        push_frame::<CHECKED>(text, self, index, octets)
     }
 
     fn refuse(text: &mut Text, index: &RecordNumber, fault: TcFault) -> Result<(), AllocError> {

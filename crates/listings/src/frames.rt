@@ -135,6 +135,7 @@ fn push_body(text: &mut Text, body: &Body) -> Result<(), AllocError>
 impl<const CHECKED: bool> Listing<Splitter<FrameLayout<CHECKED>>> for FrameListing {
     ghost lines = { frame_lines (check_if CHECKED) };
 
+    #[inline(always)]
     fn take(
         &mut self,
         text: &mut Text,

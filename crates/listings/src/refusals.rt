@@ -26,6 +26,7 @@ impl Model for RefusalListing {
 impl Listing<Splitter<Checked>> for RefusalListing {
     ghost lines = { refusal_lines };
 
+    #[inline(always)]
     fn take(
         &mut self,
         text: &mut Text,
