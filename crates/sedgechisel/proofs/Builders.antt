@@ -1,10 +1,10 @@
 -- A builder of telemetry frames, with its packets in the caller's memory.
 use Rattle.std.proofs.Common.{◌≡◌, ◌≤◌, ◌<◌, ℕ, ◌+◌, ◌-◌, min, Bool, true, false, List, [], ◌∷◌, ◌++◌, length}
 use Rattle.std.proofs.Common.{take, drop, map, Option, Some, None, Ok, Err, refl, sym, ap, subst, ◌∙◌, arith, inl, inr}
-use Rattle.std.proofs.Common.{length-take, length-drop, length-append}
+use Rattle.std.proofs.Common.{◌⊎◌, length-take, length-drop, length-append}
 use Rattle.std.specs.Prelude.{◌==◌, ◌%◌, ◌||◌, nat_le, if◌then◌else◌, IfOk}
 use Rattle.std.specs.List.{concat}
-use Rattle.std.proofs.lemmas.Bool.{and_parts, le-leb, lt-leb, le-ltb, eqb-true, cases_lt}
+use Rattle.std.proofs.lemmas.Bool.{and_parts, le-leb, lt-leb, le-ltb, leb-true, eqb-true, cases_lt}
 use Rattle.std.proofs.lemmas.Grind.{common_steps}
 use Rattle.std.proofs.lemmas.List.{drop_all, drop-drop, drop-append-le, map-append, drop-take}
 use Rattle.octets.proofs.Streams.{records_of-append, rest_of-append}
@@ -12,7 +12,7 @@ use Rattle.space_packet.specs.Laws.{extent_has_header}
 use Rattle.space_packet.specs.Packets.{first_packet, packets_in, rest_in, is_packet}
 use Rattle.space_packet.specs.Decoding.{extent_at}
 use Rattle.space_packet.proofs.WholePackets.{one_more, one_more-by_len, no_more}
-use Rattle.map_service.proofs.Groups.{all_of}
+use Rattle.map_service.proofs.Groups.{all_of, packets-split}
 use Rattle.map_service.proofs.Passage.{one-from}
 use Rattle.tm_link.specs.Builder.{BuilderState, builder_fits, new_builder, is_to_send, after_queue, left_after}
 use Rattle.tm_link.specs.Builder.{idle_after, after_send, with_next_count, build_step}
@@ -146,35 +146,38 @@ abbrev with_all : BuilderState → ℕ → List ℕ → ℕ → List ℕ → Bui
 with_all s idle pending begun sizes =
     record s { idle_left = idle; pending = pending; begun = begun; sizes = sizes }
 
--- what is left of the packet that is begun then stands first in these octets, and packets of these sizes after it
-record IsLeft (left : ℕ × List ℕ) (octets : List ℕ) : Type 0 where
+-- what is left of the packet that is begun then stands first in these octets, and packets of these sizes after it, and
+-- these octets after them
+record IsLeft (left : ℕ × List ℕ) (octets behind : List ℕ) : Type 0 where
   within : left.0 ≤ length octets
-  none : rest_in (drop left.0 octets) ≡ []
+  rest : rest_in (drop left.0 octets) ≡ behind
   sizes : map length (packets_in (drop left.0 octets)) ≡ left.1
 
 record IsFirst (p : List ℕ) (ps : List (List ℕ)) (whole : List ℕ) : Type 0 where
   within : length p ≤ length whole
   packets : packets_in (drop (length p) whole) ≡ ps
-  none : rest_in (drop (length p) whole) ≡ []
+  rest : rest_in (drop (length p) whole) ≡ rest_in whole
 
 first_by : (whole p : List ℕ) (ps : List (List ℕ)) (o : Option (List ℕ)) → first_packet whole ≡ o
-    → packets_in whole ≡ p ∷ ps → rest_in whole ≡ [] → IsFirst p ps whole
-first_by whole p ps None e is none = absurd (let no = (no_more whole e).0 in cc)
-first_by whole p ps (Some q) e is none =
+    → packets_in whole ≡ p ∷ ps → IsFirst p ps whole
+first_by whole p ps None e is = absurd (let no = (no_more whole e).0 in cc)
+first_by whole p ps (Some q) e is =
     let more = one_more whole q e in
     let same : q ≡ p = cc in
     let behind : packets_in (drop (length q) whole) ≡ ps = cc in
-    let all : whole ≡ p ++ concat ps = all_of whole none ∙ ap concat is in
+    let all : whole ≡ (p ++ concat ps) ++ rest_in whole =
+    (packets-split whole).whole ∙ ap (λ (qs : List (List ℕ)). concat qs ++ rest_in whole) is in
     record {
-      within = omega (arith, ap length all, length-append p (concat ps));
+      within =
+          omega (arith, ap length all, length-append (p ++ concat ps) (rest_in whole), length-append p (concat ps));
       packets = ap (λ (xs : List ℕ). packets_in (drop (length xs) whole)) (sym same) ∙ behind;
-      none = ap (λ (xs : List ℕ). rest_in (drop (length xs) whole)) (sym same) ∙ sym more.1 ∙ none;
+      rest = ap (λ (xs : List ℕ). rest_in (drop (length xs) whole)) (sym same) ∙ sym more.1;
     }
 
 -- no packet stands after what was begun
 left_none : (begun room : ℕ) (pending : List ℕ) → begun ≤ length pending → packets_in (drop begun pending) ≡ []
     → rest_in (drop begun pending) ≡ []
-    → IsLeft (begun - room, []) (drop room pending)
+    → IsLeft (begun - room, []) (drop room pending) []
 left_none begun room pending le is none =
     let nothing : drop begun pending ≡ [] = all_of (drop begun pending) none ∙ ap concat is in
     let long : length pending ≡ begun = omega (arith, ap length nothing, length-drop begun pending) in
@@ -182,45 +185,73 @@ left_none begun room pending le is none =
     drop_all (begun - room) (drop room pending) (omega (arith, length-drop room pending)) in
     record {
       within = omega (arith, length-drop room pending);
-      none = ap rest_in gone ∙ (no_more [] refl).1;
+      rest = ap rest_in gone ∙ (no_more [] refl).1;
       sizes = ap (λ (xs : List ℕ). map length (packets_in xs)) gone ∙ ap (map length) (no_more [] refl).0;
     }
 
 -- no more was sent than was begun
-left_within : (begun room : ℕ) (pending : List ℕ) (sizes : List ℕ) → begun ≤ length pending → room ≤ begun
-    → map length (packets_in (drop begun pending)) ≡ sizes → rest_in (drop begun pending) ≡ []
-    → IsLeft (begun - room, sizes) (drop room pending)
-left_within begun room pending sizes le few is none =
+left_within : (begun room : ℕ) (pending behind : List ℕ) (sizes : List ℕ) → begun ≤ length pending → room ≤ begun
+    → map length (packets_in (drop begun pending)) ≡ sizes → rest_in (drop begun pending) ≡ behind
+    → IsLeft (begun - room, sizes) (drop room pending) behind
+left_within begun room pending behind sizes le few is rest =
     let back : room + (begun - room) ≡ begun = omega arith in
     let same : drop (begun - room) (drop room pending) ≡ drop begun pending =
     drop-drop (begun - room) room pending ∙ ap (λ (n : ℕ). drop n pending) back in
     record {
       within = omega (arith, length-drop room pending);
-      none = ap rest_in same ∙ none;
+      rest = ap rest_in same ∙ rest;
       sizes = ap (λ (xs : List ℕ). map length (packets_in xs)) same ∙ is;
     }
 
-left_of : (packets : List (List ℕ)) (begun room : ℕ) (pending : List ℕ) → begun ≤ length pending
-    → packets_in (drop begun pending) ≡ packets → rest_in (drop begun pending) ≡ []
-    → IsLeft (left_after room begun (map length packets)) (drop room pending)
-left_of [] begun room pending le is none = left_none begun room pending le is none
-left_of (p ∷ ps) begun room pending le is none =
+-- the packets have as many octets as are sent, or nothing stands after them
+abbrev Reach : List ℕ → List (List ℕ) → ℕ → ℕ → Type 0
+Reach behind packets begun room = (behind ≡ []) ⊎ (room ≤ begun + length (concat packets))
+
+reach_further : (behind p : List ℕ) (ps : List (List ℕ)) (begun room : ℕ) → begun < room
+    → Reach behind (p ∷ ps) begun room → Reach behind ps (length p) (room - begun)
+reach_further behind p ps begun room lt (inl none) = inl none
+reach_further behind p ps begun room lt (inr le) = inr (omega (arith, le, length-append p (concat ps)))
+
+left_end : (begun room : ℕ) (pending behind : List ℕ) → begun < room → begun ≤ length pending
+    → packets_in (drop begun pending) ≡ [] → rest_in (drop begun pending) ≡ behind → Reach behind [] begun room
+    → IsLeft (begun - room, []) (drop room pending) behind
+left_end begun room pending behind lt le is rest (inl none) =
+    subst (IsLeft (begun - room, []) (drop room pending)) (sym none)
+    (left_none begun room pending le is (rest ∙ none))
+left_end begun room pending behind lt le is rest (inr reach) = absurd (omega (arith, reach, lt))
+
+left_of : (packets : List (List ℕ)) (begun room : ℕ) (pending behind : List ℕ) → begun ≤ length pending
+    → packets_in (drop begun pending) ≡ packets → rest_in (drop begun pending) ≡ behind
+    → Reach behind packets begun room
+    → IsLeft (left_after room begun (map length packets)) (drop room pending) behind
+left_of [] begun room pending behind le is rest reach =
+    elim (cases_lt begun room) [
+      | inl lt ↦ left_end begun room pending behind lt le is rest reach
+      | inr few ↦ left_within begun room pending behind [] le few (ap (map length) is) rest
+    ]
+left_of (p ∷ ps) begun room pending behind le is rest reach =
     elim (cases_lt begun room) [
       | inl lt ↦
           let whole : List ℕ = drop begun pending in
-          let first : IsFirst p ps whole = first_by whole p ps (first_packet whole) refl is none in
+          let first : IsFirst p ps whole = first_by whole p ps (first_packet whole) refl is in
           let ahead : begun + (room - begun) ≡ room = omega arith in
           let same : drop (room - begun) whole ≡ drop room pending =
           drop-drop (room - begun) begun pending ∙ ap (λ (n : ℕ). drop n pending) ahead in
-          subst (λ (r : ℕ × List ℕ). IsLeft r (drop room pending))
+          subst (λ (r : ℕ × List ℕ). IsLeft r (drop room pending) behind)
           (sym (passed_beyond room begun (length p) (map length ps) lt))
-          (subst (IsLeft (left_after (room - begun) (length p) (map length ps))) same
-          (left_of ps (length p) (room - begun) whole first.within first.packets first.none))
+          (subst (λ (xs : List ℕ). IsLeft (left_after (room - begun) (length p) (map length ps)) xs behind) same
+          (left_of ps (length p) (room - begun) whole behind first.within first.packets (first.rest ∙ rest)
+          (reach_further behind p ps begun room lt reach)))
       | inr few ↦
-          subst (λ (r : ℕ × List ℕ). IsLeft r (drop room pending))
+          subst (λ (r : ℕ × List ℕ). IsLeft r (drop room pending) behind)
           (sym (passed_within room begun (map length (p ∷ ps)) few))
-          (left_within begun room pending (map length (p ∷ ps)) le few (ap (map length) is) none)
+          (left_within begun room pending behind (map length (p ∷ ps)) le few (ap (map length) is) rest)
     ]
+
+reach_by : (behind : List ℕ) (packets : List (List ℕ)) (begun room : ℕ) (none : Bool) → (length behind == 0) ≡ none
+    → none || nat_le room (begun + length (concat packets)) ≡ true → Reach behind packets begun room
+reach_by behind packets begun room true is h = inl (none_left behind is)
+reach_by behind packets begun room false is h = inr (leb-true room (begun + length (concat packets)) h)
 
 -- the packet that was begun is passed, and the next one begins
 pub passed_one : (rest : List ℕ) (left room n : ℕ) → left < room → Some (take n rest) ≡ first_packet rest
@@ -268,6 +299,64 @@ abbrev sent_by : KeptBuilder → ℕ → ℕ → ℕ → ℕ → KeptBuilder
 sent_by b room begun passed idle =
     record b { from = b.from + passed; count = b.count - passed; begun = begun; idle_left = idle }
 
+pub sends : (b : KeptBuilder) (memory : List ℕ) → can_send b memory ≡ true
+    → HasNumbers b (length memory)
+    × (are_whole (whole_of b memory) b.begun (b.length - 12 - b.idle_left) ≡ true)
+sends b memory h =
+    let both = and_parts (has_numbers b (length memory)) _ h in (numbers_are b (length memory) both.0, both.1)
+
+long_pending : (b : KeptBuilder) (memory : List ℕ) → HasNumbers b (length memory)
+    → length (pending_of b memory) ≡ b.count
+long_pending b memory is =
+    omega (arith, is.within, length-take b.count (drop b.from memory), length-drop b.from memory)
+
+sent_pending : (b : KeptBuilder) (memory : List ℕ) (room begun passed idle : ℕ) → passed ≡ min room b.count
+    → pending_of (sent_by b room begun passed idle) memory ≡ drop room (pending_of b memory)
+sent_pending b memory room begun passed idle is =
+    ap (λ (n : ℕ). take (b.count - n) (drop (b.from + n) memory)) is ∙ passed_octets b.count room b.from memory
+
+sent_whole : (b : KeptBuilder) (memory : List ℕ) (room begun passed idle : ℕ) (sizes : List ℕ)
+    → passed ≡ min room b.count → begun ≡ (left_after room b.begun sizes).0
+    → whole_of (sent_by b room begun passed idle) memory
+    ≡ drop (left_after room b.begun sizes).0 (drop room (pending_of b memory))
+sent_whole b memory room begun passed idle sizes passed-is begun-is =
+    ap (drop begun) (sent_pending b memory room begun passed idle passed-is)
+    ∙ ap (λ (n : ℕ). drop n (drop room (pending_of b memory))) begun-is
+
+sent_left : (b : KeptBuilder) (memory : List ℕ) (room : ℕ) → HasNumbers b (length memory)
+    → are_whole (whole_of b memory) b.begun room ≡ true
+    → IsLeft (left_after room b.begun (map length (packets_in (whole_of b memory)))) (drop room (pending_of b memory))
+    (rest_in (whole_of b memory))
+sent_left b memory room numbers whole =
+    let long : length (pending_of b memory) ≡ b.count = long_pending b memory numbers in
+    left_of (packets_in (whole_of b memory)) b.begun room (pending_of b memory) (rest_in (whole_of b memory))
+    (omega (arith, long, numbers.begun)) refl refl
+    (reach_by (rest_in (whole_of b memory)) (packets_in (whole_of b memory)) b.begun room _ refl whole)
+
+pub send_state : (b : KeptBuilder) (memory : List ℕ) (room begun passed idle size : ℕ) → HasNumbers b (length memory)
+    → are_whole (whole_of b memory) b.begun room ≡ true
+    → room ≡ size - b.idle_left → passed ≡ min room b.count
+    → begun ≡ (left_after room b.begun (map length (packets_in (whole_of b memory)))).0
+    → idle ≡ idle_after size b.idle_left b.count
+    → state_of (sent_by b room begun passed idle) memory ≡ after_send (state_of b memory) size
+send_state b memory room begun passed idle size numbers whole room-is passed-is begun-is idle-is =
+    let new : KeptBuilder = sent_by b room begun passed idle in
+    let s : BuilderState = state_of b memory in
+    let sizes : List ℕ = map length (packets_in (whole_of b memory)) in
+    let left = sent_left b memory room numbers whole in
+    ap (λ (xs : List ℕ). with_all s idle xs begun (map length (packets_in (whole_of new memory))))
+    (sent_pending b memory room begun passed idle passed-is)
+    ∙ ap (λ (ns : List ℕ). with_all s idle (drop room (pending_of b memory)) begun ns)
+    (ap (λ (xs : List ℕ). map length (packets_in xs))
+    (sent_whole b memory room begun passed idle sizes passed-is begun-is) ∙ left.sizes)
+    ∙ ap (λ (n : ℕ). with_all s idle (drop room (pending_of b memory)) n (left_after room b.begun sizes).1)
+    begun-is
+    ∙ ap (λ (n : ℕ). with_all s n (drop room (pending_of b memory)) (left_after room b.begun sizes).0
+    (left_after room b.begun sizes).1)
+    (idle-is ∙ ap (idle_after size b.idle_left) (sym (long_pending b memory numbers)))
+    ∙ ap (λ (n : ℕ). with_all s (idle_after size b.idle_left (length s.pending)) (drop n s.pending)
+    (left_after n b.begun sizes).0 (left_after n b.begun sizes).1) room-is
+
 pub send_described : (b : KeptBuilder) (memory : List ℕ) (room begun passed idle size : ℕ) → is_builder b memory ≡ true
     → room ≡ size - b.idle_left → passed ≡ min room b.count
     → begun ≡ (left_after room b.begun (map length (packets_in (whole_of b memory)))).0
@@ -275,19 +364,10 @@ pub send_described : (b : KeptBuilder) (memory : List ℕ) (room begun passed id
     → builder_described (sent_by b room begun passed idle) memory ≡ Ok (after_send (state_of b memory) size)
 send_described b memory room begun passed idle size is room-is passed-is begun-is idle-is small =
     let new : KeptBuilder = sent_by b room begun passed idle in
-    let s : BuilderState = state_of b memory in
     let old : IsBuilder b memory = builder_is b memory is in
-    let long : length (pending_of b memory) ≡ b.count =
-    omega (arith, old.numbers.within, length-take b.count (drop b.from memory), length-drop b.from memory) in
     let sizes : List ℕ = map length (packets_in (whole_of b memory)) in
-    let left : IsLeft (left_after room b.begun sizes) (drop room (pending_of b memory)) =
-    left_of (packets_in (whole_of b memory)) b.begun room (pending_of b memory)
-    (omega (arith, long, old.numbers.begun)) refl old.none in
-    let pending : pending_of new memory ≡ drop room (pending_of b memory) =
-    ap (λ (n : ℕ). take (b.count - n) (drop (b.from + n) memory)) passed-is
-    ∙ passed_octets b.count room b.from memory in
-    let whole : whole_of new memory ≡ drop (left_after room b.begun sizes).0 (drop room (pending_of b memory)) =
-    ap (drop begun) pending ∙ ap (λ (n : ℕ). drop n (drop room (pending_of b memory))) begun-is in
+    let whole : are_whole (whole_of b memory) b.begun room ≡ true = rw old.none refl in
+    let left = sent_left b memory room old.numbers whole in
     let numbers : HasNumbers new (length memory) = record {
       fits = old.numbers.fits;
       idle_left = small;
@@ -297,20 +377,14 @@ send_described b memory room begun passed idle size is room-is passed-is begun-i
         left.within,
         begun-is,
         passed-is,
-        long,
+        long_pending b memory old.numbers,
         length-drop room (pending_of b memory),
       );
     } in
-    described_by new memory numbers (ap rest_in whole ∙ left.none)
-    ∙ ap (λ (xs : List ℕ). Ok (with_all s idle xs begun (map length (packets_in (whole_of new memory))))) pending
-    ∙ ap (λ (ns : List ℕ). Ok (with_all s idle (drop room (pending_of b memory)) begun ns))
-    (ap (λ (xs : List ℕ). map length (packets_in xs)) whole ∙ left.sizes)
-    ∙ ap (λ (n : ℕ). Ok (with_all s idle (drop room (pending_of b memory)) n (left_after room b.begun sizes).1))
-    begun-is
-    ∙ ap (λ (n : ℕ). Ok (with_all s n (drop room (pending_of b memory)) (left_after room b.begun sizes).0
-    (left_after room b.begun sizes).1)) (idle-is ∙ ap (idle_after size b.idle_left) (sym long))
-    ∙ ap (λ (n : ℕ). Ok (with_all s (idle_after size b.idle_left (length s.pending)) (drop n s.pending)
-    (left_after n b.begun sizes).0 (left_after n b.begun sizes).1)) room-is
+    described_by new memory numbers
+    (ap rest_in (sent_whole b memory room begun passed idle sizes passed-is begun-is) ∙ left.rest ∙ old.none)
+    ∙ ap (λ (t : BuilderState). Ok t)
+    (send_state b memory room begun passed idle size old.numbers whole room-is passed-is begun-is idle-is)
 
 -- ---- whole packets as far as a frame reaches
 

@@ -133,6 +133,10 @@ pub extern "C" fn sedge_tm_builder_build(
     ensures after { is_builder builder.old memory.now ≡ true
         → IfOk (built_at builder.old ocf.now memory.now (length out.old))
         (λ r. builder_described builder.new memory.now ≡ Ok r.1) }
+
+    // So do other octets that wait where the frame takes whole packets alone.
+    ensures state { IfOk (built_at builder.old ocf.now memory.now (length out.old))
+        (λ r. state_of builder.new memory.now ≡ r.1) }
     ensures unchanged { OnErr (built_at builder.old ocf.now memory.now (length out.old))
         (builder.new ≡ builder.old) }
 {
@@ -277,8 +281,10 @@ fn put(builder: &mut KeptBuilder, packet: &[u8], memory: &mut [u8])
 
 // Passes a frame.
 fn pass(builder: &mut KeptBuilder, memory: &[u8])
-    requires { has_numbers builder.old (length memory.now) ≡ true }
-    ensures { is_builder builder.old memory.now ≡ true → builder_described builder.new memory.now
+    requires { can_send builder.old memory.now ≡ true }
+    ensures state { state_of builder.new memory.now
+        ≡ with_next_count (after_fill (state_of builder.old memory.now)) }
+    ensures described { is_builder builder.old memory.now ≡ true → builder_described builder.new memory.now
         ≡ Ok (with_next_count (after_fill (state_of builder.old memory.now))) }
 {
     if builder.idle_left != 0 || builder.count != 0 {
@@ -289,8 +295,10 @@ fn pass(builder: &mut KeptBuilder, memory: &[u8])
 
 // Passes the octets of a data field.
 fn send(builder: &mut KeptBuilder, memory: &[u8])
-    requires { has_numbers builder.old (length memory.now) ≡ true }
-    ensures { is_builder builder.old memory.now ≡ true → builder_described builder.new memory.now
+    requires { can_send builder.old memory.now ≡ true }
+    ensures state { state_of builder.new memory.now
+        ≡ after_send (state_of builder.old memory.now) (builder.old.length - 12) }
+    ensures described { is_builder builder.old memory.now ≡ true → builder_described builder.new memory.now
         ≡ Ok (after_send (state_of builder.old memory.now) (builder.old.length - 12)) }
 {
     let size = builder.length as usize - 12;
