@@ -1,7 +1,5 @@
-mod PacketsInOrder
-mod Cut
 mod SenderFields
 mod Described
 mod Builders
 mod Extractors
-mod FramesInOrder
+mod Following
