@@ -1,8 +1,6 @@
-mod PacketsInOrder
-mod Cut
 mod SenderFields
 mod Described
 mod Builders
 mod Extractors
-mod FramesInOrder
+mod Following
 mod ExtractedFrames

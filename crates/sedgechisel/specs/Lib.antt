@@ -1,13 +1,12 @@
 pub mod Answers
 pub mod Builders
 pub mod CommandFrames
-pub mod ControlWords
+pub mod TelemetryFrames
 pub mod Cuttings
 pub mod Maps
 pub mod Names
 pub mod Packets
 pub mod Receivers
 pub mod Senders
-pub mod TelemetryFrames
 pub mod ExtractedFrames
 pub mod Extractors

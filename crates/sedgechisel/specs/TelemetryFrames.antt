@@ -1,12 +1,31 @@
--- Telemetry frames as C has them.
-use Rattle.std.specs.Prelude.{◌≡◌, ℕ, List, length, take, drop, Result, Ok}
+-- Telemetry frames and control words, as C has them.
+use Rattle.std.specs.Prelude.{ℕ, List, length, ◌==◌, if◌then◌else◌, Result, Err, ◌≡◌, take, drop}
+use Rattle.std.specs.Prelude.{Ok}
+use Rattle.clcw.specs.declared.word.Clcw.{Clcw}
+use Rattle.clcw.specs.Faults as word_faults
+use Rattle.clcw.specs.Decoding.{clcw_at}
+use Rattle.clcw.specs.Encoding as writing
 use Rattle.tm_link.specs.Faults.{fault_row}
 use Rattle.tm_link.specs.Layout.{FrameView, pointer_number}
 use Rattle.tm_link.specs.Decoding.{pointer_at, frame_at}
 use Rattle.tm_link.specs.Encoding.{encode_answer}
+use Rattle.sedgechisel.specs.Answers.{wrong_count, numbered, if_ok}
 use Rattle.sedgechisel.specs.declared.telemetry_frame.ReportFrame.{ReportFrame}
 use Rattle.sedgechisel.specs.declared.part.Part.{Part}
-use Rattle.sedgechisel.specs.Answers.{numbered, if_ok}
+
+-- Control words as C has them.
+
+-- the word that octets spell, which are to be four
+abbrev pub word_read : List ℕ → Result Clcw ℕ
+word_read octets =
+    if length octets == 4 then numbered word_faults.fault_row (clcw_at octets) else Err wrong_count
+
+-- the octets that spell the word, where there is room for exactly four
+abbrev pub word_written : Clcw → ℕ → Result (List ℕ) ℕ
+word_written w room =
+    if room == 4 then numbered word_faults.fault_row (writing.encode_answer w) else Err wrong_count
+
+-- Telemetry frames as C has them.
 
 -- the frame that the fields and the data describe; the pointer is as the header has it
 abbrev pub frame_described : ReportFrame → List ℕ → FrameView

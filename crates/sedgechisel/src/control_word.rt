@@ -2,7 +2,7 @@
 
 ghost use Rattle.std.specs.Prelude.{length};
 ghost use Rattle.sedgechisel.specs.Answers.{IsWritten};
-ghost use Rattle.sedgechisel.specs.ControlWords.{word_read, word_written};
+ghost use Rattle.sedgechisel.specs.TelemetryFrames.{word_read, word_written};
 
 use crate::numbers::WRONG_COUNT;
 use clcw::Clcw;

@@ -3,6 +3,5 @@ pub mod Calls
 pub mod Ground
 pub mod Heard
 pub mod LinkFields
-pub mod Rooms
 pub mod Links
 pub mod Numbers

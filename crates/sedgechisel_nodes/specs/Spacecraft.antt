@@ -21,9 +21,8 @@ use Rattle.clcw.specs.Flags.{flags_number}
 use Rattle.cop1.specs.Report.{report_of}
 use Rattle.sedgechisel_nodes.specs.declared.readings.BoardReading.{BoardReading}
 use Rattle.sedgechisel_nodes.specs.declared.spacecraft.KeptReceived.{KeptReceived}
-use Rattle.sedgechisel_nodes.specs.Calls.{closed}
-use Rattle.sedgechisel_nodes.specs.Rooms.{next_answer, count_of, octets_on, map_left}
-use Rattle.sedgechisel_nodes.specs.Rooms.{IsHanding}
+use Rattle.sedgechisel_nodes.specs.Calls.{closed, next_answer, count_of, octets_on, map_left}
+use Rattle.sedgechisel_nodes.specs.Calls.{IsHanding}
 
 abbrev pub dropped_number : Option Dropped → ℕ
 dropped_number None = 0

@@ -7,9 +7,8 @@ ghost use Rattle.tc_frame.specs.Layout.{frame_view};
 ghost use Rattle.tc_frame.specs.Encoding.{frame_fits};
 ghost use Rattle.nodes.specs.Frames.{size_of, written_over};
 ghost use Rattle.nodes.specs.Ground.{Pull, TakeTelemetry, ground_step};
-ghost use Rattle.sedgechisel_nodes.specs.Calls.{closed, IsRead};
+ghost use Rattle.sedgechisel_nodes.specs.Calls.{closed, IsRead, room_answer, next_answer, count_of, IsHanding, IsSent};
 ghost use Rattle.sedgechisel_nodes.specs.Ground.{stepped};
-ghost use Rattle.sedgechisel_nodes.specs.Rooms.{room_answer, next_answer, count_of, IsHanding, IsSent};
 
 use crate::answers::ROOM;
 use crate::handles::GroundHandle;

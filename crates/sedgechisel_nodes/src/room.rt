@@ -2,8 +2,7 @@
 
 ghost use Rattle.std.specs.Prelude.{◌≡◌, ◌≢◌, ◌≤◌, ◌++◌, drop, length, option_map, option_copied};
 ghost use Rattle.nodes.specs.Packets.{lent_packet};
-ghost use Rattle.sedgechisel_nodes.specs.Calls.{IsWritten};
-ghost use Rattle.sedgechisel_nodes.specs.Rooms.{next_answer, count_of, octets_on, map_left, IsHandedOut};
+ghost use Rattle.sedgechisel_nodes.specs.Calls.{IsWritten, next_answer, count_of, octets_on, map_left, IsHandedOut};
 
 use crate::answers::{ABSENT, ROOM};
 

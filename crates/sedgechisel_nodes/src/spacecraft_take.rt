@@ -5,7 +5,7 @@ ghost use Rattle.tm_link.specs.Encoding.{spelling};
 ghost use Rattle.nodes.specs.Packets.{lent_packet};
 ghost use Rattle.nodes.specs.Spacecraft.{Report, spacecraft_step};
 ghost use Rattle.sedgechisel_nodes.specs.Spacecraft.{next_packet, after_taking, IsDescribed, IsTaken};
-ghost use Rattle.sedgechisel_nodes.specs.Rooms.{room_answer, IsSent};
+ghost use Rattle.sedgechisel_nodes.specs.Calls.{room_answer, IsSent};
 
 use crate::answers::ROOM;
 use crate::handles::SpacecraftHandle;

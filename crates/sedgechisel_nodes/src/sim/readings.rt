@@ -1,10 +1,9 @@
 // What a program in C reads of a simulated link and its nodes.
 
 ghost use Rattle.std.specs.Prelude.{◌≡◌, Some};
-ghost use Rattle.sedgechisel_nodes.specs.Calls.{IsRead};
+ghost use Rattle.sedgechisel_nodes.specs.Calls.{IsRead, next_answer, IsHanding};
 ghost use Rattle.sedgechisel_nodes.specs.Ground.{reading_of};
 ghost use Rattle.sedgechisel_nodes.specs.Links.{begun_number, link_reading_of};
-ghost use Rattle.sedgechisel_nodes.specs.Rooms.{next_answer, IsHanding};
 ghost use Rattle.sedgechisel_nodes.specs.Spacecraft.{board_reading_of};
 
 use crate::handles::SimHandle;

@@ -3,9 +3,8 @@
 ghost use Rattle.std.specs.Prelude.{◌≡◌, Some, option_map, option_copied, length, []};
 ghost use Rattle.std.specs.Option.{unwrap_or};
 ghost use Rattle.tm_link.specs.Extractor.{octets_of};
-ghost use Rattle.sedgechisel_nodes.specs.Calls.{IsRead};
+ghost use Rattle.sedgechisel_nodes.specs.Calls.{IsRead, entry_answer, IsHanding};
 ghost use Rattle.sedgechisel_nodes.specs.Links.{record_of, entry_of};
-ghost use Rattle.sedgechisel_nodes.specs.Rooms.{entry_answer, IsHanding};
 
 use crate::answers::ABSENT;
 use crate::handles::SimHandle;

@@ -2,9 +2,8 @@
 
 ghost use Rattle.std.specs.Prelude.{◌≡◌, ◌≢◌, Some, None, IfSome, option_map, length};
 ghost use Rattle.nodes.specs.Packets.{lent_packet};
-ghost use Rattle.sedgechisel_nodes.specs.Calls.{closed, IsRead};
+ghost use Rattle.sedgechisel_nodes.specs.Calls.{closed, IsRead, entry_answer, octets_on, map_left, IsHanding};
 ghost use Rattle.sedgechisel_nodes.specs.Links.{submission_of, IsPacketIfThere};
-ghost use Rattle.sedgechisel_nodes.specs.Rooms.{entry_answer, octets_on, map_left, IsHanding};
 
 use crate::answers::ABSENT;
 use crate::handles::SimHandle;

@@ -1,8 +1,8 @@
 use Rattle.std.proofs.Common.{◌≡◌, ◌<◌, ℕ, ◌+◌, ◌-◌, ◌/◌, Bool, List, ◌++◌, length, take, drop, sym, ap, ◌∙◌, arith}
 use Rattle.std.proofs.lemmas.List.{append_assoc}
 use Rattle.sedgechisel.specs.CommandFrames.{record_of, records_from}
-use Rattle.sedgechisel.proofs.FramesInOrder.{record_octets, piece_is, records_next, records_none, end_next, end_none}
-use Rattle.sedgechisel.proofs.FramesInOrder.{later, all_done}
+use Rattle.sedgechisel.proofs.Following.{record_octets, piece_is, records_next, records_none, end_next, end_none, later}
+use Rattle.sedgechisel.proofs.Following.{all_done}
 use Rattle.sedgechisel.proofs.command_frame.sedge_tc_frames.Goals as goal
 
 pub returns-then-count-eq0-clause-records : goal.returns-then-count-eq0-clause-records

@@ -5,7 +5,7 @@ use Rattle.tm_link.specs.Layout.{FrameView}
 use Rattle.sedgechisel.specs.Extractors.{state_of}
 use Rattle.sedgechisel.specs.ExtractedFrames.{front_of}
 use Rattle.sedgechisel.specs.TelemetryFrames.{frame_described}
-use Rattle.sedgechisel.proofs.FramesInOrder.{piece_is}
+use Rattle.sedgechisel.proofs.Following.{piece_is}
 use Rattle.sedgechisel.proofs.ExtractedFrames.{is_begun, dropped_by}
 use Rattle.sedgechisel.proofs.extracted_frames.is_dropped.Goals as goal
 

@@ -1,25 +1,136 @@
--- Part k of a packet stands at place k times the size of a part.
-use Rattle.std.proofs.Common.{◌≡◌, ◌≤◌, ◌<◌, ℕ, zero, suc, ◌+◌, ◌-◌, ◌*◌, ◌/◌, ◌++◌, List, [], ◌∷◌, length, take, drop}
-use Rattle.std.proofs.Common.{min, Bool, true, false, Some, refl, sym, ap, ◌∙◌, arith, length-append}
-use Rattle.std.proofs.Common.{length-drop, length-take, inl, inr}
-use Rattle.std.specs.Prelude.{◌&&◌, ◌==◌, nat_le, slice_get}
-use Rattle.std.proofs.lemmas.Bool.{and_right, cases_lt, le-leb, lt-leb, ne_eqb}
-use Rattle.std.proofs.lemmas.List.{drop-drop, drop-take, map-append, take_all, take_min, take-append-le, take-take}
+-- Packets and frames that follow one another, and the parts of a packet.
+use Rattle.std.proofs.Common.{◌≡◌, ◌≤◌, ℕ, ◌+◌, List, [], ◌∷◌, length, take, drop, Some, None, ap, ◌∙◌, ◌<◌, suc, ◌-◌}
+use Rattle.std.proofs.Common.{◌%◌, Bool, true, false, ◌++◌, Ok, Err, refl, sym, arith, length-take, zero, ◌*◌, ◌/◌, min}
+use Rattle.std.proofs.Common.{length-append, length-drop, inl, inr}
+use Rattle.std.proofs.lemmas.List.{drop_all, drop-drop, append-nil, take-append-drop, take_rest, drop-take, map-append}
+use Rattle.std.proofs.lemmas.List.{take_all, take_min, take-append-le, take-take}
+use Rattle.std.specs.Prelude.{nat_lt, if◌then◌else◌, ◌&&◌, ◌==◌, nat_le, slice_get}
+use Rattle.std.proofs.lemmas.Bool.{ne_eqb, and_right, cases_lt, le-leb, lt-leb}
 use Rattle.std.proofs.lemmas.List.Folds.{concat-append}
 use Rattle.std.proofs.Math.Bool.{and-true}
 use Rattle.std.proofs.Math.Nat.{le-div_iff_mul-le}
 use Rattle.std.proofs.Math.Seq.{take-append-add}
-use Rattle.tc_frame.specs.Layout.{SegmentView}
 use Rattle.std.specs.List.{concat}
+use Rattle.space_packet.proofs.WholePackets.{one_more-by_len, no_more}
+use Rattle.tc_frame.specs.declared.fault.TcFault.{TcFault}
+use Rattle.tc_frame.specs.Faults.{fault_row}
+use Rattle.tc_frame.specs.Layout.{SegmentView}
+use Rattle.map_service.specs.Packets.{first_packet, packets_in, rest_in}
 use Rattle.map_service.specs.Cutting.{pieces_of, segment_with, later_segments, parts_of, first_group, segments_of}
 use Rattle.map_service.specs.Cutting.{payloads}
-use Rattle.map_service.specs.Packets.{packets_in, rest_in}
-use Rattle.map_service.proofs.Parts.{parts-count, parts-joined}
+use Rattle.map_service.proofs.Parts.{parts-count, parts-joined, later_segments-last, later_segments-more, parts-fit}
+use Rattle.map_service.proofs.Parts.{parts-more}
 use Rattle.map_service.proofs.Groups.{groups-cut}
-use Rattle.map_service.proofs.Parts.{later_segments-last, later_segments-more, parts-fit, parts-more}
+use Rattle.sedgechisel.specs.Answers.{numbered}
+use Rattle.sedgechisel.specs.CommandFrames.{len_within, whole_len, record_of, records_from, end_from}
 use Rattle.sedgechisel.specs.declared.cutting.Place.{Place}
 use Rattle.sedgechisel.specs.declared.part.Part.{Part}
 use Rattle.sedgechisel.specs.Cuttings.{flags_for, octets_before, part_at, part_in, segment_in}
+
+-- Packets one after another.
+
+pub stands_at : (octets : List ℕ) (place n : ℕ) → Some (take n (drop place octets)) ≡ first_packet (drop place octets)
+    → n ≤ length (drop place octets)
+    → packets_in (drop place octets) ≡ take n (drop place octets) ∷ packets_in (drop (place + n) octets)
+stands_at octets place n first within =
+    (one_more-by_len (drop place octets) n first within).0
+    ∙ ap (λ (xs : List ℕ). take n (drop place octets) ∷ packets_in xs) (drop-drop n place octets)
+
+pub none_at : (octets : List ℕ) (place : ℕ) → first_packet (drop place octets) ≡ None
+    → packets_in (drop place octets) ≡ []
+none_at octets place none = (no_more (drop place octets) none).0
+
+pub none_past : (octets : List ℕ) (place : ℕ) → length octets ≤ place → packets_in (drop place octets) ≡ []
+none_past octets place past = none_at octets place (ap first_packet (drop_all place octets past))
+
+-- Frames one after another.
+
+-- ---- the octets of a frame
+
+low : (b : Bool) (n : ℕ) → n ≤ 1024 → (if b then 0 else n) ≤ 1024
+low true n le = omega arith
+low false n le = le
+
+few : (short refused : Bool) (n count : ℕ) (e : TcFault)
+    → len_within (if short then Err 1 else numbered fault_row (if refused then Err e else Ok (n % 1024 + 1))) count
+    ≤ 1024
+few true refused n count e = omega arith
+few false true n count e = omega arith
+few false false n count e = low (nat_lt count (n % 1024 + 1)) (n % 1024 + 1) (omega arith)
+
+-- a frame has at most 1,024
+pub few_octets : (checked : Bool) (octets : List ℕ) → whole_len checked octets ≤ 1024
+few_octets checked octets = few _ _ _ (length octets) _
+
+len_is : (checked : Bool) (octets : List ℕ) (from count : ℕ)
+    → count ≡ whole_len checked (take (length octets - from) (drop from octets))
+    → whole_len checked (drop from octets) ≡ count
+len_is checked octets from count is = ap (whole_len checked) (sym (take_rest octets from)) ∙ sym is
+
+pub record_octets : (checked : Bool) (octets : List ℕ) → length (record_of checked octets) ≡ 12
+record_octets checked octets = refl
+
+-- the octets from a place on, as a slice gives them
+pub piece_is : (octets : List ℕ) (from count : ℕ)
+    → take (from + count - from) (drop from octets) ≡ take count (drop from octets)
+piece_is octets from count =
+    let same : from + count - from ≡ count = omega arith in
+    ap (λ (n : ℕ). take n (drop from octets)) same
+
+-- ---- the next frame
+
+pub records_next : (checked : Bool) (octets : List ℕ) (from count k n : ℕ) → k < n
+    → count ≡ whole_len checked (take (length octets - from) (drop from octets)) → 0 < count
+    → records_from checked octets from (n - k)
+    ≡ record_of checked (take count (drop from octets)) ++ records_from checked octets (from + count) (n - (k + 1))
+records_next checked octets from count k n lt is some =
+    let more : n - k ≡ suc (n - (k + 1)) = omega arith in
+    ap (records_from checked octets from) more
+    ∙ rw (len_is checked octets from count is, ne_eqb count 0 (λ (e : count ≡ 0). omega arith)) refl
+
+pub records_none : (checked : Bool) (octets : List ℕ) (from k n : ℕ) → k < n
+    → 0 ≡ whole_len checked (take (length octets - from) (drop from octets))
+    → records_from checked octets from (n - k) ≡ []
+records_none checked octets from k n lt is =
+    let more : n - k ≡ suc (n - (k + 1)) = omega arith in
+    ap (records_from checked octets from) more ∙ rw (len_is checked octets from 0 is) refl
+
+pub end_next : (checked : Bool) (octets : List ℕ) (from count k n : ℕ) → k < n
+    → count ≡ whole_len checked (take (length octets - from) (drop from octets)) → 0 < count
+    → end_from checked octets from (n - k) ≡ end_from checked octets (from + count) (n - (k + 1))
+end_next checked octets from count k n lt is some =
+    let more : n - k ≡ suc (n - (k + 1)) = omega arith in
+    ap (end_from checked octets from) more
+    ∙ rw (len_is checked octets from count is, ne_eqb count 0 (λ (e : count ≡ 0). omega arith)) refl
+
+pub end_none : (checked : Bool) (octets : List ℕ) (from k n : ℕ) → k < n
+    → 0 ≡ whole_len checked (take (length octets - from) (drop from octets))
+    → end_from checked octets from (n - k) ≡ from
+end_none checked octets from k n lt is =
+    let more : n - k ≡ suc (n - (k + 1)) = omega arith in
+    ap (end_from checked octets from) more ∙ rw (len_is checked octets from 0 is) refl
+
+-- ---- what is written
+
+-- what stands after a place stands after a later one
+pub later : (xs ys : List ℕ) (m n : ℕ) → m ≤ n → drop m xs ≡ drop m ys → drop n xs ≡ drop n ys
+later xs ys m n le is =
+    let more : m + (n - m) ≡ n = omega arith in
+    ap (λ (k : ℕ). drop k xs) (sym more) ∙ sym (drop-drop (n - m) m xs) ∙ ap (drop (n - m)) is ∙ drop-drop (n - m) m ys
+    ∙ ap (λ (k : ℕ). drop k ys) more
+
+-- what is done, and what was there after it
+pub all_done : (xs ys done : List ℕ) (k : ℕ) → k ≤ length xs → take k xs ++ [] ≡ done
+    → drop k xs ≡ drop k ys → (k ≡ length done) × (xs ≡ done ++ drop (length done) ys)
+all_done xs ys done k le is rest =
+    let front : take k xs ≡ done = sym (append-nil (take k xs)) ∙ is in
+    let long : k ≡ length done = omega (arith, length-take k xs, ap length front) in (
+      long,
+      sym (take-append-drop k xs) ∙ ap (λ zs. zs ++ drop k xs) front ∙ ap (λ zs. done ++ zs) rest
+          ∙ ap (λ n. done ++ drop n ys) long,
+    )
+
+-- Part k of a packet stands at place k times the size of a part.
 
 times_suc : (k part : ℕ) → suc k * part ≡ part + k * part
 times_suc k part = omega arith
