@@ -1,6 +1,6 @@
 // How a run of the tool ends, as docs/PROFILE.md has it: the status and the line for each outcome and each fault.
 
-use super::equal::equal;
+use super::common::equal;
 use listings::{ListingFault, Writer};
 use std::alloc::Global;
 use std::process::Abort;

@@ -1,6 +1,6 @@
 // Queues that are full. The fault comes before memory is wanted, so a growth that is refused may not be said.
 
-use super::configs::{with_parts, with_value};
+use super::common::{with_parts, with_value};
 use super::frames::{P0, P1, THREE};
 use super::node_calls::{Ask, asks};
 use cop1::{Directive, FopMode};

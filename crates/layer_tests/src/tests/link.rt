@@ -4,7 +4,7 @@ mod carrying;
 mod twins;
 mod without_memory;
 
-use super::equal::equal;
+use super::common::equal;
 use nodes::{PARAMETERS, Parameter};
 use std::process::Abort;
 use tc_link::{Config, Event, LinkFault, Reply, Sim, SimFault};

@@ -1,8 +1,7 @@
 // Calls of the nodes and of the simulated link that take no memory: tools/refusals runs these tests with all
 // allocations refused after the words 'set up'.
 
-use super::configs::with_value;
-use super::equal::equal;
+use super::common::{equal, with_value};
 use super::frames::{
     AD_0, AD_1, AD_ON_CHANNEL_3, BD_0, BD_NONE, IDLE, OF_SPACECRAFT_2, P0, UNLOCK,
 };

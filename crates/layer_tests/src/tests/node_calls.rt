@@ -1,11 +1,53 @@
 // Each node by its public calls, and each of its growths refused in turn: a test here says each growth that
-// is refused, and makes one more at its end.
+// is refused, and makes one more at its end. No function here says what it does: so the proof of a test has nothing of
+// the node's state in it, and the run compares the answers.
 
 mod fates;
 mod ground;
-mod playing;
 mod resuming;
 mod spacecraft;
 mod telemetry;
 
+use crate::tests::common::{ends_growths, equal, says_refused};
 pub use ground::{Ask, Standing, asks};
+use nodes::ValidConfig;
+use std::alloc::Global;
+use std::process::Abort;
+use tc_link::{Config, LinkFault};
+
+/// A node whose calls are tested.
+pub trait Node<C> {
+    fn create(alloc: Global, config: &ValidConfig) -> Result<Self, LinkFault>;
+
+    fn length_of_frames(&self) -> usize;
+
+    /// Makes a call, and compares what it answers. Where memory is refused nothing has changed, and the
+    /// call made again answers as ever.
+    fn answers(&mut self, rt: &(impl Abort + Eprint), call: &C);
+}
+
+/// A new node answers the calls of these rows so.
+pub fn plays<N: Node<C> + Drop, C>(
+    rt: &(impl Abort + Eprint),
+    alloc: Global,
+    config: &Config,
+    rows: &[C],
+) {
+    let valid = config.valid().expect(rt, "a configuration");
+    let mut node = match N::create(alloc, &valid) {
+        Err(fault) => {
+            says_refused(rt, fault.number(), 6);
+            N::create(alloc, &valid).expect(rt, "a node")
+        }
+        Ok(node) => node,
+    };
+    equal(
+        rt,
+        &node.length_of_frames(),
+        &(config.frame_length as usize),
+    );
+    for call in rows {
+        node.answers(rt, call);
+    }
+    ends_growths(rt, alloc);
+}

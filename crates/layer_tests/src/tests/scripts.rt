@@ -1,7 +1,7 @@
 // Scripts played by hand, and each of their growths refused in turn. What scripts answer stands in rows/sim at
 // the top.
 
-use super::equal::equal;
+use super::common::equal;
 use nodes::{Event, Parameter};
 use script::{Line, Rest, ScriptFault, open, play_some, read_line};
 use script_lines::octets_in_word;

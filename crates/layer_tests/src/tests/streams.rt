@@ -3,7 +3,7 @@
 ghost use Rattle.std.specs.Prelude.{◌≡◌, [], None, Some};
 ghost use Rattle.listings.specs.Filters.{keeps_frame};
 
-use super::equal::equal;
+use super::common::equal;
 use cop1::Farm;
 use listings::{
     Begins, Call, ControlWords, Cutter, DeviceLog, Filter, FrameCutter, FrameLength, FrameListing,

@@ -2,8 +2,7 @@
 
 use super::step;
 use super::twins::records_of;
-use crate::tests::configs::with_value;
-use crate::tests::equal::equal;
+use crate::tests::common::{equal, with_value};
 use cop1::{Directive, FopMode};
 use nodes::Parameter;
 use std::alloc::Global;

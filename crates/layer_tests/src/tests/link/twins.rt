@@ -2,8 +2,7 @@
 // shows, and the call made again answers as ever.
 
 use super::step;
-use crate::tests::equal::equal;
-use crate::tests::refusing::says_refused;
+use crate::tests::common::{equal, says_refused};
 use cop1::FopMode;
 use std::alloc::Global;
 use std::process::Abort;

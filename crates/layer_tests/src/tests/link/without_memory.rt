@@ -1,9 +1,8 @@
 // Sessions in which each growth is refused in turn. What they answer stands in rows/sim at the top.
 
 use super::twins::bear;
-use crate::tests::configs::{with_parts, with_value};
+use crate::tests::common::{ends_growths, with_parts, with_value};
 use crate::tests::frames::{DAMAGED, P0, P1, P2, THREE, UNLOCK};
-use crate::tests::refusing::ends_growths;
 use cop1::{Directive, FopMode};
 use nodes::Parameter;
 use tc_link::Event;

@@ -1,7 +1,7 @@
 // How far the submissions of a session have come, and how the next one begins after an alert.
 
 use super::ground::{Ask, asks};
-use crate::tests::configs::with_parts;
+use crate::tests::common::with_parts;
 use crate::tests::frames::{P0, P1, P2, THREE, UNLOCK};
 use cop1::{Alert, CopFault, Directive, FopMode};
 use nodes::{HeardClcw, HeardReport, LinkFault};

@@ -1,10 +1,8 @@
 // The node on the ground.
 
-use super::playing::{Node, plays};
-use crate::tests::configs::{with_parts, with_value};
-use crate::tests::equal::equal;
+use super::{Node, plays};
+use crate::tests::common::{answer_of, equal, says_refused, with_parts, with_value};
 use crate::tests::frames::*;
-use crate::tests::refusing::{answer_of, says_refused};
 use clcw::ClcwFault;
 use cop1::{Alert, CopFault, Directive, FopMode};
 use nodes::{Parameter, ValidConfig};

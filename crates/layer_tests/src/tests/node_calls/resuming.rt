@@ -1,8 +1,7 @@
 // A program that resumes after each alert, over three sessions: three packets of two segments each, of which
 // one and a half are accepted in a session.
 
-use crate::tests::configs::with_parts;
-use crate::tests::equal::equal;
+use crate::tests::common::{equal, with_parts};
 use crate::tests::frames::{P0, P1, P2};
 use cop1::{Alert, Directive, FopMode};
 use std::alloc::Global;

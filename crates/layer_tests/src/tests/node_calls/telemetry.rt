@@ -2,8 +2,7 @@
 // spacecraft that is restarted between two frames.
 
 use super::ground::{heard, takes};
-use crate::tests::configs::with_value;
-use crate::tests::equal::equal;
+use crate::tests::common::{equal, with_value};
 use nodes::{KeptNumbers, Parameter};
 use std::alloc::Global;
 use std::process::Abort;

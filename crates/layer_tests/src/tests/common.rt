@@ -1,8 +1,32 @@
-// What tests say of growths that are refused, in lines on standard error that tools/refusals reads.
+// What several tests use: configurations, a comparison that is proved once, and not at each place, and what tests say
+// of growths that are refused, in lines on standard error that tools/refusals reads.
 
-use super::equal::equal;
+use nodes::Parameter;
 use std::alloc::Global;
+use std::fmt::Debug;
 use std::process::Abort;
+use tc_link::Config;
+
+/// Segments of at most this number of octets, in which packets are joined (1) or not (0).
+pub fn with_parts(part: u32, blocking: u32) -> Config {
+    Config {
+        part,
+        blocking,
+        ..Config::default()
+    }
+}
+
+/// One parameter has this value, and the others have their default values.
+pub fn with_value(parameter: Parameter, value: u32) -> Config {
+    let mut config = Config::default();
+    config.set(parameter, u64::from(value));
+    config
+}
+
+/// Stops the test unless both are equal, and says what they are.
+pub fn equal<A: PartialEq + Debug>(rt: &impl Abort, left: &A, right: &A) {
+    assert_eq!(*rt; *left, *right);
+}
 
 /// A growth was refused, by the fault of this number, which is that of want of memory.
 pub fn says_refused(rt: &(impl Abort + Eprint), number: u8, memory: u8) {
