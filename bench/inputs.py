@@ -1,5 +1,5 @@
 """Inputs for the measurements, from a generator with a fixed seed: frames of one length, frames of mixed lengths, packets of
-mixed lengths, and telemetry frames of 1,115 octets that carry such packets."""
+mixed lengths, and telemetry frames of 1,115 octets that carry such packets; and what a running process holds."""
 import binascii
 import random
 
@@ -145,3 +145,9 @@ def wild_telemetry(count, length, seed):
             data += packet(source.choice((5, 2047)), 0, source.randbytes(source.randrange(1, length))) if source.random() < 0.9 else source.randbytes(3)
         octets = first.to_bytes(2, "big") + bytes([0, number]) + status.to_bytes(2, "big") + data[: length - 12] + source.randbytes(4)
         yield octets + check(octets)
+
+
+def peak(pid):
+    """The most memory that a process has held by now, in kilobytes; 0 where it has ended."""
+    with open(f"/proc/{pid}/status", encoding="ascii") as status:
+        return max([int(it.split()[1]) for it in status if it.startswith("VmHWM:")], default=0)

@@ -3,7 +3,6 @@
 mod accounts;
 mod apart;
 mod driver;
-mod packets;
 mod pair;
 mod random;
 mod ranges;

@@ -190,7 +190,7 @@ fn splits(rt: &impl Abort, splitter: &mut Splitter<Packets>, octets: &[u8]) {
 // 10,000 packets of 100 octets, each fed and handed out.
 #[test]
 fn a_splitter_for_ever(rt: HostRuntime) {
-    let packet = super::packets::command(&rt, rt.alloc(), 100, 0);
+    let packet = super::pair::command(&rt, rt.alloc(), 100, 0);
     let mut splitter = Splitter::<Packets>::new(rt.alloc());
     notes(&rt, "account before");
     splits(&rt, &mut splitter, packet.as_slice());

@@ -1,7 +1,6 @@
 // Nodes that are configured apart: what the ground sends, the spacecraft drops.
 
-use super::packets::command;
-use super::pair::Pair;
+use super::pair::{Pair, command};
 use map_service::Dropped;
 use nodes::{Config, LinkFault};
 use std::alloc::Global;

@@ -1,7 +1,7 @@
 // Sessions in which anything happens, from a generator with fixed seeds.
 
 use super::driver::Link;
-use super::packets::{command, measurement};
+use super::pair::{command, measurement};
 use cop1::Directive;
 use nodes::Parameter::{Blocking, BypassSlots, FrameLength, Scid, TmVcid, Vcid};
 use rand::RngExt;

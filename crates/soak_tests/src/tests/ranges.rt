@@ -1,7 +1,7 @@
 // Sessions at the ends of every range: MAPs, windows, segments, packets, identifiers, what is on its way.
 
 use super::driver::Link;
-use super::packets::{command, commands, measurement};
+use super::pair::{command, commands, measurement};
 use cop1::{Directive, FopMode};
 use std::alloc::Global;
 use std::process::Abort;

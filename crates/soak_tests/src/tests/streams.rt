@@ -1,6 +1,6 @@
 // Files fed whole to what cuts a stream, and once more while octets are held.
 
-use super::packets::command;
+use super::pair::command;
 use listings::{Cutter, FrameCutter, FrameLength};
 use octets::Splitter;
 use space_packet::Packets;
