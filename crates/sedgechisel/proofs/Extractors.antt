@@ -1,31 +1,41 @@
--- An extractor of packets from telemetry frames, with a part in the caller's memory.
-use Rattle.std.proofs.Common.{◌≡◌, ◌≤◌, ℕ, ◌+◌, ◌-◌, Bool, true, false, List, [], ◌∷◌, ◌++◌, length, take, drop}
-use Rattle.std.proofs.Common.{Some, None, Ok, Err, refl, sym, ap, subst, ◌∙◌, arith, not}
-use Rattle.std.specs.Prelude.{nat_lt, if◌then◌else◌}
-use Rattle.std.proofs.lemmas.Bool.{not-true}
-use Rattle.std.proofs.lemmas.List.{drop_all, drop-drop, append-nil, take_rest}
-use Rattle.space_packet.specs.Packets.{first_packet, packets_in}
+-- An extractor of packets from telemetry frames, with a part in the caller's memory, and frames one after another.
+use Rattle.std.proofs.Common.{◌≡◌, ◌≤◌, ℕ, ◌+◌, ◌-◌, Bool, true, false, List, [], ◌∷◌, ◌++◌, length, take, drop, Some}
+use Rattle.std.proofs.Common.{None, Ok, Err, refl, sym, ap, subst, ◌∙◌, arith, not, ◌<◌, suc, Result, length-take}
+use Rattle.std.proofs.Common.{length-drop, length-append}
+use Rattle.std.specs.Prelude.{nat_lt, if◌then◌else◌, ◌==◌, ◌||◌, OnOk, OnErr}
+use Rattle.std.proofs.lemmas.Bool.{not-true, eqb-true, ne_eqb}
+use Rattle.std.proofs.lemmas.List.{drop_all, drop-drop, append-nil, take_rest, append_assoc}
+use Rattle.std.specs.List.{concat}
+use Rattle.std.proofs.lemmas.Grind.{common_steps}
+use Rattle.octets.specs.Outcome.{map_ok}
+use Rattle.space_packet.specs.Packets.{first_packet, packets_in, rest_in}
 use Rattle.space_packet.proofs.WholePackets.{one_more-by_len, no_more}
+use Rattle.map_service.proofs.Groups.{packets-split}
 use Rattle.tm_link.specs.declared.frame.Pointer.{Pointer}
 use Rattle.tm_link.specs.declared.frame.Pointer.TheVariants.{At, NoStart, OnlyIdle}
 use Rattle.tm_link.specs.declared.gap.Gap.{Gap}
 use Rattle.tm_link.specs.Extractor.{ExtractorState, Extracted, extract_step, completed_packet, finished_packets}
 use Rattle.tm_link.specs.Extractor.{part_after, part_over_gap, without_idle, is_idle, is_any_lost, gap_of}
-use Rattle.tm_link.specs.Layout.{pointer_fits}
+use Rattle.tm_link.specs.Layout.{pointer_fits, FrameView}
 use Rattle.tm_link.specs.Decoding.{pointer_at}
+use Rattle.tm_link.specs.declared.gap.Gap.TheVariants.{First, Lost}
 use Rattle.tm_link.proofs.Records.{without_idle-append}
 use Rattle.sedgechisel.specs.declared.part.Part.{Part}
 use Rattle.sedgechisel.specs.declared.telemetry_frame.ReportFrame.{ReportFrame}
 use Rattle.sedgechisel.specs.declared.telemetry_extractor.KeptExtractor.{KeptExtractor}
 use Rattle.sedgechisel.specs.declared.telemetry_extractor.TakenFrame.{TakenFrame}
 use Rattle.sedgechisel.specs.declared.telemetry_extractor.Kept.{Kept}
-use Rattle.sedgechisel.specs.Answers.{damaged}
-use Rattle.sedgechisel.specs.TelemetryFrames.{frame_described}
-use Rattle.sedgechisel.specs.Extractors.{is_extractor, state_of, last_of, place_over_gap, octets_at}
-use Rattle.sedgechisel.specs.Extractors.{joined_at, joined_by}
-use Rattle.sedgechisel.specs.Extractors.{need_of, packets_from, gap_at, extracted_at, extracted_described}
-use Rattle.sedgechisel.specs.Extractors.{DescribesExtracted}
-use Rattle.sedgechisel.specs.Extractors.{IsKept}
+use Rattle.sedgechisel.specs.Answers.{damaged, and_then, status_of, left_by}
+use Rattle.sedgechisel.specs.TelemetryFrames.{frame_described, frame_read, fields_of}
+use Rattle.sedgechisel.specs.Extractors.{is_extractor, state_of, last_of, place_over_gap, octets_at, joined_at}
+use Rattle.sedgechisel.specs.Extractors.{joined_by, need_of, packets_from, gap_at, extracted_at, extracted_described}
+use Rattle.sedgechisel.specs.Extractors.{DescribesExtracted, IsKept, extractor_described, is_extracted, is_dropped}
+use Rattle.sedgechisel.specs.Extractors.{is_cut_off, front_of, came_from, first_by, lost_by, handed_from}
+use Rattle.sedgechisel.specs.Extractors.{extracted_with, came_of, came_fields, record_with, record_of, no_fields, Run}
+use Rattle.sedgechisel.specs.Extractors.{is_end, nothing, before, run_from, packets_by, state_by}
+use Rattle.sedgechisel.specs.declared.extracted_frames.Came.{Came}
+
+-- An extractor of packets from telemetry frames, with a part in the caller's memory.
 
 -- ---- packets one after another
 
@@ -87,13 +97,13 @@ next_none octets from none =
     ap (λ (xs : List ℕ). without_idle (packets_in xs)) (sym (rest_is octets from))
     ∙ ap without_idle (no_more (RestOf octets from) none).0
 
-nothing : without_idle (packets_in []) ≡ []
-nothing = ap without_idle (no_more [] refl).0
+nothing_kept : without_idle (packets_in []) ≡ []
+nothing_kept = ap without_idle (no_more [] refl).0
 
 pub nothing_past : (octets : List ℕ) (place : ℕ) → length octets ≤ place
     → without_idle (packets_in (drop place octets)) ≡ []
 nothing_past octets place past =
-    ap (λ (xs : List ℕ). without_idle (packets_in xs)) (drop_all place octets past) ∙ nothing
+    ap (λ (xs : List ℕ). without_idle (packets_in xs)) (drop_all place octets past) ∙ nothing_kept
 
 -- ---- a frame
 
@@ -121,8 +131,8 @@ pub place_is : (gap : Gap) (x : KeptExtractor) (memory : List ℕ)
     → octets_at (place_over_gap gap x) memory ≡ part_over_gap gap (state_of x memory).part
 place_is gap x memory = place_by (is_any_lost gap) x memory
 
-abbrev extracted_with : Gap → List (List ℕ) → ExtractorState → Extracted
-extracted_with gap packets after = record { gap = gap; packets = packets; after = after }
+abbrev is_extracted_with : Gap → List (List ℕ) → ExtractorState → Extracted
+is_extracted_with gap packets after = record { gap = gap; packets = packets; after = after }
 
 describes_by : (is fits short : Bool) (e d : Extracted) → is ≡ true → fits ≡ true → short ≡ false → d ≡ e
     → DescribesExtracted (if not is then Err damaged else if not fits then Err 10 else if short then Err 7 else Ok e) d
@@ -170,13 +180,269 @@ frame_taken x f payload memory after part pointer gap k t is at fits gap-is part
     describes_by (is_extractor x (length memory)) (pointer_fits ptr (length payload))
     (nat_lt (length memory) (need_of real ptr payload)) (extract_step s (frame_described f payload))
     (extracted_described (kept_of k f.vc_count) t after payload) is fits-at room-at
-    (ap (λ (g : Gap). extracted_with g (joined_at t.joined after
+    (ap (λ (g : Gap). is_extracted_with g (joined_at t.joined after
     ++ without_idle (packets_in (drop (t.packets.from + t.packets.count) payload)))
     (record { last = Some f.vc_count; part = octets_at k.part after })) (gap-at ∙ gap-is)
-    ∙ ap (λ (ps : List (List ℕ)). extracted_with (gap_of s.last f.vc_count) ps
+    ∙ ap (λ (ps : List (List ℕ)). is_extracted_with (gap_of s.last f.vc_count) ps
     (record { last = Some f.vc_count; part = octets_at k.part after })) all
-    ∙ ap (λ (xs : List ℕ). extracted_with (gap_of s.last f.vc_count) (without_idle (finished_packets real ptr payload))
+    ∙ ap (λ (xs : List ℕ). is_extracted_with (gap_of s.last f.vc_count) (without_idle (finished_packets real ptr payload))
     (record { last = Some f.vc_count; part = xs })) left)
 
 pub not_short : (short : Bool) → true ≡ not short → short ≡ false
 not_short short h = not-true short (sym h)
+
+-- Telemetry frames one after another, and their packets in the caller's place.
+
+-- ---- the packets of a frame
+
+few_by : (idle : Bool) (p : List ℕ) (rest all : List (List ℕ)) → length (concat rest) ≤ length (concat all)
+    → length (concat (if not idle then p ∷ rest else rest)) ≤ length (p ++ concat all)
+few_by true p rest all le = omega (arith, le, length-append p (concat all))
+few_by false p rest all le =
+    omega (arith, le, length-append p (concat all), length-append p (concat rest))
+
+-- packets without the idle ones have no more octets
+few_without : (ps : List (List ℕ)) → length (concat (without_idle ps)) ≤ length (concat ps)
+few_without [] = omega arith
+few_without (p ∷ ps) = few_by (is_idle p) p (without_idle ps) ps (few_without ps)
+
+pub few_handed : (place : ℕ) (payload : List ℕ) → length (handed_from place payload) ≤ length payload - place
+few_handed place payload =
+    let octets : List ℕ = drop place payload in
+    omega (
+      arith,
+      few_without (packets_in octets),
+      ap length (packets-split octets).whole,
+      length-append (concat (packets_in octets)) (rest_in octets),
+      length-drop place payload,
+    )
+
+-- what is counted is there
+pub record IsExtracted (t : TakenFrame) (room size : ℕ) : Type 0 where
+  pub joined : t.joined ≤ room
+  pub from : t.packets.from ≤ size
+  pub none : t.packets.count ≡ 0
+  pub first : t.first < 2
+  pub lost : ((t.first == 0) || (t.lost == 0)) ≡ true
+
+pub extracted_is : (t : TakenFrame) (room size : ℕ) → is_extracted t room size ≡ true → IsExtracted t room size
+extracted_is t room size h = grind (arith, common_steps, h)
+
+-- ---- the packet that was begun
+
+begun_by : (x : KeptExtractor) (room : ℕ) → is_extractor x room ≡ true → x.from + x.count ≤ room
+begun_by x room h = grind (arith, common_steps, h)
+
+pub is_begun : (x : KeptExtractor) (memory : List ℕ) → is_extractor x (length memory) ≡ true → (x.count ≡ 0 → ⊥)
+    → (length (take x.count (drop x.from memory)) == 0) ≡ false
+is_begun x memory is some =
+    let long : length (take x.count (drop x.from memory)) ≡ x.count =
+    omega (
+      arith,
+      begun_by x (length memory) is,
+      length-take x.count (drop x.from memory),
+      length-drop x.from memory,
+    ) in
+    ne_eqb (length (take x.count (drop x.from memory))) 0
+    (λ (e : length (take x.count (drop x.from memory)) ≡ 0). some (sym long ∙ e))
+
+pub dropped_by : (s : ExtractorState) (f : FrameView) (pointer : Pointer) (part front : List ℕ)
+    → (length s.part == 0) ≡ false → is_any_lost (gap_of s.last f.vc_count) ≡ false → pointer ≡ f.pointer
+    → part ≡ s.part → front ≡ front_of f.pointer f.payload
+    → is_cut_off pointer (part ++ front) ≡ is_dropped s f
+dropped_by s f pointer part front some lost at is before =
+    rw (some, lost)
+    (ap (λ (p : Pointer). is_cut_off p (part ++ front)) at
+    ∙ ap (λ (xs : List ℕ). is_cut_off f.pointer (xs ++ front)) is
+    ∙ ap (λ (xs : List ℕ). is_cut_off f.pointer (s.part ++ xs)) before)
+
+-- ---- what the call for one frame answers
+
+abbrev pub paired : ExtractorState → FrameView → Extracted → Extracted × Bool
+paired s f e = (e, is_dropped s f)
+
+came_by : (a : Bool) (s : ExtractorState) (f : FrameView) (next : ExtractorState → Result Extracted ℕ)
+    → and_then {B = Extracted × Bool} (if a then Ok s else Err damaged) (λ t. map_ok (paired t f) (next t))
+    ≡ map_ok (paired s f) (if not a then Err damaged else next s)
+came_by true s f next = refl
+came_by false s f next = refl
+
+pub came_is : (x : KeptExtractor) (f : ReportFrame) (payload memory : List ℕ)
+    → came_from (extractor_described x memory) (length memory) (frame_described f payload)
+    ≡ map_ok (paired (state_of x memory) (frame_described f payload)) (extracted_at x f payload memory)
+came_is x f payload memory =
+    came_by (is_extractor x (length memory)) (state_of x memory) (frame_described f payload)
+    (λ t. extracted_with t (frame_described f payload) (length memory))
+
+pub on_ok : (r : Result Extracted ℕ) (e : Extracted) (P : Type 0) → r ≡ Ok e → OnOk r P → P
+on_ok (Ok x) e P is p = p
+on_ok (Err n) e P is p = absurd cc
+
+pub on_err : (r : Result Extracted ℕ) (number : ℕ) (P : Type 0) → r ≡ Err number → OnErr r P → P
+on_err (Ok x) number P is p = absurd cc
+on_err (Err n) number P is p = p
+
+abbrev pub came_with : ℕ → ℕ → ℕ → ℕ → Came
+came_with first lost dropped count =
+    record { fault = 0; first = first; lost = lost; dropped = dropped; count = count }
+
+pub came_same : (f l d n first lost dropped count : ℕ) → f ≡ first → l ≡ lost → d ≡ dropped → n ≡ count
+    → came_with f l d n ≡ came_with first lost dropped count
+came_same f l d n first lost dropped count is-first is-lost is-dropped is-count =
+    ap (λ (k : ℕ). came_with k l d n) is-first ∙ ap (λ (k : ℕ). came_with first k d n) is-lost
+    ∙ ap (λ (k : ℕ). came_with first lost k n) is-dropped
+    ∙ ap (λ (k : ℕ). came_with first lost dropped k) is-count
+
+pub refused_is : (r : Result Extracted ℕ) (number : ℕ) → number ≡ status_of r → (number ≡ 0 → ⊥) → r ≡ Err number
+refused_is (Ok e) number is some = absurd (some is)
+refused_is (Err n) number is some = ap (λ (k : ℕ). Err k) (sym is)
+
+taken_by : (a b c : Bool) (e d : Extracted)
+    → 0 ≡ status_of (if not a then Err damaged else if not b then Err 10 else if c then Err 7 else Ok e)
+    → DescribesExtracted (if not a then Err damaged else if not b then Err 10 else if c then Err 7 else Ok e) d
+    → (a ≡ true) × (b ≡ true)
+    × ((if not a then Err damaged else if not b then Err 10 else if c then Err 7 else Ok e) ≡ Ok d)
+taken_by true true false e d is h = (refl, refl, ap (λ (x : Extracted). Ok x) (sym h))
+taken_by true true true e d is h = absurd cc
+taken_by true false c e d is h = absurd cc
+taken_by false b c e d is h = absurd cc
+
+pub taken_is : (x : KeptExtractor) (f : ReportFrame) (payload memory : List ℕ) (d : Extracted)
+    → 0 ≡ status_of (extracted_at x f payload memory) → DescribesExtracted (extracted_at x f payload memory) d
+    → (is_extractor x (length memory) ≡ true) × (pointer_fits (pointer_at f.pointer) (length payload) ≡ true)
+    × (extracted_at x f payload memory ≡ Ok d)
+taken_is x f payload memory d is h =
+    let s : ExtractorState = state_of x memory in
+    let part : List ℕ = part_over_gap (gap_of s.last f.vc_count) s.part in
+    taken_by (is_extractor x (length memory)) (pointer_fits (pointer_at f.pointer) (length payload))
+    (nat_lt (length memory) (need_of part (pointer_at f.pointer) payload)) (extract_step s (frame_described f payload))
+    d is h
+
+-- the first frame, and how many are missing
+gap_by : (b : Bool) (t : TakenFrame) → (t.first == 1) ≡ b → t.first < 2 → ((t.first == 0) || (t.lost == 0)) ≡ true
+    → (t.first ≡ first_by (if b then First else Lost t.lost)) × (t.lost ≡ lost_by (if b then First else Lost t.lost))
+gap_by true t is lt none =
+    let one : t.first ≡ 1 = eqb-true t.first 1 is in
+    let some : (t.first == 0) ≡ false = rw one refl in
+    let lost : (t.lost == 0) ≡ true = ap (λ (b : Bool). b || (t.lost == 0)) (sym some) ∙ none in
+    (one, eqb-true t.lost 0 lost)
+gap_by false t is lt none =
+    let other : t.first ≡ 1 → ⊥ = λ e. absurd (let h : (t.first == 1) ≡ true = rw e refl in cc) in
+    (omega (arith, other), refl)
+
+pub gap_is : (t : TakenFrame) (room size : ℕ) → IsExtracted t room size
+    → (t.first ≡ first_by (gap_at t)) × (t.lost ≡ lost_by (gap_at t))
+gap_is t room size is = gap_by (t.first == 1) t refl is.first is.lost
+
+-- ---- octets that are a frame, or none
+
+pub came_read : (state : Result ExtractorState ℕ) (room : ℕ) (octets : List ℕ) (view : FrameView)
+    → frame_read (length octets) octets ≡ Ok view → came_of state room octets ≡ came_from state room view
+came_read state room octets view is =
+    ap (λ (r : Result FrameView ℕ). and_then {B = Extracted × Bool} r (came_from state room)) is
+
+pub record_read : (state : Result ExtractorState ℕ) (room : ℕ) (octets : List ℕ) (view : FrameView)
+    → frame_read (length octets) octets ≡ Ok view
+    → record_of state room octets ≡ record_with (came_fields (came_from state room view)) (fields_of view)
+record_read state room octets view is =
+    ap (λ (r : Result FrameView ℕ).
+    record_with (came_fields (and_then {B = Extracted × Bool} r (came_from state room)))
+    (left_by fields_of r no_fields)) is
+
+pub came_unread : (state : Result ExtractorState ℕ) (room : ℕ) (octets : List ℕ) (number : ℕ)
+    → frame_read (length octets) octets ≡ Err number → came_of state room octets ≡ Err number
+came_unread state room octets number is =
+    ap (λ (r : Result FrameView ℕ). and_then {B = Extracted × Bool} r (came_from state room)) is
+
+pub record_unread : (state : Result ExtractorState ℕ) (room : ℕ) (octets : List ℕ) (number : ℕ)
+    → frame_read (length octets) octets ≡ Err number
+    → record_of state room octets ≡ record_with (came_fields (Err number)) no_fields
+record_unread state room octets number is =
+    ap (λ (r : Result FrameView ℕ).
+    record_with (came_fields (and_then {B = Extracted × Bool} r (came_from state room)))
+    (left_by fields_of r no_fields)) is
+
+-- ---- frames one after another
+
+pub record IsNext (total room left : ℕ) (octets : List ℕ) : Type 0 where
+  pub some : 0 < total
+  pub within : total ≤ length octets
+  pub fits : room + total ≤ left
+
+pub next_is : (total room left : ℕ) (octets : List ℕ) → is_end total room left octets ≡ false
+    → IsNext total room left octets
+next_is total room left octets h = grind (arith, common_steps, h)
+
+-- the frames from a place on, where this one is taken
+abbrev pub run_after : ℕ → ℕ → ℕ → List ℕ → Result ExtractorState ℕ → ℕ → Run
+run_after total room left octets state most =
+    before (record_of state room (take total octets)) (packets_by (came_of state room (take total octets)))
+    (run_from total room (left - length (packets_by (came_of state room (take total octets))))
+    (drop total octets) (state_by (came_of state room (take total octets)) state) most)
+
+pub run_next : (total room left : ℕ) (octets : List ℕ) (state : Result ExtractorState ℕ) (k most : ℕ) → k < most
+    → is_end total room left octets ≡ false
+    → run_from total room left octets state (most - k) ≡ run_after total room left octets state (most - (k + 1))
+run_next total room left octets state k most lt next =
+    let more : most - k ≡ suc (most - (k + 1)) = omega arith in
+    ap (run_from total room left octets state) more ∙ rw next refl
+
+pub run_none : (total room left : ℕ) (octets : List ℕ) (state : Result ExtractorState ℕ) (k most : ℕ) → k < most
+    → is_end total room left octets ≡ true → run_from total room left octets state (most - k) ≡ nothing state
+run_none total room left octets state k most lt end =
+    let more : most - k ≡ suc (most - (k + 1)) = omega arith in
+    ap (run_from total room left octets state) more ∙ rw end refl
+
+pub run_done : (total room left : ℕ) (octets : List ℕ) (state : Result ExtractorState ℕ) (k most : ℕ) → most ≤ k
+    → run_from total room left octets state (most - k) ≡ nothing state
+run_done total room left octets state k most le =
+    let none : most - k ≡ 0 = omega arith in ap (run_from total room left octets state) none
+
+-- records and packets that are written, and those of a run after them, are all
+pub record RunsTo (done put : List ℕ) (run all : Run) : Type 0 where
+  pub records : done ++ run.records ≡ all.records
+  pub packets : put ++ run.packets ≡ all.packets
+  pub after : run.after ≡ all.after
+
+pub runs_on : (records packets one more : List ℕ) (run next all : Run) → RunsTo records packets run all
+    → run ≡ before one more next
+    → RunsTo (records ++ one) (packets ++ more) next all
+runs_on records packets one more run next all is same = record {
+  records =
+      append_assoc records one next.records ∙ ap (λ (r : Run). records ++ r.records) (sym same) ∙ is.records;
+  packets =
+      append_assoc packets more next.packets ∙ ap (λ (r : Run). packets ++ r.packets) (sym same) ∙ is.packets;
+  after = ap (λ (r : Run). r.after) (sym same) ∙ is.after;
+}
+
+-- what is done, where no frame follows
+pub run_ends : (records packets : List ℕ) (run all : Run) (state : Result ExtractorState ℕ)
+    → RunsTo records packets run all → run ≡ nothing state
+    → (records ++ [] ≡ all.records) × (packets ++ [] ≡ all.packets) × (state ≡ all.after)
+run_ends records packets run all state is same = (
+  ap (λ (r : Run). records ++ r.records) (sym same) ∙ is.records,
+  ap (λ (r : Run). packets ++ r.packets) (sym same) ∙ is.packets,
+  ap (λ (r : Run). r.after) (sym same) ∙ is.after,
+)
+
+-- ---- what the call gives to others
+
+-- the octets of the memory and of the place for packets stay as many
+pub end_is : (total end from : ℕ) (memory first packets place octets : List ℕ) → length memory ≡ length first
+    → length packets ≡ length place
+    → is_end total (length first) (length place - end) (drop from octets)
+    ≡ is_end total (length memory) (length packets - end) (take (length octets - from) (drop from octets))
+end_is total end from memory first packets place octets room left =
+    ap (λ (n : ℕ). is_end total n (length place - end) (drop from octets)) (sym room)
+    ∙ ap (λ (n : ℕ). is_end total (length memory) (n - end) (drop from octets)) (sym left)
+    ∙ ap (is_end total (length memory) (length packets - end)) (sym (take_rest octets from))
+
+pub record_is : (state : Result ExtractorState ℕ) (n room : ℕ) (piece one : List ℕ) → n ≡ room → piece ≡ one
+    → record_of state n piece ≡ record_of state room one
+record_is state n room piece one long is =
+    ap (λ (k : ℕ). record_of state k piece) long ∙ ap (record_of state room) is
+
+pub came_equal : (state : Result ExtractorState ℕ) (n room : ℕ) (piece one : List ℕ) → n ≡ room → piece ≡ one
+    → came_of state n piece ≡ came_of state room one
+came_equal state n room piece one long is =
+    ap (λ (k : ℕ). came_of state k piece) long ∙ ap (came_of state room) is

@@ -3,4 +3,3 @@ mod Described
 mod Builders
 mod Extractors
 mod Following
-mod ExtractedFrames

@@ -8,5 +8,4 @@ pub mod Names
 pub mod Packets
 pub mod Receivers
 pub mod Senders
-pub mod ExtractedFrames
 pub mod Extractors

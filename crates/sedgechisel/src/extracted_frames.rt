@@ -5,8 +5,7 @@ ghost use Rattle.std.specs.List.{concat};
 ghost use Rattle.tm_link.specs.Layout.{pointer_fits};
 ghost use Rattle.tm_link.specs.Extractor.{ending_of};
 ghost use Rattle.sedgechisel.specs.TelemetryFrames.{frame_described};
-ghost use Rattle.sedgechisel.specs.Extractors.{is_extractor, state_of, extractor_described, packets_described, is_extracted};
-ghost use Rattle.sedgechisel.specs.ExtractedFrames.{is_carried, begins_idle, is_cut_off, is_dropped, came_from, came_of, packets_by, state_by, came_fields, no_fields, record_with, record_of, is_end, run_from, handed_from};
+ghost use Rattle.sedgechisel.specs.Extractors.{is_extractor, state_of, extractor_described, packets_described, is_extracted, is_carried, begins_idle, is_cut_off, is_dropped, came_from, came_of, packets_by, state_by, came_fields, no_fields, record_with, record_of, is_end, run_from, handed_from};
 
 use crate::assembly::add;
 use crate::command_frame::halves;

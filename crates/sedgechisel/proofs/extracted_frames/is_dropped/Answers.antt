@@ -2,11 +2,10 @@ use Rattle.std.proofs.Common.{ℕ, Option, sym, ap, ◌∙◌, take}
 use Rattle.tm_link.specs.declared.frame.Pointer.{Pointer}
 use Rattle.tm_link.specs.Extractor.{gap_of, is_any_lost}
 use Rattle.tm_link.specs.Layout.{FrameView}
-use Rattle.sedgechisel.specs.Extractors.{state_of}
-use Rattle.sedgechisel.specs.ExtractedFrames.{front_of}
+use Rattle.sedgechisel.specs.Extractors.{state_of, front_of}
 use Rattle.sedgechisel.specs.TelemetryFrames.{frame_described}
 use Rattle.sedgechisel.proofs.Following.{piece_is}
-use Rattle.sedgechisel.proofs.ExtractedFrames.{is_begun, dropped_by}
+use Rattle.sedgechisel.proofs.Extractors.{is_begun, dropped_by}
 use Rattle.sedgechisel.proofs.extracted_frames.is_dropped.Goals as goal
 
 pub returns-in-NoStart : goal.returns-in-NoStart

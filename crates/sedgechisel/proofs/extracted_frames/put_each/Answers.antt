@@ -1,8 +1,7 @@
 use Rattle.std.proofs.Common.{◌≡◌, ℕ, ◌+◌, ◌-◌, List, ◌++◌, length, take, drop, sym, ap, ◌∙◌, arith, length-append}
 use Rattle.std.specs.List.{concat}
 use Rattle.std.proofs.lemmas.List.{append_assoc}
-use Rattle.sedgechisel.specs.Extractors.{octets_at}
-use Rattle.sedgechisel.specs.ExtractedFrames.{handed_from}
+use Rattle.sedgechisel.specs.Extractors.{octets_at, handed_from}
 use Rattle.sedgechisel.proofs.Following.{piece_is, later}
 use Rattle.sedgechisel.proofs.extracted_frames.put_each.Goals as goal
 

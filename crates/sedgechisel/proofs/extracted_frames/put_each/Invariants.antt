@@ -1,7 +1,7 @@
 use Rattle.std.proofs.Common.{◌≡◌, ◌≤◌, ◌+◌, ◌++◌, length, take, drop}
 use Rattle.space_packet.specs.Packets.{packets_in}
 use Rattle.tm_link.specs.Extractor.{without_idle}
-use Rattle.sedgechisel.specs.ExtractedFrames.{handed_from}
+use Rattle.sedgechisel.specs.Extractors.{handed_from}
 use Rattle.sedgechisel.proofs.extracted_frames.put_each.Given as goal
 
 abbrev pub invariant-each : goal.invariant-each

@@ -1,6 +1,6 @@
 use Rattle.std.proofs.Common.{◌∙◌, arith, length-take}
 use Rattle.sedgechisel.proofs.Following.{later}
-use Rattle.sedgechisel.proofs.ExtractedFrames.{few_handed, extracted_is}
+use Rattle.sedgechisel.proofs.Extractors.{few_handed, extracted_is}
 use Rattle.sedgechisel.proofs.extracted_frames.put_packets.Goals as goal
 
 pub put_each-requires-clause-room : goal.put_each-requires-clause-room

@@ -2,11 +2,11 @@ use Rattle.std.proofs.Common.{◌≡◌, ◌<◌, ℕ, ◌+◌, ◌-◌, ◌/◌
 use Rattle.std.proofs.Common.{Result, sym, ap, ◌∙◌, arith, length-drop}
 use Rattle.std.proofs.lemmas.List.{drop-drop}
 use Rattle.tm_link.specs.Extractor.{ExtractorState, Extracted}
-use Rattle.sedgechisel.specs.Extractors.{extractor_described}
-use Rattle.sedgechisel.specs.ExtractedFrames.{Run, is_end, run_from, before, record_of, packets_by, came_of, state_by}
+use Rattle.sedgechisel.specs.Extractors.{extractor_described, Run, is_end, run_from, before, record_of, packets_by}
+use Rattle.sedgechisel.specs.Extractors.{came_of, state_by}
 use Rattle.sedgechisel.proofs.Following.{piece_is, later, all_done}
-use Rattle.sedgechisel.proofs.ExtractedFrames.{IsNext, next_is, run_next, run_none, run_done, runs_on, run_ends}
-use Rattle.sedgechisel.proofs.ExtractedFrames.{end_is, record_is, came_equal}
+use Rattle.sedgechisel.proofs.Extractors.{IsNext, next_is, run_next, run_none, run_done, runs_on, run_ends, end_is}
+use Rattle.sedgechisel.proofs.Extractors.{record_is, came_equal}
 use Rattle.sedgechisel.proofs.extracted_frames.sedge_tm_extractor_frames.Goals as goal
 
 pub returns-then-is_end-clause-records : goal.returns-then-is_end-clause-records

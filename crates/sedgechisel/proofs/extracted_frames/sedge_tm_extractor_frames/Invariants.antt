@@ -1,7 +1,6 @@
 use Rattle.std.proofs.Common.{◌≡◌, ◌≤◌, ◌-◌, ◌*◌, ◌/◌, length, take, drop}
-use Rattle.sedgechisel.specs.Extractors.{extractor_described}
-use Rattle.sedgechisel.specs.ExtractedFrames.{run_from}
-use Rattle.sedgechisel.proofs.ExtractedFrames.{RunsTo}
+use Rattle.sedgechisel.specs.Extractors.{extractor_described, run_from}
+use Rattle.sedgechisel.proofs.Extractors.{RunsTo}
 use Rattle.sedgechisel.proofs.extracted_frames.sedge_tm_extractor_frames.Given as goal
 
 abbrev pub invariant-frames : goal.invariant-frames

@@ -10,10 +10,9 @@ use Rattle.sedgechisel.specs.declared.extracted_frames.Came.{Came}
 use Rattle.sedgechisel.specs.TelemetryFrames.{frame_described}
 use Rattle.sedgechisel.specs.Receivers.{flag_number}
 use Rattle.sedgechisel.specs.Extractors.{is_extractor, state_of, extractor_described, extracted_described, extracted_at}
-use Rattle.sedgechisel.specs.Extractors.{is_extracted, packets_described}
-use Rattle.sedgechisel.specs.ExtractedFrames.{came_fields, state_by, packets_by}
-use Rattle.sedgechisel.proofs.ExtractedFrames.{paired, came_is, on_ok, on_err, refused_is, taken_is, extracted_is}
-use Rattle.sedgechisel.proofs.ExtractedFrames.{gap_is, came_same}
+use Rattle.sedgechisel.specs.Extractors.{is_extracted, packets_described, came_fields, state_by, packets_by}
+use Rattle.sedgechisel.proofs.Extractors.{paired, came_is, on_ok, on_err, refused_is, taken_is, extracted_is, gap_is}
+use Rattle.sedgechisel.proofs.Extractors.{came_same}
 use Rattle.sedgechisel.proofs.extracted_frames.take_frame.Goals as goal
 
 pub returns-then-fault-ne0-clause-state : goal.returns-then-fault-ne0-clause-state
