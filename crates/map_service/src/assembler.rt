@@ -109,6 +109,7 @@ impl Assembler {
     /// closed, where there is any. At a fault the assembler is as it was.
     /// Faults: 3 Memory. Memory: yes; none where the segment is dropped at once. Cost: n*, and the
     /// packets handed out.
+    #[inline(always)]
     pub fn take(&mut self, segment: &Segment) -> Result<Taken, MapFault>
         // The table, cell by cell.
         ensures dropped { IfOk result
@@ -159,6 +160,7 @@ impl Assembler {
     }
 
     // The same. A part is opened in the spare room, where there is any.
+    #[inline(always)]
     fn prepared(&self, spare: &mut Option<Vec<u8>>, segment: &Segment) -> Result<Prepared, MapFault>
         requires { HasLongest self.now.limits.max_packet spare.old }
         ensures spare { HasLongest self.now.limits.max_packet spare.new }
@@ -178,6 +180,7 @@ impl Assembler {
     }
 
     // The same, with the room that is kept.
+    #[inline(always)]
     fn prepare_with_spare(&mut self, segment: &Segment) -> Result<Prepared, MapFault>
         ensures state { self.new ≡ self.old }
         ensures prepared { IfOk result (IsPrepared self.old (segment_view segment.now)) }
@@ -232,6 +235,7 @@ impl Assembler {
     }
 
     // Keeps the room of a part that was closed, where there is any.
+    #[inline(always)]
     fn keep(&mut self, closed: Option<Vec<u8>>)
         requires { HasLongest self.old.limits.max_packet closed }
         ensures { self.new ≡ self.old }
@@ -243,6 +247,7 @@ impl Assembler {
 
     // Changes the part that is open on the segment's MAP, where this MAP is open, and hands out the
     // room of one that is closed.
+    #[inline(always)]
     fn put(&mut self, segment: &Segment, change: Change) -> Option<Vec<u8>>
         requires part { part_after
             change (part_on_map self.old segment.now.header.map) segment.now.payload.now
@@ -263,6 +268,7 @@ impl Assembler {
 }
 
 // Changes the part, and hands out the room of one that is closed.
+#[inline(always)]
 fn put(
     limits: &Limits,
     part: &mut Option<Vec<u8>>,
@@ -289,6 +295,7 @@ fn put(
 }
 
 // No packet is handed out.
+#[inline(always)]
 fn no_packets(alloc: Global, dropped: Option<Dropped>, change: Change) -> Prepared
     ensures dropped { result.dropped ≡ dropped }
     ensures packets { ready_view result.packets ≡ [] }
@@ -302,6 +309,7 @@ fn no_packets(alloc: Global, dropped: Option<Dropped>, change: Change) -> Prepar
 }
 
 // Room for the longest packet: the spare one, where there is any.
+#[inline(always)]
 fn longest(
     alloc: Global,
     limits: &Limits,
@@ -320,6 +328,7 @@ fn longest(
 }
 
 // The part that a first segment opens, with room for the longest packet.
+#[inline(always)]
 fn begun(
     alloc: Global,
     limits: &Limits,
@@ -337,6 +346,7 @@ fn begun(
 }
 
 // A part that a last segment ends, judged as a whole.
+#[inline(always)]
 fn ended(alloc: Global, limits: &Limits, part: &[u8], octets: &[u8]) -> Result<Prepared, AllocError>
     ensures outcome { IfOk result (λ p. outcome_of p (Some part.now) octets.now
         ≡ packets_outcome None ((part.now ++ octets.now) ∷ [])
@@ -359,6 +369,7 @@ fn ended(alloc: Global, limits: &Limits, part: &[u8], octets: &[u8]) -> Result<P
 }
 
 // A segment comes on an open MAP.
+#[inline(always)]
 fn prepared_cell(
     alloc: Global,
     limits: &Limits,

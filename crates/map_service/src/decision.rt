@@ -66,6 +66,7 @@ fn interruption(part: Option<&[u8]>) -> Option<Dropped>
 }
 
 /// Decides what is to be done with a segment's data on an open MAP, by the part that is open.
+#[inline(always)]
 #[tactic(auto, using(crate::proofs::Handed::handed_out, crate::proofs::Handed::alone_packets_are))]
 pub fn decide(limits: &Limits, flags: SegmentFlags, part: Option<&[u8]>, octets: &[u8]) -> Decision
     ensures outcome { outcome_of limits.now result (option_copied part.entry) octets.now
