@@ -1,7 +1,6 @@
 // The tests by what they are of, and what several of them use.
 
 mod accounts;
-mod apart;
 mod driver;
 mod pair;
 mod random;
