@@ -185,8 +185,8 @@ frame_taken x f payload memory after part pointer gap k t is at fits gap-is part
     (record { last = Some f.vc_count; part = octets_at k.part after })) (gap-at ∙ gap-is)
     ∙ ap (λ (ps : List (List ℕ)). is_extracted_with (gap_of s.last f.vc_count) ps
     (record { last = Some f.vc_count; part = octets_at k.part after })) all
-    ∙ ap (λ (xs : List ℕ). is_extracted_with (gap_of s.last f.vc_count) (without_idle (finished_packets real ptr payload))
-    (record { last = Some f.vc_count; part = xs })) left)
+    ∙ ap (λ (xs : List ℕ). is_extracted_with (gap_of s.last f.vc_count)
+    (without_idle (finished_packets real ptr payload)) (record { last = Some f.vc_count; part = xs })) left)
 
 pub not_short : (short : Bool) → true ≡ not short → short ≡ false
 not_short short h = not-true short (sym h)

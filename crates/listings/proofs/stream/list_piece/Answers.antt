@@ -46,6 +46,7 @@ returns-clause-beginning g c =
     on_err_weaker c.put-2.result
     (begins_same _ _ (written c.refuse.new.text) _
     (ap (λ x. x.text ++ line (x.count + 1) x.octets) (sym same) ∙ ap (λ t. written c.list_records.new.text ++ t) refused
-    ∙ ap (λ n. written c.list_records.new.text ++ g.C.Listing.lines.fault_line n c.in-Some.fault) (sym c.following-next.ensures)
+    ∙ ap (λ n. written c.list_records.new.text ++ g.C.Listing.lines.fault_line n c.in-Some.fault)
+    (sym c.following-next.ensures)
     ∙ sym c.in-Ok-refuse.ensures))
     c.put-2.ensures.beginning
