@@ -538,7 +538,7 @@ static const unsigned char table_sedge_clcw_fault_name[10] = {
 };
 
 /* Of sedge_clcw_fault_name_at. */
-static const unsigned char table_sedge_clcw_fault_name_29[20] = {
+static const unsigned char table_sedge_clcw_fault_name_30[20] = {
     75, 105, 110, 100, 86, 101, 114, 115, 67, 111, 112, 0, 83, 112, 97, 114, 82, 97, 110, 103
 };
 
@@ -548,7 +548,7 @@ static const unsigned char table_sedge_dropped_name[10] = {
 };
 
 /* Of sedge_dropped_name_at. */
-static const unsigned char table_sedge_dropped_name_30[40] = {
+static const unsigned char table_sedge_dropped_name_31[40] = {
     108, 111, 115, 101, 100, 77, 97, 112, 110, 116, 101, 114, 114, 117, 112, 116, 111, 66, 101, 103, 105, 110, 110,
     105, 111, 116, 65, 80, 97, 99, 107, 101, 111, 111, 76, 111, 110, 103, 0, 0
 };
@@ -1587,7 +1587,7 @@ static void sedge_clcw_fault_name_at(uint64_t result, uint32_t fault)
     goto l1;
 l2:;
     v5 = (uint64_t)fault & 255;
-    v3 = get32((v5 << 2) + address(table_sedge_clcw_fault_name_29));
+    v3 = get32((v5 << 2) + address(table_sedge_clcw_fault_name_30));
     v4 = get16((v5 << 1) + address(table_sedge_clcw_fault_name));
     fault = (uint32_t)(0x6565006900ULL >> (((uint64_t)(fault << 3) & 248) & 63));
 l1:;
@@ -1696,7 +1696,7 @@ static void sedge_dropped_name_at(uint64_t result, uint32_t cause)
     cause = cause - 1;
     if ((cause & 255) < 5) {
         v6 = (uint64_t)cause & 255;
-        v4 = get64((v6 << 3) + address(table_sedge_dropped_name_30));
+        v4 = get64((v6 << 3) + address(table_sedge_dropped_name_31));
         v3 = get16((v6 << 1) + address(table_sedge_dropped_name));
         v5 = (uint32_t)(0x544e4e4943ULL >> (((uint64_t)(cause << 3) & 248) & 63));
     }
@@ -3033,87 +3033,56 @@ static uint32_t sedge_map_take_at(uint64_t map, uint32_t flags, uint64_t data, u
     room = (room < 0xffffffffULL) ? room : 0xffffffffULL;
     switch ((uint32_t)((uint64_t)flags & 255)) {
     case 1:
-        if (data_count > room) goto l5;
-        if ((v13 - v15) < data_count) {
-            v18 = data_count & 3;
-            v11 = 0;
-            if (data_count >= 4) {
-                v20 = data_count & ~3ULL;
-                v11 = 0;
-                do {
-                    room = v13 + v11;
-                    v19 = v15 + v11;
-                    put8(room, get8(v19));
-                    put8(room + 1, get8(v19 + 1));
-                    put8(room + 2, get8(v19 + 2));
-                    put8(room + 3, get8(v19 + 3));
-                    v11 = v11 + 4;
-                } while (v20 != v11);
-                if (v18 == 0) goto l24;
-            }
-            room = memory + (v12 + v11);
-            memory = data + (v14 + v11);
-        l28:;
-            put8(room, get8(memory));
-            room = room + 1;
-            memory = memory + 1;
-            v18 = v18 - 1;
-            if (v18 != 0) goto l28;
-            goto l24;
-        }
-        if (data_count != 0) copy(v13, v15, data_count);
-    l24:;
-        put64(map, data_count);
-        put8(map + 8, 1);
-        flags = 0;
-        put32(v7 + 8, 0);
-        put16(v7 + 12, 0);
-        data_count = 0;
-        goto l2;
+        goto l13;
     case 2:
         goto l14;
     case 3:
-        if (v10 == 1) {
+        if (v10 != 1) {
+            v16 = 4;
+            if (data_count > room) goto l4;
             v16 = 3;
-            if (data_count < 6) goto l12;
-            v9 = 0;
-            data = data_count;
-            do {
-                flags = get8(v15);
-                if (flags > 31) goto l12;
-                if ((flags & 8) != 0) {
-                    if ((((flags << 8) & 0x700) | get8(v15 + 1)) == 0x7ff) goto l12;
-                }
-                memory = (((uint64_t)get8(v15 + 4) << 8) | (uint64_t)get8(v15 + 5)) + 7;
-                if (data < memory) goto l12;
-                v15 = v15 + memory;
-                v9 = v9 | (uint32_t)(memory > room);
-                data = data - memory;
-            } while (data > 5);
-            flags = data == 0;
-            v9 = flags & v9;
-            v16 = (flags != 0) ? ((v9 != 0) ? 4U : 0U) : 3U;
-            if (v9 != 0) goto l12;
-            if (data == 0) goto l3;
-            goto l12;
+            if (data_count < 6) goto l4;
+            flags = get8(v15);
+            if (flags > 31) goto l4;
+            if ((flags & 8) != 0) {
+                if ((((flags << 8) & 0x700) | get8(v15 + 1)) == 0x7ff) goto l4;
+            }
+            if (((((uint64_t)get8(v15 + 4) << 8) | (uint64_t)get8(v15 + 5)) + 7) == data_count) goto l17;
+            goto l4;
         }
-        if (data_count > room) goto l13;
         v16 = 3;
-        if (data_count < 6) goto l12;
-        flags = get8(v15);
-        if (flags > 31) goto l12;
-        if ((flags & 8) != 0) {
-            if ((((flags << 8) & 0x700) | get8(v15 + 1)) == 0x7ff) goto l12;
-        }
-        if (((((uint64_t)get8(v15 + 4) << 8) | (uint64_t)get8(v15 + 5)) + 7) != data_count) goto l12;
-        goto l3;
+        if (data_count < 6) goto l4;
+        v9 = 0;
+        data = data_count;
+        do {
+            flags = get8(v15);
+            if (flags > 31) goto l4;
+            if ((flags & 8) != 0) {
+                if ((((flags << 8) & 0x700) | get8(v15 + 1)) == 0x7ff) goto l4;
+            }
+            memory = (((uint64_t)get8(v15 + 4) << 8) | (uint64_t)get8(v15 + 5)) + 7;
+            if (data < memory) goto l4;
+            v15 = v15 + memory;
+            v9 = v9 | (uint32_t)(memory > room);
+            data = data - memory;
+        } while (data > 5);
+        flags = data == 0;
+        v9 = flags & v9;
+        v16 = (flags != 0) ? ((v9 != 0) ? 4U : 0U) : 3U;
+        if (v9 != 0) goto l4;
+        if (data != 0) goto l4;
+    l17:;
+        put64(map, 0);
+        put8(map + 8, 0);
+        flags = 2;
+        goto l2;
     default:
         goto l15;
     }
 l15:;
-    if (v9 == 0) goto l12;
+    if (v9 == 0) goto l4;
     v17 = v11 + data_count;
-    if (v17 > room) goto l13;
+    if (v17 > room) goto l12;
     v13 = v13 + v11;
     if ((v13 - v15) >= data_count) goto l10;
     v18 = data_count & 3;
@@ -3134,80 +3103,88 @@ l15:;
     }
     room = data + (v14 + v19);
     data_count = memory + (v12 + v19 + v11);
-l23:;
+l24:;
     put8(data_count, get8(room));
     data_count = data_count + 1;
     room = room + 1;
     v18 = v18 - 1;
-    if (v18 != 0) goto l23;
+    if (v18 != 0) goto l24;
     goto l9;
 l14:;
-    if (v9 == 0) goto l12;
+    if (v9 == 0) goto l4;
     v21 = v11 + data_count;
-    if (v21 <= room) {
-        v20 = v13 + v11;
-        if ((v20 - v15) < data_count) {
+    if (v21 > room) goto l12;
+    v20 = v13 + v11;
+    if ((v20 - v15) >= data_count) goto l8;
+    v18 = data_count & 3;
+    v19 = 0;
+    if ((data_count - 1) >= 3) {
+        v17 = data_count & ~3ULL;
+        v19 = 0;
+        do {
+            room = v20 + v19;
+            data_count = v15 + v19;
+            put8(room, get8(data_count));
+            put8(room + 1, get8(data_count + 1));
+            put8(room + 2, get8(data_count + 2));
+            put8(room + 3, get8(data_count + 3));
+            v19 = v19 + 4;
+        } while (v17 != v19);
+        if (v18 == 0) goto l7;
+    }
+    room = data + (v14 + v19);
+    data_count = memory + (v12 + v19 + v11);
+l27:;
+    put8(data_count, get8(room));
+    data_count = data_count + 1;
+    room = room + 1;
+    v18 = v18 - 1;
+    if (v18 != 0) goto l27;
+    goto l7;
+l13:;
+    if (data_count <= room) {
+        if ((v13 - v15) < data_count) {
             v18 = data_count & 3;
-            v19 = 0;
-            if ((data_count - 1) >= 3) {
-                v17 = data_count & ~3ULL;
-                v19 = 0;
+            v11 = 0;
+            if (data_count >= 4) {
+                v20 = data_count & ~3ULL;
+                v11 = 0;
                 do {
-                    room = v20 + v19;
-                    data_count = v15 + v19;
-                    put8(room, get8(data_count));
-                    put8(room + 1, get8(data_count + 1));
-                    put8(room + 2, get8(data_count + 2));
-                    put8(room + 3, get8(data_count + 3));
-                    v19 = v19 + 4;
-                } while (v17 != v19);
-                if (v18 == 0) goto l29;
+                    room = v13 + v11;
+                    v19 = v15 + v11;
+                    put8(room, get8(v19));
+                    put8(room + 1, get8(v19 + 1));
+                    put8(room + 2, get8(v19 + 2));
+                    put8(room + 3, get8(v19 + 3));
+                    v11 = v11 + 4;
+                } while (v20 != v11);
+                if (v18 == 0) goto l28;
             }
-            room = data + (v14 + v19);
-            data_count = memory + (v12 + v19 + v11);
-        l33:;
-            put8(data_count, get8(room));
-            data_count = data_count + 1;
+            room = memory + (v12 + v11);
+            memory = data + (v14 + v11);
+        l32:;
+            put8(room, get8(memory));
             room = room + 1;
+            memory = memory + 1;
             v18 = v18 - 1;
-            if (v18 != 0) goto l33;
-            goto l29;
+            if (v18 != 0) goto l32;
+            goto l28;
         }
-        if (data_count != 0) copy(v20, v15, data_count);
-    l29:;
-        data_count = 0;
-        put64(map, 0);
+        if (data_count != 0) copy(v13, v15, data_count);
+    l28:;
+        put64(map, data_count);
+        put8(map + 8, 1);
         flags = 0;
-        put8(map + 8, 0);
-        if (v21 >= 6) {
-            v8 = get8(v13);
-            if (v8 <= 31) {
-                if ((v8 & 8) != 0) {
-                    if ((((v8 << 8) & 0x700) | get8(v13 + 1)) == 0x7ff) goto l35;
-                }
-                if (((((uint64_t)get8(v13 + 4) << 8) | (uint64_t)get8(v13 + 5)) + 7) == v21) {
-                    v8 = 0;
-                    put16(v7 + 12, 0);
-                    put32(v7 + 8, 0);
-                    flags = 1;
-                    data_count = v21;
-                    goto l2;
-                }
-            }
-        }
-    l35:;
-        put16(v7 + 12, 0);
         put32(v7 + 8, 0);
-        v8 = 4;
+        put16(v7 + 12, 0);
+        data_count = 0;
         goto l2;
     }
-l13:;
-    v16 = 4;
 l12:;
     put64(map, 0);
     put8(map + 8, 0);
-    v8 = v16 + 1;
-    goto l4;
+    v8 = 5;
+    goto l3;
 l10:;
     if (data_count != 0) copy(v13, v15, data_count);
 l9:;
@@ -3218,20 +3195,43 @@ l9:;
     data_count = 0;
     v8 = 0;
     goto l2;
-l5:;
+l8:;
+    if (data_count != 0) copy(v20, v15, data_count);
+l7:;
+    data_count = 0;
+    put64(map, 0);
+    flags = 0;
+    put8(map + 8, 0);
+    if (v21 >= 6) {
+        v8 = get8(v13);
+        if (v8 <= 31) {
+            if ((v8 & 8) != 0) {
+                if ((((v8 << 8) & 0x700) | get8(v13 + 1)) == 0x7ff) goto l34;
+            }
+            if (((((uint64_t)get8(v13 + 4) << 8) | (uint64_t)get8(v13 + 5)) + 7) == v21) {
+                v8 = 0;
+                put16(v7 + 12, 0);
+                put32(v7 + 8, 0);
+                flags = 1;
+                data_count = v21;
+                goto l2;
+            }
+        }
+    }
+l34:;
+    put16(v7 + 12, 0);
+    put32(v7 + 8, 0);
+    v8 = 4;
+    goto l2;
+l4:;
     put64(map, 0);
     put8(map + 8, 0);
-    v8 = 5;
-l4:;
+    v8 = v16 + 1;
+l3:;
     flags = 0;
     put16(v7 + 12, 0);
     put32(v7 + 8, 0);
     data_count = 0;
-    goto l2;
-l3:;
-    put64(map, 0);
-    put8(map + 8, 0);
-    flags = 2;
 l2:;
     v9 = get16(v7 + 12);
     put16(v7 + 4, v9);
