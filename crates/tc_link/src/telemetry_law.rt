@@ -5,7 +5,7 @@ ghost use Rattle.tc_link.specs.Telemetry.{TelemetryComesDown, RunsAsTheLink};
 /// Of the rules of both nodes and the link themselves, whatever the configuration, the list of events
 /// and the takes of `Ground::take_telemetry` among them (CCSDS 132.0-B-3, 4.2.2 and 4.3.2): the packets
 /// on the ground, taken or not, are packets that `Spacecraft::telemetry` queued, in order, each once,
-/// octet for octet. They are exactly those all of whose octets arrived, and all of them where no frame
+/// octet for octet. A packet comes if and only if all its octets arrived, and each comes where no frame
 /// was lost, none is on its way and the spacecraft's builder holds nothing. Fewer than 256 frames are
 /// lost in a row for this; before the first that arrives any number may be. No simulation is run, and
 /// no memory is taken.
