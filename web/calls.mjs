@@ -336,3 +336,20 @@ export const numbers = {
     "SEDGE_SENT": 3,
     "SEDGE_RECEIVED": 4,
 };
+export const defaults = {
+    "scid": 1,
+    "vcid": 2,
+    "tm_vcid": 0,
+    "width": 254,
+    "window": 127,
+    "limit": 3,
+    "timer": 10,
+    "part": 1016,
+    "max_packet": 65542,
+    "maps": 18446744073709551615n,
+    "ready_slots": 64,
+    "bypass_slots": 4,
+    "queue_slots": 1000,
+    "frame_length": 64,
+    "blocking": 0,
+};

@@ -1,11 +1,8 @@
 // The simulated link by the lines of scripts (docs/PROFILE.md, "Scripts of the simulated link"): lines are read here and
 // answered in the words of `tctool sim`. What happens is the library's.
-import { numbers as n } from './sedgechisel.mjs';
+import { defaults as DEFAULTS, numbers as n } from './calls.mjs';
 
-export const DEFAULTS = {
-    scid: 1, vcid: 2, tm_vcid: 0, width: 254, window: 127, limit: 3, timer: 10, part: 1016, max_packet: 65542,
-    maps: 0xffffffffffffffffn, ready_slots: 64, bypass_slots: 4, queue_slots: 1000, frame_length: 64, blocking: 0,
-};
+export { DEFAULTS };
 const NONE = new Uint8Array(0);
 
 export function digitsOf(octets) {

@@ -304,18 +304,21 @@ struct sedge_fop {
  * SEDGE_COP_WINDOW (not 1 to half the width), SEDGE_COP_LIMIT (0) and SEDGE_COP_TIMER (0). */
 SEDGE_CHECK uint8_t sedge_fop_open(struct sedge_fop *fop, uint8_t width, uint8_t window, uint8_t limit, uint16_t timer);
 
-/* The directives (5.2.4). The four initiations and Set V(S) are allowed in S6 alone, Terminate in S1 to S5, and the
- * last three in all states. Terminate is the alert SEDGE_ALERT_TERMINATED: all units are discarded. */
+/* The directives (5.2.4): what each does, and when it is refused, with its sedge_cop_fault. The calls by name are made
+ * of these and their notes, in each language. */
 enum sedge_directive {
-    SEDGE_INIT_WITHOUT_CHECK = 1, /* initiate without a check of the report */
-    SEDGE_INIT_WITH_CHECK = 2,    /* initiate once a report has the value V(S) */
-    SEDGE_INIT_UNLOCK = 3,        /* initiate by the control command Unlock */
-    SEDGE_INIT_SET_VR = 4,        /* initiate by the control command Set V(R), with the number value */
-    SEDGE_TERMINATE = 5,          /* give up */
-    SEDGE_SET_VS = 6,             /* set V(S), and NN(R), to value */
-    SEDGE_SET_WINDOW = 7,         /* set the window K to value, 1 to half the receiver's window width */
-    SEDGE_SET_LIMIT = 8,          /* set the transmission limit to value, 1 to 255 */
-    SEDGE_SET_TIMER = 9           /* set the timer's value in ticks to value, at least 1 */
+    SEDGE_INIT_WITHOUT_CHECK = 1, /* initiate without CLCW check: S6 to S1; or 8 unless in S6 */
+    SEDGE_INIT_WITH_CHECK = 2,    /* initiate with CLCW check: S6 to S4, until a report agrees; or 8 unless in S6 */
+    SEDGE_INIT_UNLOCK = 3,        /* initiate with Unlock: S6 to S5, and Unlock is sent; or 8 unless in S6 */
+    SEDGE_INIT_SET_VR = 4,        /* initiate with Set V(R): S6 to S5, V(S) and NN(R) to value, and Set V(R) is sent;
+                                   * or 8 unless in S6 */
+    SEDGE_TERMINATE = 5,          /* terminate: to S6 with the alert Terminated, which lets go of all units; or 8 in
+                                   * S6 */
+    SEDGE_SET_VS = 6,             /* set V(S), and NN(R) too, to value; or 8 unless in S6 */
+    SEDGE_SET_WINDOW = 7,         /* set the window K to value; or 2 unless it is 1 to half the receiver's window
+                                   * width */
+    SEDGE_SET_LIMIT = 8,          /* set the transmission limit to value; or 3 if it is 0 */
+    SEDGE_SET_TIMER = 9           /* set the timer to value, in ticks; or 4 if it is 0 */
 };
 
 /* Gives the sender a directive, of sedge_directive, with its value; one that has none ignores it. Returns 0; or

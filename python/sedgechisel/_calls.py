@@ -296,19 +296,63 @@ class Next(_Numbers):
     NOTHING, UNLOCK, SET_VR, FIRST, AGAIN = range(5)
 
 
-_DIRECTIVES = {name: number for number, name in enumerate((
-    "init_without_check", "init_with_check", "init_unlock", "init_set_vr", "terminate", "set_vs", "set_window",
-    "set_limit", "set_timer"), 1)}
+class Directives:
+    """The directives to a sender FOP-1 (232.1-B-2, 5.2.4); tools/bindings makes the methods of the headers."""
+
+    def _direct(self, name: str, own: str = "", value: int = 0, kind: Any = c_uint8) -> None:
+        raise NotImplementedError
+
+    def init_without_check(self) -> None:
+        """Directive: initiate without CLCW check: S6 to S1; CopFault 8 WrongState unless in S6."""
+        self._direct("init_without_check")
+
+    def init_with_check(self) -> None:
+        """Directive: initiate with CLCW check: S6 to S4, until a report agrees; CopFault 8 WrongState unless in S6."""
+        self._direct("init_with_check")
+
+    def init_unlock(self) -> None:
+        """Directive: initiate with Unlock: S6 to S5, and Unlock is sent; CopFault 8 WrongState unless in S6."""
+        self._direct("init_unlock")
+
+    def init_set_vr(self, vr: int) -> None:
+        """Directive: initiate with Set V(R): S6 to S5, V(S) and NN(R) to `vr`, and Set V(R) is sent; CopFault 8
+        WrongState unless in S6."""
+        self._direct("init_set_vr", "vr", vr)
+
+    def terminate(self) -> None:
+        """Directive: terminate: to S6 with the alert Terminated, which lets go of all units; CopFault 8 WrongState in
+        S6."""
+        self._direct("terminate")
+
+    def set_vs(self, vs: int) -> None:
+        """Directive: set V(S), and NN(R) too, to `vs`; CopFault 8 WrongState unless in S6."""
+        self._direct("set_vs", "vs", vs)
+
+    def set_window(self, window: int) -> None:
+        """Directive: set the window K to `window`; CopFault 2 Window unless it is 1 to half the receiver's window
+        width."""
+        self._direct("set_window", "window", window)
+
+    def set_limit(self, limit: int) -> None:
+        """Directive: set the transmission limit to `limit`; CopFault 3 Limit if it is 0."""
+        self._direct("set_limit", "limit", limit)
+
+    def set_timer(self, timer: int) -> None:
+        """Directive: set the timer to `timer`, in ticks; CopFault 4 Timer if it is 0."""
+        self._direct("set_timer", "timer", timer, c_uint16)
 
 
-def _directive(name: str, own: str, value: int) -> Tuple[int, int]:
-    """The number of a directive (232.1-B-2, 5.2.4), and its value, of this name; 0 where it has none."""
-    _within(own, c_uint16 if name == "set_timer" else c_uint8, value)
+_DIRECTIVES = {name: number for number, name in enumerate((it for it in vars(Directives) if it[0] != "_"), 1)}
+
+
+def _directive(name: str, own: str, value: int, kind: Any) -> Tuple[int, int]:
+    """The number of a directive, and its value, of this name and type; 0 where it has none."""
+    _within(own, kind, value)
     return _DIRECTIVES[name], value
 
 
 @_typed(state=dict(enumerate(State, 1)), control=dict(enumerate(Control)))
-class Fop(_Struct):
+class Fop(_Struct, Directives):
     """A sender FOP-1 of one virtual channel (232.1-B-2, section 5). It keeps numbers, and its caller the units. Its
     `state` is a State, and its `control` a Control. With fields that no sender has, each call is a CopFault, 255
     Damaged, and changes nothing."""
@@ -337,44 +381,8 @@ class Fop(_Struct):
         super().__init__()
         CopFault._look_at(_fop_open(self, width, window, limit, timer))
 
-    def _direct(self, name: str, own: str = "", value: int = 0) -> None:
-        CopFault._look_at(_fop_directive(self, *_directive(name, own, value)))
-
-    def init_without_check(self) -> None:
-        """Directive: S6 to S1. The four initiations and set_vs are CopFault 8 in any other state than S6."""
-        self._direct("init_without_check")
-
-    def init_with_check(self) -> None:
-        """Directive: S6 to S4, until a report agrees."""
-        self._direct("init_with_check")
-
-    def init_unlock(self) -> None:
-        """Directive: S6 to S5, with Unlock."""
-        self._direct("init_unlock")
-
-    def init_set_vr(self, vr: int) -> None:
-        """Directive: S6 to S5, with Set V(R)."""
-        self._direct("init_set_vr", "vr", vr)
-
-    def terminate(self) -> None:
-        """Directive: to S6, and all units are let go of; CopFault 8 in S6."""
-        self._direct("terminate")
-
-    def set_vs(self, vs: int) -> None:
-        """Directive: V(S), and NN(R) to it."""
-        self._direct("set_vs", "vs", vs)
-
-    def set_window(self, window: int) -> None:
-        """Directive: the window K; or CopFault 2."""
-        self._direct("set_window", "window", window)
-
-    def set_limit(self, limit: int) -> None:
-        """Directive: the transmission limit; or CopFault 3."""
-        self._direct("set_limit", "limit", limit)
-
-    def set_timer(self, timer: int) -> None:
-        """Directive: the timer's value in ticks; or CopFault 4."""
-        self._direct("set_timer", "timer", timer)
+    def _direct(self, name: str, own: str = "", value: int = 0, kind: Any = c_uint8) -> None:
+        CopFault._look_at(_fop_directive(self, *_directive(name, own, value, kind)))
 
     def submit(self) -> None:
         """A unit has come, and waits; or CopFault 6 (not open) or 7 (one waits already)."""

@@ -3,12 +3,12 @@ from __future__ import annotations
 
 import ctypes
 from ctypes import POINTER, c_bool, c_char_p, c_size_t, c_uint8, c_uint16, c_uint64
-from typing import List, Optional, Tuple
+from typing import Any, List, Optional, Tuple
 
-from ._calls import Alert, Clcw, Mode, State, _directive
+from ._calls import Alert, Clcw, Directives, Mode, State, _directive
 from ._faults import CopFault, LinkFault, SimFault, TelemetryFault
 from ._library import Numbers, octets_of, within
-from ._nodes import (Config, Heard, Received, Sender, _call, _GroundReading, _Heard, _Raw, _Received,
+from ._nodes import (Config, Handle, Heard, Received, _call, _GroundReading, _Heard, _Raw, _Received,
                      _SpacecraftReading)
 
 _REFUSED = 3
@@ -56,7 +56,7 @@ _sim_open = _call("sim_open", c_uint8, POINTER(Config), POINTER(_Raw))
 _sim_close = _call("sim_close", None, POINTER(_Raw))
 
 
-class Link(Sender):
+class Link(Directives, Handle):
     """A simulated link: a ground, a spacecraft of the same parameters, and the frames on their way between them, first
     in, first out. It keeps the records of its session, which begins with each initiation that the ground accepts.
 
@@ -78,8 +78,8 @@ class Link(Sender):
         """The frame or the packet of the event, if there is one."""
         return self._given(_sim_octets, reply.count) if reply.count else None
 
-    def _direct(self, name: str, own: str = "", value: int = 0) -> None:
-        self._event("directive", directive=_directive(name, own, value))
+    def _direct(self, name: str, own: str = "", value: int = 0, kind: Any = c_uint8) -> None:
+        self._event("directive", directive=_directive(name, own, value, kind))
 
     def submit(self, map: int, packets: bytes) -> None:
         """Packets are to be sent on a MAP under sequence control, as by `Ground.submit`."""

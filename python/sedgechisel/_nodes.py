@@ -9,7 +9,7 @@ from threading import RLock
 from types import TracebackType
 from typing import Any, Callable, Dict, Iterator, Optional, Tuple, Type, TypeVar
 
-from ._calls import Alert, Clcw, Command, Mode, State, Verdict, _directive, _dropped_word, _Struct
+from ._calls import Alert, Clcw, Command, Directives, Mode, State, Verdict, _directive, _dropped_word, _Struct
 from ._faults import ClcwFault, ConfigFault, CopFault, Fault, LinkFault, TcFault, TelemetryFault, TmFault
 from ._library import (
     LONGEST, NODES, Numbers, Single, call_of, frame_length_of as _frame_length_of, octets_of as _octets_of, renamed,
@@ -27,14 +27,21 @@ class Config(_Struct):
     """The managed parameters of a node, with the defaults and the ranges of docs/PROFILE.md. Both ends of a link have
     the same ones. `Config(window=4, timer=3)` sets two of them:
 
-    - `scid` 0 to 1,023, `vcid` 0 to 63 (of telecommand frames), `tm_vcid` 0 to 7 (of telemetry frames)
-    - `width` of the receiver's window, even, 2 to 254; `window` of the sender, 1 to width / 2
-    - `limit` of transmissions, 1 to 255; `timer` in ticks, 1 to 65,535
-    - `part`, the most octets of data in a segment, 1 to 1,016; `max_packet`, the most octets of a packet, 7 to 65,542
-    - `maps`: bit m is set where MAP m is open
-    - `ready_slots` and `bypass_slots`, packets that may wait on board, 1 to 64; `queue_slots`, units that may wait on
-      the ground, 1 to 65,535
-    - `frame_length` of telemetry, in octets, 16 to 2,048; `blocking`, whether a segment may hold several packets"""
+    - `scid`: the spacecraft identifier, 0 to 1,023; default 1
+    - `vcid`: the virtual channel of telecommand frames, 0 to 63; default 2
+    - `tm_vcid`: the virtual channel of telemetry frames, 0 to 7; default 0
+    - `width`: the width of the receiver's window, even, 2 to 254; default 254
+    - `window`: the sender's window K, 1 to width/2; default 127
+    - `limit`: the transmission limit, 1 to 255; default 3
+    - `timer`: the timer's value in ticks, 1 to 65,535; default 10
+    - `part`: the most octets of data in a segment, 1 to 1,016; default 1,016
+    - `max_packet`: the most octets of a packet, 7 to 65,542; default 65,542
+    - `maps`: bit m, which counts 2 to the power of m, says that MAP m is open, any 64 bits; default all ones
+    - `ready_slots`: the number of packets waiting to be taken at which the buffer on board is full, 1 to 64; default 64
+    - `bypass_slots`: the most packets of bypass frames that wait to be taken, 1 to 64; default 4
+    - `queue_slots`: the most units that wait to be sent for the first time, 1 to 65,535; default 1,000
+    - `frame_length`: the octets of a telemetry frame, 16 to 2,048; default 64
+    - `blocking`: 1 where a segment may hold several packets, 0 to 1; default 0"""
 
     _fields_ = [("scid", c_uint32), ("vcid", c_uint32), ("tm_vcid", c_uint32), ("width", c_uint32),
                 ("window", c_uint32), ("limit", c_uint32), ("timer", c_uint32), ("part", c_uint32),
@@ -57,8 +64,8 @@ class Config(_Struct):
     blocking: int
 
     def __init__(
-            self, *, scid: int = 1, vcid: int = 2, tm_vcid: int = 0, width: int = 254, window: int = 127,
-            limit: int = 3, timer: int = 10, part: int = 1016, max_packet: int = 65542, maps: int = 2**64 - 1,
+            self, *, scid: int = 1, vcid: int = 2, tm_vcid: int = 0, width: int = 254, window: int = 127, limit: int = 3,
+            timer: int = 10, part: int = 1016, max_packet: int = 65542, maps: int = 2**64 - 1,
             ready_slots: int = 64, bypass_slots: int = 4, queue_slots: int = 1000, frame_length: int = 64,
             blocking: int = 0) -> None:
         super().__init__(scid, vcid, tm_vcid, width, window, limit, timer, part, max_packet, maps, ready_slots,
@@ -268,60 +275,17 @@ class _GroundReading(ctypes.Structure):
                 ("count", c_uint8)]
 
 
-class Sender(Handle):
-    """What has the directives to the sender FOP-1 (232.1-B-2, 5.2.4)."""
-
-    def _direct(self, name: str, own: str = "", value: int = 0) -> None:
-        raise NotImplementedError
-
-    def init_without_check(self) -> None:
-        """Directive: S6 to S1. The four initiations and set_vs are CopFault 8 in any other state than S6."""
-        self._direct("init_without_check")
-
-    def init_with_check(self) -> None:
-        """Directive: S6 to S4, until a report agrees."""
-        self._direct("init_with_check")
-
-    def init_unlock(self) -> None:
-        """Directive: S6 to S5, and Unlock is sent."""
-        self._direct("init_unlock")
-
-    def init_set_vr(self, vr: int) -> None:
-        """Directive: S6 to S5, V(S) to this number, and Set V(R) is sent."""
-        self._direct("init_set_vr", "vr", vr)
-
-    def terminate(self) -> None:
-        """Directive: to S6, and all units are let go of, as by the alert TERMINATED; CopFault 8 in S6."""
-        self._direct("terminate")
-
-    def set_vs(self, vs: int) -> None:
-        """Directive: V(S), and NN(R) to it."""
-        self._direct("set_vs", "vs", vs)
-
-    def set_window(self, window: int) -> None:
-        """Directive: the window K; or CopFault 2 where it is not 1 to half the width."""
-        self._direct("set_window", "window", window)
-
-    def set_limit(self, limit: int) -> None:
-        """Directive: the transmission limit; or CopFault 3 where it is 0."""
-        self._direct("set_limit", "limit", limit)
-
-    def set_timer(self, ticks: int) -> None:
-        """Directive: the timer's value in ticks; or CopFault 4 where it is 0."""
-        self._direct("set_timer", "ticks", ticks)
-
-
 _ground_open = _call("ground_open", c_uint8, POINTER(Config), POINTER(_Raw))
 _ground_close = _call("ground_close", None, POINTER(_Raw))
 
 
-class Ground(Sender):
+class Ground(Directives, Handle):
     """The ground: it sends packets until they are accepted, and takes telemetry."""
 
     _opens, _closes = _ground_open, _ground_close
 
-    def _direct(self, name: str, own: str = "", value: int = 0) -> None:
-        self._asked(_ground_directive(self._handle, *_directive(name, own, value)), CopFault)
+    def _direct(self, name: str, own: str = "", value: int = 0, kind: Any = c_uint8) -> None:
+        self._asked(_ground_directive(self._handle, *_directive(name, own, value, kind)), CopFault)
 
     def submit(self, map: int, packets: bytes) -> int:
         """Packets are to be sent on a MAP under sequence control: one, or with blocking several, one after another.

@@ -118,7 +118,7 @@ def is_name_of(member, case):
 # The calls of each class have this prefix, and those of no class none.
 PREFIXES = {"Clcw": "clcw", "Farm": "farm", "Fop": "fop", "TcFrame": "tc", "Packet": "packet", "TmFrame": "tm",
             "TmBuilder": "tm_builder", "TmExtractor": "tm_extractor", "Map": "map", "Config": "config",
-            "Ground": "ground", "Spacecraft": "spacecraft", "Link": "sim", "Sender": "sender", "GapCheck": "gap_check"}
+            "Ground": "ground", "Spacecraft": "spacecraft", "Link": "sim", "Directives": "directive", "GapCheck": "gap_check"}
 # Methods that make other calls than the one of their own name, and what these are.
 OTHERS = {
     "GapCheck.__init__": "gap_check_open", "Spacecraft._open": "spacecraft_open_kept config_fault",
@@ -162,7 +162,7 @@ BY = {
 NONE = {"TmFrame.__init__", "TmFrame.ocf", "TmBuilder.waiting", "TmExtractor.__init__", "TmExtractor.dropped",
         "TmExtractor._begun", "TmExtractor.take", "TcFrame.decode_all", "Ground.telemetry_all", "Map.__init__",
         "Clcw.__init__", "TcFrame.__init__", "Packet.__init__", "Config.__init__", "Spacecraft.__init__",
-        "Spacecraft._taken", "Link._taken", "Sender._direct"}
+        "Spacecraft._taken", "Link._taken", "Directives._direct"}
 # Methods that read a struct, of which another one gives a field.
 READS = ("_read", "_read_ground", "_read_spacecraft")
 # What a method keeps for itself, wherever it does.

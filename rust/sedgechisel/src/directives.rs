@@ -3,11 +3,11 @@
 /// The method of each directive, where `direct` gives the sender one by its number and its value.
 macro_rules! directives {
     () => {
-        /// The directive to initiate without CLCW check (CCSDS 232.1-B-2, 5.2.4): S6 to S1.
+        /// The directive to initiate without CLCW check: S6 to S1.
         ///
         /// # Errors
         ///
-        /// Refused with 8 [`WrongState`](CopFault::WrongState) unless the sender is in S6.
+        /// Refused with 8 [`WrongState`](CopFault::WrongState) unless in S6.
         pub fn init_without_check(&mut self) -> Result<(), CopFault> {
             self.direct($crate::ffi::SEDGE_INIT_WITHOUT_CHECK, 0)
         }
@@ -16,7 +16,7 @@ macro_rules! directives {
         ///
         /// # Errors
         ///
-        /// Refused with 8 [`WrongState`](CopFault::WrongState) unless the sender is in S6.
+        /// Refused with 8 [`WrongState`](CopFault::WrongState) unless in S6.
         pub fn init_with_check(&mut self) -> Result<(), CopFault> {
             self.direct($crate::ffi::SEDGE_INIT_WITH_CHECK, 0)
         }
@@ -25,22 +25,21 @@ macro_rules! directives {
         ///
         /// # Errors
         ///
-        /// Refused with 8 [`WrongState`](CopFault::WrongState) unless the sender is in S6.
+        /// Refused with 8 [`WrongState`](CopFault::WrongState) unless in S6.
         pub fn init_unlock(&mut self) -> Result<(), CopFault> {
             self.direct($crate::ffi::SEDGE_INIT_UNLOCK, 0)
         }
 
-        /// The directive to initiate with Set V(R): S6 to S5, V(S) and NN(R) to this number, and Set V(R) is sent.
+        /// The directive to initiate with Set V(R): S6 to S5, V(S) and NN(R) to `vr`, and Set V(R) is sent.
         ///
         /// # Errors
         ///
-        /// Refused with 8 [`WrongState`](CopFault::WrongState) unless the sender is in S6.
+        /// Refused with 8 [`WrongState`](CopFault::WrongState) unless in S6.
         pub fn init_set_vr(&mut self, vr: u8) -> Result<(), CopFault> {
             self.direct($crate::ffi::SEDGE_INIT_SET_VR, vr.into())
         }
 
-        /// The directive Terminate: from S1 to S5 to S6. It is the alert [`Terminated`](Alert::Terminated): all units
-        /// are discarded.
+        /// The directive to terminate: to S6 with the alert Terminated, which lets go of all units.
         ///
         /// # Errors
         ///
@@ -49,25 +48,25 @@ macro_rules! directives {
             self.direct($crate::ffi::SEDGE_TERMINATE, 0)
         }
 
-        /// The directive Set V(S), which sets NN(R) too.
+        /// The directive to set V(S), and NN(R) too, to `vs`.
         ///
         /// # Errors
         ///
-        /// Refused with 8 [`WrongState`](CopFault::WrongState) unless the sender is in S6.
+        /// Refused with 8 [`WrongState`](CopFault::WrongState) unless in S6.
         pub fn set_vs(&mut self, vs: u8) -> Result<(), CopFault> {
             self.direct($crate::ffi::SEDGE_SET_VS, vs.into())
         }
 
-        /// Sets the window K, in any state.
+        /// The directive to set the window K to `window`.
         ///
         /// # Errors
         ///
-        /// Refused with 2 [`Window`](CopFault::Window) unless it is 1 to half the width.
+        /// Refused with 2 [`Window`](CopFault::Window) unless it is 1 to half the receiver's window width.
         pub fn set_window(&mut self, window: u8) -> Result<(), CopFault> {
             self.direct($crate::ffi::SEDGE_SET_WINDOW, window.into())
         }
 
-        /// Sets the transmission limit, in any state.
+        /// The directive to set the transmission limit to `limit`.
         ///
         /// # Errors
         ///
@@ -76,13 +75,13 @@ macro_rules! directives {
             self.direct($crate::ffi::SEDGE_SET_LIMIT, limit.into())
         }
 
-        /// Sets the timer's value in ticks, in any state.
+        /// The directive to set the timer to `timer`, in ticks.
         ///
         /// # Errors
         ///
         /// Refused with 4 [`Timer`](CopFault::Timer) if it is 0.
-        pub fn set_timer(&mut self, ticks: u16) -> Result<(), CopFault> {
-            self.direct($crate::ffi::SEDGE_SET_TIMER, ticks)
+        pub fn set_timer(&mut self, timer: u16) -> Result<(), CopFault> {
+            self.direct($crate::ffi::SEDGE_SET_TIMER, timer)
         }
     };
 }

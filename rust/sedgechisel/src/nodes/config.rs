@@ -78,35 +78,35 @@ impl Parameter {
 /// ```
 #[derive(Clone, Copy, Debug, PartialEq, Eq, Hash)]
 pub struct Config {
-    /// The spacecraft identifier, 0 to 1,023; by default 1.
+    /// The spacecraft identifier, 0 to 1,023; default 1.
     pub scid: u16,
-    /// The virtual channel of telecommand frames, 0 to 63; 2.
+    /// The virtual channel of telecommand frames, 0 to 63; default 2.
     pub vcid: u8,
-    /// The virtual channel of telemetry frames, 0 to 7; 0.
+    /// The virtual channel of telemetry frames, 0 to 7; default 0.
     pub tm_vcid: u8,
-    /// The width of the receiver's window, even, 2 to 254; 254.
+    /// The width of the receiver's window, even, 2 to 254; default 254.
     pub width: u8,
-    /// The sender's window K, 1 to half the width; 127.
+    /// The sender's window K, 1 to width/2; default 127.
     pub window: u8,
-    /// The transmission limit, 1 to 255; 3.
+    /// The transmission limit, 1 to 255; default 3.
     pub limit: u8,
-    /// The timer's value in ticks, 1 to 65,535; 10.
+    /// The timer's value in ticks, 1 to 65,535; default 10.
     pub timer: u16,
-    /// The most octets of data in a segment, 1 to 1,016; 1,016.
+    /// The most octets of data in a segment, 1 to 1,016; default 1,016.
     pub part: u16,
-    /// The most octets of a packet, 7 to 65,542; 65,542.
+    /// The most octets of a packet, 7 to 65,542; default 65,542.
     pub max_packet: u32,
-    /// Bit m is set where MAP m is open; all are.
+    /// Bit m, which counts 2 to the power of m, says that MAP m is open, any 64 bits; default all ones.
     pub maps: u64,
-    /// The packets that may wait on board, 1 to 64; 64.
+    /// The number of packets waiting to be taken at which the buffer on board is full, 1 to 64; default 64.
     pub ready_slots: u8,
-    /// The packets past the sequence control that are kept on board, 1 to 64; 4.
+    /// The most packets of bypass frames that wait to be taken, 1 to 64; default 4.
     pub bypass_slots: u8,
-    /// The segments that may wait on the ground to be sent for the first time, 1 to 65,535; 1,000.
+    /// The most units that wait to be sent for the first time, 1 to 65,535; default 1,000.
     pub queue_slots: u16,
-    /// The octets of a telemetry frame, 16 to 2,048; 64.
+    /// The octets of a telemetry frame, 16 to 2,048; default 64.
     pub frame_length: u16,
-    /// Whether a segment may hold several packets; not.
+    /// Whether a segment may hold several packets; by default not.
     pub blocking: bool,
 }
 

@@ -1,0 +1,203 @@
+"""What the bindings have by the names of directives, events and managed parameters, for tools/bindings: for C the calls
+that are one export with values of its own, as `static inline` in the header in place of those that stand there; for
+Python and Rust the methods of the directives, with what the header says of each, and the configuration of a node."""
+import re
+import textwrap
+import typing
+
+from exports import camel, snake, structs
+from items import text_of
+from made import parameter_rows
+from meanings import enumerations, meanings
+
+INLINE = re.compile(r"^static inline [\w ]+ \*?sedge_(\w+)\(", re.M)
+
+
+class Row(typing.NamedTuple):
+    """A call: its name, the one that serves, the parameters that get values, and these values."""
+
+    name: str
+    serving: str
+    given: list
+    values: list
+
+
+def variants(file, name):
+    """The variants of an enumeration of the sources, each as C has it, and what it holds."""
+    body = re.search(rf"^pub enum {name}(?:<'a>)? \{{\n(.*?)^\}}", text_of(file), re.M | re.S)[1]
+    return [(snake(own), holds) for own, holds in re.findall(r"^    (\w+)(?:\((.*)\))?,$", body, re.M)]
+
+
+def rows():
+    """Each directive is one call with its number and its value; of the events each is one with its kind, but for that
+    of a directive: those with octets, then those that have nothing."""
+    found = []
+    for own, holds in variants("crates/cop1/src/vocabulary.rt", "Directive"):
+        value = f"uint{holds[1:]}_t {own.split('_')[-1]}" if holds else "0"
+        found += [Row(f"{it}_{own}", f"{it}_directive", ["directive", "value"], [f"SEDGE_{own.upper()}", value])
+                  for it in ("fop", "ground", "sim")]
+    events = variants("crates/nodes/src/event.rt", "Event")
+    for own, holds in [it for it in events if "[u8]" in it[1]] + [it for it in events if not it[1]]:
+        values = [f"SEDGE_EVENT_{own.upper()}", "uint8_t map" if holds.startswith("u8, ") else "0"]
+        found.append(Row(f"sim_{own}", "sim_octets_event" if holds else "sim_event", ["kind", "map"], values))
+    return found
+
+
+def signature(text, name):
+    """What a call of a header answers, and its parameters; or nothing, where it has none of this name."""
+    found = re.search(rf"^(?:static inline )?([\w ]+?) sedge_{name}\(([^)]*)\)", text, re.M)
+    return found and (found[1], [" ".join(it.split()) for it in found[2].split(",")])
+
+
+def inline(row, answer, parameters, columns):
+    """The function of a row."""
+    taken, handed = [], []
+    for it in parameters:
+        own = re.search(r"\w+$", it)[0]
+        value = row.values[row.given.index(own)] if own in row.given else it
+        handed.append(re.search(r"\w+$", value)[0])
+        taken += [value] if " " in value else []
+    head = f"static inline {answer} sedge_{row.name}("
+    lines = textwrap.wrap(", ".join(it.replace(" ", "\0") for it in taken), columns - len(head) - 3)
+    shown = f"{head}{(chr(10) + ' ' * len(head)).join(lines)}) {{".replace("\0", " ")
+    return f"{shown}\n    return sedge_{row.serving}({', '.join(handed)});\n}}"
+
+
+def with_inlines(text, columns):
+    """A header with these calls anew: in each part that has some of them, after what stands before the first one."""
+    parts = text.split("\n\n")
+    known = rows()
+    for at, part in enumerate(parts):
+        there = set(INLINE.findall(part))
+        serving = {it.serving for it in known if it.name in there and signature(text, it.serving)}
+        made = [inline(it, *signature(text, it.serving), columns) for it in known if it.serving in serving]
+        if made:
+            first = min(it.start() for it in INLINE.finditer(part) if it[1] in {one.name for one in known})
+            parts[at] = part[:first] + "\n".join(made)
+    return "\n\n".join(parts)
+
+
+# ---- The methods of the directives. ----
+
+WIDE = 120
+
+
+class Directive(typing.NamedTuple):
+    """A directive: its name, the bits and the name of its value or none, what it does, and when it is refused."""
+
+    name: str
+    bits: str
+    value: str
+    does: str
+    refused: str
+    fault: str
+
+
+def directives(headers):
+    """The directives of the sources, with the notes of the header: what each does, then `; or N ..`."""
+    faults = {int(number): camel(name.removeprefix("SEDGE_COP_").lower())
+              for name, number in enumerations(headers)["cop_fault"].items()}
+    notes = meanings(headers)["directive"].values()
+    for (name, holds), note in zip(variants("crates/cop1/src/vocabulary.rt", "Directive"), notes, strict=True):
+        value = name.split("_")[-1] if holds else ""
+        does, number, when = re.fullmatch(r"(.*); or (\d) (.*)", note).groups()
+        yield Directive(name, holds[1:], value, re.sub(r"\bvalue\b", f"`{value}`", does), f"{number} NAME {when}",
+                        faults[int(number)])
+
+
+def comment_lines(text, indent, mark=""):
+    lines = textwrap.wrap(text, WIDE - len(indent) - len(mark), break_on_hyphens=False)
+    return "".join(f"{indent}{mark}{it}\n" for it in lines)
+
+
+def rust_directives(text, headers):
+    """The macro of the crate with its methods anew."""
+    made, mark, indent = [], "/// ", " " * 8
+    for it in directives(headers):
+        fault = f"[`{it.fault}`](CopFault::{it.fault})"
+        taken = f", {it.value}: u{it.bits}" if it.value else ""
+        given = {"8": f"{it.value}.into()", "16": it.value}.get(it.bits, "0")
+        made.append(
+            comment_lines(f"The directive to {it.does}.", indent, mark)
+            + "".join(f"{indent}{line}\n" for line in ("///", "/// # Errors", "///"))
+            + comment_lines(f"Refused with {it.refused.replace('NAME', fault)}.", indent, mark)
+            + f"{indent}pub fn {it.name}(&mut self{taken}) -> Result<(), CopFault> {{\n"
+            + f"{indent}    self.direct($crate::ffi::SEDGE_{it.name.upper()}, {given})\n{indent}}}\n")
+    listed = r"(?<=^    \(\) => \{\n)        /// The directive to .*?(?=^    \};$)"
+    return re.sub(listed, lambda _: "\n".join(made), text, flags=re.M | re.S)
+
+
+def python_directives(text, headers):
+    """The class of the package with its methods anew."""
+    made = []
+    for it in directives(headers):
+        said = f'"""Directive: {it.does}; CopFault {it.refused.replace("NAME", it.fault)}."""'
+        taken = f", {it.value}: int" if it.value else ""
+        given = [f'"{it.name}"', *([f'"{it.value}"', it.value] if it.value else []), *["c_uint16"] * (it.bits == "16")]
+        made.append(f"    def {it.name}(self{taken}) -> None:\n" + comment_lines(said, " " * 8)
+                    + f"        self._direct({', '.join(given)})\n")
+    listed = r"(?<=\n\n)    def init_\w+\(self.*?(?=^\S)"
+    return re.sub(listed, lambda _: "\n".join(made) + "\n\n", text, count=1, flags=re.M | re.S)
+
+
+# ---- The managed parameters. ----
+
+
+def noted_parameters():
+    """The managed parameters of the table, each with its note of the sources, which is a sentence."""
+    notes = {it.name: it.note for one in structs() if one.own == "config" for it in one.fields()}
+    return [(*row, notes[row[0]]) for row in parameter_rows()]
+
+
+def with_list(text, before, made, after):
+    """A text with this in place of what stands between two others."""
+    return re.sub(rf"({before}).*?(?={after})", lambda it: it[1] + made, text, count=1, flags=re.S)
+
+
+def rust_config(text):
+    """The module of the crate with its configuration anew."""
+    rows = noted_parameters()
+    bits = {name: "bool" if most == 1 else f"u{next(it for it in (8, 16, 32, 64) if most < 1 << it)}"
+            for name, _, most, *_ in rows}
+    values = {name: {"bool": str(bool(default)).lower(), "u64": "u64::MAX"}.get(bits[name], str(default))
+              for name, _, _, default, _ in rows}
+    wide = {name: name if bits[name] in ("u32", "u64") else f"{name}.into()" for name, *_ in rows}
+    whether = r"^1 where (.*), 0 to 1; default 0", r"Whether \1; by default not"
+    notes = {name: re.sub(*whether, note) for name, *_, note in rows}
+    fields = "".join(f"{comment_lines(notes[it], '    ', '/// ')}    pub {it}: {bits[it]},\n" for it in notes)
+    numbers = "".join(f"        /// `{it}`.\n        {camel(it)} = {at},\n" for at, it in enumerate(bits, 1))
+    names = "".join(f'            "{it}",\n' for it in bits)
+    defaults = "".join(f"            {it}: {values[it]},\n" for it in values)
+    handed = "".join(f"            {it}: self.{wide[it]},\n" for it in wide)
+    made = (
+        (r"    Parameter \{\n", numbers, r"    \}\n\}"),
+        (r"const NAMES: ", f"[&str; {len(rows)}] = [\n{names}", r"        \];"),
+        (r"pub struct Config \{\n", fields, r"\}\n\nimpl"),
+        (r"fn default\(\) -> Self \{\n        Self \{\n", defaults, r"        \}\n    \}"),
+        (r"        raw::Config \{\n", handed, r"        \}\n    \}"),
+    )
+    for before, lines, after in made:
+        text = with_list(text, before, lines, after)
+    return text
+
+
+def python_config(text):
+    """The module of the package with its configuration anew."""
+    rows = noted_parameters()
+    names = [name for name, *_ in rows]
+    notes = "".join(textwrap.fill(f"- `{name}`: {note[:1].lower()}{note[1:-1]}", WIDE, initial_indent="    ",
+                                  subsequent_indent="      ", break_on_hyphens=False) + "\n" for name, *_, note in rows)
+    given = ", ".join(f"{name}: int = {'2**64 - 1' if default >> 63 else default}".replace(" ", "\0")
+                      for name, _, _, default, _ in rows)
+    taken = "".join(f"            {it}\n" for it in textwrap.wrap(given, WIDE - 20)).replace("\0", " ").rstrip()
+    handed = "\n                         ".join(textwrap.wrap(", ".join(names), WIDE - 26))
+    made = (
+        (r"`Config\(window=4, timer=3\)` sets two of them:\n\n", notes.rstrip(), '"""'),
+        (r'\("blocking", c_uint32\)\]\n', "".join(f"    {it}: int\n" for it in names) + "\n", "    def __init__"),
+        (r"            self, \*, ", taken.lstrip(), r"\) -> None:"),
+        (r"        super\(\).__init__\(", handed, r"\)\n"),
+    )
+    begun, mark, config = text.partition("class Config(_Struct):")
+    for before, lines, after in made:
+        config = with_list(config, before, lines, after)
+    return begun + mark + config
