@@ -8,7 +8,7 @@ use Rattle.std.proofs.Math.Bool.{or-false, or-true}
 use Rattle.std.proofs.lemmas.Bool.Decides.{nat_tests}
 use Rattle.std.proofs.lemmas.Bool.{and_parts, le-leb, lt-leb, le-ltb, leb-true, eqb-true, cases_lt}
 use Rattle.std.proofs.lemmas.Grind.{common_steps}
-use Rattle.std.proofs.lemmas.List.{drop_all, drop-drop, drop-append-le, map-append, drop-take}
+use Rattle.std.proofs.lemmas.List.{drop_all, drop-drop, drop-append-le, map-append, drop-take, nil_from_length}
 use Rattle.octets.proofs.Streams.{records_of-append, rest_of-append}
 use Rattle.space_packet.specs.Laws.{extent_has_header}
 use Rattle.space_packet.specs.Packets.{first_packet, packets_in, rest_in, is_packet}
@@ -40,8 +40,7 @@ numbers_hold b room h = grind (arith, common_steps, h)
 
 -- octets that end with a packet
 none_left : (xs : List ℕ) → (length xs == 0) ≡ true → xs ≡ []
-none_left [] h = refl
-none_left (x ∷ xs) h = absurd (omega (arith, eqb-true (length (x ∷ xs)) 0 h))
+none_left xs h = nil_from_length xs (eqb-true (length xs) 0 h)
 
 pub described_by : (b : KeptBuilder) (memory : List ℕ) → HasNumbers b (length memory)
     → rest_in (whole_of b memory) ≡ [] → builder_described b memory ≡ Ok (state_of b memory)
@@ -79,9 +78,10 @@ queued_whole whole packet none is =
       rw (rest_of-append 6 extent_at (omega arith) extent_has_header whole packet, none, one.0) refl,
     )
 
--- the state with other octets to be sent, of packets of these sizes
-abbrev with_octets : BuilderState → List ℕ → List ℕ → BuilderState
-with_octets s pending sizes = record s { pending = pending; sizes = sizes }
+long_pending : (b : KeptBuilder) (memory : List ℕ) → HasNumbers b (length memory)
+    → length (pending_of b memory) ≡ b.count
+long_pending b memory is =
+    omega (arith, is.within, length-take b.count (drop b.from memory), length-drop b.from memory)
 
 queue_at : (b : KeptBuilder) (from : ℕ) (packet memory after : List ℕ) → IsBuilder b memory
     → is_to_send packet ≡ true
@@ -92,8 +92,7 @@ queue_at : (b : KeptBuilder) (from : ℕ) (packet memory after : List ℕ) → I
 queue_at b from packet memory after is send pending within =
     let new : KeptBuilder = record b { from = from; count = b.count + length packet } in
     let s : BuilderState = state_of b memory in
-    let long : length (pending_of b memory) ≡ b.count =
-    omega (arith, is.numbers.within, length-take b.count (drop b.from memory), length-drop b.from memory) in
+    let long : length (pending_of b memory) ≡ b.count = long_pending b memory is.numbers in
     let whole : whole_of new after ≡ whole_of b memory ++ packet =
     ap (drop b.begun) pending
     ∙ drop-append-le b.begun (pending_of b memory) packet (omega (arith, long, is.numbers.begun)) in
@@ -123,10 +122,6 @@ queue_described b new packet memory after is send same pending within =
     (ap (λ (n : ℕ). take n (drop new.from after)) (sym count) ∙ pending) (omega (arith, count, within)))
 
 -- ---- octets that are sent
-
-abbrev with_all : BuilderState → ℕ → List ℕ → ℕ → List ℕ → BuilderState
-with_all s idle pending begun sizes =
-    record s { idle_left = idle; pending = pending; begun = begun; sizes = sizes }
 
 -- what is left of the packet that is begun then stands first in these octets, and packets of these sizes after it, and
 -- these octets after them
@@ -261,14 +256,11 @@ passed_octets count room from memory =
       | inl lt ↦
           let passed : min room count ≡ room = omega arith in
           let all : room + (count - room) ≡ count = omega arith in
-          ap (λ (n : ℕ). take (count - n) (drop (from + n) memory)) passed
-          ∙ ap (take (count - room)) (sym (drop-drop room from memory))
-          ∙ sym (drop-take room (count - room) (drop from memory))
-          ∙ ap (λ (n : ℕ). drop room (take n (drop from memory))) all
+          rw (passed, ← drop-drop room from memory, ← drop-take room (count - room) (drop from memory), all) refl
       | inr le ↦
           let none : count - min room count ≡ 0 = omega arith in
-          ap (λ (n : ℕ). take n (drop (from + min room count) memory)) none
-          ∙ sym (drop_all room (take count (drop from memory)) (omega (arith, length-take count (drop from memory))))
+          let past = drop_all room (take count (drop from memory)) (omega (arith, length-take count (drop from memory))) in
+          rw (none, past) refl
     ]
 
 -- a builder after a data field
@@ -282,23 +274,16 @@ pub sends : (b : KeptBuilder) (memory : List ℕ) → can_send b memory ≡ true
 sends b memory h =
     let both = and_parts (has_numbers b (length memory)) _ h in (numbers_are b (length memory) both.0, both.1)
 
-long_pending : (b : KeptBuilder) (memory : List ℕ) → HasNumbers b (length memory)
-    → length (pending_of b memory) ≡ b.count
-long_pending b memory is =
-    omega (arith, is.within, length-take b.count (drop b.from memory), length-drop b.from memory)
-
 sent_pending : (b : KeptBuilder) (memory : List ℕ) (room begun passed idle : ℕ) → passed ≡ min room b.count
     → pending_of (sent_by b room begun passed idle) memory ≡ drop room (pending_of b memory)
-sent_pending b memory room begun passed idle is =
-    ap (λ (n : ℕ). take (b.count - n) (drop (b.from + n) memory)) is ∙ passed_octets b.count room b.from memory
+sent_pending b memory room begun passed idle is = rw is (passed_octets b.count room b.from memory)
 
 sent_whole : (b : KeptBuilder) (memory : List ℕ) (room begun passed idle : ℕ) (sizes : List ℕ)
     → passed ≡ min room b.count → begun ≡ (left_after room b.begun sizes).0
     → whole_of (sent_by b room begun passed idle) memory
     ≡ drop (left_after room b.begun sizes).0 (drop room (pending_of b memory))
 sent_whole b memory room begun passed idle sizes passed-is begun-is =
-    ap (drop begun) (sent_pending b memory room begun passed idle passed-is)
-    ∙ ap (λ (n : ℕ). drop n (drop room (pending_of b memory))) begun-is
+    rw (sent_pending b memory room begun passed idle passed-is, begun-is) refl
 
 sent_left : (b : KeptBuilder) (memory : List ℕ) (room : ℕ) → HasNumbers b (length memory)
     → are_whole (whole_of b memory) b.begun room ≡ true
@@ -317,15 +302,12 @@ pub send_state : (b : KeptBuilder) (memory : List ℕ) (room begun passed idle s
     → idle ≡ idle_after size b.idle_left b.count
     → state_of (sent_by b room begun passed idle) memory ≡ after_send (state_of b memory) size
 send_state b memory room begun passed idle size numbers whole room-is passed-is begun-is idle-is =
-    let new : KeptBuilder = sent_by b room begun passed idle in
-    let s : BuilderState = state_of b memory in
     let sizes : List ℕ = map length (packets_in (whole_of b memory)) in
     let left = sent_left b memory room numbers whole in
-    ap (λ (xs : List ℕ). with_all s idle xs begun (map length (packets_in (whole_of new memory))))
-    (sent_pending b memory room begun passed idle passed-is)
-    ∙ rw (
+    rw (
       sent_whole b memory room begun passed idle sizes passed-is begun-is,
       left.sizes,
+      sent_pending b memory room begun passed idle passed-is,
       begun-is,
       idle-is ∙ ap (idle_after size b.idle_left) (sym (long_pending b memory numbers)),
       room-is,

@@ -2,7 +2,7 @@
 use Rattle.std.proofs.Common.{◌≡◌, ◌≤◌, ℕ, ◌+◌, ◌-◌, Bool, true, false, List, [], ◌∷◌, ◌++◌, length, take, drop, Some}
 use Rattle.std.proofs.Common.{None, Ok, Err, refl, sym, ap, ◌∙◌, arith, not, ◌<◌, suc, Result, length-take}
 use Rattle.std.proofs.Common.{length-drop, length-append}
-use Rattle.std.specs.Prelude.{nat_lt, if◌then◌else◌, ◌==◌, ◌||◌, OnOk, OnErr}
+use Rattle.std.specs.Prelude.{nat_lt, if◌then◌else◌, ◌==◌, ◌||◌}
 use Rattle.std.proofs.lemmas.Bool.{eqb-true, ne_eqb}
 use Rattle.std.proofs.lemmas.List.{append-nil, take_rest, append_assoc}
 use Rattle.std.specs.List.{concat}
@@ -225,14 +225,6 @@ pub came_is : (x : KeptExtractor) (f : ReportFrame) (payload memory : List ℕ)
 came_is x f payload memory =
     came_by (is_extractor x (length memory)) (state_of x memory) (frame_described f payload)
     (λ t. extracted_with t (frame_described f payload) (length memory))
-
-pub on_ok : (r : Result Extracted ℕ) (e : Extracted) (P : Type 0) → r ≡ Ok e → OnOk r P → P
-on_ok (Ok x) e P is p = p
-on_ok (Err n) e P is p = absurd cc
-
-pub on_err : (r : Result Extracted ℕ) (number : ℕ) (P : Type 0) → r ≡ Err number → OnErr r P → P
-on_err (Ok x) number P is p = absurd cc
-on_err (Err n) number P is p = p
 
 abbrev pub came_with : ℕ → ℕ → ℕ → ℕ → Came
 came_with first lost dropped count =
