@@ -46,8 +46,7 @@ idle_is : (octets : List ℕ) (from n : ℕ) (idle : Bool)
     → is_idle (take n (drop from octets)) ≡ idle
 idle_is octets from n idle h =
     let len : from + n - from ≡ n = omega arith in
-    ap (λ (k : ℕ). is_idle (take k (drop from octets))) (sym len)
-    ∙ ap is_idle (sym (append-nil (take (from + n - from) (drop from octets)))) ∙ sym h
+    rw (len, append-nil (take n (drop from octets))) at (sym h)
 
 abbrev RestOf : List ℕ → ℕ → List ℕ
 RestOf octets from = take (length octets - from) (drop from octets)
@@ -92,9 +91,7 @@ finished_split : (part : List ℕ) (pointer : Pointer) (payload : List ℕ)
     ≡ without_idle (finished_packets part pointer payload)
 finished_split part OnlyIdle payload = nothing_past payload (length payload) (omega arith)
 finished_split part NoStart payload =
-    ap (λ (ps : List (List ℕ)). without_idle (completed_packet part payload) ++ ps)
-    (nothing_past payload (length payload) (omega arith))
-    ∙ append-nil (without_idle (completed_packet part payload))
+    rw (nothing_past payload (length payload) (omega arith)) (append-nil (without_idle (completed_packet part payload)))
 finished_split part (At p) payload =
     sym (without_idle-append (completed_packet part (take p payload)) (packets_in (drop p payload)))
 
@@ -191,15 +188,9 @@ begun_by x room h = grind (arith, common_steps, h)
 pub is_begun : (x : KeptExtractor) (memory : List ℕ) → is_extractor x (length memory) ≡ true → (x.count ≡ 0 → ⊥)
     → (length (take x.count (drop x.from memory)) == 0) ≡ false
 is_begun x memory is some =
-    let long : length (take x.count (drop x.from memory)) ≡ x.count =
-    omega (
-      arith,
-      begun_by x (length memory) is,
-      length-take x.count (drop x.from memory),
-      length-drop x.from memory,
-    ) in
-    ne_eqb (length (take x.count (drop x.from memory))) 0
-    (λ (e : length (take x.count (drop x.from memory)) ≡ 0). some (sym long ∙ e))
+    ne_eqb (length (take x.count (drop x.from memory))) 0 (λ e. some (
+    omega (arith, e, begun_by x (length memory) is, length-take x.count (drop x.from memory), length-drop x.from memory)
+    ))
 
 pub dropped_by : (s : ExtractorState) (f : FrameView) (pointer : Pointer) (part front : List ℕ)
     → (length s.part == 0) ≡ false → is_any_lost (gap_of s.last f.vc_count) ≡ false → pointer ≡ f.pointer
@@ -276,10 +267,7 @@ taken_is x f payload memory d is h =
 gap_by : (b : Bool) (t : TakenFrame) → (t.first == 1) ≡ b → t.first < 2 → ((t.first == 0) || (t.lost == 0)) ≡ true
     → (t.first ≡ first_by (if b then First else Lost t.lost)) × (t.lost ≡ lost_by (if b then First else Lost t.lost))
 gap_by true t is lt none =
-    let one : t.first ≡ 1 = eqb-true t.first 1 is in
-    let some : (t.first == 0) ≡ false = rw one refl in
-    let lost : (t.lost == 0) ≡ true = ap (λ (b : Bool). b || (t.lost == 0)) (sym some) ∙ none in
-    (one, eqb-true t.lost 0 lost)
+    (eqb-true t.first 1 is, grind (arith, common_steps, is, none))
 gap_by false t is lt none =
     let other : t.first ≡ 1 → ⊥ = λ e. absurd (let h : (t.first == 1) ≡ true = rw e refl in cc) in
     (omega (arith, other), refl)
@@ -315,12 +303,12 @@ pub run_none : (total room left : ℕ) (octets : List ℕ) (state : Result Extra
     → is_end total room left octets ≡ true → run_from total room left octets state (most - k) ≡ nothing state
 run_none total room left octets state k most lt end =
     let more : most - k ≡ suc (most - (k + 1)) = omega arith in
-    ap (run_from total room left octets state) more ∙ rw end refl
+    rw (more, end) refl
 
 pub run_done : (total room left : ℕ) (octets : List ℕ) (state : Result ExtractorState ℕ) (k most : ℕ) → most ≤ k
     → run_from total room left octets state (most - k) ≡ nothing state
 run_done total room left octets state k most le =
-    let none : most - k ≡ 0 = omega arith in ap (run_from total room left octets state) none
+    let none : most - k ≡ 0 = omega arith in rw none refl
 
 -- records and packets that are written, and those of a run after them, are all
 pub record RunsTo (done put : List ℕ) (run all : Run) : Type 0 where
@@ -331,23 +319,13 @@ pub record RunsTo (done put : List ℕ) (run all : Run) : Type 0 where
 pub runs_on : (records packets one more : List ℕ) (run next all : Run) → RunsTo records packets run all
     → run ≡ before one more next
     → RunsTo (records ++ one) (packets ++ more) next all
-runs_on records packets one more run next all is same = record {
-  records =
-      append_assoc records one next.records ∙ ap (λ (r : Run). records ++ r.records) (sym same) ∙ is.records;
-  packets =
-      append_assoc packets more next.packets ∙ ap (λ (r : Run). packets ++ r.packets) (sym same) ∙ is.packets;
-  after = ap (λ (r : Run). r.after) (sym same) ∙ is.after;
-}
-
--- what is done, where no frame follows
-pub run_ends : (records packets : List ℕ) (run all : Run) (state : Result ExtractorState ℕ)
-    → RunsTo records packets run all → run ≡ nothing state
-    → (records ++ [] ≡ all.records) × (packets ++ [] ≡ all.packets) × (state ≡ all.after)
-run_ends records packets run all state is same = (
-  ap (λ (r : Run). records ++ r.records) (sym same) ∙ is.records,
-  ap (λ (r : Run). packets ++ r.packets) (sym same) ∙ is.packets,
-  ap (λ (r : Run). r.after) (sym same) ∙ is.after,
-)
+runs_on records packets one more run next all is same =
+    let before_next = rw same at is in
+    record {
+      records = append_assoc records one next.records ∙ before_next.records;
+      packets = append_assoc packets more next.packets ∙ before_next.packets;
+      after = before_next.after;
+    }
 
 -- ---- what the call gives to others
 

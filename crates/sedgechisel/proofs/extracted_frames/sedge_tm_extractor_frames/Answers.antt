@@ -5,7 +5,7 @@ use Rattle.tm_link.specs.Extractor.{ExtractorState, Extracted}
 use Rattle.sedgechisel.specs.Extractors.{extractor_described, Run, is_end, run_from, before, record_of, packets_by}
 use Rattle.sedgechisel.specs.Extractors.{came_of, state_by}
 use Rattle.sedgechisel.proofs.Following.{piece_is, later, all_done}
-use Rattle.sedgechisel.proofs.Extractors.{IsNext, next_is, run_next, run_none, run_done, runs_on, run_ends, end_is}
+use Rattle.sedgechisel.proofs.Extractors.{IsNext, next_is, run_next, run_none, run_done, runs_on, end_is}
 use Rattle.sedgechisel.proofs.Extractors.{record_is, came_equal}
 use Rattle.sedgechisel.proofs.extracted_frames.sedge_tm_extractor_frames.Goals as goal
 
@@ -18,18 +18,18 @@ returns-then-is_end c =
     end_is total c.frames.end c.frames.from c.frames.memory c.args.memory.now c.frames.packets c.args.packets.now
     c.args.octets.now c.frames.invariant.memory c.frames.invariant.place
     ∙ sym c.is_end.ensures ∙ c.if-is_end.true in
-    let ends = run_ends _ _ _ _ state c.frames.invariant.runs
-    (run_none total (length c.args.memory.now) (length c.args.packets.now - c.frames.end)
-    (drop c.frames.from c.args.octets.now) state c.frames.frames (length c.args.out.now / 19) c.frames-test.true end) in
+    let ends = rw (run_none total (length c.args.memory.now) (length c.args.packets.now - c.frames.end)
+    (drop c.frames.from c.args.octets.now) state c.frames.frames (length c.args.out.now / 19) c.frames-test.true end)
+    at c.frames.invariant.runs in
     let records = all_done c.frames.out c.args.out.now _ c.frames.at
-    (omega (arith, c.frames.invariant.at, c.frames.invariant.frames, c.frames.invariant.out)) ends.0
+    (omega (arith, c.frames.invariant.at, c.frames.invariant.frames, c.frames.invariant.out)) ends.records
     c.frames.invariant.after_records in
-    let packets = all_done c.frames.packets c.args.packets.now _ c.frames.end c.frames.invariant.end ends.1
+    let packets = all_done c.frames.packets c.args.packets.now _ c.frames.end c.frames.invariant.end ends.packets
     c.frames.invariant.after_packets in
     record {
       records = records.1;
       packets = packets.1;
-      after = ends.2;
+      after = ends.after;
       frames = sym c.frames.invariant.at ∙ records.0;
       total = packets.0;
     }
@@ -38,10 +38,10 @@ pub returns-clause-packets : goal.returns-clause-packets
 returns-clause-packets c =
     let most : ℕ = length c.args.out.now / 19 in
     let state : Result ExtractorState ℕ = extractor_described c.frames.extractor c.frames.memory in
-    let ends = run_ends _ _ _ _ state c.frames.invariant.runs
-    (run_done c.args.frame_length (length c.args.memory.now) (length c.args.packets.now - c.frames.end)
-    (drop c.frames.from c.args.octets.now) state c.frames.frames most (omega (arith, c.frames-test.false))) in
-    (all_done c.frames.packets c.args.packets.now _ c.frames.end c.frames.invariant.end ends.1
+    let ends = rw (run_done c.args.frame_length (length c.args.memory.now) (length c.args.packets.now - c.frames.end)
+    (drop c.frames.from c.args.octets.now) state c.frames.frames most (omega (arith, c.frames-test.false)))
+    at c.frames.invariant.runs in
+    (all_done c.frames.packets c.args.packets.now _ c.frames.end c.frames.invariant.end ends.packets
     c.frames.invariant.after_packets).1
 
 pub frames-preserved : goal.frames-preserved
