@@ -86,9 +86,7 @@ record IsAccepted (a : Arg) (q : ValueParser) (text : List ℕ) : Type 0 where
 accepts_of : (a y : Arg) (q : ValueParser) (t : List ℕ) → SameRules a y → a.value_parser ≡ Some q
     → Accepts y.ignore_case (parser_of y) t → Accepts a.ignore_case q t
 accepts_of a y q t s parser h =
-    let is_q : parser_of y ≡ q = ap parser_of_value (s.parser q parser) in
-    let as_q : Accepts y.ignore_case q t = subst (λ (w : ValueParser). Accepts y.ignore_case w t) is_q h in
-    subst (λ (b : Bool). Accepts b q t) s.ignore_case as_q
+    let is_q : parser_of y ≡ q = ap parser_of_value (s.parser q parser) in rw (← s.ignore_case, ← is_q) h
 
 -- the first value of an entry whose values all pass
 first_passes : (P : Bor (List ℕ) → Type 0) (how : Reading) (vs : List (Bor (List ℕ))) (t : List ℕ) → All P vs
@@ -109,15 +107,13 @@ module _ (cmd : Command) (m : ArgMatches) (p : IsParsedFrom cmd m) (plain : IsPl
   passes : (w : List ℕ) (v : Bor (List ℕ)) → w ≡ arg.id.now → PassesArg p.built w v.now
       → Accepts arg.ignore_case q v.now
   passes w v key pass =
-      let same : bytes_eq pass.1.id.now arg.id.now ≡ true =
-      subst (λ (u : List ℕ). bytes_eq pass.1.id.now u ≡ true) key pass.4.0 in
+      let same : bytes_eq pass.1.id.now arg.id.now ≡ true = rw key at pass.4.0 in
       accepts_of arg pass.1 q v.now (same_rules_by_id cmd m p k d lt unique own pass.0 pass.1 pass.2 pass.3 same) parser
       pass.4.1
 
   reads : (w : List ℕ) (r : Reading) → w ≡ arg.id.now → HasReading p.built w r → r ≡ reading_of q
   reads w r key any =
-      let same : bytes_eq any.1.id.now arg.id.now ≡ true =
-      subst (λ (u : List ℕ). bytes_eq any.1.id.now u ≡ true) key any.4.0 in
+      let same : bytes_eq any.1.id.now arg.id.now ≡ true = rw key at any.4.0 in
       let s = same_rules_by_id cmd m p k d lt unique own any.0 any.1 any.2 any.3 same in
       sym any.4.1 ∙ ap (λ (o : Option ValueParser). reading_of (parser_of_value o)) (s.parser q parser)
 
@@ -242,7 +238,7 @@ have_own_names (w ∷ ws) = is_own w.name && (is_none_of w.name ws && have_own_n
 
 apart : (a b : List ℕ) → not (bytes_eq a b) ≡ true → a ≡ b → ⊥
 apart a b h e =
-    let bad : not true ≡ true = subst (λ (t : Bool). not t ≡ true) ((bytes_eq-Decides a b).1 e) h in absurd cc
+    let bad : not true ≡ true = rw ((bytes_eq-Decides a b).1 e) at h in absurd cc
 
 fits : (a : Arg) (w : Wanted) → IsArgument a w → is_own w.name ≡ true → FitsChain a
 fits a w is own =

@@ -2,11 +2,12 @@
 use Rattle.hex.specs.Hex.{encode_upper, IsBytes}
 use Rattle.std.proofs.Common.{◌≡◌, ◌∙◌, ◌≤◌, ◌&&◌, ◌++◌, ℕ, zero, suc, List, [], ◌∷◌, Option, Some, refl, sym, ap}
 use Rattle.std.proofs.Common.{arith, append_assoc, ◌<◌, true, length, None, Ok}
-use Rattle.std.specs.Prelude.{codes, decimal, option_map, option_and_then, nat_lt}
+use Rattle.std.specs.Prelude.{codes, decimal, option_map, option_and_then}
 use Rattle.std.specs.Str.{bytes_eq}
-use Rattle.std.proofs.lemmas.Bool.{and_parts, ltb-true}
+use Rattle.std.proofs.lemmas.Bool.{and_parts}
 use Rattle.std.proofs.lemmas.Option.{same_Some}
 use Rattle.std.specs.List.{list_all}
+use Rattle.std.proofs.lemmas.Grind.{common_steps}
 use Rattle.tc_frame.specs.declared.frame.Command.TheVariants.{Unlock, SetVr}
 use Rattle.tc_frame.specs.Layout.{SegmentView, BodyView, Ad, Bd, Bc, FrameView, flags_code, body_fits, segment_fits}
 use Rattle.tc_frame.specs.Decoding.{flags_at, frame_with, frame_at}
@@ -16,12 +17,12 @@ use Rattle.tc_frame.specs.declared.frame.SegmentFlags.TheVariants.{First, Contin
 use Rattle.tc_frame.specs.Encoding.{frame_fits, spelling}
 use Rattle.tc_frame.proofs.Spelled.{spelling_is, frame_again}
 use Rattle.script_lines.specs.Words.{words_in, number_in_word}
-use Rattle.script_lines.proofs.Spelled.{read, printed, is_word, number_word}
+use Rattle.script_lines.proofs.Spelled.{read, printed, is_word, number_word, mapped, chained}
 use Rattle.encode_lines.specs.Fields.{number_after, octets_after, without_number}
 use Rattle.encode_lines.specs.Frames.{frame_of, segment_of, segment_with, frame_in, sequence_line, bypass_line}
 use Rattle.encode_lines.specs.Frames.{unlock_line, set_line, frame_octets}
 use Rattle.encode_lines.specs.Listed.{IsLineOf, frame_text, HasOctets}
-use Rattle.encode_lines.proofs.Words.{mapped, chained, passed, same_word, number_read, data_read, ended, line_read}
+use Rattle.encode_lines.proofs.Words.{passed, same_word, number_read, data_read, ended, line_read}
 use Rattle.encode_lines.proofs.Words.{number_spelled, data_spelled, digits_word, line_words}
 
 -- A line that says a frame is the line of that frame.
@@ -99,43 +100,11 @@ words_with f (Bc (SetVr x)) = channel_words (codes "BC") f (codes "set" ∷ deci
 
 -- ---- these words, joined
 
-pub onto : (word rest more whole : List ℕ) → rest ++ more ≡ whole → (word ++ rest) ++ more ≡ word ++ whole
-onto word rest more whole e = append_assoc word rest more ∙ ap (λ (t : List ℕ). word ++ t) e
-
-joined_channel : (kind scid vcid rest whole : List ℕ) → rest ++ 10 ∷ [] ≡ whole
-    → (kind ++ 32 ∷ ((codes "scid=" ++ scid) ++ 32 ∷ ((codes "vcid=" ++ vcid) ++ rest))) ++ 10 ∷ []
-    ≡ (kind ++ (codes " scid=" ++ (scid ++ (codes " vcid=" ++ vcid)))) ++ whole
-joined_channel kind scid vcid rest whole e =
-    let body : List ℕ = codes " scid=" ++ (scid ++ (codes " vcid=" ++ (vcid ++ whole))) in
-    onto kind (32 ∷ ((codes "scid=" ++ scid) ++ 32 ∷ ((codes "vcid=" ++ vcid) ++ rest))) (10 ∷ []) body
-    (ap (λ (t : List ℕ). codes " scid=" ++ t)
-    (onto scid (32 ∷ ((codes "vcid=" ++ vcid) ++ rest)) (10 ∷ []) (codes " vcid=" ++ (vcid ++ whole))
-    (ap (λ (t : List ℕ). codes " vcid=" ++ t) (onto vcid rest (10 ∷ []) whole e))))
-    ∙ sym (onto kind (codes " scid=" ++ (scid ++ (codes " vcid=" ++ vcid))) whole body
-    (ap (λ (t : List ℕ). codes " scid=" ++ t)
-    (onto scid (codes " vcid=" ++ vcid) whole (codes " vcid=" ++ (vcid ++ whole)) refl)))
-
-joined_segment : (flags map payload : List ℕ)
-    → (32 ∷ ((codes "seg=" ++ flags) ++ 32 ∷ ((codes "map=" ++ map) ++ 32 ∷ (codes "data=" ++ payload)))) ++ 10 ∷ []
-    ≡ codes " seg=" ++ (flags ++ (codes " map=" ++ (map ++ (codes " data=" ++ (payload ++ 10 ∷ [])))))
-joined_segment flags map payload =
-    ap (λ (t : List ℕ). codes " seg=" ++ t)
-    (onto flags (32 ∷ ((codes "map=" ++ map) ++ 32 ∷ (codes "data=" ++ payload))) (10 ∷ [])
-    (codes " map=" ++ (map ++ (codes " data=" ++ (payload ++ 10 ∷ []))))
-    (ap (λ (t : List ℕ). codes " map=" ++ t) (onto map (32 ∷ (codes "data=" ++ payload)) (10 ∷ [])
-    (codes " data=" ++ (payload ++ 10 ∷ [])) refl)))
-
 joined_as : (f : FrameView) (b : BodyView) → ended (words_with f b) ≡ frame_text (frame_with f.scid f.vcid b)
-joined_as f (Ad n s) =
-    joined_channel (codes "AD") (decimal f.scid) (decimal f.vcid) _ _
-    (ap (λ (t : List ℕ). codes " n=" ++ t) (onto (decimal n) _ (10 ∷ []) _
-    (joined_segment (decimal (flags_code s.header.flags)) (decimal s.header.map) (encode_upper s.payload))))
-joined_as f (Bd s) =
-    joined_channel (codes "BD") (decimal f.scid) (decimal f.vcid) _ _
-    (joined_segment (decimal (flags_code s.header.flags)) (decimal s.header.map) (encode_upper s.payload))
-joined_as f (Bc Unlock) = joined_channel (codes "BC") (decimal f.scid) (decimal f.vcid) (codes " unlock") _ refl
-joined_as f (Bc (SetVr x)) =
-    joined_channel (codes "BC") (decimal f.scid) (decimal f.vcid) (codes " set " ++ decimal x) _ refl
+joined_as f (Ad n s) = grind (arith, append_assoc)
+joined_as f (Bd s) = grind (arith, append_assoc)
+joined_as f (Bc Unlock) = grind (arith, append_assoc)
+joined_as f (Bc (SetVr x)) = grind (arith, append_assoc)
 
 -- the words of the line of a frame, joined, are that line
 pub frame_words_joined : (f : FrameView) → ended (words_with f f.body) ≡ frame_text f
@@ -226,13 +195,7 @@ pub record Ranges (f : FrameView) : Type 0 where
   pub body : body_fits f.body ≡ true
 
 ranges : (check : Check) (f : FrameView) → frame_fits check f ≡ true → Ranges f
-ranges check f fits =
-    let total = and_parts _ _ fits in
-    let body = and_parts _ _ total.0 in
-    let header = and_parts _ _ body.0 in
-    let scid : f.scid < 1024 = ltb-true _ _ header.0 in
-    let vcid : f.vcid < 64 = ltb-true _ _ header.1 in
-    record { scid = omega arith; vcid = omega arith; body = body.1 }
+ranges check f fits = grind (arith, common_steps, fits)
 
 pub record InRange (s : SegmentView) : Type 0 where
   pub map : s.header.map ≤ 63
@@ -240,10 +203,7 @@ pub record InRange (s : SegmentView) : Type 0 where
   pub octets : IsBytes s.payload
 
 in_range : (s : SegmentView) → segment_fits s ≡ true → IsBytes s.payload → InRange s
-in_range s fits octets =
-    let parts = and_parts (nat_lt s.header.map 64) (nat_lt 0 (length s.payload)) fits in
-    let map : s.header.map < 64 = ltb-true _ _ parts.0 in
-    record { map = omega arith; some = ltb-true _ _ parts.1; octets = octets }
+in_range s fits octets = grind (arith, common_steps, fits)
 
 -- ---- its words say it
 
@@ -262,12 +222,8 @@ segment_said s fits =
       number_spelled (codes "seg=") 3 (flags_code s.header.flags) (omega arith) flags.0,
       number_spelled (codes "map=") 63 s.header.map (omega arith) fits.map,
       data_spelled (codes "data=") s.payload fits.octets,
-    )
-    (ap (λ (x : SegmentFlags). Some (record {
-      header =
-          record { flags = x; map = s.header.map };
-      payload = s.payload;
-    })) flags.1)
+      flags.1,
+    ) refl
 
 frame_said : (f : FrameView) → Ranges f → (b : BodyView)
     → frame_of (codes "scid=" ++ decimal f.scid) (codes "vcid=" ++ decimal f.vcid) (Some b)
@@ -278,57 +234,40 @@ frame_said f fits b =
       number_spelled (codes "vcid=") 63 f.vcid (omega arith) fits.vcid,
     ) refl
 
-module _ (f : FrameView) (fits : Ranges f) where
-  abbrev framed : Option BodyView → Option FrameView
-  framed body = frame_of (codes "scid=" ++ decimal f.scid) (codes "vcid=" ++ decimal f.vcid) body
-
-  words_said : (b : BodyView) → body_fits b ≡ true → HasOctets b
-      → frame_in (words_with f b) ≡ Some (frame_with f.scid f.vcid b)
-  words_said (Ad n s) body octets =
-      let segment = segment_said s (in_range s body octets.1) in
-      let number = number_spelled (codes "n=") 255 n (omega arith) (omega (arith, octets.0)) in
-      ap (λ (o : Option ℕ). framed (option_and_then (λ (x : ℕ). option_map (Ad x) (segment_of
-      (codes "seg=" ++ decimal (flags_code s.header.flags)) (codes "map=" ++ decimal s.header.map)
-      (codes "data=" ++ encode_upper s.payload))) o)) number
-      ∙ ap (λ (o : Option SegmentView). framed (option_map (Ad n) o)) segment
-      ∙ frame_said f fits (Ad n s)
-  words_said (Bd s) body octets =
-      ap (λ (o : Option SegmentView). framed (option_map Bd o)) (segment_said s (in_range s body octets))
-      ∙ frame_said f fits (Bd s)
-  words_said (Bc Unlock) body octets = frame_said f fits (Bc Unlock)
-  words_said (Bc (SetVr x)) body octets =
-      ap (λ (o : Option ℕ). framed (option_map (λ (y : ℕ). Bc (SetVr y)) o))
-      (printed 255 x (omega arith) (omega (arith, octets))) ∙ frame_said f fits (Bc (SetVr x))
+words_said : (f : FrameView) → Ranges f → (b : BodyView) → body_fits b ≡ true → HasOctets b
+    → frame_in (words_with f b) ≡ Some (frame_with f.scid f.vcid b)
+words_said f fits (Ad n s) body octets =
+    rw (
+      number_spelled (codes "n=") 255 n (omega arith) (omega (arith, octets.0)),
+      segment_said s (in_range s body octets.1),
+    ) (frame_said f fits (Ad n s))
+words_said f fits (Bd s) body octets = rw (segment_said s (in_range s body octets)) (frame_said f fits (Bd s))
+words_said f fits (Bc Unlock) body octets = frame_said f fits (Bc Unlock)
+words_said f fits (Bc (SetVr x)) body octets =
+    rw (printed 255 x (omega arith) (omega (arith, octets))) (frame_said f fits (Bc (SetVr x)))
 
 -- ---- its words are words
 
+segment_are_words : (s : SegmentView) → InRange s → list_all is_word (segment_words s) ≡ true
+segment_are_words s range =
+    rw (
+      number_word (flags_code s.header.flags) (omega (arith, (flags_said s.header.flags).0)),
+      number_word s.header.map (omega (arith, range.map)),
+      digits_word s.payload range.some range.octets,
+    ) refl
+
 module _ (f : FrameView) (fits : Ranges f) where
   scid_word : is_word (decimal f.scid) ≡ true
-  scid_word = let small = fits.scid in number_word f.scid (omega arith)
+  scid_word = number_word f.scid (omega (arith, fits.scid))
 
   vcid_word : is_word (decimal f.vcid) ≡ true
-  vcid_word = let small = fits.vcid in number_word f.vcid (omega arith)
+  vcid_word = number_word f.vcid (omega (arith, fits.vcid))
 
   all_words : (b : BodyView) → body_fits b ≡ true → HasOctets b → list_all is_word (words_with f b) ≡ true
   all_words (Ad n s) body octets =
-      let range = in_range s body octets.1 in
-      rw (
-        scid_word,
-        vcid_word,
-        number_word n (omega (arith, octets.0)),
-        number_word (flags_code s.header.flags) (omega (arith, (flags_said s.header.flags).0)),
-        number_word s.header.map (omega (arith, range.map)),
-        digits_word s.payload range.some range.octets,
-      ) refl
-  all_words (Bd s) body octets =
-      let range = in_range s body octets in
-      rw (
-        scid_word,
-        vcid_word,
-        number_word (flags_code s.header.flags) (omega (arith, (flags_said s.header.flags).0)),
-        number_word s.header.map (omega (arith, range.map)),
-        digits_word s.payload range.some range.octets,
-      ) refl
+      rw (scid_word, vcid_word, number_word n (omega (arith, octets.0)))
+      (segment_are_words s (in_range s body octets.1))
+  all_words (Bd s) body octets = rw (scid_word, vcid_word) (segment_are_words s (in_range s body octets))
   all_words (Bc Unlock) body octets = rw (scid_word, vcid_word) refl
   all_words (Bc (SetVr x)) body octets = rw (scid_word, vcid_word, number_word x (omega (arith, octets))) refl
 

@@ -6,7 +6,7 @@ use Rattle.std.specs.Prelude.{codes, decimal, option_map, option_and_then, is_so
 use Rattle.std.specs.Str.{bytes_eq}
 use Rattle.std.proofs.lemmas.Option.{same_Some}
 use Rattle.std.specs.List.{list_all}
-use Rattle.std.proofs.lemmas.Bool.{and_parts, ltb-true}
+use Rattle.std.proofs.lemmas.Grind.{common_steps}
 use Rattle.std.proofs.lemmas.List.{append-nil}
 use Rattle.space_packet.specs.declared.packet.PacketKind.{PacketKind}
 use Rattle.space_packet.specs.declared.packet.PacketKind.TheVariants.{Telemetry, Telecommand}
@@ -16,14 +16,13 @@ use Rattle.space_packet.specs.Encoding.{packet_fits, spelling}
 use Rattle.space_packet.proofs.Encoded.{spelling_is, first_is}
 use Rattle.space_packet.proofs.Decoded.{packet_again}
 use Rattle.script_lines.specs.Words.{words_in, number_in_word}
-use Rattle.script_lines.proofs.Spelled.{is_word, number_word}
+use Rattle.script_lines.proofs.Spelled.{is_word, number_word, mapped, chained}
 use Rattle.listings.specs.PacketLines.{kind_word, gap_text}
 use Rattle.encode_lines.specs.Fields.{number_after, octets_after, without_number}
 use Rattle.encode_lines.specs.Packets.{kind_in, is_gap, packet_with, packet_of, packet_line, packet_in, packet_octets}
 use Rattle.encode_lines.specs.Listed.{IsLineOf, IsGap, packet_text}
-use Rattle.encode_lines.proofs.Words.{mapped, chained, passed, same_word, number_read, data_read, ended, line_read}
+use Rattle.encode_lines.proofs.Words.{passed, same_word, number_read, data_read, ended, line_read}
 use Rattle.encode_lines.proofs.Words.{number_spelled, data_spelled, digits_word, line_words}
-use Rattle.encode_lines.proofs.FrameLines.{onto}
 
 -- A line that says a packet is the line of that packet.
 
@@ -50,30 +49,14 @@ words_with gap p = kind_word p.kind ∷ more_words_with gap p
 joined_gap : (gap : Option ℕ) (payload : List ℕ)
     → (32 ∷ (gap_word gap ++ 32 ∷ (codes "data=" ++ payload))) ++ 10 ∷ [] ≡ gap_text gap ++ (payload ++ 10 ∷ [])
 joined_gap None payload = refl
-joined_gap (Some n) payload =
-    ap (λ (t : List ℕ). codes " gap=" ++ t)
-    (onto (decimal n) (32 ∷ (codes "data=" ++ payload)) (10 ∷ []) (codes " data=" ++ (payload ++ 10 ∷ [])) refl
-    ∙ sym (append_assoc (decimal n) (codes " data=") (payload ++ 10 ∷ [])))
+joined_gap (Some n) payload = grind (arith, append_assoc)
 
 joined : (kind secondary apid flags count rest whole : List ℕ) → rest ++ 10 ∷ [] ≡ whole
     → (kind ++ 32 ∷ ((codes "secondary=" ++ secondary) ++ 32 ∷ ((codes "apid=" ++ apid)
     ++ 32 ∷ ((codes "flags=" ++ flags) ++ 32 ∷ ((codes "count=" ++ count) ++ rest))))) ++ 10 ∷ []
     ≡ (kind ++ (codes " secondary=" ++ (secondary ++ (codes " apid=" ++ apid))))
     ++ ((codes " flags=" ++ (flags ++ (codes " count=" ++ count))) ++ whole)
-joined kind secondary apid flags count rest whole e =
-    let tail : List ℕ = codes " flags=" ++ (flags ++ (codes " count=" ++ (count ++ whole))) in
-    let body : List ℕ = codes " secondary=" ++ (secondary ++ (codes " apid=" ++ (apid ++ tail))) in
-    onto kind _ (10 ∷ []) body
-    (ap (λ (t : List ℕ). codes " secondary=" ++ t) (onto secondary _ (10 ∷ []) (codes " apid=" ++ (apid ++ tail))
-    (ap (λ (t : List ℕ). codes " apid=" ++ t) (onto apid _ (10 ∷ []) tail
-    (ap (λ (t : List ℕ). codes " flags=" ++ t) (onto flags _ (10 ∷ []) (codes " count=" ++ (count ++ whole))
-    (ap (λ (t : List ℕ). codes " count=" ++ t) (onto count rest (10 ∷ []) whole e))))))))
-    ∙ sym (onto kind (codes " secondary=" ++ (secondary ++ (codes " apid=" ++ apid)))
-    ((codes " flags=" ++ (flags ++ (codes " count=" ++ count))) ++ whole) body
-    (ap (λ (t : List ℕ). codes " secondary=" ++ t) (onto secondary (codes " apid=" ++ apid)
-    ((codes " flags=" ++ (flags ++ (codes " count=" ++ count))) ++ whole) (codes " apid=" ++ (apid ++ tail))
-    (ap (λ (t : List ℕ). codes " apid=" ++ (apid ++ (codes " flags=" ++ t)))
-    (onto flags (codes " count=" ++ count) whole (codes " count=" ++ (count ++ whole)) refl)))))
+joined kind secondary apid flags count rest whole e = grind (arith, append_assoc)
 
 -- the words of the line of a packet, joined, are that line
 pub packet_words_joined : (gap : Option ℕ) (p : PacketView) → ended (words_with gap p) ≡ packet_text gap p
@@ -194,16 +177,7 @@ pub record Ranges (p : PacketView) : Type 0 where
   pub some : 0 < length p.payload
 
 ranges : (p : PacketView) → packet_fits p ≡ true → Ranges p
-ranges p fits =
-    let idle = and_parts _ _ fits in
-    let most = and_parts _ _ idle.0 in
-    let least = and_parts _ _ most.0 in
-    let count = and_parts _ _ least.0 in
-    let flags = and_parts _ _ count.0 in
-    let apid_so : p.apid < 2048 = ltb-true _ _ flags.0 in
-    let flags_so : p.flags < 4 = ltb-true _ _ flags.1 in
-    let count_so : p.count < 16384 = ltb-true _ _ count.1 in
-    record { apid = omega arith; flags = omega arith; count = omega arith; some = ltb-true _ _ least.1 }
+ranges p fits = grind (arith, common_steps, fits)
 
 -- ---- its words say it
 

@@ -2,7 +2,7 @@
 -- answers.
 use Rattle.hex.specs.Hex.{IsBytes, decode_of, encode_upper, encode_with, decode_pairs}
 use Rattle.std.proofs.Common.{◌≡◌, ℕ, Bool, true, false, cond, List, Option, Some, None, refl, ◌∙◌, ◌<◌, ◌≤◌, ◌^◌, ◌==◌}
-use Rattle.std.proofs.Common.{◌++◌, suc, [], ◌∷◌, length, Result, ap, inr, arith, inl, sym, subst, append_assoc}
+use Rattle.std.proofs.Common.{◌++◌, suc, [], ◌∷◌, length, ap, inr, arith, inl, sym, subst, append_assoc}
 use Rattle.hex.proofs.HexLemmas.{decode_of-encode_upper}
 use Rattle.std.specs.Prelude.{option_map, option_and_then, decimal, codes, is_some}
 use Rattle.std.specs.Str.{bytes_eq}
@@ -17,31 +17,13 @@ use Rattle.tc_frame.specs.Layout.{FrameView, BodyView, Ad, Bd, Bc}
 use Rattle.tc_frame.specs.Decoding.{frame_with}
 use Rattle.script_lines.specs.Words.{number_in_word, words_in}
 use Rattle.script_lines.specs.Spelling.{IsPairs, no_pair, pair, some_octets}
-use Rattle.script_lines.proofs.Spelled.{read, printed, is_word, hex_word, one_word, more_words, number_word}
+use Rattle.script_lines.proofs.Spelled.{read, printed, is_word, hex_word, one_word, more_words, number_word, chained}
 use Rattle.encode_lines.specs.Fields.{after_key, number_after, octets_after, octets_of_digits, without_number}
 use Rattle.encode_lines.specs.Listed.{IsLineOf}
 use Rattle.encode_lines.specs.Frames.{frame_of, frame_in, body_decoded, frame_decoded, digits_of}
 use Rattle.encode_lines.specs.Packets.{packet_in}
 
 -- What is found where a test or a chain of fields answers.
-
-pub record Mapped {A B : Type 0} (f : A → B) (o : Option A) (b : B) : Type 0 where
-  pub value : A
-  pub is : o ≡ Some value
-  pub gives : f value ≡ b
-
-pub mapped : {A B : Type 0} (f : A → B) (o : Option A) (b : B) → option_map f o ≡ Some b → Mapped f o b
-mapped f (Some a) b e = record { value = a; is = refl; gives = same_Some (f a) b e }
-mapped f None b e = cc e
-
-pub record Chained {A B : Type 0} (f : A → Option B) (o : Option A) (b : B) : Type 0 where
-  pub value : A
-  pub is : o ≡ Some value
-  pub gives : f value ≡ Some b
-
-pub chained : {A B : Type 0} (f : A → Option B) (o : Option A) (b : B) → option_and_then f o ≡ Some b → Chained f o b
-chained f (Some a) b e = record { value = a; is = refl; gives = e }
-chained f None b e = cc e
 
 -- a test that lets a value through
 pub passed : {A : Type 0} (test : Bool) (o : Option A) (a : A) → cond test o None ≡ Some a
@@ -91,8 +73,7 @@ number_read key most word n small h =
 
 pub number_spelled : (key : List ℕ) (most n : ℕ) → most < 2 ^ 64 → n ≤ most
     → number_after key most (key ++ decimal n) ≡ Some n
-number_spelled key most n small le =
-    ap (option_and_then (number_in_word most)) (key_spelled key (decimal n)) ∙ printed most n small le
+number_spelled key most n small le = rw (key_spelled key (decimal n)) (printed most n small le)
 
 -- ---- octets
 
@@ -107,12 +88,7 @@ octets_read word octets h =
 pub octets_spelled : (octets : List ℕ) → IsBytes octets → octets_of_digits (encode_upper octets) ≡ Some octets
 unfolding octets_of_digits
 octets_spelled octets fits =
-    let same : bytes_eq (encode_upper octets) (encode_upper octets) ≡ true =
-    (bytes_eq-Decides (encode_upper octets) (encode_upper octets)).1 refl in
-    ap (λ (r : Result (List ℕ) _). option_and_then
-    (λ os. cond (bytes_eq (encode_upper octets) (encode_upper os)) (Some os) None) (result_ok r))
-    (decode_of-encode_upper octets fits)
-    ∙ ap (λ (b : Bool). cond b (Some octets) None) same
+    rw (decode_of-encode_upper octets fits, (bytes_eq-Decides (encode_upper octets) (encode_upper octets)).1 refl) refl
 
 pub data_read : (key word octets : List ℕ) → octets_after key word ≡ Some octets → word ≡ key ++ encode_upper octets
 data_read key word octets h =
@@ -120,8 +96,7 @@ data_read key word octets h =
     key_read key word it.value it.is ∙ ap (λ (w : List ℕ). key ++ w) (octets_read it.value octets it.gives)
 
 pub data_spelled : (key octets : List ℕ) → IsBytes octets → octets_after key (key ++ encode_upper octets) ≡ Some octets
-data_spelled key octets fits =
-    ap (option_and_then octets_of_digits) (key_spelled key (encode_upper octets)) ∙ octets_spelled octets fits
+data_spelled key octets fits = rw (key_spelled key (encode_upper octets)) (octets_spelled octets fits)
 
 upper_pairs : (octets : List ℕ) → IsBytes octets → IsPairs octets (encode_upper octets)
 unfolding encode_with
@@ -161,9 +136,7 @@ module _ {A : Type 0} (in_words : List (List ℕ) → Option A) (text_of : A →
       inr (
         i,
         omega (arith, number.1),
-        append_assoc word (32 ∷ join_with_byte 32 (next ∷ words)) (10 ∷ [])
-            ∙ ap (λ (t : List ℕ). word ++ 32 ∷ t) (reads (next ∷ words) a e)
-            ∙ ap (λ (t : List ℕ). t ++ 32 ∷ text_of a) number.0,
+        rw (append_assoc word (32 ∷ join_with_byte 32 (next ∷ words)) (10 ∷ []), reads (next ∷ words) a e, number.0) refl,
       )
 
   numbered_or_not : (word : List ℕ) (words : List (List ℕ)) (a : A) (found : Option ℕ)
@@ -191,9 +164,7 @@ module _ (first : List ℕ) (rest : List (List ℕ)) (text : List ℕ) (all : li
   bare line e =
       let is : line ≡ join_with_byte 32 (first ∷ rest) =
       append_cancel_right line (join_with_byte 32 (first ∷ rest)) (10 ∷ []) (e ∙ sym spells) in
-      ap (λ (l : List ℕ). without_number (words_in l)) is
-      ∙ ap without_number (joined_words first rest all)
-      ∙ ap (λ (found : Option ℕ). cond (is_some found) rest (first ∷ rest)) plain
+      rw (is, joined_words first rest all, plain) refl
 
   behind_number : (line : List ℕ) (i : ℕ) → i < 2 ^ 64 → line ++ 10 ∷ [] ≡ decimal i ++ (codes " " ++ text)
       → without_number (words_in line) ≡ first ∷ rest
@@ -203,11 +174,12 @@ module _ (first : List ℕ) (rest : List (List ℕ)) (text : List ℕ) (all : li
       e ∙ ap (λ (t : List ℕ). decimal i ++ 32 ∷ t) (sym spells)
       ∙ sym (append_assoc (decimal i) (32 ∷ joined) (10 ∷ [])) in
       let is : line ≡ decimal i ++ 32 ∷ joined = append_cancel_right line (decimal i ++ 32 ∷ joined) (10 ∷ []) whole in
-      ap (λ (l : List ℕ). without_number (words_in l)) is
-      ∙ ap without_number (more_words (decimal i) joined (number_word i small)
-      ∙ ap (λ (ws : List (List ℕ)). decimal i ∷ ws) (joined_words first rest all))
-      ∙ ap (λ (found : Option ℕ). cond (is_some found) (first ∷ rest) (decimal i ∷ first ∷ rest))
-      (printed 18446744073709551615 i (omega arith) (omega arith))
+      rw (
+        is,
+        more_words (decimal i) joined (number_word i small),
+        joined_words first rest all,
+        printed 18446744073709551615 i (omega arith) (omega arith),
+      ) refl
 
   pub line_words : (line : List ℕ) → IsLineOf text line → without_number (words_in line) ≡ first ∷ rest
   line_words line (inl e) = bare line e
@@ -227,46 +199,23 @@ frame_of_none scid vcid = no_frame (number_after (codes "scid=") 1023 scid) (num
 
 -- no line has fewer words than four
 pub frame_in-few : (words : List (List ℕ)) → length words < 4 → frame_in words ≡ None
-frame_in-few [] few = refl
-frame_in-few (a ∷ []) few = refl
-frame_in-few (a ∷ b ∷ []) few = refl
-frame_in-few (a ∷ b ∷ c ∷ []) few = refl
 frame_in-few (a ∷ b ∷ c ∷ d ∷ more) few = absurd (omega arith)
+frame_in-few words few = refl
 
 -- no line has more words than seven
 pub frame_in-many : (words : List (List ℕ)) → 7 < length words → frame_in words ≡ None
-frame_in-many [] many = absurd (omega arith)
-frame_in-many (a ∷ []) many = absurd (omega arith)
-frame_in-many (a ∷ b ∷ []) many = absurd (omega arith)
-frame_in-many (a ∷ b ∷ c ∷ []) many = absurd (omega arith)
-frame_in-many (a ∷ b ∷ c ∷ d ∷ []) many = absurd (omega arith)
-frame_in-many (a ∷ b ∷ c ∷ d ∷ e ∷ []) many = absurd (omega arith)
-frame_in-many (a ∷ b ∷ c ∷ d ∷ e ∷ f ∷ []) many = absurd (omega arith)
-frame_in-many (a ∷ b ∷ c ∷ d ∷ e ∷ f ∷ g ∷ []) many = absurd (omega arith)
 frame_in-many (a ∷ b ∷ c ∷ d ∷ e ∷ f ∷ g ∷ h ∷ more) many = refl
+frame_in-many words many = absurd (omega arith)
 
 -- no line of a packet has fewer words than seven
 pub packet_in-few : (words : List (List ℕ)) → length words < 7 → packet_in words ≡ None
-packet_in-few [] few = refl
-packet_in-few (a ∷ []) few = refl
-packet_in-few (a ∷ b ∷ []) few = refl
-packet_in-few (a ∷ b ∷ c ∷ []) few = refl
-packet_in-few (a ∷ b ∷ c ∷ d ∷ []) few = refl
-packet_in-few (a ∷ b ∷ c ∷ d ∷ e ∷ []) few = refl
-packet_in-few (a ∷ b ∷ c ∷ d ∷ e ∷ f ∷ []) few = refl
 packet_in-few (a ∷ b ∷ c ∷ d ∷ e ∷ f ∷ g ∷ more) few = absurd (omega arith)
+packet_in-few words few = refl
 
 -- no line of a packet has more words than seven
 pub packet_in-many : (words : List (List ℕ)) → 7 < length words → packet_in words ≡ None
-packet_in-many [] many = absurd (omega arith)
-packet_in-many (a ∷ []) many = absurd (omega arith)
-packet_in-many (a ∷ b ∷ []) many = absurd (omega arith)
-packet_in-many (a ∷ b ∷ c ∷ []) many = absurd (omega arith)
-packet_in-many (a ∷ b ∷ c ∷ d ∷ []) many = absurd (omega arith)
-packet_in-many (a ∷ b ∷ c ∷ d ∷ e ∷ []) many = absurd (omega arith)
-packet_in-many (a ∷ b ∷ c ∷ d ∷ e ∷ f ∷ []) many = absurd (omega arith)
-packet_in-many (a ∷ b ∷ c ∷ d ∷ e ∷ f ∷ g ∷ []) many = absurd (omega arith)
 packet_in-many (a ∷ b ∷ c ∷ d ∷ e ∷ f ∷ g ∷ h ∷ more) many = refl
+packet_in-many words many = absurd (omega arith)
 
 pub no_octets : octets_of_digits [] ≡ Some []
 unfolding octets_of_digits decode_pairs encode_with
@@ -274,11 +223,9 @@ no_octets = refl
 
 -- where the digits of a body say no octets, it says none
 body_decoded-none : (b : BodyView) → octets_of_digits (digits_of b) ≡ None → body_decoded b ≡ None
-body_decoded-none (Ad n s) e =
-    ap (λ (o : Option (List ℕ)). option_map (Ad n) (option_map (λ octets. record s { payload = octets }) o)) e
-body_decoded-none (Bd s) e =
-    ap (λ (o : Option (List ℕ)). option_map Bd (option_map (λ octets. record s { payload = octets }) o)) e
+body_decoded-none (Ad n s) e = rw e refl
+body_decoded-none (Bd s) e = rw e refl
 body_decoded-none (Bc command) e = let some = no_octets in cc
 
 pub frame_decoded-none : (f : FrameView) → octets_of_digits (digits_of f.body) ≡ None → frame_decoded f ≡ None
-frame_decoded-none f e = ap (option_map (frame_with f.scid f.vcid)) (body_decoded-none f.body e)
+frame_decoded-none f e = rw (body_decoded-none f.body e) refl

@@ -1,11 +1,13 @@
 -- Where a text is cut at its line feeds, and how far it is played by lines and pieces.
 use Rattle.std.proofs.Common.{◌≡◌, ◌+◌, ◌≤◌, ◌++◌, ℕ, Bool, true, false, List, [], ◌∷◌, length, refl, ap, ◌∙◌, take}
-use Rattle.std.proofs.Common.{drop, arith, cond, ltb, Some, None, Option, ◌==◌, sym, append_assoc, subst}
+use Rattle.std.proofs.Common.{drop, arith, cond, ◌<◌, ltb, Some, None, Option, ◌==◌, sym, append_assoc, subst}
 use Rattle.std.specs.Option.{unwrap_or}
 use Rattle.std.specs.List.{slice_split, position_or_len, onto_first}
 use Rattle.std.proofs.lemmas.Bool.{ltb-false, ltb-true}
-use Rattle.std.proofs.lemmas.List.Splits.{slice_split_first, slice_split-cons_yes, slice_split-cons_no}
-use Rattle.std.proofs.lemmas.Grind.{common_steps}
+use Rattle.std.proofs.lemmas.List.Splits.{slice_split_first, slice_split_none, length-slice_split}
+use Rattle.std.proofs.lemmas.List.Splits.{slice_split-cons_yes, slice_split-cons_no}
+use Rattle.std.proofs.lemmas.List.Sums.{fails_before_first}
+use Rattle.std.proofs.Math.Bool.{and_assoc, and-true}
 use Rattle.std.specs.Prelude.{◌&&◌}
 use Rattle.std.proofs.lemmas.List.{append-nil, length-append}
 use Rattle.std.specs.Io.KnownBytes.{Consumes}
@@ -17,19 +19,6 @@ use Rattle.line_stream.specs.Playing.{joined, Playing, Standing, answers, after_
 use Rattle.line_stream.specs.Playing.{answers_of, answers_so_far, after_text, is_all_good}
 
 -- Where a text is cut at its line feeds.
-
-uncut_case : (p : ℕ → Bool) (x : ℕ) (xs : List ℕ) (b : Bool) → p x ≡ b
-    → (length xs ≤ position_or_len p xs → slice_split p xs ≡ xs ∷ []) → length (x ∷ xs) ≤ position_or_len p (x ∷ xs)
-    → slice_split p (x ∷ xs) ≡ (x ∷ xs) ∷ []
-uncut_case p x xs true e more h = grind (arith, common_steps)
-uncut_case p x xs false e more h =
-    let less : length xs ≤ position_or_len p xs = grind (arith, common_steps) in
-    slice_split-cons_no p x xs e ∙ ap (onto_first x) (more less)
-
--- a list without the mark is one part
-uncut : (p : ℕ → Bool) (xs : List ℕ) → length xs ≤ position_or_len p xs → slice_split p xs ≡ xs ∷ []
-uncut p [] h = refl
-uncut p (x ∷ xs) h = uncut_case p x xs (p x) refl (uncut p xs) h
 
 module _ (p : ℕ → Bool) (xs : List ℕ) where
   abbrev pub place : Bool → Option ℕ
@@ -45,7 +34,9 @@ module _ (p : ℕ → Bool) (xs : List ℕ) where
   pub cut_nowhere : (b : Bool) → ltb (position_or_len p xs) (length xs) ≡ b → place b ≡ None
       → slice_split p xs ≡ xs ∷ []
   cut_nowhere true e h = cc h
-  cut_nowhere false e h = uncut p xs (ltb-false _ _ e)
+  cut_nowhere false e h =
+      let none : length xs ≤ position_or_len p xs = ltb-false _ _ e in
+      slice_split_none p xs (λ k d less. fails_before_first p xs k d (omega arith))
 
 -- There is a first part.
 
@@ -54,151 +45,93 @@ pub record HasParts (parts : List (List ℕ)) : Type 0 where
   pub more : List (List ℕ)
   pub is : parts ≡ first ∷ more
 
-onto_some : (x : ℕ) (parts : List (List ℕ)) → HasParts (onto_first x parts)
-onto_some x [] = record { first = x ∷ []; more = []; is = refl }
-onto_some x (part ∷ parts) = record { first = x ∷ part; more = parts; is = refl }
-
-parts_case : (p : ℕ → Bool) (x : ℕ) (xs : List ℕ) (b : Bool) → p x ≡ b → HasParts (slice_split p (x ∷ xs))
-parts_case p x xs true e = record { first = []; more = slice_split p xs; is = slice_split-cons_yes p x xs e }
-parts_case p x xs false e =
-    let some = onto_some x (slice_split p xs) in
-    record { first = some.first; more = some.more; is = slice_split-cons_no p x xs e ∙ some.is }
-
-has_parts : (p : ℕ → Bool) (xs : List ℕ) → HasParts (slice_split p xs)
-has_parts p [] = record { first = []; more = []; is = refl }
-has_parts p (x ∷ xs) = parts_case p x xs (p x) refl
+some_parts : (parts : List (List ℕ)) → 0 < length parts → HasParts parts
+some_parts [] some = absurd (omega arith)
+some_parts (first ∷ more) some = record { first = first; more = more; is = refl }
 
 pub text_has_parts : (text : List ℕ) → HasParts (parts_of text)
-text_has_parts text = has_parts (λ octet. octet == 10) text
+text_has_parts text =
+    some_parts (parts_of text) (omega (arith, length-slice_split (λ (octet : ℕ). octet == 10) text))
 
 -- A part before others.
 
 pub all_but_last-cons : (part : List ℕ) (parts : List (List ℕ)) → HasParts parts
     → all_but_last (part ∷ parts) ≡ part ∷ all_but_last parts
-all_but_last-cons part parts has =
-    ap (λ (ps : List (List ℕ)). all_but_last (part ∷ ps)) has.is
-    ∙ ap (λ (ps : List (List ℕ)). part ∷ all_but_last ps) (sym has.is)
+all_but_last-cons part parts has = rw has.is refl
 
 pub last_part-cons : (part : List ℕ) (parts : List (List ℕ)) → HasParts parts
     → last_part (part ∷ parts) ≡ last_part parts
-last_part-cons part parts has =
-    ap (λ (ps : List (List ℕ)). last_part (part ∷ ps)) has.is ∙ ap last_part (sym has.is)
+last_part-cons part parts has = rw has.is refl
 
 -- before any octets there is no part of a line
 pub joined-nothing : (parts : List (List ℕ)) → HasParts parts → joined [] parts ≡ parts
-joined-nothing parts has = ap (joined []) has.is ∙ sym has.is
+joined-nothing parts has = rw has.is refl
 
--- The parts of a text with more octets: the last part goes on.
+-- Parts before others, of which there is one.
 
-glued : List (List ℕ) → List (List ℕ) → List (List ℕ)
-glued [] more = more
-glued (part ∷ []) more = joined part more
-glued (part ∷ next ∷ parts) more = part ∷ glued (next ∷ parts) more
+all_but_last-append : (parts more : List (List ℕ)) → HasParts more
+    → all_but_last (parts ++ more) ≡ parts ++ all_but_last more
+all_but_last-append [] more has = refl
+all_but_last-append (part ∷ []) more has = all_but_last-cons part more has
+all_but_last-append (part ∷ next ∷ parts) more has =
+    ap (λ (ps : List (List ℕ)). part ∷ ps) (all_but_last-append (next ∷ parts) more has)
 
-glued_onto : (x : ℕ) (part : List ℕ) (parts more : List (List ℕ)) → HasParts more
-    → onto_first x (glued (part ∷ parts) more) ≡ glued (onto_first x (part ∷ parts)) more
-unfolding glued
-glued_onto x part [] more has =
-    ap (λ (ps : List (List ℕ)). onto_first x (joined part ps)) has.is
-    ∙ ap (λ (ps : List (List ℕ)). joined (x ∷ part) ps) (sym has.is)
-glued_onto x part (next ∷ parts) more has = refl
-
-onto_glued : (x : ℕ) (parts more : List (List ℕ)) → HasParts parts → HasParts more
-    → onto_first x (glued parts more) ≡ glued (onto_first x parts) more
-onto_glued x parts more has with =
-    ap (λ (ps : List (List ℕ)). onto_first x (glued ps more)) has.is
-    ∙ glued_onto x has.first has.more more with
-    ∙ ap (λ (ps : List (List ℕ)). glued (onto_first x ps) more) (sym has.is)
+last_part-append : (parts more : List (List ℕ)) → HasParts more → last_part (parts ++ more) ≡ last_part more
+last_part-append [] more has = refl
+last_part-append (part ∷ []) more has = last_part-cons part more has
+last_part-append (part ∷ next ∷ parts) more has = last_part-append (next ∷ parts) more has
 
 joined_has : (part : List ℕ) (more : List (List ℕ)) → HasParts (joined part more)
 joined_has part [] = record { first = part; more = []; is = refl }
 joined_has part (next ∷ more) = record { first = part ++ next; more = more; is = refl }
 
-glued_has : (part : List ℕ) (parts more : List (List ℕ)) → HasParts (glued (part ∷ parts) more)
-unfolding glued
-glued_has part [] more = joined_has part more
-glued_has part (next ∷ parts) more = record { first = part; more = glued (next ∷ parts) more; is = refl }
+-- The parts of a text with more octets: the last part goes on.
 
-glued-cons : (part : List ℕ) (parts more : List (List ℕ)) → HasParts parts
-    → glued (part ∷ parts) more ≡ part ∷ glued parts more
-unfolding glued
-glued-cons part parts more has =
-    ap (λ (ps : List (List ℕ)). glued (part ∷ ps) more) has.is
-    ∙ ap (λ (ps : List (List ℕ)). part ∷ glued ps more) (sym has.is)
+abbrev goes_on : List (List ℕ) → List (List ℕ) → List (List ℕ)
+goes_on parts more = all_but_last parts ++ joined (last_part parts) more
 
-glued_case : (x : ℕ) (xs ys : List ℕ) (b : Bool) → (x == 10) ≡ b
-    → parts_of (xs ++ ys) ≡ glued (parts_of xs) (parts_of ys)
-    → parts_of (x ∷ (xs ++ ys)) ≡ glued (parts_of (x ∷ xs)) (parts_of ys)
-glued_case x xs ys true e ih =
+goes_on-onto : (x : ℕ) (part : List ℕ) (parts more : List (List ℕ))
+    → onto_first x (goes_on (part ∷ parts) more) ≡ goes_on (onto_first x (part ∷ parts)) more
+goes_on-onto x part [] [] = refl
+goes_on-onto x part [] (next ∷ more) = refl
+goes_on-onto x part (next ∷ parts) more = refl
+
+goes_on_case : (x : ℕ) (xs ys : List ℕ) (b : Bool) → (x == 10) ≡ b
+    → parts_of (xs ++ ys) ≡ goes_on (parts_of xs) (parts_of ys)
+    → parts_of (x ∷ (xs ++ ys)) ≡ goes_on (parts_of (x ∷ xs)) (parts_of ys)
+goes_on_case x xs ys true e ih =
     let p = λ (octet : ℕ). octet == 10 in
-    slice_split-cons_yes p x (xs ++ ys) e
-    ∙ ap (λ (ps : List (List ℕ)). [] ∷ ps) ih
-    ∙ sym (glued-cons [] (parts_of xs) (parts_of ys) (text_has_parts xs))
-    ∙ ap (λ (ps : List (List ℕ)). glued ps (parts_of ys)) (sym (slice_split-cons_yes p x xs e))
-glued_case x xs ys false e ih =
+    rw (
+      slice_split-cons_yes p x (xs ++ ys) e,
+      slice_split-cons_yes p x xs e,
+      all_but_last-cons [] (parts_of xs) (text_has_parts xs),
+      last_part-cons [] (parts_of xs) (text_has_parts xs),
+      ih,
+    ) refl
+goes_on_case x xs ys false e ih =
     let p = λ (octet : ℕ). octet == 10 in
-    slice_split-cons_no p x (xs ++ ys) e
-    ∙ ap (onto_first x) ih
-    ∙ onto_glued x (parts_of xs) (parts_of ys) (text_has_parts xs) (text_has_parts ys)
-    ∙ ap (λ (ps : List (List ℕ)). glued ps (parts_of ys)) (sym (slice_split-cons_no p x xs e))
+    let has = text_has_parts xs in
+    rw (slice_split-cons_no p x (xs ++ ys) e, slice_split-cons_no p x xs e, ih, has.is)
+    (goes_on-onto x has.first has.more (parts_of ys))
 
-parts_more : (xs ys : List ℕ) → parts_of (xs ++ ys) ≡ glued (parts_of xs) (parts_of ys)
-unfolding glued
+parts_more : (xs ys : List ℕ) → parts_of (xs ++ ys) ≡ goes_on (parts_of xs) (parts_of ys)
 parts_more [] ys = sym (joined-nothing (parts_of ys) (text_has_parts ys))
-parts_more (x ∷ xs) ys = glued_case x xs ys (x == 10) refl (parts_more xs ys)
+parts_more (x ∷ xs) ys = goes_on_case x xs ys (x == 10) refl (parts_more xs ys)
 
-all_but_last-glued : (part : List ℕ) (parts more : List (List ℕ))
-    → all_but_last (glued (part ∷ parts) more)
-    ≡ all_but_last (part ∷ parts) ++ all_but_last (joined (last_part (part ∷ parts)) more)
-unfolding glued
-all_but_last-glued part [] more = refl
-all_but_last-glued part (next ∷ parts) more =
-    all_but_last-cons part (glued (next ∷ parts) more) (glued_has next parts more)
-    ∙ ap (λ (ps : List (List ℕ)). part ∷ ps) (all_but_last-glued next parts more)
+module _ (xs ys : List ℕ) where
+  -- the lines of a text with more octets
+  pub ended_lines-append : ended_lines (xs ++ ys) ≡ ended_lines xs ++ all_but_last (joined (left_of xs) (parts_of ys))
+  ended_lines-append =
+      ap all_but_last (parts_more xs ys)
+      ∙ all_but_last-append (ended_lines xs) (joined (left_of xs) (parts_of ys)) (joined_has (left_of xs) (parts_of ys))
 
-last_part-glued : (part : List ℕ) (parts more : List (List ℕ))
-    → last_part (glued (part ∷ parts) more) ≡ last_part (joined (last_part (part ∷ parts)) more)
-unfolding glued
-last_part-glued part [] more = refl
-last_part-glued part (next ∷ parts) more =
-    last_part-cons part (glued (next ∷ parts) more) (glued_has next parts more)
-    ∙ last_part-glued next parts more
-
--- the lines of a text with more octets
-pub ended_lines-append : (xs ys : List ℕ)
-    → ended_lines (xs ++ ys) ≡ ended_lines xs ++ all_but_last (joined (left_of xs) (parts_of ys))
-ended_lines-append xs ys =
-    let has = text_has_parts xs in
-    ap all_but_last (parts_more xs ys)
-    ∙ ap (λ (ps : List (List ℕ)). all_but_last (glued ps (parts_of ys))) has.is
-    ∙ all_but_last-glued has.first has.more (parts_of ys)
-    ∙ ap (λ (ps : List (List ℕ)). all_but_last ps ++ all_but_last (joined (last_part ps) (parts_of ys))) (sym has.is)
-
--- what is left of a text with more octets
-pub left_of-append : (xs ys : List ℕ) → left_of (xs ++ ys) ≡ last_part (joined (left_of xs) (parts_of ys))
-left_of-append xs ys =
-    let has = text_has_parts xs in
-    ap last_part (parts_more xs ys)
-    ∙ ap (λ (ps : List (List ℕ)). last_part (glued ps (parts_of ys))) has.is
-    ∙ last_part-glued has.first has.more (parts_of ys)
-    ∙ ap (λ (ps : List (List ℕ)). last_part (joined (last_part ps) (parts_of ys))) (sym has.is)
+  -- what is left of a text with more octets
+  pub left_of-append : left_of (xs ++ ys) ≡ last_part (joined (left_of xs) (parts_of ys))
+  left_of-append =
+      ap last_part (parts_more xs ys)
+      ∙ last_part-append (ended_lines xs) (joined (left_of xs) (parts_of ys)) (joined_has (left_of xs) (parts_of ys))
 
 -- What a line, and what a piece, adds to a text that is played.
-
-pub and_assoc : (a b c : Bool) → (a && b) && c ≡ a && (b && c)
-and_assoc true b c = refl
-and_assoc false b c = refl
-
-and-true : (a : Bool) → a && true ≡ a
-and-true true = refl
-and-true false = refl
-
-abbrev stand : {S : Type 0} → S → List ℕ → List ℕ → Bool → Standing S
-stand s left text good = record { text = text; player = s; all_good = good; left = left }
-
-stands : {S : Type 0} (s : S) (left : List ℕ) (t u : List ℕ) (a b : Bool) → t ≡ u → a ≡ b
-    → stand s left t a ≡ stand s left u b
-stands s left t u a b e f = ap (λ (x : List ℕ). stand s left x a) e ∙ ap (stand s left u) f
 
 module _ {S : Type 0} (playing : Playing S) where
   -- a line, and then others
@@ -207,34 +140,26 @@ module _ {S : Type 0} (playing : Playing S) where
   played_one st line first more =
       let then_on = playing.after st.player line in
       let lines = all_but_last (first ∷ more) in
-      stands (after_lines playing then_on lines) (last_part (first ∷ more)) _ _ _ _
-      (append_assoc st.text (playing.answer st.player line ++ []) (answers playing then_on lines)
-      ∙ ap (λ (t : List ℕ). st.text ++ (t ++ answers playing then_on lines))
-      (append-nil (playing.answer st.player line)))
-      (and_assoc st.all_good (playing.is_good st.player line && true) (are_good playing then_on lines)
-      ∙ ap (λ (b : Bool). st.all_good && (b && are_good playing then_on lines))
-      (and-true (playing.is_good st.player line)))
+      rw (
+        append-nil (playing.answer st.player line),
+        and-true (playing.is_good st.player line),
+        append_assoc st.text (playing.answer st.player line) (answers playing then_on lines),
+        and_assoc st.all_good (playing.is_good st.player line) (are_good playing then_on lines),
+      ) refl
 
   -- octets in which a line feed ends a line
   fed_line : (st : Standing S) (part rest after : List ℕ) → parts_of rest ≡ part ∷ parts_of after
       → fed playing (played playing st ((st.left ++ part) ∷ [] ∷ [])) after ≡ fed playing st rest
   fed_line st part rest after e =
       let has = text_has_parts after in
-      let line = st.left ++ part in
-      ap (played playing (played playing st (line ∷ [] ∷ [])))
-      (joined-nothing (parts_of after) has ∙ has.is)
-      ∙ played_one st line has.first has.more
-      ∙ ap (λ (ps : List (List ℕ)). played playing st (line ∷ ps)) (sym has.is)
-      ∙ ap (λ (ps : List (List ℕ)). played playing st (joined st.left ps)) (sym e)
+      rw (e, has.is) (played_one st (st.left ++ part) has.first has.more)
 
   -- the same, from what the code has: octets go on the part that is there, and that is played as a line
   pub fed_after : (st next : Standing S) (line part rest after : List ℕ) → line ≡ st.left ++ part
       → next ≡ played playing (record st { left = line }) (line ∷ [] ∷ []) → parts_of rest ≡ part ∷ parts_of after
       → fed playing next after ≡ fed playing st rest
   fed_after st next line part rest after goes_on plays cuts =
-      ap (λ (x : Standing S). fed playing x after)
-      (plays ∙ ap (λ (l : List ℕ). played playing (record st { left = l }) (l ∷ [] ∷ [])) goes_on)
-      ∙ fed_line st part rest after cuts
+      rw (plays, goes_on) (fed_line st part rest after cuts)
 
 -- How far a stream of text is played, and what a piece adds to that.
 
@@ -263,9 +188,7 @@ module _ {S : Type 0} (playing : Playing S) where
       ≡ answers playing s lines ++ answers playing (after_lines playing s lines) more
   answers-append s [] more = refl
   answers-append s (line ∷ lines) more =
-      ap (λ (t : List ℕ). playing.answer s line ++ t) (answers-append (playing.after s line) lines more)
-      ∙ sym (append_assoc (playing.answer s line) (answers playing (playing.after s line) lines)
-      (answers playing (after_lines playing (playing.after s line) lines) more))
+      rw (answers-append (playing.after s line) lines more, append_assoc) refl
 
   after_lines-append : (s : S) (lines more : List (List ℕ))
       → after_lines playing s (lines ++ more) ≡ after_lines playing (after_lines playing s lines) more
@@ -277,9 +200,7 @@ module _ {S : Type 0} (playing : Playing S) where
       ≡ (are_good playing s lines && are_good playing (after_lines playing s lines) more)
   are_good-append s [] more = refl
   are_good-append s (line ∷ lines) more =
-      ap (λ (b : Bool). playing.is_good s line && b) (are_good-append (playing.after s line) lines more)
-      ∙ sym (and_assoc (playing.is_good s line) (are_good playing (playing.after s line) lines)
-      (are_good playing (after_lines playing (playing.after s line) lines) more))
+      rw (are_good-append (playing.after s line) lines more, and_assoc) refl
 
   -- where the player stands once the answers to all lines of these octets are written
   abbrev pub bare : S → List ℕ → Standing S
@@ -328,9 +249,6 @@ module _ {S : Type 0} (playing : Playing S) where
 
   -- what is written of octets when the next are played, and where the player stands then
   module _ (s : S) (octets piece : List ℕ) where
-    abbrev stands_so : S → Bool → List ℕ → Standing S
-    stands_so t b left = record { text = []; player = t; all_good = b; left = left }
-
     abbrev next_lines : List (List ℕ)
     next_lines = all_but_last (joined (left_of octets) (parts_of piece))
 
@@ -341,18 +259,12 @@ module _ {S : Type 0} (playing : Playing S) where
 
     fed_bare : record (fed playing (bare s octets) piece) { text = [] } ≡ bare s (octets ++ piece)
     fed_bare =
-        let lines = ended_lines octets ++ next_lines in
-        let so_far : S = after_lines playing s (ended_lines octets) in
-        let left = last_part (joined (left_of octets) (parts_of piece)) in
-        ap (λ (x : Bool). stands_so (after_lines playing so_far next_lines) x left)
-        (sym (are_good-append s (ended_lines octets) next_lines))
-        ∙ ap (λ (x : S). stands_so x (are_good playing s lines) left)
-        (sym (after_lines-append s (ended_lines octets) next_lines))
-        ∙ ap (λ (x : List ℕ). stands_so (after_lines playing s lines) (are_good playing s lines) x)
-        (sym (left_of-append octets piece))
-        ∙ ap (λ (ls : List (List ℕ)).
-        stands_so (after_lines playing s ls) (are_good playing s ls) (left_of (octets ++ piece)))
-        (sym (ended_lines-append octets piece))
+        rw (
+          ended_lines-append octets piece,
+          left_of-append octets piece,
+          after_lines-append s (ended_lines octets) next_lines,
+          are_good-append s (ended_lines octets) next_lines,
+        ) refl
 
   pub adds_piece : {s : S} {old given new before taken piece : List ℕ} {code : Standing S}
       → IsUpTo s old given before taken code → new ≡ given ++ piece
@@ -361,11 +273,8 @@ module _ {S : Type 0} (playing : Playing S) where
       let more = gained_more old given new piece is.gave gives in
       let octets = gained old given in
       let text_so : taken ++ (fed playing code piece).text ≡ before ++ answers_so_far playing s (gained old new) =
-      ap (λ (t : List ℕ). t ++ (fed playing code piece).text) is.wrote
-      ∙ append_assoc before (answers_so_far playing s octets) (fed playing code piece).text
-      ∙ ap (λ (x : Standing S). before ++ (answers_so_far playing s octets ++ (fed playing x piece).text)) is.stands
-      ∙ ap (λ (t : List ℕ). before ++ t) (sym (text_more s octets piece))
-      ∙ ap (λ (o : List ℕ). before ++ answers_so_far playing s o) (sym more) in
+      rw (is.wrote, is.stands, more, text_more s octets piece)
+      (append_assoc before (answers_so_far playing s octets) (fed playing (bare s octets) piece).text) in
       record {
         gave = gained_whole old given new piece is.gave gives;
         counted = ap length more ∙ length-append octets piece;
@@ -385,24 +294,16 @@ module _ {S : Type 0} (playing : Playing S) where
         ≡ before ++ answers_of playing s (gained old new)
     text_at_end =
         let octets = gained old given in
-        let rest = answers playing code.player (line_left code.left) in
-        ap (λ (t : List ℕ). t ++ rest) is.wrote
-        ∙ append_assoc before (answers_so_far playing s octets) rest
-        ∙ ap (λ (x : Standing S). before ++ (answers_so_far playing s octets
-        ++ answers playing x.player (line_left x.left))) is.stands
-        ∙ ap (λ (t : List ℕ). before ++ t) (sym (answers_of-so_far s octets))
-        ∙ ap (λ (o : List ℕ). before ++ answers_of playing s o) (sym same)
+        rw (is.wrote, is.stands, same, answers_of-so_far s octets)
+        (append_assoc before (answers_so_far playing s octets)
+        (answers playing (after_lines playing s (ended_lines octets)) (line_left (left_of octets))))
 
     pub good_at_end : (code.all_good && are_good playing code.player (line_left code.left))
         ≡ is_all_good playing s (gained old new)
     good_at_end =
-        ap (λ (x : Standing S). x.all_good && are_good playing x.player (line_left x.left)) is.stands
-        ∙ sym (is_all_good-so_far s (gained old given))
-        ∙ ap (is_all_good playing s) (sym same)
+        rw (is.stands, same) (sym (is_all_good-so_far s (gained old given)))
 
     pub player_at_end : after_lines playing code.player (line_left code.left) ≡ after_text playing s (gained old new)
     player_at_end =
         let octets = gained old given in
-        ap (λ (x : Standing S). after_lines playing x.player (line_left x.left)) is.stands
-        ∙ sym (after_lines-append s (ended_lines octets) (line_left (left_of octets)))
-        ∙ ap (after_text playing s) (sym same)
+        rw (is.stands, same) (sym (after_lines-append s (ended_lines octets) (line_left (left_of octets))))

@@ -67,12 +67,6 @@ pulled (Some f) count out old is written begins long was =
     rw same (ap sent_text (sym (front_is (total_of On f) out (spelling On f) old written (long ∙ sym was)
     (omega (arith, was, short f out long begins)))))
 
--- Four numbers that are what they should be.
-
-pub four : (P : ℕ → ℕ → ℕ → ℕ → Type 0) (a b c d e f g h : ℕ) → a ≡ e → b ≡ f → c ≡ g → d ≡ h → P a b c d
-    → P e f g h
-four P a b c d e f g h is_a is_b is_c is_d it = rw (← is_a, ← is_b, ← is_c, ← is_d) it
-
 -- A submission that the ground refuses.
 
 abbrev pub submitting : Option LinkFault → GroundState → GroundState → Turn GroundState

@@ -1,5 +1,5 @@
 -- Counts over all MAPs.
-use Rattle.std.proofs.Common.{◌≡◌, ◌∙◌, ◌++◌, ap, ℕ, List, Result, Ok, Err, OnOk}
+use Rattle.std.proofs.Common.{◌≡◌, ◌∙◌, ◌++◌, ap, ℕ, List, Result, Ok, Err, OnOk, refl}
 use Rattle.std.specs.Prelude.{decimal}
 use Rattle.std.proofs.lemmas.List.{append_assoc}
 use Rattle.script.specs.Player.{count_below_map, count_over_maps}
@@ -16,9 +16,4 @@ pub two_counts : {E : Type 0} (r : Result (Unit {0}) E) (before middle new first
     → OnOk r (new ≡ before ++ (first ++ (decimal k ++ (second ++ decimal l))))
 two_counts (Err e) before middle new first second m n k l is same_k same_l told = tt
 two_counts (Ok done) before middle new first second m n k l is same_k same_l told =
-    told
-    ∙ ap (λ (t : List ℕ). t ++ (second ++ decimal n)) is
-    ∙ append_assoc before (first ++ decimal m) (second ++ decimal n)
-    ∙ ap (λ (t : List ℕ). before ++ t) (append_assoc first (decimal m) (second ++ decimal n))
-    ∙ ap (λ (i : ℕ). before ++ (first ++ (decimal i ++ (second ++ decimal n)))) same_k
-    ∙ ap (λ (i : ℕ). before ++ (first ++ (decimal k ++ (second ++ decimal i)))) same_l
+    told ∙ rw (is, same_k, same_l, append_assoc, append_assoc) refl

@@ -2,7 +2,7 @@
 use denote.Bor.{Bor}
 use Rattle.std.proofs.Common.{◌≡◌, ◌∙◌, ◌≤◌, ◌<◌, ◌^◌, ℕ, zero, suc, true, List, [], ◌∷◌, ◌++◌, Option, Some, refl, sym}
 use Rattle.std.proofs.Common.{ap, arith, ◌==◌, ◌&&◌, Bool, false, cond, None, inl, inr, subst}
-use Rattle.std.specs.Prelude.{◌⊎◌, codes, decimal, length, map, slice_index_or, ◌↔◌, option_map, option_and_then}
+use Rattle.std.specs.Prelude.{◌⊎◌, codes, decimal, length, map, slice_index_or, ◌↔◌, option_map}
 use Rattle.std.specs.List.{Contains, find, join_with_byte}
 use Rattle.std.specs.Option.{unwrap_or, option_or}
 use Rattle.std.specs.Map.{lookup}
@@ -27,7 +27,7 @@ use Rattle.script_lines.specs.Words.{words_in, number_in_word, octets_in_word}
 use Rattle.script_lines.specs.Spelling as spelling
 use Rattle.script_lines.specs.Spelling.{Spells, IsHex}
 use Rattle.script_lines.proofs.Spelled.{spelled_octets, printed, is_word, number_word, hex_word, two_words, three_words}
-use Rattle.script_lines.proofs.Spelled.{read_octets, read}
+use Rattle.script_lines.proofs.Spelled.{read_octets, read, mapped, chained}
 
 -- A line that is spelled is read so.
 
@@ -80,22 +80,16 @@ spelled (spelling.config p n fits) =
     ap meant (three_words (codes "config") (row_of p).name (decimal n) refl (name_word p) (number_word n below))
     ∙ ap (λ (o : Option ScriptLine). unwrap_or o Unreadable) (set p n le)
 spelled (spelling.submit map octets hex le is) =
-    let number = printed 255 map (omega arith) le in
-    let read = spelled_octets octets hex is in
     ap meant (three_words (codes "submit") (decimal map) hex refl (number_word map (omega arith)) (hex_word is))
-    ∙ rw (number, read) refl
+    ∙ rw (printed 255 map (omega arith) le, spelled_octets octets hex is) refl
 spelled (spelling.bypass map octets hex le is) =
-    let number = printed 255 map (omega arith) le in
-    let read = spelled_octets octets hex is in
     ap meant (three_words (codes "bypass") (decimal map) hex refl (number_word map (omega arith)) (hex_word is))
-    ∙ rw (number, read) refl
+    ∙ rw (printed 255 map (omega arith) le, spelled_octets octets hex is) refl
 spelled (spelling.telemetry octets hex is) =
-    let read = spelled_octets octets hex is in
-    ap meant (two_words (codes "telemetry") hex refl (hex_word is)) ∙ rw read refl
+    ap meant (two_words (codes "telemetry") hex refl (hex_word is)) ∙ rw (spelled_octets octets hex is) refl
 spelled (spelling.init_set x le) =
-    let number = printed 255 x (omega arith) le in
     ap meant (three_words (codes "init") (codes "set") (decimal x) refl refl (number_word x (omega arith)))
-    ∙ rw number refl
+    ∙ rw (printed 255 x (omega arith) le) refl
 spelled (spelling.vs x le) =
     numbered (codes "vs") x refl (omega arith) ∙ rw (printed 255 x (omega arith) le) refl
 spelled (spelling.window x le) =
@@ -107,52 +101,37 @@ spelled (spelling.timer x le) =
 spelled (spelling.resume x le) =
     numbered (codes "resume") x refl (omega arith) ∙ rw (printed 255 x (omega arith) le) refl
 spelled (spelling.up_damage octets hex is) =
-    let read = spelled_octets octets hex is in
-    ap meant (three_words (codes "up") (codes "damage") hex refl refl (hex_word is)) ∙ rw read refl
+    ap meant (three_words (codes "up") (codes "damage") hex refl refl (hex_word is))
+    ∙ rw (spelled_octets octets hex is) refl
 spelled (spelling.down_damage octets hex is) =
-    let read = spelled_octets octets hex is in
-    ap meant (three_words (codes "down") (codes "damage") hex refl refl (hex_word is)) ∙ rw read refl
+    ap meant (three_words (codes "down") (codes "damage") hex refl refl (hex_word is))
+    ∙ rw (spelled_octets octets hex is) refl
 
 -- A line that is read is spelled so.
 
 -- ---- what is found
 
-mapped : {A B : Type 0} (f : A → B) (o : Option A) (b : B) → option_map f o ≡ Some b
-    → (a : A) × (o ≡ Some a) × (f a ≡ b)
-mapped f (Some a) b e = (a, refl, same_Some (f a) b e)
-mapped f None b e = cc e
-
-chained : {A B : Type 0} (f : A → Option B) (o : Option A) (b : B) → option_and_then f o ≡ Some b
-    → (a : A) × (o ≡ Some a) × (f a ≡ Some b)
-chained f (Some a) b e = (a, refl, e)
-chained f None b e = cc e
-
-tested_as : {A : Type 0} (P : A → Type 0) {word name : List ℕ} {one other : Option A} {a : A} (is : Bool)
-    → bytes_eq word name ≡ is → cond is one other ≡ Some a
-    → (word ≡ name → one ≡ Some a → P a) → (other ≡ Some a → P a) → P a
-tested_as P {word = word} {name = name} true is e if_so if_not = if_so ((bytes_eq-Decides word name).0 is) e
-tested_as P {word = word} {name = name} false is e if_so if_not = if_not e
+on_test : {A : Type 0} (P : A → Type 0) {one other : Option A} {a : A} (test : Bool) → cond test one other ≡ Some a
+    → (test ≡ true → one ≡ Some a → P a) → (other ≡ Some a → P a) → P a
+on_test P true e if_so if_not = if_so refl e
+on_test P false e if_so if_not = if_not e
 
 -- a test of a word
 tested : {A : Type 0} (P : A → Type 0) {word name : List ℕ} {one other : Option A} {a : A}
     → cond (bytes_eq word name) one other ≡ Some a
     → (word ≡ name → one ≡ Some a → P a) → (other ≡ Some a → P a) → P a
-tested P {word = word} {name = name} e if_so if_not = tested_as P (bytes_eq word name) refl e if_so if_not
-
-both_as : {A : Type 0} (P : A → Type 0) {word name next kind : List ℕ} {one other : Option A} {a : A} (is : Bool)
-    → bytes_eq word name && bytes_eq next kind ≡ is → cond is one other ≡ Some a
-    → (word ≡ name → next ≡ kind → one ≡ Some a → P a) → (other ≡ Some a → P a) → P a
-both_as P {word = word} {name = name} {next = next} {kind = kind} true is e if_so if_not =
-    let parts = and_parts (bytes_eq word name) (bytes_eq next kind) is in
-    if_so ((bytes_eq-Decides word name).0 parts.0) ((bytes_eq-Decides next kind).0 parts.1) e
-both_as P {word = word} {name = name} {next = next} {kind = kind} false is e if_so if_not = if_not e
+tested P {word = word} {name = name} e if_so if_not =
+    on_test P (bytes_eq word name) e (λ is. if_so ((bytes_eq-Decides word name).0 is)) if_not
 
 -- a test of two words
 tested_both : {A : Type 0} (P : A → Type 0) {word name next kind : List ℕ} {one other : Option A} {a : A}
     → cond (bytes_eq word name && bytes_eq next kind) one other ≡ Some a
     → (word ≡ name → next ≡ kind → one ≡ Some a → P a) → (other ≡ Some a → P a) → P a
 tested_both P {word = word} {name = name} {next = next} {kind = kind} e if_so if_not =
-    both_as P (bytes_eq word name && bytes_eq next kind) refl e if_so if_not
+    on_test P (bytes_eq word name && bytes_eq next kind) e (λ is. (
+    let parts = and_parts (bytes_eq word name) (bytes_eq next kind) is in
+    if_so ((bytes_eq-Decides word name).0 parts.0) ((bytes_eq-Decides next kind).0 parts.1)
+    )) if_not
 
 moved : {what other : ScriptLine} {text line : List ℕ} → Spells what text → what ≡ other → line ≡ text
     → Spells other line
@@ -171,8 +150,8 @@ plain line what e =
     (λ is same. moved spelling.show (same_Some Showing what same) is)
     (λ f.
     let event = mapped Happening (lookup (bytes_eq line) plain_events) what f in
-    let has = Contains-from_lookup (λ x y. (bytes_eq-Decides x y).0) line event.0 plain_events event.1 in
-    moved (spelling.plain event.0 line has) event.2 refl)
+    let has = Contains-from_lookup (λ x y. (bytes_eq-Decides x y).0) line event.value plain_events event.is in
+    moved (spelling.plain event.value line has) event.gives refl)
 
 -- ---- lines of two words
 
@@ -185,15 +164,15 @@ module _ (name word : List ℕ) where
       → option_map (λ x. Happening (event x)) (number_in_word most word) ≡ Some a → Pair a
   with_number text most event a small spells is e =
       let n = mapped (λ x. Happening (event x)) (number_in_word most word) a e in
-      let number = read most n.0 word small n.1 in
-      moved (spells n.0 number.1) n.2 (one_more is number.0)
+      let number = read most n.value word small n.is in
+      moved (spells n.value number.1) n.gives (one_more is number.0)
 
   with_octets : (text : List ℕ) (event : List ℕ → Event) (a : ScriptLine)
       → ((octets hex : List ℕ) → IsHex octets hex → Spells (Happening (event octets)) (text ++ 32 ∷ hex)) → name ≡ text
       → option_map (λ octets. Happening (event octets)) (octets_in_word word) ≡ Some a → Pair a
   with_octets text event a spells is e =
       let o = mapped (λ octets. Happening (event octets)) (octets_in_word word) a e in
-      moved (spells o.0 word (read_octets o.0 word o.1)) o.2 (one_more is refl)
+      moved (spells o.value word (read_octets o.value word o.is)) o.gives (one_more is refl)
 
   read_two_words : (what : ScriptLine) → line_of_two_words name word ≡ Some what → Pair what
   read_two_words what e =
@@ -229,10 +208,10 @@ module _ (name first second : List ℕ) where
   parameter_set what is e =
       let p = chained (λ q. option_map (λ n. Setting q n) (number_in_word (most_for q) second)) (parameter_named first)
       what e in
-      let n = mapped (λ x. Setting p.0 x) (number_in_word (most_for p.0) second) what p.2 in
-      let number = read (most_for p.0) n.0 second (most_small p.0) n.1 in
-      moved (spelling.config p.0 n.0 (small_or_in_range p.0 n.0 number.1)) n.2
-      (one_more is (one_more (name_found first all_in_order p.0 p.1) number.0))
+      let n = mapped (λ x. Setting p.value x) (number_in_word (most_for p.value) second) what p.gives in
+      let number = read (most_for p.value) n.value second (most_small p.value) n.is in
+      moved (spelling.config p.value n.value (small_or_in_range p.value n.value number.1)) n.gives
+      (one_more is (one_more (name_found first all_in_order p.value p.is) number.0))
 
   submitted : (text : List ℕ) (event : ℕ → Bor (List ℕ) → Event) (what : ScriptLine)
       → ((map : ℕ) (octets hex : List ℕ) → map ≤ 255 → IsHex octets hex
@@ -241,17 +220,18 @@ module _ (name first second : List ℕ) where
   submitted text event what spells is e =
       let m = chained (λ x. option_map (λ octets. Happening (event x (borrow_of octets))) (octets_in_word second))
       (number_in_word 255 first) what e in
-      let o = mapped (λ octets. Happening (event m.0 (borrow_of octets))) (octets_in_word second) what m.2 in
-      let number = read 255 m.0 first (omega arith) m.1 in
-      moved (spells m.0 o.0 second number.1 (read_octets o.0 second o.1)) o.2 (one_more is (one_more number.0 refl))
+      let o = mapped (λ octets. Happening (event m.value (borrow_of octets))) (octets_in_word second) what m.gives in
+      let number = read 255 m.value first (omega arith) m.is in
+      moved (spells m.value o.value second number.1 (read_octets o.value second o.is)) o.gives
+      (one_more is (one_more number.0 refl))
 
   set_vr : (what : ScriptLine) → name ≡ codes "init" → first ≡ codes "set"
       → option_map (λ x. Happening (events.Directive (directives.InitSetVr x))) (number_in_word 255 second) ≡ Some what
       → Three what
   set_vr what is kind e =
       let n = mapped (λ x. Happening (events.Directive (directives.InitSetVr x))) (number_in_word 255 second) what e in
-      let number = read 255 n.0 second (omega arith) n.1 in
-      moved (spelling.init_set n.0 number.1) n.2 (one_more is (one_more kind number.0))
+      let number = read 255 n.value second (omega arith) n.is in
+      moved (spelling.init_set n.value number.1) n.gives (one_more is (one_more kind number.0))
 
   damaged : (text : List ℕ) (event : List ℕ → Event) (what : ScriptLine)
       → ((octets hex : List ℕ) → IsHex octets hex
@@ -260,7 +240,7 @@ module _ (name first second : List ℕ) where
       → option_map (λ octets. Happening (event octets)) (octets_in_word second) ≡ Some what → Three what
   damaged text event what spells is kind e =
       let o = mapped (λ octets. Happening (event octets)) (octets_in_word second) what e in
-      moved (spells o.0 second (read_octets o.0 second o.1)) o.2 (one_more is (one_more kind refl))
+      moved (spells o.value second (read_octets o.value second o.is)) o.gives (one_more is (one_more kind refl))
 
   read_three_words : (what : ScriptLine) → line_of_three_words name first second ≡ Some what → Three what
   read_three_words what e =

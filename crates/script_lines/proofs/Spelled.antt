@@ -7,7 +7,8 @@ use Rattle.std.proofs.Common.{arith, rules, Result, Ok, Err, ◌≤◌, cond, So
 use Rattle.std.proofs.Common.{◌+◌, ◌*◌, ◌/◌, ◌%◌, ◌==◌, ◌||◌, inl, inr, slice_index, subst, ◌++◌, not}
 use Rattle.hex.proofs.HexLemmas.{decode_of-even, decode_of-ok, IsDigits-lower_digits, IsDigits-upper_digits}
 use Rattle.hex.proofs.Pairs.{cons_byte, decode_pairs-ok_pair}
-use Rattle.std.specs.Prelude.{decimal, ◌↔◌, codes}
+use Rattle.std.specs.Prelude.{decimal, ◌↔◌, codes, option_map, option_and_then}
+use Rattle.std.proofs.lemmas.Option.{same_Some}
 use Rattle.std.specs.Option.{unwrap_or, SomeIff}
 use Rattle.std.proofs.lemmas.Bool.{leb-true, le-leb, and_parts, cases_lt, eqb-true, not-true}
 use Rattle.std.proofs.lemmas.Fmt.{decimal-digits_value, digits_value-decimal, digits_decimal, first_decimal}
@@ -26,6 +27,26 @@ use Rattle.std.proofs.lemmas.List.Splits.{slice_split_at, slice_split_none}
 use Rattle.std.proofs.lemmas.List.Sums.{AllPass-from_list_all}
 use Rattle.script_lines.specs.Words.{starts_well, is_numeral, number_in_word, octets_in_word, words_in}
 use Rattle.script_lines.specs.Spelling.{IsHexDigit, IsPairs, no_pair, pair, IsHex, no_octets, some_octets}
+
+-- What is found where a chain of options answers.
+
+pub record Mapped {A B : Type 0} (f : A → B) (o : Option A) (b : B) : Type 0 where
+  pub value : A
+  pub is : o ≡ Some value
+  pub gives : f value ≡ b
+
+pub mapped : {A B : Type 0} (f : A → B) (o : Option A) (b : B) → option_map f o ≡ Some b → Mapped f o b
+mapped f (Some a) b e = record { value = a; is = refl; gives = same_Some (f a) b e }
+mapped f None b e = cc e
+
+pub record Chained {A B : Type 0} (f : A → Option B) (o : Option A) (b : B) : Type 0 where
+  pub value : A
+  pub is : o ≡ Some value
+  pub gives : f value ≡ Some b
+
+pub chained : {A B : Type 0} (f : A → Option B) (o : Option A) (b : B) → option_and_then f o ≡ Some b → Chained f o b
+chained f (Some a) b e = record { value = a; is = refl; gives = e }
+chained f None b e = cc e
 
 -- Numerals, and what `parse` makes of them.
 

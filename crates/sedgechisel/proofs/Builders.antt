@@ -4,9 +4,11 @@ use Rattle.std.proofs.Common.{take, drop, map, Option, Some, None, Ok, Err, refl
 use Rattle.std.proofs.Common.{◌⊎◌, length-take, length-drop, length-append}
 use Rattle.std.specs.Prelude.{◌==◌, ◌%◌, ◌||◌, nat_le, if◌then◌else◌, IfOk}
 use Rattle.std.specs.List.{concat}
+use Rattle.std.proofs.Math.Bool.{or-false, or-true}
+use Rattle.std.proofs.lemmas.Bool.Decides.{nat_tests}
 use Rattle.std.proofs.lemmas.Bool.{and_parts, le-leb, lt-leb, le-ltb, leb-true, eqb-true, cases_lt}
 use Rattle.std.proofs.lemmas.Grind.{common_steps}
-use Rattle.std.proofs.lemmas.List.{drop_all, drop-drop, drop-append-le, map-append, drop-take}
+use Rattle.std.proofs.lemmas.List.{drop_all, drop-drop, drop-append-le, map-append, drop-take, nil_from_length}
 use Rattle.octets.proofs.Streams.{records_of-append, rest_of-append}
 use Rattle.space_packet.specs.Laws.{extent_has_header}
 use Rattle.space_packet.specs.Packets.{first_packet, packets_in, rest_in, is_packet}
@@ -22,14 +24,6 @@ use Rattle.sedgechisel.specs.Answers.{damaged}
 use Rattle.sedgechisel.specs.Builders.{queued_at, built_at, pending_of, whole_of, has_numbers, is_builder, state_of}
 use Rattle.sedgechisel.specs.Builders.{builder_described, are_whole, can_send}
 
-or-false : (b : Bool) → b || false ≡ b
-or-false true = refl
-or-false false = refl
-
-or-true : (b : Bool) → b || true ≡ true
-or-true true = refl
-or-true false = refl
-
 -- ---- the numbers
 
 pub record HasNumbers (b : KeptBuilder) (room : ℕ) : Type 0 where
@@ -42,20 +36,11 @@ pub numbers_are : (b : KeptBuilder) (room : ℕ) → has_numbers b room ≡ true
 numbers_are b room h = grind (arith, common_steps, h)
 
 pub numbers_hold : (b : KeptBuilder) (room : ℕ) → HasNumbers b room → has_numbers b room ≡ true
-numbers_hold b room h =
-    rw (
-      h.fits,
-      le-leb b.idle_left 6 h.idle_left,
-      le-leb b.from room (omega arith),
-      le-leb b.count (room - b.from)
-          (omega arith),
-      le-leb b.begun b.count h.begun,
-    ) refl
+numbers_hold b room h = grind (arith, common_steps, h)
 
 -- octets that end with a packet
 none_left : (xs : List ℕ) → (length xs == 0) ≡ true → xs ≡ []
-none_left [] h = refl
-none_left (x ∷ xs) h = absurd (omega (arith, eqb-true (length (x ∷ xs)) 0 h))
+none_left xs h = nil_from_length xs (eqb-true (length xs) 0 h)
 
 pub described_by : (b : KeptBuilder) (memory : List ℕ) → HasNumbers b (length memory)
     → rest_in (whole_of b memory) ≡ [] → builder_described b memory ≡ Ok (state_of b memory)
@@ -89,16 +74,14 @@ queued_whole : (whole packet : List ℕ) → rest_in whole ≡ [] → is_packet 
     → (packets_in (whole ++ packet) ≡ packets_in whole ++ packet ∷ []) × (rest_in (whole ++ packet) ≡ [])
 queued_whole whole packet none is =
     let one = one-from packet is in (
-      records_of-append 6 extent_at (omega arith) extent_has_header whole packet
-          ∙ ap (λ (xs : List ℕ). packets_in whole ++ packets_in (xs ++ packet)) none
-          ∙ ap (λ (ps : List (List ℕ)). packets_in whole ++ ps) one.1,
-      rest_of-append 6 extent_at (omega arith) extent_has_header whole packet
-          ∙ ap (λ (xs : List ℕ). rest_in (xs ++ packet)) none ∙ one.0,
+      rw (records_of-append 6 extent_at (omega arith) extent_has_header whole packet, none, one.1) refl,
+      rw (rest_of-append 6 extent_at (omega arith) extent_has_header whole packet, none, one.0) refl,
     )
 
--- the state with other octets to be sent, of packets of these sizes
-abbrev with_octets : BuilderState → List ℕ → List ℕ → BuilderState
-with_octets s pending sizes = record s { pending = pending; sizes = sizes }
+long_pending : (b : KeptBuilder) (memory : List ℕ) → HasNumbers b (length memory)
+    → length (pending_of b memory) ≡ b.count
+long_pending b memory is =
+    omega (arith, is.within, length-take b.count (drop b.from memory), length-drop b.from memory)
 
 queue_at : (b : KeptBuilder) (from : ℕ) (packet memory after : List ℕ) → IsBuilder b memory
     → is_to_send packet ≡ true
@@ -109,8 +92,7 @@ queue_at : (b : KeptBuilder) (from : ℕ) (packet memory after : List ℕ) → I
 queue_at b from packet memory after is send pending within =
     let new : KeptBuilder = record b { from = from; count = b.count + length packet } in
     let s : BuilderState = state_of b memory in
-    let long : length (pending_of b memory) ≡ b.count =
-    omega (arith, is.numbers.within, length-take b.count (drop b.from memory), length-drop b.from memory) in
+    let long : length (pending_of b memory) ≡ b.count = long_pending b memory is.numbers in
     let whole : whole_of new after ≡ whole_of b memory ++ packet =
     ap (drop b.begun) pending
     ∙ drop-append-le b.begun (pending_of b memory) packet (omega (arith, long, is.numbers.begun)) in
@@ -125,8 +107,7 @@ queue_at b from packet memory after is send pending within =
     ap (λ (xs : List ℕ). map length (packets_in xs)) whole ∙ ap (map length) queued.0
     ∙ map-append length (packets_in (whole_of b memory)) (packet ∷ []) in
     described_by new after numbers (ap rest_in whole ∙ queued.1)
-    ∙ ap (λ (xs : List ℕ). Ok (with_octets s xs (map length (packets_in (whole_of new after))))) pending
-    ∙ ap (λ (ns : List ℕ). Ok (with_octets s (pending_of b memory ++ packet) ns)) sizes
+    ∙ rw (sizes, pending) refl
 
 pub queue_described : (b new : KeptBuilder) (packet memory after : List ℕ) → is_builder b memory ≡ true
     → is_to_send packet ≡ true
@@ -141,10 +122,6 @@ queue_described b new packet memory after is send same pending within =
     (ap (λ (n : ℕ). take n (drop new.from after)) (sym count) ∙ pending) (omega (arith, count, within)))
 
 -- ---- octets that are sent
-
-abbrev with_all : BuilderState → ℕ → List ℕ → ℕ → List ℕ → BuilderState
-with_all s idle pending begun sizes =
-    record s { idle_left = idle; pending = pending; begun = begun; sizes = sizes }
 
 -- what is left of the packet that is begun then stands first in these octets, and packets of these sizes after it, and
 -- these octets after them
@@ -237,14 +214,11 @@ left_of (p ∷ ps) begun room pending behind le is rest reach =
           let ahead : begun + (room - begun) ≡ room = omega arith in
           let same : drop (room - begun) whole ≡ drop room pending =
           drop-drop (room - begun) begun pending ∙ ap (λ (n : ℕ). drop n pending) ahead in
-          subst (λ (r : ℕ × List ℕ). IsLeft r (drop room pending) behind)
-          (sym (passed_beyond room begun (length p) (map length ps) lt))
-          (subst (λ (xs : List ℕ). IsLeft (left_after (room - begun) (length p) (map length ps)) xs behind) same
+          rw (passed_beyond room begun (length p) (map length ps) lt, ← same)
           (left_of ps (length p) (room - begun) whole behind first.within first.packets (first.rest ∙ rest)
-          (reach_further behind p ps begun room lt reach)))
+          (reach_further behind p ps begun room lt reach))
       | inr few ↦
-          subst (λ (r : ℕ × List ℕ). IsLeft r (drop room pending) behind)
-          (sym (passed_within room begun (map length (p ∷ ps)) few))
+          rw (passed_within room begun (map length (p ∷ ps)) few)
           (left_within begun room pending behind (map length (p ∷ ps)) le few (ap (map length) is) rest)
     ]
 
@@ -261,9 +235,7 @@ pub passed_one : (rest : List ℕ) (left room n : ℕ) → left < room → Some 
 passed_one rest left room n lt first within =
     let long : length (take n rest) ≡ n = omega (arith, length-take n rest) in
     let sizes : List ℕ = map length (packets_in (drop n rest)) in
-    ap (λ (ps : List (List ℕ)). left_after room left (map length ps)) (one_more-by_len rest n first within).0
-    ∙ passed_beyond room left (length (take n rest)) sizes lt
-    ∙ ap (λ (k : ℕ). left_after (room - left) k sizes) long
+    rw ((one_more-by_len rest n first within).0, passed_beyond room left (length (take n rest)) sizes lt, long) refl
 
 pub passed_none : (rest : List ℕ) (left room : ℕ) → left < room → first_packet rest ≡ None
     → (left_after room left (map length (packets_in rest))).0 ≡ 0
@@ -284,14 +256,11 @@ passed_octets count room from memory =
       | inl lt ↦
           let passed : min room count ≡ room = omega arith in
           let all : room + (count - room) ≡ count = omega arith in
-          ap (λ (n : ℕ). take (count - n) (drop (from + n) memory)) passed
-          ∙ ap (take (count - room)) (sym (drop-drop room from memory))
-          ∙ sym (drop-take room (count - room) (drop from memory))
-          ∙ ap (λ (n : ℕ). drop room (take n (drop from memory))) all
+          rw (passed, ← drop-drop room from memory, ← drop-take room (count - room) (drop from memory), all) refl
       | inr le ↦
           let none : count - min room count ≡ 0 = omega arith in
-          ap (λ (n : ℕ). take n (drop (from + min room count) memory)) none
-          ∙ sym (drop_all room (take count (drop from memory)) (omega (arith, length-take count (drop from memory))))
+          let past = drop_all room (take count (drop from memory)) (omega (arith, length-take count (drop from memory))) in
+          rw (none, past) refl
     ]
 
 -- a builder after a data field
@@ -305,23 +274,16 @@ pub sends : (b : KeptBuilder) (memory : List ℕ) → can_send b memory ≡ true
 sends b memory h =
     let both = and_parts (has_numbers b (length memory)) _ h in (numbers_are b (length memory) both.0, both.1)
 
-long_pending : (b : KeptBuilder) (memory : List ℕ) → HasNumbers b (length memory)
-    → length (pending_of b memory) ≡ b.count
-long_pending b memory is =
-    omega (arith, is.within, length-take b.count (drop b.from memory), length-drop b.from memory)
-
 sent_pending : (b : KeptBuilder) (memory : List ℕ) (room begun passed idle : ℕ) → passed ≡ min room b.count
     → pending_of (sent_by b room begun passed idle) memory ≡ drop room (pending_of b memory)
-sent_pending b memory room begun passed idle is =
-    ap (λ (n : ℕ). take (b.count - n) (drop (b.from + n) memory)) is ∙ passed_octets b.count room b.from memory
+sent_pending b memory room begun passed idle is = rw is (passed_octets b.count room b.from memory)
 
 sent_whole : (b : KeptBuilder) (memory : List ℕ) (room begun passed idle : ℕ) (sizes : List ℕ)
     → passed ≡ min room b.count → begun ≡ (left_after room b.begun sizes).0
     → whole_of (sent_by b room begun passed idle) memory
     ≡ drop (left_after room b.begun sizes).0 (drop room (pending_of b memory))
 sent_whole b memory room begun passed idle sizes passed-is begun-is =
-    ap (drop begun) (sent_pending b memory room begun passed idle passed-is)
-    ∙ ap (λ (n : ℕ). drop n (drop room (pending_of b memory))) begun-is
+    rw (sent_pending b memory room begun passed idle passed-is, begun-is) refl
 
 sent_left : (b : KeptBuilder) (memory : List ℕ) (room : ℕ) → HasNumbers b (length memory)
     → are_whole (whole_of b memory) b.begun room ≡ true
@@ -340,22 +302,16 @@ pub send_state : (b : KeptBuilder) (memory : List ℕ) (room begun passed idle s
     → idle ≡ idle_after size b.idle_left b.count
     → state_of (sent_by b room begun passed idle) memory ≡ after_send (state_of b memory) size
 send_state b memory room begun passed idle size numbers whole room-is passed-is begun-is idle-is =
-    let new : KeptBuilder = sent_by b room begun passed idle in
-    let s : BuilderState = state_of b memory in
     let sizes : List ℕ = map length (packets_in (whole_of b memory)) in
     let left = sent_left b memory room numbers whole in
-    ap (λ (xs : List ℕ). with_all s idle xs begun (map length (packets_in (whole_of new memory))))
-    (sent_pending b memory room begun passed idle passed-is)
-    ∙ ap (λ (ns : List ℕ). with_all s idle (drop room (pending_of b memory)) begun ns)
-    (ap (λ (xs : List ℕ). map length (packets_in xs))
-    (sent_whole b memory room begun passed idle sizes passed-is begun-is) ∙ left.sizes)
-    ∙ ap (λ (n : ℕ). with_all s idle (drop room (pending_of b memory)) n (left_after room b.begun sizes).1)
-    begun-is
-    ∙ ap (λ (n : ℕ). with_all s n (drop room (pending_of b memory)) (left_after room b.begun sizes).0
-    (left_after room b.begun sizes).1)
-    (idle-is ∙ ap (idle_after size b.idle_left) (sym (long_pending b memory numbers)))
-    ∙ ap (λ (n : ℕ). with_all s (idle_after size b.idle_left (length s.pending)) (drop n s.pending)
-    (left_after n b.begun sizes).0 (left_after n b.begun sizes).1) room-is
+    rw (
+      sent_whole b memory room begun passed idle sizes passed-is begun-is,
+      left.sizes,
+      sent_pending b memory room begun passed idle passed-is,
+      begun-is,
+      idle-is ∙ ap (idle_after size b.idle_left) (sym (long_pending b memory numbers)),
+      room-is,
+    ) refl
 
 pub send_described : (b : KeptBuilder) (memory : List ℕ) (room begun passed idle size : ℕ) → is_builder b memory ≡ true
     → room ≡ size - b.idle_left → passed ≡ min room b.count
@@ -389,13 +345,7 @@ send_described b memory room begun passed idle size is room-is passed-is begun-i
 -- ---- whole packets as far as a frame reaches
 
 further : (room left all : ℕ) → left < room → nat_le (room - left) all ≡ nat_le room (left + all)
-further room left all lt =
-    elim (cases_lt all (room - left)) [
-      | inl less ↦
-          let beyond : left + all < room = omega arith in
-          lt-leb (room - left) all less ∙ sym (lt-leb room (left + all) beyond)
-      | inr le ↦ le-leb (room - left) all le ∙ sym (le-leb room (left + all) (omega arith))
-    ]
+further room left all lt = grind (arith, nat_tests)
 
 -- the packet that was begun is passed, and the next one is whole
 pub whole_one : (rest : List ℕ) (left room n : ℕ) → left < room → Some (take n rest) ≡ first_packet rest
@@ -411,22 +361,17 @@ whole_one rest left room n lt first within =
       length-append (take n rest) behind,
       length-take n rest,
     ) in
-    ap (λ (b : Bool). (length (rest_in (drop n rest)) == 0) || b) (further room left (n + length behind) lt)
-    ∙ ap (λ (k : ℕ). (length (rest_in (drop n rest)) == 0) || nat_le room (left + k)) (sym count)
-    ∙ ap (λ (xs : List ℕ). (length xs == 0) || nat_le room (left + length (concat (packets_in rest)))) (sym one.1)
+    rw (further room left (n + length behind) lt, count, one.1) refl
 
 pub whole_none : (rest : List ℕ) (left room : ℕ) → left < room → first_packet rest ≡ None
     → are_whole rest left room ≡ (length rest == 0)
 whole_none rest left room lt none =
     let no = no_more rest none in
-    ap (λ (xs : List ℕ). (length xs == 0) || nat_le room (left + length (concat (packets_in rest)))) no.1
-    ∙ ap (λ (ps : List (List ℕ)). (length rest == 0) || nat_le room (left + length (concat ps))) no.0
-    ∙ ap (λ (b : Bool). (length rest == 0) || b) (lt-leb room (left + 0) (omega arith)) ∙ or-false (length rest == 0)
+    rw (no.1, no.0, lt-leb room (left + 0) (omega arith)) (or-false (length rest == 0))
 
 pub whole_all : (rest : List ℕ) (left room : ℕ) → room ≤ left → are_whole rest left room ≡ true
 whole_all rest left room le =
-    ap (λ (b : Bool). (length (rest_in rest) == 0) || b) (le-leb room (left + length (concat (packets_in rest)))
-    (omega arith)) ∙ or-true (length (rest_in rest) == 0)
+    rw (le-leb room (left + length (concat (packets_in rest))) (omega arith)) (or-true (length (rest_in rest) == 0))
 
 -- ---- the next frame's count
 
@@ -443,11 +388,6 @@ pub counted : (b : KeptBuilder) (memory : List ℕ) (s : BuilderState) → build
 counted b memory s h = counted_by b memory s (is_builder b memory) h
 
 -- ---- what a call answers
-
-pub if_taken : {A : Type 0} (b : Bool) (x : A) (number : ℕ) (P : A → Type 0) → b ≡ true → P x
-    → IfOk (if b then Ok x else Err number) P
-if_taken true x number P e p = p
-if_taken false x number P e p = absurd cc
 
 pub queue_taken : (b : KeptBuilder) (packet memory : List ℕ) (new : KeptBuilder) (after : List ℕ)
     → has_numbers b (length memory) ≡ true → is_to_send packet ≡ true → b.count + length packet ≤ length memory

@@ -9,7 +9,7 @@ use Rattle.tc_frame.specs.declared.frame.SegmentFlags.{SegmentFlags}
 use Rattle.tc_frame.specs.declared.frame.SegmentFlags.TheVariants.{First}
 use Rattle.tc_frame.specs.declared.frame.Command.TheVariants.{Unlock, SetVr}
 use Rattle.tc_frame.specs.Layout as tc
-use Rattle.tc_frame.specs.Layout.{BodyView, Ad, Bd, Bc, body_octets, check_length, flags_code}
+use Rattle.tc_frame.specs.Layout.{BodyView, Ad, Bd, Bc, body_octets, check_length}
 use Rattle.tc_frame.specs.Decoding.{frame_with}
 use Rattle.tc_frame.specs.Decoding as tc_reading
 use Rattle.tc_frame.specs.Splitter.{check_if}
@@ -19,8 +19,6 @@ use Rattle.tc_frame.specs.declared.frame.TcFrame.{TcFrame}
 use Rattle.tc_frame.specs.declared.fault.TcFault.{TcFault}
 use Rattle.tc_frame.proofs.Spelled as tc_frames
 use Rattle.tm_link.specs.Layout as tm
-use Rattle.tm_link.specs.Layout.{pointer_number}
-use Rattle.tm_link.specs.Decoding.{pointer_at}
 use Rattle.tm_link.specs.Decoding as tm_reading
 use Rattle.tm_link.specs.Faults as tm_faults
 use Rattle.tm_link.specs.declared.frame.TmFrame.{TmFrame}

@@ -1,15 +1,14 @@
 -- An extractor of packets from telemetry frames, with a part in the caller's memory, and frames one after another.
 use Rattle.std.proofs.Common.{◌≡◌, ◌≤◌, ℕ, ◌+◌, ◌-◌, Bool, true, false, List, [], ◌∷◌, ◌++◌, length, take, drop, Some}
-use Rattle.std.proofs.Common.{None, Ok, Err, refl, sym, ap, subst, ◌∙◌, arith, not, ◌<◌, suc, Result, length-take}
+use Rattle.std.proofs.Common.{None, Ok, Err, refl, sym, ap, ◌∙◌, arith, not, ◌<◌, suc, Result, length-take}
 use Rattle.std.proofs.Common.{length-drop, length-append}
-use Rattle.std.specs.Prelude.{nat_lt, if◌then◌else◌, ◌==◌, ◌||◌, OnOk, OnErr}
-use Rattle.std.proofs.lemmas.Bool.{not-true, eqb-true, ne_eqb}
-use Rattle.std.proofs.lemmas.List.{drop_all, drop-drop, append-nil, take_rest, append_assoc}
+use Rattle.std.specs.Prelude.{nat_lt, if◌then◌else◌, ◌==◌, ◌||◌}
+use Rattle.std.proofs.lemmas.Bool.{eqb-true, ne_eqb}
+use Rattle.std.proofs.lemmas.List.{append-nil, take_rest, append_assoc}
 use Rattle.std.specs.List.{concat}
 use Rattle.std.proofs.lemmas.Grind.{common_steps}
 use Rattle.octets.specs.Outcome.{map_ok}
 use Rattle.space_packet.specs.Packets.{first_packet, packets_in, rest_in}
-use Rattle.space_packet.proofs.WholePackets.{one_more-by_len, no_more}
 use Rattle.map_service.proofs.Groups.{packets-split}
 use Rattle.tm_link.specs.declared.frame.Pointer.{Pointer}
 use Rattle.tm_link.specs.declared.frame.Pointer.TheVariants.{At, NoStart, OnlyIdle}
@@ -25,52 +24,38 @@ use Rattle.sedgechisel.specs.declared.telemetry_frame.ReportFrame.{ReportFrame}
 use Rattle.sedgechisel.specs.declared.telemetry_extractor.KeptExtractor.{KeptExtractor}
 use Rattle.sedgechisel.specs.declared.telemetry_extractor.TakenFrame.{TakenFrame}
 use Rattle.sedgechisel.specs.declared.telemetry_extractor.Kept.{Kept}
-use Rattle.sedgechisel.specs.Answers.{damaged, and_then, status_of, left_by}
-use Rattle.sedgechisel.specs.TelemetryFrames.{frame_described, frame_read, fields_of}
+use Rattle.sedgechisel.specs.Answers.{damaged, and_then, status_of}
+use Rattle.sedgechisel.specs.TelemetryFrames.{frame_described}
 use Rattle.sedgechisel.specs.Extractors.{is_extractor, state_of, last_of, place_over_gap, octets_at, joined_at}
 use Rattle.sedgechisel.specs.Extractors.{joined_by, need_of, packets_from, gap_at, extracted_at, extracted_described}
 use Rattle.sedgechisel.specs.Extractors.{DescribesExtracted, IsKept, extractor_described, is_extracted, is_dropped}
 use Rattle.sedgechisel.specs.Extractors.{is_cut_off, front_of, came_from, first_by, lost_by, handed_from}
-use Rattle.sedgechisel.specs.Extractors.{extracted_with, came_of, came_fields, record_with, record_of, no_fields, Run}
+use Rattle.sedgechisel.specs.Extractors.{extracted_with, came_of, record_of, Run}
 use Rattle.sedgechisel.specs.Extractors.{is_end, nothing, before, run_from, packets_by, state_by}
 use Rattle.sedgechisel.specs.declared.extracted_frames.Came.{Came}
-
--- An extractor of packets from telemetry frames, with a part in the caller's memory.
+use Rattle.sedgechisel.proofs.Following.{stands_at, none_at, none_past}
 
 -- ---- packets one after another
-
-handed : (p : List ℕ) (ps : List (List ℕ)) → is_idle p ≡ false → without_idle (p ∷ ps) ≡ p ∷ without_idle ps
-handed p ps h = rw h refl
-
-kept_back : (p : List ℕ) (ps : List (List ℕ)) → is_idle p ≡ true → without_idle (p ∷ ps) ≡ without_idle ps
-kept_back p ps h = rw h refl
 
 -- where packets begin
 abbrev pub begins_at : ℕ → Part
 begins_at n = record { from = n; count = 0 }
-
--- the octets from a place on
-rest_is : (octets : List ℕ) (from : ℕ) → take (length octets - from) (drop from octets) ≡ drop from octets
-rest_is octets from = take_rest octets from
 
 idle_is : (octets : List ℕ) (from n : ℕ) (idle : Bool)
     → idle ≡ is_idle (take (from + n - from) (drop from octets) ++ [])
     → is_idle (take n (drop from octets)) ≡ idle
 idle_is octets from n idle h =
     let len : from + n - from ≡ n = omega arith in
-    ap (λ (k : ℕ). is_idle (take k (drop from octets))) (sym len)
-    ∙ ap is_idle (sym (append-nil (take (from + n - from) (drop from octets)))) ∙ sym h
-
-packets_from-next : (octets rest : List ℕ) (from n : ℕ) → rest ≡ drop from octets
-    → Some (take n rest) ≡ first_packet rest → n ≤ length rest
-    → packets_in (drop from octets) ≡ take n (drop from octets) ∷ packets_in (drop (from + n) octets)
-packets_from-next octets rest from n is first within =
-    ap packets_in (sym is) ∙ (one_more-by_len rest n first within).0
-    ∙ ap (λ (xs : List ℕ). take n xs ∷ packets_in (drop n xs)) is
-    ∙ ap (λ (xs : List ℕ). take n (drop from octets) ∷ packets_in xs) (drop-drop n from octets)
+    rw (len, append-nil (take n (drop from octets))) at (sym h)
 
 abbrev RestOf : List ℕ → ℕ → List ℕ
 RestOf octets from = take (length octets - from) (drop from octets)
+
+packets_from-next : (octets : List ℕ) (from n : ℕ)
+    → Some (take n (RestOf octets from)) ≡ first_packet (RestOf octets from) → n ≤ length (RestOf octets from)
+    → packets_in (drop from octets) ≡ take n (drop from octets) ∷ packets_in (drop (from + n) octets)
+packets_from-next octets from n first within =
+    stands_at octets from n (rw (take_rest octets from) at first) (rw (take_rest octets from) at within)
 
 -- a packet that isn't idle
 pub next_stands : (octets : List ℕ) (from n : ℕ)
@@ -79,31 +64,23 @@ pub next_stands : (octets : List ℕ) (from n : ℕ)
     → without_idle (packets_in (drop from octets))
     ≡ take n (drop from octets) ∷ without_idle (packets_in (drop (from + n) octets))
 next_stands octets from n first within other =
-    ap without_idle (packets_from-next octets (RestOf octets from) from n (rest_is octets from) first within)
-    ∙ handed (take n (drop from octets)) (packets_in (drop (from + n) octets)) (idle_is octets from n false other)
+    ap without_idle (packets_from-next octets from n first within) ∙ rw (idle_is octets from n false other) refl
 
 -- an idle one
 pub next_idle : (octets : List ℕ) (from n : ℕ) → Some (take n (RestOf octets from)) ≡ first_packet (RestOf octets from)
     → n ≤ length (RestOf octets from) → true ≡ is_idle (take (from + n - from) (drop from octets) ++ [])
     → without_idle (packets_in (drop from octets)) ≡ without_idle (packets_in (drop (from + n) octets))
 next_idle octets from n first within idle =
-    ap without_idle (packets_from-next octets (RestOf octets from) from n (rest_is octets from) first within)
-    ∙ kept_back (take n (drop from octets)) (packets_in (drop (from + n) octets)) (idle_is octets from n true idle)
+    ap without_idle (packets_from-next octets from n first within) ∙ rw (idle_is octets from n true idle) refl
 
 -- none
 pub next_none : (octets : List ℕ) (from : ℕ) → first_packet (RestOf octets from) ≡ None
     → without_idle (packets_in (drop from octets)) ≡ []
-next_none octets from none =
-    ap (λ (xs : List ℕ). without_idle (packets_in xs)) (sym (rest_is octets from))
-    ∙ ap without_idle (no_more (RestOf octets from) none).0
-
-nothing_kept : without_idle (packets_in []) ≡ []
-nothing_kept = ap without_idle (no_more [] refl).0
+next_none octets from none = ap without_idle (none_at octets from (rw (take_rest octets from) at none))
 
 pub nothing_past : (octets : List ℕ) (place : ℕ) → length octets ≤ place
     → without_idle (packets_in (drop place octets)) ≡ []
-nothing_past octets place past =
-    ap (λ (xs : List ℕ). without_idle (packets_in xs)) (drop_all place octets past) ∙ nothing_kept
+nothing_past octets place past = ap without_idle (none_past octets place past)
 
 -- ---- a frame
 
@@ -114,9 +91,7 @@ finished_split : (part : List ℕ) (pointer : Pointer) (payload : List ℕ)
     ≡ without_idle (finished_packets part pointer payload)
 finished_split part OnlyIdle payload = nothing_past payload (length payload) (omega arith)
 finished_split part NoStart payload =
-    ap (λ (ps : List (List ℕ)). without_idle (completed_packet part payload) ++ ps)
-    (nothing_past payload (length payload) (omega arith))
-    ∙ append-nil (without_idle (completed_packet part payload))
+    rw (nothing_past payload (length payload) (omega arith)) (append-nil (without_idle (completed_packet part payload)))
 finished_split part (At p) payload =
     sym (without_idle-append (completed_packet part (take p payload)) (packets_in (drop p payload)))
 
@@ -130,9 +105,6 @@ place_by false x memory = refl
 pub place_is : (gap : Gap) (x : KeptExtractor) (memory : List ℕ)
     → octets_at (place_over_gap gap x) memory ≡ part_over_gap gap (state_of x memory).part
 place_is gap x memory = place_by (is_any_lost gap) x memory
-
-abbrev is_extracted_with : Gap → List (List ℕ) → ExtractorState → Extracted
-is_extracted_with gap packets after = record { gap = gap; packets = packets; after = after }
 
 describes_by : (is fits short : Bool) (e d : Extracted) → is ≡ true → fits ≡ true → short ≡ false → d ≡ e
     → DescribesExtracted (if not is then Err damaged else if not fits then Err 10 else if short then Err 7 else Ok e) d
@@ -152,44 +124,24 @@ pub frame_taken : (x : KeptExtractor) (f : ReportFrame) (payload memory after pa
     → gap_at t ≡ gap → t.joined ≡ k.joined → t.packets ≡ begins_at (packets_from pointer (length payload))
     → DescribesExtracted (extracted_at x f payload memory)
     (extracted_described (kept_of k f.vc_count) t after payload)
-frame_taken x f payload memory after part pointer gap k t is at fits gap-is part-is room kept gap-at joined packets =
+frame_taken x f payload memory after part pointer gap k t is points fits gap-is part-is room kept gap-at joined
+    packets =
     let s : ExtractorState = state_of x memory in
     let real : List ℕ = part_over_gap (gap_of s.last f.vc_count) s.part in
     let ptr : Pointer = pointer_at f.pointer in
     let same : part ≡ real =
     part-is ∙ place_is gap x memory ∙ ap (λ (g : Gap). part_over_gap g s.part) gap-is in
-    let fits-at : pointer_fits ptr (length payload) ≡ true =
-    subst (λ (p : Pointer). pointer_fits p (length payload) ≡ true) at fits in
-    let room-at : nat_lt (length memory) (need_of real ptr payload) ≡ false =
-    subst (λ (xs : List ℕ). nat_lt (length memory) (need_of xs ptr payload) ≡ false) same
-    (subst (λ (p : Pointer). nat_lt (length memory) (need_of part p payload) ≡ false) at room) in
+    let fits-at : pointer_fits ptr (length payload) ≡ true = rw points at fits in
+    let room-at : nat_lt (length memory) (need_of real ptr payload) ≡ false = rw (same, points) at room in
     let begin : t.packets.from + t.packets.count ≡ packets_from pointer (length payload) =
     ap (λ (p : Part). p.from + p.count) packets ∙ omega arith in
     let all : joined_at t.joined after ++ without_idle (packets_in (drop (t.packets.from + t.packets.count) payload))
-    ≡ without_idle (finished_packets real ptr payload) =
-    ap (λ (n : ℕ). joined_at t.joined after ++ without_idle (packets_in (drop n payload))) begin
-    ∙ ap (λ (ps : List (List ℕ)). ps
-    ++ without_idle (packets_in (drop (packets_from pointer (length payload)) payload)))
-    (ap (λ (n : ℕ). joined_at n after) joined ∙ kept.joined)
-    ∙ finished_split part pointer payload
-    ∙ ap (λ (xs : List ℕ). without_idle (finished_packets xs pointer payload)) same
-    ∙ ap (λ (p : Pointer). without_idle (finished_packets real p payload)) at in
-    let left : octets_at k.part after ≡ part_after real ptr payload =
-    kept.part ∙ ap (λ (xs : List ℕ). part_after xs pointer payload) same
-    ∙ ap (λ (p : Pointer). part_after real p payload) at in
+    ≡ without_idle (finished_packets part pointer payload) =
+    rw (begin, joined, kept.joined) (finished_split part pointer payload) in
     describes_by (is_extractor x (length memory)) (pointer_fits ptr (length payload))
     (nat_lt (length memory) (need_of real ptr payload)) (extract_step s (frame_described f payload))
     (extracted_described (kept_of k f.vc_count) t after payload) is fits-at room-at
-    (ap (λ (g : Gap). is_extracted_with g (joined_at t.joined after
-    ++ without_idle (packets_in (drop (t.packets.from + t.packets.count) payload)))
-    (record { last = Some f.vc_count; part = octets_at k.part after })) (gap-at ∙ gap-is)
-    ∙ ap (λ (ps : List (List ℕ)). is_extracted_with (gap_of s.last f.vc_count) ps
-    (record { last = Some f.vc_count; part = octets_at k.part after })) all
-    ∙ ap (λ (xs : List ℕ). is_extracted_with (gap_of s.last f.vc_count)
-    (without_idle (finished_packets real ptr payload)) (record { last = Some f.vc_count; part = xs })) left)
-
-pub not_short : (short : Bool) → true ≡ not short → short ≡ false
-not_short short h = not-true short (sym h)
+    (rw (gap-at ∙ gap-is, all, kept.part, same, points) refl)
 
 -- Telemetry frames one after another, and their packets in the caller's place.
 
@@ -236,25 +188,16 @@ begun_by x room h = grind (arith, common_steps, h)
 pub is_begun : (x : KeptExtractor) (memory : List ℕ) → is_extractor x (length memory) ≡ true → (x.count ≡ 0 → ⊥)
     → (length (take x.count (drop x.from memory)) == 0) ≡ false
 is_begun x memory is some =
-    let long : length (take x.count (drop x.from memory)) ≡ x.count =
-    omega (
-      arith,
-      begun_by x (length memory) is,
-      length-take x.count (drop x.from memory),
-      length-drop x.from memory,
-    ) in
-    ne_eqb (length (take x.count (drop x.from memory))) 0
-    (λ (e : length (take x.count (drop x.from memory)) ≡ 0). some (sym long ∙ e))
+    ne_eqb (length (take x.count (drop x.from memory))) 0 (λ e. some (
+    omega (arith, e, begun_by x (length memory) is, length-take x.count (drop x.from memory), length-drop x.from memory)
+    ))
 
 pub dropped_by : (s : ExtractorState) (f : FrameView) (pointer : Pointer) (part front : List ℕ)
     → (length s.part == 0) ≡ false → is_any_lost (gap_of s.last f.vc_count) ≡ false → pointer ≡ f.pointer
     → part ≡ s.part → front ≡ front_of f.pointer f.payload
     → is_cut_off pointer (part ++ front) ≡ is_dropped s f
 dropped_by s f pointer part front some lost at is before =
-    rw (some, lost)
-    (ap (λ (p : Pointer). is_cut_off p (part ++ front)) at
-    ∙ ap (λ (xs : List ℕ). is_cut_off f.pointer (xs ++ front)) is
-    ∙ ap (λ (xs : List ℕ). is_cut_off f.pointer (s.part ++ xs)) before)
+    rw (some, lost, at, is, before) refl
 
 -- ---- what the call for one frame answers
 
@@ -274,24 +217,13 @@ came_is x f payload memory =
     came_by (is_extractor x (length memory)) (state_of x memory) (frame_described f payload)
     (λ t. extracted_with t (frame_described f payload) (length memory))
 
-pub on_ok : (r : Result Extracted ℕ) (e : Extracted) (P : Type 0) → r ≡ Ok e → OnOk r P → P
-on_ok (Ok x) e P is p = p
-on_ok (Err n) e P is p = absurd cc
-
-pub on_err : (r : Result Extracted ℕ) (number : ℕ) (P : Type 0) → r ≡ Err number → OnErr r P → P
-on_err (Ok x) number P is p = absurd cc
-on_err (Err n) number P is p = p
-
 abbrev pub came_with : ℕ → ℕ → ℕ → ℕ → Came
 came_with first lost dropped count =
     record { fault = 0; first = first; lost = lost; dropped = dropped; count = count }
 
 pub came_same : (f l d n first lost dropped count : ℕ) → f ≡ first → l ≡ lost → d ≡ dropped → n ≡ count
     → came_with f l d n ≡ came_with first lost dropped count
-came_same f l d n first lost dropped count is-first is-lost is-dropped is-count =
-    ap (λ (k : ℕ). came_with k l d n) is-first ∙ ap (λ (k : ℕ). came_with first k d n) is-lost
-    ∙ ap (λ (k : ℕ). came_with first lost k n) is-dropped
-    ∙ ap (λ (k : ℕ). came_with first lost dropped k) is-count
+came_same f l d n first lost dropped count is-first is-lost is-dropped is-count = cc
 
 pub refused_is : (r : Result Extracted ℕ) (number : ℕ) → number ≡ status_of r → (number ≡ 0 → ⊥) → r ≡ Err number
 refused_is (Ok e) number is some = absurd (some is)
@@ -307,25 +239,35 @@ taken_by true true true e d is h = absurd cc
 taken_by true false c e d is h = absurd cc
 taken_by false b c e d is h = absurd cc
 
+-- a frame that is taken
+pub record IsTaken (x : KeptExtractor) (f : ReportFrame) (payload memory : List ℕ) (d : Extracted) : Type 0 where
+  pub extractor : is_extractor x (length memory) ≡ true
+  pub fits : pointer_fits (pointer_at f.pointer) (length payload) ≡ true
+  pub answer : extracted_at x f payload memory ≡ Ok d
+  pub came : came_from (extractor_described x memory) (length memory) (frame_described f payload)
+      ≡ Ok (paired (state_of x memory) (frame_described f payload) d)
+
 pub taken_is : (x : KeptExtractor) (f : ReportFrame) (payload memory : List ℕ) (d : Extracted)
     → 0 ≡ status_of (extracted_at x f payload memory) → DescribesExtracted (extracted_at x f payload memory) d
-    → (is_extractor x (length memory) ≡ true) × (pointer_fits (pointer_at f.pointer) (length payload) ≡ true)
-    × (extracted_at x f payload memory ≡ Ok d)
+    → IsTaken x f payload memory d
 taken_is x f payload memory d is h =
     let s : ExtractorState = state_of x memory in
     let part : List ℕ = part_over_gap (gap_of s.last f.vc_count) s.part in
-    taken_by (is_extractor x (length memory)) (pointer_fits (pointer_at f.pointer) (length payload))
+    let all = taken_by (is_extractor x (length memory)) (pointer_fits (pointer_at f.pointer) (length payload))
     (nat_lt (length memory) (need_of part (pointer_at f.pointer) payload)) (extract_step s (frame_described f payload))
-    d is h
+    d is h in
+    record {
+      extractor = all.0;
+      fits = all.1;
+      answer = all.2;
+      came = came_is x f payload memory ∙ ap (map_ok (paired s (frame_described f payload))) all.2;
+    }
 
 -- the first frame, and how many are missing
 gap_by : (b : Bool) (t : TakenFrame) → (t.first == 1) ≡ b → t.first < 2 → ((t.first == 0) || (t.lost == 0)) ≡ true
     → (t.first ≡ first_by (if b then First else Lost t.lost)) × (t.lost ≡ lost_by (if b then First else Lost t.lost))
 gap_by true t is lt none =
-    let one : t.first ≡ 1 = eqb-true t.first 1 is in
-    let some : (t.first == 0) ≡ false = rw one refl in
-    let lost : (t.lost == 0) ≡ true = ap (λ (b : Bool). b || (t.lost == 0)) (sym some) ∙ none in
-    (one, eqb-true t.lost 0 lost)
+    (eqb-true t.first 1 is, grind (arith, common_steps, is, none))
 gap_by false t is lt none =
     let other : t.first ≡ 1 → ⊥ = λ e. absurd (let h : (t.first == 1) ≡ true = rw e refl in cc) in
     (omega (arith, other), refl)
@@ -333,34 +275,6 @@ gap_by false t is lt none =
 pub gap_is : (t : TakenFrame) (room size : ℕ) → IsExtracted t room size
     → (t.first ≡ first_by (gap_at t)) × (t.lost ≡ lost_by (gap_at t))
 gap_is t room size is = gap_by (t.first == 1) t refl is.first is.lost
-
--- ---- octets that are a frame, or none
-
-pub came_read : (state : Result ExtractorState ℕ) (room : ℕ) (octets : List ℕ) (view : FrameView)
-    → frame_read (length octets) octets ≡ Ok view → came_of state room octets ≡ came_from state room view
-came_read state room octets view is =
-    ap (λ (r : Result FrameView ℕ). and_then {B = Extracted × Bool} r (came_from state room)) is
-
-pub record_read : (state : Result ExtractorState ℕ) (room : ℕ) (octets : List ℕ) (view : FrameView)
-    → frame_read (length octets) octets ≡ Ok view
-    → record_of state room octets ≡ record_with (came_fields (came_from state room view)) (fields_of view)
-record_read state room octets view is =
-    ap (λ (r : Result FrameView ℕ).
-    record_with (came_fields (and_then {B = Extracted × Bool} r (came_from state room)))
-    (left_by fields_of r no_fields)) is
-
-pub came_unread : (state : Result ExtractorState ℕ) (room : ℕ) (octets : List ℕ) (number : ℕ)
-    → frame_read (length octets) octets ≡ Err number → came_of state room octets ≡ Err number
-came_unread state room octets number is =
-    ap (λ (r : Result FrameView ℕ). and_then {B = Extracted × Bool} r (came_from state room)) is
-
-pub record_unread : (state : Result ExtractorState ℕ) (room : ℕ) (octets : List ℕ) (number : ℕ)
-    → frame_read (length octets) octets ≡ Err number
-    → record_of state room octets ≡ record_with (came_fields (Err number)) no_fields
-record_unread state room octets number is =
-    ap (λ (r : Result FrameView ℕ).
-    record_with (came_fields (and_then {B = Extracted × Bool} r (came_from state room)))
-    (left_by fields_of r no_fields)) is
 
 -- ---- frames one after another
 
@@ -374,29 +288,27 @@ pub next_is : (total room left : ℕ) (octets : List ℕ) → is_end total room 
 next_is total room left octets h = grind (arith, common_steps, h)
 
 -- the frames from a place on, where this one is taken
-abbrev pub run_after : ℕ → ℕ → ℕ → List ℕ → Result ExtractorState ℕ → ℕ → Run
-run_after total room left octets state most =
-    before (record_of state room (take total octets)) (packets_by (came_of state room (take total octets)))
-    (run_from total room (left - length (packets_by (came_of state room (take total octets))))
-    (drop total octets) (state_by (came_of state room (take total octets)) state) most)
-
-pub run_next : (total room left : ℕ) (octets : List ℕ) (state : Result ExtractorState ℕ) (k most : ℕ) → k < most
-    → is_end total room left octets ≡ false
-    → run_from total room left octets state (most - k) ≡ run_after total room left octets state (most - (k + 1))
-run_next total room left octets state k most lt next =
+pub run_next : (total room left less : ℕ) (octets rest : List ℕ) (state after : Result ExtractorState ℕ) (k most : ℕ)
+    → k < most → is_end total room left octets ≡ false
+    → left - length (packets_by (came_of state room (take total octets))) ≡ less → drop total octets ≡ rest
+    → state_by (came_of state room (take total octets)) state ≡ after
+    → run_from total room left octets state (most - k)
+    ≡ before (record_of state room (take total octets)) (packets_by (came_of state room (take total octets)))
+    (run_from total room less rest after (most - (k + 1)))
+run_next total room left less octets rest state after k most lt next place behind then_on =
     let more : most - k ≡ suc (most - (k + 1)) = omega arith in
-    ap (run_from total room left octets state) more ∙ rw next refl
+    rw (more, next, ← place, ← behind, ← then_on) refl
 
 pub run_none : (total room left : ℕ) (octets : List ℕ) (state : Result ExtractorState ℕ) (k most : ℕ) → k < most
     → is_end total room left octets ≡ true → run_from total room left octets state (most - k) ≡ nothing state
 run_none total room left octets state k most lt end =
     let more : most - k ≡ suc (most - (k + 1)) = omega arith in
-    ap (run_from total room left octets state) more ∙ rw end refl
+    rw (more, end) refl
 
 pub run_done : (total room left : ℕ) (octets : List ℕ) (state : Result ExtractorState ℕ) (k most : ℕ) → most ≤ k
     → run_from total room left octets state (most - k) ≡ nothing state
 run_done total room left octets state k most le =
-    let none : most - k ≡ 0 = omega arith in ap (run_from total room left octets state) none
+    let none : most - k ≡ 0 = omega arith in rw none refl
 
 -- records and packets that are written, and those of a run after them, are all
 pub record RunsTo (done put : List ℕ) (run all : Run) : Type 0 where
@@ -407,23 +319,13 @@ pub record RunsTo (done put : List ℕ) (run all : Run) : Type 0 where
 pub runs_on : (records packets one more : List ℕ) (run next all : Run) → RunsTo records packets run all
     → run ≡ before one more next
     → RunsTo (records ++ one) (packets ++ more) next all
-runs_on records packets one more run next all is same = record {
-  records =
-      append_assoc records one next.records ∙ ap (λ (r : Run). records ++ r.records) (sym same) ∙ is.records;
-  packets =
-      append_assoc packets more next.packets ∙ ap (λ (r : Run). packets ++ r.packets) (sym same) ∙ is.packets;
-  after = ap (λ (r : Run). r.after) (sym same) ∙ is.after;
-}
-
--- what is done, where no frame follows
-pub run_ends : (records packets : List ℕ) (run all : Run) (state : Result ExtractorState ℕ)
-    → RunsTo records packets run all → run ≡ nothing state
-    → (records ++ [] ≡ all.records) × (packets ++ [] ≡ all.packets) × (state ≡ all.after)
-run_ends records packets run all state is same = (
-  ap (λ (r : Run). records ++ r.records) (sym same) ∙ is.records,
-  ap (λ (r : Run). packets ++ r.packets) (sym same) ∙ is.packets,
-  ap (λ (r : Run). r.after) (sym same) ∙ is.after,
-)
+runs_on records packets one more run next all is same =
+    let before_next = rw same at is in
+    record {
+      records = append_assoc records one next.records ∙ before_next.records;
+      packets = append_assoc packets more next.packets ∙ before_next.packets;
+      after = before_next.after;
+    }
 
 -- ---- what the call gives to others
 
@@ -433,16 +335,12 @@ pub end_is : (total end from : ℕ) (memory first packets place octets : List �
     → is_end total (length first) (length place - end) (drop from octets)
     ≡ is_end total (length memory) (length packets - end) (take (length octets - from) (drop from octets))
 end_is total end from memory first packets place octets room left =
-    ap (λ (n : ℕ). is_end total n (length place - end) (drop from octets)) (sym room)
-    ∙ ap (λ (n : ℕ). is_end total (length memory) (n - end) (drop from octets)) (sym left)
-    ∙ ap (is_end total (length memory) (length packets - end)) (sym (take_rest octets from))
+    rw (room, left, take_rest octets from) refl
 
 pub record_is : (state : Result ExtractorState ℕ) (n room : ℕ) (piece one : List ℕ) → n ≡ room → piece ≡ one
     → record_of state n piece ≡ record_of state room one
-record_is state n room piece one long is =
-    ap (λ (k : ℕ). record_of state k piece) long ∙ ap (record_of state room) is
+record_is state n room piece one long is = rw (long, is) refl
 
 pub came_equal : (state : Result ExtractorState ℕ) (n room : ℕ) (piece one : List ℕ) → n ≡ room → piece ≡ one
     → came_of state n piece ≡ came_of state room one
-came_equal state n room piece one long is =
-    ap (λ (k : ℕ). came_of state k piece) long ∙ ap (came_of state room) is
+came_equal state n room piece one long is = rw (long, is) refl

@@ -79,36 +79,24 @@ piece_is octets from count =
 
 -- ---- the next frame
 
-pub records_next : (checked : Bool) (octets : List ℕ) (from count k n : ℕ) → k < n
+pub frames_next : (checked : Bool) (octets : List ℕ) (from count k n : ℕ) → k < n
     → count ≡ whole_len checked (take (length octets - from) (drop from octets)) → 0 < count
-    → records_from checked octets from (n - k)
-    ≡ record_of checked (take count (drop from octets)) ++ records_from checked octets (from + count) (n - (k + 1))
-records_next checked octets from count k n lt is some =
+    → (records_from checked octets from (n - k)
+    ≡ record_of checked (take count (drop from octets)) ++ records_from checked octets (from + count) (n - (k + 1)))
+    × (end_from checked octets from (n - k) ≡ end_from checked octets (from + count) (n - (k + 1)))
+frames_next checked octets from count k n lt is some =
     let more : n - k ≡ suc (n - (k + 1)) = omega arith in
-    ap (records_from checked octets from) more
-    ∙ rw (len_is checked octets from count is, ne_eqb count 0 (λ (e : count ≡ 0). omega arith)) refl
+    let len = len_is checked octets from count is in
+    let not_none = ne_eqb count 0 (λ (e : count ≡ 0). omega arith) in
+    (rw (more, len, not_none) refl, rw (more, len, not_none) refl)
 
-pub records_none : (checked : Bool) (octets : List ℕ) (from k n : ℕ) → k < n
+pub frames_none : (checked : Bool) (octets : List ℕ) (from k n : ℕ) → k < n
     → 0 ≡ whole_len checked (take (length octets - from) (drop from octets))
-    → records_from checked octets from (n - k) ≡ []
-records_none checked octets from k n lt is =
+    → (records_from checked octets from (n - k) ≡ []) × (end_from checked octets from (n - k) ≡ from)
+frames_none checked octets from k n lt is =
     let more : n - k ≡ suc (n - (k + 1)) = omega arith in
-    ap (records_from checked octets from) more ∙ rw (len_is checked octets from 0 is) refl
-
-pub end_next : (checked : Bool) (octets : List ℕ) (from count k n : ℕ) → k < n
-    → count ≡ whole_len checked (take (length octets - from) (drop from octets)) → 0 < count
-    → end_from checked octets from (n - k) ≡ end_from checked octets (from + count) (n - (k + 1))
-end_next checked octets from count k n lt is some =
-    let more : n - k ≡ suc (n - (k + 1)) = omega arith in
-    ap (end_from checked octets from) more
-    ∙ rw (len_is checked octets from count is, ne_eqb count 0 (λ (e : count ≡ 0). omega arith)) refl
-
-pub end_none : (checked : Bool) (octets : List ℕ) (from k n : ℕ) → k < n
-    → 0 ≡ whole_len checked (take (length octets - from) (drop from octets))
-    → end_from checked octets from (n - k) ≡ from
-end_none checked octets from k n lt is =
-    let more : n - k ≡ suc (n - (k + 1)) = omega arith in
-    ap (end_from checked octets from) more ∙ rw (len_is checked octets from 0 is) refl
+    let len = len_is checked octets from 0 is in
+    (rw (more, len) refl, rw (more, len) refl)
 
 -- ---- what is written
 
@@ -131,12 +119,6 @@ all_done xs ys done k le is rest =
     )
 
 -- Part k of a packet stands at place k times the size of a part.
-
-times_suc : (k part : ℕ) → suc k * part ≡ part + k * part
-times_suc k part = omega arith
-
-behind : (t part : ℕ) (xs : List ℕ) → drop t (drop part xs) ≡ drop (part + t) xs
-behind t part xs = drop-drop t part xs
 
 -- the segments of what a packet has from its first segment on, or from a later one
 abbrev segments_from : Bool → ℕ → ℕ → List ℕ → List SegmentView
@@ -170,11 +152,11 @@ part_at_place first zero part m xs one there =
     ]
 part_at_place first (suc k) part m xs one there =
     let size = length-drop part xs in
-    let step = times_suc k part in
+    let step : suc k * part ≡ part + k * part = omega arith in
     let left : length xs - (part + k * part) ≡ length (drop part xs) - k * part = omega arith in
     let later : (first && (suc k == 0)) ≡ false =
     and_right first (suc k == 0) (ne_eqb (suc k) 0 (λ (e : suc k ≡ 0). omega arith)) in
-    rw (from-more first m part xs one (omega arith), later, step, left, sym (behind (k * part) part xs))
+    rw (from-more first m part xs one (omega arith), later, step, left, sym (drop-drop (k * part) part xs))
     (part_at_place false k part m (drop part xs) one (omega arith))
 
 -- ---- parts of a packet among octets: from a place on, as many as the packet has
@@ -221,9 +203,8 @@ part_stands octets from len part m k count fits one there is =
 octets-append : (xs ys : List SegmentView)
     → length (concat (payloads (xs ++ ys))) ≡ length (concat (payloads xs)) + length (concat (payloads ys))
 octets-append xs ys =
-    ap (λ (ps : List (List ℕ)). length (concat ps)) (map-append (λ (s : SegmentView). s.payload) xs ys)
-    ∙ ap length (concat-append (payloads xs) (payloads ys))
-    ∙ length-append (concat (payloads xs)) (concat (payloads ys))
+    rw (map-append (λ (s : SegmentView). s.payload) xs ys, concat-append (payloads xs) (payloads ys))
+    (length-append (concat (payloads xs)) (concat (payloads ys)))
 
 -- each part before the last has as many octets as a part may have
 before_part : (first : Bool) (k part m : ℕ) (xs : List ℕ) → 1 ≤ part → k * part < length xs
@@ -231,7 +212,7 @@ before_part : (first : Bool) (k part m : ℕ) (xs : List ℕ) → 1 ≤ part →
 before_part first zero part m xs one there = omega arith
 before_part first (suc k) part m xs one there =
     let rest : List SegmentView = segments_from false part m (drop part xs) in
-    let step = times_suc k part in
+    let step : suc k * part ≡ part + k * part = omega arith in
     let behind = before_part false k part m (drop part xs) one (omega (arith, length-drop part xs)) in
     rw (from-more first m part xs one (omega arith), step)
     (length-append (take part xs) (concat (payloads (take k rest))) ∙ omega (arith, behind, length-take part xs))

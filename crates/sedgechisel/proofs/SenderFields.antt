@@ -1,8 +1,9 @@
 -- The fields that are kept of a sender describe that sender again, and fields that no sender has describe none.
-use Rattle.std.proofs.Common.{◌≡◌, ◌≤◌, ◌<◌, ℕ, Bool, true, false, Option, Some, None, Result, Ok, Err, refl, ap, ◌∙◌}
+use Rattle.std.proofs.Common.{◌≡◌, ◌≤◌, ◌<◌, ℕ, Bool, true, false, Option, Some, None, Ok, Err, refl}
 use Rattle.std.proofs.Common.{zero, suc, arith}
 use Rattle.std.specs.Prelude.{◌≢◌, ◌↔◌, ◌==◌, ◌&&◌, not, nat_le, is_some, IsSome, IfSome, if◌then◌else◌}
-use Rattle.std.proofs.lemmas.Bool.{and_from, and_parts, le-leb, leb-true, eq-eqb, eqb-true}
+use Rattle.std.proofs.lemmas.Bool.{and_from, and_parts, le-leb, leb-true, eq-eqb, eqb-true, not-true}
+use Rattle.std.proofs.lemmas.Grind.{common_steps}
 use Rattle.tc_frame.specs.declared.frame.Command.{Command}
 use Rattle.tc_frame.specs.declared.frame.Command.TheVariants.{Unlock, SetVr}
 use Rattle.cop1.specs.declared.vocabulary.Control.{Control}
@@ -14,7 +15,7 @@ use Rattle.cop1.specs.FopVariables.{IsActive}
 use Rattle.cop1.specs.Numbers.{IsSender, HasRanges, AgreesWithState, IsCommanding, SetsTo, SenderNumbers}
 use Rattle.cop1.specs.SenderFields.{numbers_of}
 use Rattle.sedgechisel.specs.declared.sender.KeptSender.{KeptSender}
-use Rattle.sedgechisel.specs.Answers.{damaged, and_then}
+use Rattle.sedgechisel.specs.Answers.{damaged}
 use Rattle.sedgechisel.specs.Receivers.{flag_number}
 use Rattle.sedgechisel.specs.Senders.{mode_number, ticks_number, control_number, control_vr, kept_of, mode_at, ticks_at}
 use Rattle.sedgechisel.specs.Senders.{control_at, flag_at, fields_with, fields_described, has_ranges, agrees_in}
@@ -45,18 +46,7 @@ ticks_again (Some left) h = grind arith
 -- ---- the ranges
 
 ranges_hold : (s : SenderNumbers) → HasRanges s → has_ranges s ≡ true
-ranges_hold s h =
-    rw (
-      le-leb _ _ h.apart,
-      le-leb _ _ h.within,
-      le-leb _ _ h.room,
-      le-leb _ _ h.least,
-      le-leb _ _ h.window,
-      le-leb _ _ h.due,
-      le-leb _ _ h.limit,
-      le-leb _ _ h.timer,
-      le-leb _ _ h.count,
-    ) refl
+ranges_hold s h = grind (arith, common_steps, h)
 
 -- ---- what the state says of the other numbers
 
@@ -122,29 +112,17 @@ is_sure s h = and_from _ _ (ranges_hold s h.ranges) (agreement_holds s h.agrees 
 
 fields_again : (s : SenderNumbers) → IfSome s.ticks (λ left. 1 ≤ left) → fields_described (kept_of s) ≡ Ok s
 fields_again s h =
-    ap (λ (m : Option FopMode). fields_with (kept_of s) m (flag_at (flag_number s.waiting))
-    (control_at (control_number s.control) (control_vr s.control)))
-    (mode_again s.state)
-    ∙ ap (λ (f : Option Bool). fields_with (kept_of s) (Some s.state) f
-    (control_at (control_number s.control) (control_vr s.control)))
-    (flag_again s.waiting)
-    ∙ ap (λ (c : Option Control). fields_with (kept_of s) (Some s.state) (Some s.waiting) c) (control_again s.control)
-    ∙ ap (λ (t : Option ℕ). Ok (record s { ticks = t })) (ticks_again s.ticks h)
+    rw (mode_again s.state, flag_again s.waiting, control_again s.control, ticks_again s.ticks h) refl
 
 pub described_again : (s : SenderNumbers) → IsSender s → sender_described (kept_of s) ≡ Ok s
-described_again s h =
-    ap (λ (r : Result SenderNumbers ℕ). and_then r (λ t. if is_sender t then Ok t else Err damaged))
-    (fields_again s h.ranges.ticks)
-    ∙ ap (λ (b : Bool). if b then Ok s else Err damaged) (is_sure s h)
+described_again s h = rw (fields_again s h.ranges.ticks, is_sure s h) refl
 
 pub kept_describes : (k : KeptSender) (s : SenderNumbers) → k ≡ kept_of s → IsSender s → sender_described k ≡ Ok s
 kept_describes k s is h = rw is (described_again s h)
 
 pub described_some : (k : KeptSender) (f : SenderFields) → fields_described k ≡ Ok (numbers_of f)
     → IsSender (numbers_of f) → sender_described k ≡ Ok (numbers_of f)
-described_some k f is h =
-    ap (λ (r : Result SenderNumbers ℕ). and_then r (λ t. if is_sender t then Ok t else Err damaged)) is
-    ∙ ap (λ (b : Bool). if b then Ok (numbers_of f) else Err damaged) (is_sure (numbers_of f) h)
+described_some k f is h = rw (is, is_sure (numbers_of f) h) refl
 
 -- ---- fields that no sender has
 
@@ -174,10 +152,6 @@ idle_is (Sent command) h = absurd (cc h)
 none_is : (t : Option ℕ) → not (is_some t) ≡ true → t ≡ None
 none_is None h = refl
 none_is (Some left) h = absurd (cc h)
-
-not_waiting : (b : Bool) → not b ≡ true → b ≡ false
-not_waiting true h = absurd (cc h)
-not_waiting false h = refl
 
 module _ (s : SenderNumbers) where
   -- in S1 to S3
@@ -253,7 +227,7 @@ module _ (s : SenderNumbers) where
         numbered = λ not. absurd (not is);
         repeating = λ on not. absurd (let no : IsActive S6 = rw is at on in no);
         unsent = λ ended. eqb-true s.sent.count 0 c.0;
-        unsubmitted = λ e. not_waiting s.waiting c.1;
+        unsubmitted = λ e. not-true s.waiting c.1;
         timed = λ on. absurd (let no : IsActive S6 = rw is at on in no);
         checking = λ e. absurd (cc (is, e));
         untimed = λ e. none_is s.ticks b.1;
@@ -285,5 +259,4 @@ pub described_none : (k : KeptSender) (f : SenderFields) → f.vs < 256 → f.nn
 described_none k f vs nn is h =
     let s : SenderNumbers = numbers_of f in
     let ticks : IfSome s.ticks (λ left. 1 ≤ left) = rw (same_ticks k _ _ _ s is) (ticks_run k.ticks) in
-    ap (λ (r : Result SenderNumbers ℕ). and_then r (λ t. if is_sender t then Ok t else Err damaged)) is
-    ∙ if_err (is_sender s) s (λ (sure : is_sender s ≡ true). h (sender_is s vs nn ticks sure))
+    rw is (if_err (is_sender s) s (λ (sure : is_sender s ≡ true). h (sender_is s vs nn ticks sure)))

@@ -1,36 +1,24 @@
 use Rattle.std.proofs.Common.{◌≡◌, ◌<◌, ℕ, ◌+◌, ◌-◌, ◌/◌, Bool, List, ◌++◌, length, take, drop, sym, ap, ◌∙◌, arith}
 use Rattle.std.proofs.lemmas.List.{append_assoc}
 use Rattle.sedgechisel.specs.CommandFrames.{record_of, records_from}
-use Rattle.sedgechisel.proofs.Following.{record_octets, piece_is, records_next, records_none, end_next, end_none, later}
-use Rattle.sedgechisel.proofs.Following.{all_done}
+use Rattle.sedgechisel.proofs.Following.{record_octets, piece_is, frames_next, frames_none, later, all_done}
 use Rattle.sedgechisel.proofs.command_frame.sedge_tc_frames.Goals as goal
 
-pub returns-then-count-eq0-clause-records : goal.returns-then-count-eq0-clause-records
-returns-then-count-eq0-clause-records c =
+pub returns-then-count-eq0 : goal.returns-then-count-eq0
+returns-then-count-eq0 c =
     let most : ℕ = length c.args.out.now / 12 in
-    let none : c.whole_len-count.result ≡ 0 = omega (arith, c.if-count-eq0.true) in
-    (all_done c.frames.out c.args.out.now (records_from c.args.checked c.args.octets.now 0 most) c.frames.at
+    let none : 0 ≡ c.whole_len-count.result = omega (arith, c.if-count-eq0.true) in
+    let ends = frames_none c.args.checked c.args.octets.now c.frames.from c.frames.frames most c.frames-test.true
+    (none ∙ c.whole_len-count.ensures.count) in
+    let all = all_done c.frames.out c.args.out.now (records_from c.args.checked c.args.octets.now 0 most) c.frames.at
     (omega (arith, c.frames.invariant.at, c.frames.invariant.frames, c.frames.invariant.long))
-    (ap (λ (xs : List ℕ). take c.frames.at c.frames.out ++ xs)
-    (sym (records_none c.args.checked c.args.octets.now c.frames.from c.frames.frames most c.frames-test.true
-    (sym none ∙ c.whole_len-count.ensures.count))) ∙ c.frames.invariant.records) c.frames.invariant.rest).1
-
-pub returns-then-count-eq0-clause-frames : goal.returns-then-count-eq0-clause-frames
-returns-then-count-eq0-clause-frames c =
-    let most : ℕ = length c.args.out.now / 12 in
-    let none : c.whole_len-count.result ≡ 0 = omega (arith, c.if-count-eq0.true) in
-    sym c.frames.invariant.at
-    ∙ (all_done c.frames.out c.args.out.now (records_from c.args.checked c.args.octets.now 0 most) c.frames.at
-    (omega (arith, c.frames.invariant.at, c.frames.invariant.frames, c.frames.invariant.long))
-    (ap (λ (xs : List ℕ). take c.frames.at c.frames.out ++ xs)
-    (sym (records_none c.args.checked c.args.octets.now c.frames.from c.frames.frames most c.frames-test.true
-    (sym none ∙ c.whole_len-count.ensures.count))) ∙ c.frames.invariant.records) c.frames.invariant.rest).0
-
-pub returns-then-count-eq0-clause-total : goal.returns-then-count-eq0-clause-total
-returns-then-count-eq0-clause-total c =
-    let none : c.whole_len-count.result ≡ 0 = omega (arith, c.if-count-eq0.true) in
-    sym (end_none c.args.checked c.args.octets.now c.frames.from c.frames.frames (length c.args.out.now / 12)
-    c.frames-test.true (sym none ∙ c.whole_len-count.ensures.count)) ∙ c.frames.invariant.end
+    (ap (λ (xs : List ℕ). take c.frames.at c.frames.out ++ xs) (sym ends.0) ∙ c.frames.invariant.records)
+    c.frames.invariant.rest in
+    record {
+      records = all.1;
+      frames = sym c.frames.invariant.at ∙ all.0;
+      total = sym ends.1 ∙ c.frames.invariant.end;
+    }
 
 pub frames-preserved : goal.frames-preserved
 frames-preserved c =
@@ -47,6 +35,7 @@ frames-preserved c =
     let more : List ℕ = records_from checked octets (from + count) (most - (k + 1)) in
     let is : one ≡ record_of checked (take count (drop from octets)) =
     c.record_of-record.ensures ∙ ap (record_of checked) (piece_is octets from count) in
+    let next = frames_next checked octets from count k most lt c.whole_len-count.ensures.count some in
     let long : length one ≡ 12 = ap length is ∙ record_octets checked (take count (drop from octets)) in
     record {
       frames = omega (arith, lt);
@@ -56,12 +45,9 @@ frames-preserved c =
       records =
           ap (λ (xs : List ℕ). xs ++ more) c.add-at.ensures.joined ∙ append_assoc done one more
           ∙ ap (λ (xs : List ℕ). done ++ (xs ++ more)) is
-          ∙ ap (λ (xs : List ℕ). done ++ xs)
-          (sym (records_next checked octets from count k most lt c.whole_len-count.ensures.count some))
+          ∙ ap (λ (xs : List ℕ). done ++ xs) (sym next.0)
           ∙ c.frames.invariant.records;
-      end =
-          sym (end_next checked octets from count k most lt c.whole_len-count.ensures.count some)
-          ∙ c.frames.invariant.end;
+      end = sym next.1 ∙ c.frames.invariant.end;
       rest =
           c.add-at.ensures.rest
           ∙ later c.frames.out c.args.out.now c.frames.at c.add-at.result (omega (arith, c.add-at.ensures.count))

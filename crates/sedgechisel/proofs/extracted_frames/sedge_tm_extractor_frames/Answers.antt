@@ -5,94 +5,43 @@ use Rattle.tm_link.specs.Extractor.{ExtractorState, Extracted}
 use Rattle.sedgechisel.specs.Extractors.{extractor_described, Run, is_end, run_from, before, record_of, packets_by}
 use Rattle.sedgechisel.specs.Extractors.{came_of, state_by}
 use Rattle.sedgechisel.proofs.Following.{piece_is, later, all_done}
-use Rattle.sedgechisel.proofs.Extractors.{IsNext, next_is, run_next, run_none, run_done, runs_on, run_ends, end_is}
+use Rattle.sedgechisel.proofs.Extractors.{IsNext, next_is, run_next, run_none, run_done, runs_on, end_is}
 use Rattle.sedgechisel.proofs.Extractors.{record_is, came_equal}
 use Rattle.sedgechisel.proofs.extracted_frames.sedge_tm_extractor_frames.Goals as goal
 
-pub returns-then-is_end-clause-records : goal.returns-then-is_end-clause-records
-returns-then-is_end-clause-records c =
-    let most : ℕ = length c.args.out.now / 19 in
+pub returns-then-is_end : goal.returns-then-is_end
+returns-then-is_end c =
+    let total : ℕ = c.args.frame_length in
     let state : Result ExtractorState ℕ = extractor_described c.frames.extractor c.frames.memory in
-    let end : is_end c.args.frame_length (length c.args.memory.now) (length c.args.packets.now - c.frames.end)
+    let end : is_end total (length c.args.memory.now) (length c.args.packets.now - c.frames.end)
     (drop c.frames.from c.args.octets.now) ≡ true =
-    end_is c.args.frame_length c.frames.end c.frames.from c.frames.memory c.args.memory.now c.frames.packets
-    c.args.packets.now c.args.octets.now c.frames.invariant.memory c.frames.invariant.place
+    end_is total c.frames.end c.frames.from c.frames.memory c.args.memory.now c.frames.packets c.args.packets.now
+    c.args.octets.now c.frames.invariant.memory c.frames.invariant.place
     ∙ sym c.is_end.ensures ∙ c.if-is_end.true in
-    let ends = run_ends _ _ _ _ state c.frames.invariant.runs
-    (run_none c.args.frame_length (length c.args.memory.now) (length c.args.packets.now - c.frames.end)
-    (drop c.frames.from c.args.octets.now) state c.frames.frames most c.frames-test.true end) in
-    (all_done c.frames.out c.args.out.now _ c.frames.at
-    (omega (arith, c.frames.invariant.at, c.frames.invariant.frames, c.frames.invariant.out)) ends.0
-    c.frames.invariant.after_records).1
-
-pub returns-then-is_end-clause-packets : goal.returns-then-is_end-clause-packets
-returns-then-is_end-clause-packets c =
-    let most : ℕ = length c.args.out.now / 19 in
-    let state : Result ExtractorState ℕ = extractor_described c.frames.extractor c.frames.memory in
-    let end : is_end c.args.frame_length (length c.args.memory.now) (length c.args.packets.now - c.frames.end)
-    (drop c.frames.from c.args.octets.now) ≡ true =
-    end_is c.args.frame_length c.frames.end c.frames.from c.frames.memory c.args.memory.now c.frames.packets
-    c.args.packets.now c.args.octets.now c.frames.invariant.memory c.frames.invariant.place
-    ∙ sym c.is_end.ensures ∙ c.if-is_end.true in
-    let ends = run_ends _ _ _ _ state c.frames.invariant.runs
-    (run_none c.args.frame_length (length c.args.memory.now) (length c.args.packets.now - c.frames.end)
-    (drop c.frames.from c.args.octets.now) state c.frames.frames most c.frames-test.true end) in
-    (all_done c.frames.packets c.args.packets.now _ c.frames.end c.frames.invariant.end ends.1
-    c.frames.invariant.after_packets).1
-
-pub returns-then-is_end-clause-after : goal.returns-then-is_end-clause-after
-returns-then-is_end-clause-after c =
-    let most : ℕ = length c.args.out.now / 19 in
-    let state : Result ExtractorState ℕ = extractor_described c.frames.extractor c.frames.memory in
-    let end : is_end c.args.frame_length (length c.args.memory.now) (length c.args.packets.now - c.frames.end)
-    (drop c.frames.from c.args.octets.now) ≡ true =
-    end_is c.args.frame_length c.frames.end c.frames.from c.frames.memory c.args.memory.now c.frames.packets
-    c.args.packets.now c.args.octets.now c.frames.invariant.memory c.frames.invariant.place
-    ∙ sym c.is_end.ensures ∙ c.if-is_end.true in
-    (run_ends _ _ _ _ state c.frames.invariant.runs
-    (run_none c.args.frame_length (length c.args.memory.now) (length c.args.packets.now - c.frames.end)
-    (drop c.frames.from c.args.octets.now) state c.frames.frames most c.frames-test.true end)).2
-
-pub returns-then-is_end-clause-frames : goal.returns-then-is_end-clause-frames
-returns-then-is_end-clause-frames c =
-    let most : ℕ = length c.args.out.now / 19 in
-    let state : Result ExtractorState ℕ = extractor_described c.frames.extractor c.frames.memory in
-    let end : is_end c.args.frame_length (length c.args.memory.now) (length c.args.packets.now - c.frames.end)
-    (drop c.frames.from c.args.octets.now) ≡ true =
-    end_is c.args.frame_length c.frames.end c.frames.from c.frames.memory c.args.memory.now c.frames.packets
-    c.args.packets.now c.args.octets.now c.frames.invariant.memory c.frames.invariant.place
-    ∙ sym c.is_end.ensures ∙ c.if-is_end.true in
-    let ends = run_ends _ _ _ _ state c.frames.invariant.runs
-    (run_none c.args.frame_length (length c.args.memory.now) (length c.args.packets.now - c.frames.end)
-    (drop c.frames.from c.args.octets.now) state c.frames.frames most c.frames-test.true end) in
-    sym c.frames.invariant.at
-    ∙ (all_done c.frames.out c.args.out.now _ c.frames.at
-    (omega (arith, c.frames.invariant.at, c.frames.invariant.frames, c.frames.invariant.out)) ends.0
-    c.frames.invariant.after_records).0
-
-pub returns-then-is_end-clause-total : goal.returns-then-is_end-clause-total
-returns-then-is_end-clause-total c =
-    let most : ℕ = length c.args.out.now / 19 in
-    let state : Result ExtractorState ℕ = extractor_described c.frames.extractor c.frames.memory in
-    let end : is_end c.args.frame_length (length c.args.memory.now) (length c.args.packets.now - c.frames.end)
-    (drop c.frames.from c.args.octets.now) ≡ true =
-    end_is c.args.frame_length c.frames.end c.frames.from c.frames.memory c.args.memory.now c.frames.packets
-    c.args.packets.now c.args.octets.now c.frames.invariant.memory c.frames.invariant.place
-    ∙ sym c.is_end.ensures ∙ c.if-is_end.true in
-    let ends = run_ends _ _ _ _ state c.frames.invariant.runs
-    (run_none c.args.frame_length (length c.args.memory.now) (length c.args.packets.now - c.frames.end)
-    (drop c.frames.from c.args.octets.now) state c.frames.frames most c.frames-test.true end) in
-    (all_done c.frames.packets c.args.packets.now _ c.frames.end c.frames.invariant.end ends.1
-    c.frames.invariant.after_packets).0
+    let ends = rw (run_none total (length c.args.memory.now) (length c.args.packets.now - c.frames.end)
+    (drop c.frames.from c.args.octets.now) state c.frames.frames (length c.args.out.now / 19) c.frames-test.true end)
+    at c.frames.invariant.runs in
+    let records = all_done c.frames.out c.args.out.now _ c.frames.at
+    (omega (arith, c.frames.invariant.at, c.frames.invariant.frames, c.frames.invariant.out)) ends.records
+    c.frames.invariant.after_records in
+    let packets = all_done c.frames.packets c.args.packets.now _ c.frames.end c.frames.invariant.end ends.packets
+    c.frames.invariant.after_packets in
+    record {
+      records = records.1;
+      packets = packets.1;
+      after = ends.after;
+      frames = sym c.frames.invariant.at ∙ records.0;
+      total = packets.0;
+    }
 
 pub returns-clause-packets : goal.returns-clause-packets
 returns-clause-packets c =
     let most : ℕ = length c.args.out.now / 19 in
     let state : Result ExtractorState ℕ = extractor_described c.frames.extractor c.frames.memory in
-    let ends = run_ends _ _ _ _ state c.frames.invariant.runs
-    (run_done c.args.frame_length (length c.args.memory.now) (length c.args.packets.now - c.frames.end)
-    (drop c.frames.from c.args.octets.now) state c.frames.frames most (omega (arith, c.frames-test.false))) in
-    (all_done c.frames.packets c.args.packets.now _ c.frames.end c.frames.invariant.end ends.1
+    let ends = rw (run_done c.args.frame_length (length c.args.memory.now) (length c.args.packets.now - c.frames.end)
+    (drop c.frames.from c.args.octets.now) state c.frames.frames most (omega (arith, c.frames-test.false)))
+    at c.frames.invariant.runs in
+    (all_done c.frames.packets c.args.packets.now _ c.frames.end c.frames.invariant.end ends.packets
     c.frames.invariant.after_packets).1
 
 pub frames-preserved : goal.frames-preserved
@@ -127,19 +76,11 @@ frames-preserved c =
     let more : Run = run_from total room (length c.args.packets.now - c.take_one-taken.result.1)
     (drop (from + total) octets)
     (extractor_described c.take_one-taken.new.extractor c.take_one-taken.new.memory) (most - (k + 1)) in
-    let place : left - length packets ≡ length c.args.packets.now - c.take_one-taken.result.1 = omega (arith, end) in
     let long : length c.take_one-taken.result.0 ≡ 19 = ap length is in
     let same : run_from total room left (drop from octets) state (most - k)
     ≡ before (record_of state room one) packets more =
-    run_next total room left (drop from octets) state k most lt goes
-    ∙ ap (λ (n : ℕ). before (record_of state room one) packets
-    (run_from total room n (drop total (drop from octets)) (state_by came state) (most - (k + 1)))) place
-    ∙ ap (λ (xs : List ℕ). before (record_of state room one) packets
-    (run_from total room (length c.args.packets.now - c.take_one-taken.result.1) xs (state_by came state)
-    (most - (k + 1)))) (drop-drop total from octets)
-    ∙ ap (λ (s : Result ExtractorState ℕ). before (record_of state room one) packets
-    (run_from total room (length c.args.packets.now - c.take_one-taken.result.1) (drop (from + total) octets) s
-    (most - (k + 1)))) (sym after) in
+    run_next total room left _ (drop from octets) _ state _ k most lt goes (omega (arith, end))
+    (drop-drop total from octets) (sym after) in
     let runs = runs_on (take c.frames.at c.frames.out) (take c.frames.end c.frames.packets)
     (record_of state room one) packets _ more _ c.frames.invariant.runs same in
     record {

@@ -1,10 +1,10 @@
-use Rattle.std.proofs.Common.{◌≡◌, ◌≤◌, ℕ, List, length, take, drop, ◌++◌, Result, sym, ap, subst, ◌∙◌, true, arith}
+use Rattle.std.proofs.Common.{◌≡◌, ◌≤◌, ℕ, List, length, take, drop, ◌++◌, sym, ap, ◌∙◌, true, arith}
 use Rattle.std.proofs.Common.{length-take}
-use Rattle.std.specs.Prelude.{◌==◌, IfOk, is_some}
+use Rattle.std.specs.Prelude.{◌==◌, is_some}
 use Rattle.std.proofs.lemmas.List.{take_at}
 use Rattle.tm_link.specs.declared.turn.Turn.{Turn}
-use Rattle.tm_link.specs.Builder.{BuilderState, frame_built, state_with}
-use Rattle.tm_link.specs.Layout.{FrameView, IsTmFrame}
+use Rattle.tm_link.specs.Builder.{frame_built, state_with}
+use Rattle.tm_link.specs.Layout.{IsTmFrame}
 use Rattle.sedgechisel.specs.declared.telemetry_builder.KeptBuilder.{KeptBuilder}
 use Rattle.sedgechisel.specs.Builders.{can_send, state_of, turn_of, pending_of}
 use Rattle.sedgechisel.proofs.Builders.{build_taken}
@@ -27,14 +27,8 @@ returns-clause-spells c =
     ∙ ap (λ (p : List ℕ). frame_built (state_with (turn_of b) b.length p) c.in-Some.four) c.pending.ensures
     ∙ ap (λ (o : List ℕ). frame_built (state_with (turn_of b) b.length (pending_of b memory)) o)
     c.in-Some.ensures.four in
-    let one : IsTmFrame n (frame_built (state_of b memory) c.args.ocf.now) out =
-    subst (λ (f : FrameView). IsTmFrame n f out) frame c.put_next.ensures.spells in
+    let one : IsTmFrame b.length (frame_built (state_of b memory) c.args.ocf.now) out =
+    rw (frame, all) at c.put_next.ensures.spells in
     let front : take b.length (out ++ drop b.length c.args.out.now) ≡ out =
-    take_at out (drop b.length c.args.out.now) b.length (one.count ∙ all) in
-    let spells : IsTmFrame b.length (frame_built (state_of b memory) c.args.ocf.now)
-    (take b.length (out ++ drop b.length c.args.out.now)) =
-    subst (IsTmFrame b.length (frame_built (state_of b memory) c.args.ocf.now)) (sym front)
-    (subst (λ (k : ℕ). IsTmFrame k (frame_built (state_of b memory) c.args.ocf.now) out) all one) in
-    subst (λ (r : Result (FrameView × BuilderState) ℕ). IfOk r
-    (λ x. IsTmFrame b.length x.0 (take b.length (out ++ drop b.length c.args.out.now))))
-    (sym (build_taken b c.args.ocf.now memory (length c.args.out.now) is four long)) spells
+    take_at out (drop b.length c.args.out.now) b.length one.count in
+    rw (build_taken b c.args.ocf.now memory (length c.args.out.now) is four long, front) one
