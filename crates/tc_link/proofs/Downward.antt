@@ -35,6 +35,7 @@ use Rattle.tc_link.proofs.Linked.{IsLate, HeldBy, Led, ReportComes, active_led, 
 use Rattle.tc_link.proofs.IdleStart.{reporting_now, flags_are, HasReports}
 use Rattle.tc_link.proofs.Refilled.{refilled_keeps, held_again, held_same_where}
 use Rattle.tc_link.proofs.Sound.{Sound}
+use Rattle.simulated_link.proofs.Unchanged.{with_heard}
 
 -- Telemetry that is sent, arrives or doesn't in a session.
 
@@ -64,10 +65,6 @@ used_word s report = record {
 }
 
 -- ---- a report leads to another sender
-
-abbrev pub with_heard : World → GroundState → List (List ℕ) → World
-with_heard w t down =
-    record w { ground_node = t; down = down; session = session_after_report w.session w.ground_node t }
 
 -- it acknowledges `gone` units more, or none
 pub record Moves (base : ℕ) (s : FopState SegmentView) (a v gone : ℕ) (f : FopState SegmentView) : Type 0 where

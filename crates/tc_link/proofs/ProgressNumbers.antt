@@ -29,7 +29,8 @@ use Rattle.cop1.specs.FopWords.{is_outside}
 use Rattle.nodes.specs.declared.received.Received.{Received}
 use Rattle.nodes.specs.declared.event.Event.TheVariants as events
 use Rattle.simulated_link.specs.World.{world_after_telemetry, directed}
-use Rattle.simulated_link.proofs.Unchanged.{AtEachLoss, lost, up_arrives, down_arrives, resumes}
+use Rattle.simulated_link.proofs.Unchanged.{AtEachLoss, lost, up_arrives, down_arrives, resumes, BringsReport}
+use Rattle.simulated_link.proofs.Unchanged.{board_after, down_after, up_after}
 use Rattle.simulated_link.proofs.Counted.{reported as report_cases}
 use Rattle.tc_link.specs.FalseAlarms.{alert_in}
 use Rattle.tc_link.specs.Progress.{Schedule, followed_by, times, AlertsIn, all_sent, all_arrived, all_taken, reported}
@@ -43,7 +44,7 @@ use Rattle.tc_link.proofs.Linked.{Tells}
 use Rattle.tc_link.proofs.Lists.{oldest_stands}
 use Rattle.tc_link.proofs.IdleStart.{tells_now}
 use Rattle.tc_link.proofs.ProgressSender.{with_kept, step_kept, without_length, marked_length, WaitsFull, body_full}
-use Rattle.tc_link.proofs.ProgressSender.{taken_full, bypass_taken_full, queued_full, Timed, timed_empty, timed_step}
+use Rattle.tc_link.proofs.ProgressSender.{released, directed_kept, Timed, timed_empty, timed_step}
 use Rattle.tc_link.proofs.Sound.{Commanded, all_append}
 use Rattle.tc_link.proofs.Promised.{settled_goes, reached_step}
 
@@ -154,16 +155,10 @@ module _ (s : FopState SegmentView) (k : Numbered s) where
   due_octet (Sent command) is = is
 
   tick_numbers : Numbers (tick_step s)
-  tick_numbers = ticked s (λ o. Numbers o) (record {
-    off = k;
-    runs = λ left. same_numbers (record s { ticks = Some left }) refl refl refl (λ t. t) k.command;
-    stops = same_numbers (after_stop s) refl refl refl (λ t. t) k.command;
-    repeats = λ active. same_numbers (after_repeat (after_stop s)) refl refl (marked_length s.sent) (λ t. t) k.command;
-    counts = same_numbers (after_count (after_stop s)) refl refl refl (λ t. t) k.command;
-    commands = λ is. same_numbers (record (after_count (after_stop s)) { control = due_again s.control }) refl refl refl
-        (λ t. t) (due_octet s.control k.command);
-    gives_up = gives_up (after_stop s) refl k.nn;
-  })
+  tick_numbers =
+      let repeats = same_numbers (after_repeat (after_stop s)) refl refl (marked_length s.sent) (λ t. t) k.command in
+      let command = due_octet s.control k.command in
+      ticked s (λ o. Numbers o) (assumption (repeats, command, gives_up (after_stop s) refl k.nn, k))
 
   sent_octet : (c : Command) → s.control ≡ Due c → IsOctetIn c
   sent_octet c is = let it : IsOctetOf (Due c) = rw is at k.command in it
@@ -171,9 +166,8 @@ module _ (s : FopState SegmentView) (k : Numbered s) where
   pull_numbers : s.window ≤ 127 → Numbers (pull_step s)
   pull_numbers most = pulled_out s (λ o. Numbers o) (record {
     none = k;
-    command = λ c is. same_numbers (record (after_restart s) { control = Sent c }) refl refl refl (λ t. t)
-        (sent_octet c is);
-    bypass = λ u us is. same_numbers (record s { bypass = us }) refl refl refl (λ t. t) k.command;
+    command = λ c is. let command = sent_octet c is in assumption (command, k);
+    bypass = λ u us is. assumption k;
     again = λ active x is. same_numbers (record (after_restart s) { sent = without_oldest_mark s.sent }) refl refl
         (without_length s.sent) (λ t. t) k.command;
     first = λ active u is room.
@@ -221,15 +215,13 @@ module _ (s : FopState SegmentView) (k : Numbered s) where
       numbered = λ on. closed_not s.state off on;
       most = k.most;
     };
-    sets = λ d k' n ticks plain most fits. same_numbers (record s { window = k'; limit = n; timer = ticks }) refl
-        refl refl (λ t. t) k.command;
+    sets = λ d k' n ticks plain most fits. assumption k;
   })
 
 -- whatever waits
 queued_numbers : (f : FopState SegmentView) (waiting : Option SegmentView) (bypass : List SegmentView) → Numbered f
     → Numbered (record f { waiting = waiting; bypass = bypass })
-queued_numbers f waiting bypass k =
-    record { vs = k.vs; nn = k.nn; command = k.command; numbered = k.numbered; most = k.most }
+queued_numbers f waiting bypass k = assumption k
 
 -- ---- the receiver
 
@@ -272,21 +264,6 @@ module _ (s : SpacecraftState) (octet : s.farm.vr < 256) where
   body_octet (Bc Unlock) is = unlock_octet s.farm octet s.farm.state
   body_octet (Bc (SetVr x)) is = set_octet s.farm octet x s.farm.state is
 
-  taken_octet : (ps : List PacketOn) → (spacecraft_take s ps).after.farm.vr < 256
-  taken_octet [] = octet
-  taken_octet (p ∷ left) =
-      cond_both (nat_lt (length left) s.config.ready_slots) (farm_step s.farm BufferReleased) s.farm
-      (λ (farm : FarmState). farm.vr < 256) (λ t. release_octet s.farm octet s.farm.state) (λ t. octet)
-
-  bypass_taken_octet : (ps : List PacketOn) → (spacecraft_take_bypass s ps).after.farm.vr < 256
-  bypass_taken_octet [] = octet
-  bypass_taken_octet (p ∷ left) = octet
-
-  queued_octet : (octets : List ℕ) → (spacecraft_telemetry s octets).after.farm.vr < 256
-  queued_octet octets =
-      cond_both (is_to_send octets) _ _ (λ (o : SpacecraftOutcome (Result (Unit {0}) TmFault)). o.after.farm.vr < 256)
-      (λ t. octet) (λ t. octet)
-
 -- ---- what is on its way
 
 -- a frame of the ground's, or a report of the spacecraft's, with octets
@@ -321,20 +298,6 @@ module _ (c : Config) (w : World) (h : Holding c w) (k : HasOctets c w) where
   down_of : (b : List ℕ) (bs : List (List ℕ)) → w.down ≡ b ∷ bs → AllByRecursion (IsOctetReport c) (b ∷ bs)
   down_of b bs is = subst (AllByRecursion (IsOctetReport c)) is k.down
 
-  losses : AtEachLoss w After
-  losses = record {
-    refused = λ fault. k;
-    up = λ b bs is reply silent.
-        record { sender = k.sender; receiver = k.receiver; up = (up_of b bs is).1; down = k.down };
-    down = λ b bs is reply silent.
-        record { sender = k.sender; receiver = k.receiver; up = k.up; down = (down_of b bs is).1 };
-  }
-
-  -- the receiver is another
-  with_receiver : (s : SpacecraftState) → s.farm.vr < 256 → WaitsFull s → HasOctets c (record w { spacecraft = s })
-  with_receiver s vr full =
-      record { sender = k.sender; receiver = record { vr = vr; full = full }; up = k.up; down = k.down }
-
   flags : FlagsAgree w.spacecraft.farm
   flags = h.sound.spacecraft.farm.flags
 
@@ -362,12 +325,7 @@ module _ (c : Config) (w : World) (h : Holding c w) (k : HasOctets c w) where
 
   sends : Pulls (pull_step s)
   sends = pulled_out s Pulls (record {
-    none = λ numbers. record {
-      sender = with_kept Numbered queued_numbers w.ground_node s numbers;
-      receiver = k.receiver;
-      up = k.up;
-      down = k.down;
-    };
+    none = λ numbers. let sender = with_kept Numbered queued_numbers w.ground_node s numbers in assumption (sender, k);
     command = λ command is numbers.
         sent_after (record (after_restart s) { control = Sent command }) (Bc command) tt
         (sent_octet s k.sender command is) numbers;
@@ -426,45 +384,45 @@ module _ (c : Config) (w : World) (h : Holding c w) (k : HasOctets c w) where
   words : After (world_step w events.DownClcw)
   words =
       let heard : After (world_step w events.DownDeliver) = down_arrives w After k hears in
-      subst (HasOctets c) (sym (words_apart c w h.sound h.reports)) (record {
-        sender = heard.sender;
-        receiver = record { vr = heard.receiver.vr; full = heard.receiver.full };
-        up = heard.up;
-        down = heard.down;
-      })
+      subst (HasOctets c) (sym (words_apart c w h.sound h.reports)) (assumption heard)
 
-  abbrev IsOther : Event → Type 0
-  IsOther e = (value : ℕ) → e ≢ events.Resume value
-
-  numbers_step : (e : Event) → IsEvent e → IsOther e → Numbered (world_step w e).after.ground_node.fop
-  numbers_step e fits other =
-      step_kept Numbered queued_numbers w k.sender (tick_numbers s k.sender) (pull_numbers s k.sender small_window)
-      (down_arrives w (λ o. Numbered o.after.ground_node.fop) k.sender (λ b bs is. (hears b bs is).sender))
-      words.sender e (λ d is. directive_numbers s k.sender off_idle d (subst IsEvent is fits))
-      (λ value is. absurd (other value is))
-
-  -- only the sender is another
-  step_sender : (e : Event) → IsEvent e → IsOther e → (world_step w e).after.spacecraft ≡ w.spacecraft
-      → (world_step w e).after.up ≡ w.up → (world_step w e).after.down ≡ w.down → After (world_step w e)
-  step_sender e fits other craft up down = record {
-    sender = numbers_step e fits other;
-    receiver = rw craft k.receiver;
-    up = rw up k.up;
-    down = rw down k.down;
-  }
+  -- ---- all events
 
   directive_octets : (d : Directive) → IsDirective d → HasOctets c (directed w d)
-  directive_octets d fits = step_sender (events.Directive d) fits (λ value is. cc is) refl refl refl
+  directive_octets d fits =
+      let sender : Numbered (directed w d).ground_node.fop =
+      directed_kept Numbered queued_numbers w.ground_node k.sender d (directive_step s d).answer (directive_step s d).after
+      (directive_numbers s k.sender off_idle d fits) in
+      assumption (sender, k)
+
+  -- no frame is sent up or arrives there, and no report comes
+  others : (e : Event) → IsEvent e → ((value : ℕ) → e ≢ events.Resume value) → e ≢ events.Send → e ≢ events.UpDeliver
+      → e ≢ events.Report → (BringsReport e → ⊥) → After (world_step w e)
+  others e fits not_resumed not_sent not_come not_made not_told = record {
+    sender = step_kept Numbered queued_numbers w k.sender e (λ is. tick_numbers s k.sender) (λ is. absurd (not_sent is))
+        (λ told. absurd (not_told told)) (λ d is. directive_numbers s k.sender off_idle d (subst IsEvent is fits))
+        (λ value is. absurd (not_resumed value is));
+    receiver = board_after w Receives e (record {
+      same = k.receiver;
+      receives = λ is. absurd (not_come is);
+      reports = λ is. absurd (not_made is);
+      takes = λ is left kept. record { vr = k.receiver.vr; full = λ waits. ltb-false _ _ kept };
+      releases = λ is left free. record {
+        vr = release_octet w.spacecraft.farm k.receiver.vr w.spacecraft.farm.state;
+        full = λ waits. absurd
+            (let no_wait = released w.spacecraft flags k.receiver.full w.spacecraft.farm.state refl in
+            cc (waits, no_wait));
+      };
+      passes = λ is left. assumption k.receiver;
+      queues = λ octets is. assumption k.receiver;
+    });
+    up = up_after w (AllByRecursion (IsOctetFrame c)) e not_sent k.up (λ b bs is. (up_of b bs is).1);
+    down = down_after w (AllByRecursion (IsOctetReport c)) e not_made k.down (λ gone b bs is. (down_of b bs is).1);
+  }
 
   -- where it is known what resuming leads to
   event_octets : ((value : ℕ) → value < 256 → HasOctets c (world_step w (events.Resume value)).after)
       → (e : Event) → IsEvent e → After (world_step w e)
-  event_octets goes (events.Submit m octets) fits =
-      step_sender (events.Submit m octets) fits (λ value is. cc is) refl refl refl
-  event_octets goes (events.Bypass m octets) fits =
-      step_sender (events.Bypass m octets) fits (λ value is. cc is) refl refl refl
-  event_octets goes (events.Directive d) fits = directive_octets d fits
-  event_octets goes events.Tick fits = step_sender events.Tick fits (λ value is. cc is) refl refl refl
   event_octets goes events.Send fits = sends (pull_numbers s k.sender small_window)
   event_octets goes events.UpDeliver fits = up_arrives w After k arrives
   event_octets goes events.Report fits = record {
@@ -475,20 +433,10 @@ module _ (c : Config) (w : World) (h : Holding c w) (k : HasOctets c w) where
         k.down ((report_of w.spacecraft.farm w.spacecraft.config.vcid, tells_now c w h.sound, k.receiver.vr), tt);
   }
   event_octets goes events.DownDeliver fits = down_arrives w After k hears
-  event_octets goes events.Take fits =
-      let ready = w.spacecraft.ready in
-      with_receiver (spacecraft_take w.spacecraft ready).after (taken_octet w.spacecraft k.receiver.vr ready)
-      (taken_full w.spacecraft flags k.receiver.full ready)
-  event_octets goes events.TakeBypass fits =
-      let ring = w.spacecraft.bypass in
-      with_receiver (spacecraft_take_bypass w.spacecraft ring).after
-      (bypass_taken_octet w.spacecraft k.receiver.vr ring) (bypass_taken_full w.spacecraft flags k.receiver.full ring)
-  event_octets goes (events.Telemetry octets) fits =
-      with_receiver (spacecraft_telemetry w.spacecraft octets.now).after
-      (queued_octet w.spacecraft k.receiver.vr octets.now) (queued_full w.spacecraft flags k.receiver.full octets.now)
-  event_octets goes (events.Resume value) fits = goes value fits
   event_octets goes events.DownClcw fits = words
-  event_octets goes e fits = lost w After losses e tt
+  event_octets goes (events.Resume value) fits = goes value fits
+  event_octets goes e fits =
+      others e fits (λ value is. cc is) (λ is. cc is) (λ is. cc is) (λ is. cc is) (λ told. absurd told)
 
 pub step_octets : (c : Config) (w : World) → Holding c w → HasOctets c w → (e : Event) → IsEvent e
     → HasOctets c (world_step w e).after
