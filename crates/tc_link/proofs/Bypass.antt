@@ -3,16 +3,16 @@ use Rattle.tc_link.proofs.Common.{◌≡◌, ℕ, Bool, true, false, refl, ◌�
 use Rattle.tc_link.proofs.Common.{InitWithoutCheck, InitWithCheck, InitUnlock, InitSetVr, directive_step, FopState}
 use Rattle.tc_link.proofs.Common.{FopOutcome, clcw_step, retransmits, tick_step, heard_active, obeyed, begun, ticked}
 use Rattle.tc_link.proofs.Common.{GroundState, refill_step, with_fop, Result, Option, directive_outcome, TmFault, ◌≢◌}
-use Rattle.tc_link.proofs.Common.{telemetry_outcome, LinkFault, unless_refused, List, after_submission, after_alert}
+use Rattle.tc_link.proofs.Common.{telemetry_outcome, LinkFault, unless_refused, List, after_alert}
 use Rattle.tc_link.proofs.Common.{Some, None, SetVs, obeying, submitting, zero, suc, [], ◌∷◌, ◌++◌, drop, AreSomeOf}
 use Rattle.tc_link.proofs.Common.{◌+◌, ◌%◌, ◌-◌, length, map, Ok, Err, ap, sym, subst, append_assoc, append-nil}
 use Rattle.tc_link.proofs.Common.{map-append, cond_both, AllByRecursion, TcFault, On, BodyView, Ad, Bd, Bc, PulledUnit}
-use Rattle.tc_link.proofs.Common.{pull_step, pulled_out, units_of, Verdict, is_to_send, after_queue, Config, FitsFrame}
-use Rattle.tc_link.proofs.Common.{frame_of, frame_to_send, submit_fault, bypass_fault, after_bypass, PacketOn}
+use Rattle.tc_link.proofs.Common.{pull_step, pulled_out, units_of, Verdict, Config, FitsFrame}
+use Rattle.tc_link.proofs.Common.{frame_of, frame_to_send, bypass_fault, after_bypass, PacketOn}
 use Rattle.tc_link.proofs.Common.{SpacecraftState, SpacecraftOutcome, frame_outcome, body_outcome, sequence_outcome}
 use Rattle.tc_link.proofs.Common.{bypass_outcome, is_own_frame, is_kept, verdict_of, is_free, limits_of}
-use Rattle.tc_link.proofs.Common.{spacecraft_take, spacecraft_take_bypass, Heard, Event, spacecraft_telemetry, World}
-use Rattle.tc_link.proofs.Common.{WorldOutcome, world_step, world_after_pull, world_after_take, world_after_queueing}
+use Rattle.tc_link.proofs.Common.{spacecraft_take_bypass, Heard, Event, World}
+use Rattle.tc_link.proofs.Common.{WorldOutcome, world_step, world_after_pull, world_after_take}
 use Rattle.tc_link.proofs.Common.{active_on, report_while_active}
 use Rattle.std.proofs.lemmas.List.Concat.{flat_map-append}
 use Rattle.std.specs.List.{flat_map}
@@ -25,16 +25,16 @@ use Rattle.clcw.specs.Decoding.{clcw_at}
 use Rattle.tm_link.specs.Layout as telemetry
 use Rattle.tm_link.specs.Decoding.{frame_at}
 use Rattle.nodes.specs.Ground.{report_outcome, ground_step, ground_take_telemetry}
-use Rattle.nodes.specs.Spacecraft.{is_accepted, after_take}
+use Rattle.nodes.specs.Spacecraft.{is_accepted}
 use Rattle.nodes.specs.declared.received.Received.{Received}
 use Rattle.nodes.specs.declared.heard.HeardReport.{HeardReport}
 use Rattle.nodes.specs.declared.heard.HeardReport.TheVariants.{Used}
 use Rattle.nodes.specs.Ground as ground_calls
 use Rattle.nodes.specs.declared.heard.Heard.TheVariants as heard_cases
 use Rattle.nodes.specs.declared.event.Event.TheVariants as events
-use Rattle.simulated_link.specs.World.{world_after_bypass, resumed, directed}
+use Rattle.simulated_link.specs.World.{world_after_bypass, directed}
 use Rattle.simulated_link.proofs.Counted.{reported, report_seen, frame_seen}
-use Rattle.simulated_link.proofs.Unchanged.{AtEachLoss, lost, up_arrives, down_arrives, word_arrives, resumes}
+use Rattle.simulated_link.proofs.Unchanged.{up_arrives}
 use Rattle.simulated_link.proofs.Unchanged.{board_after, ground_after}
 use Rattle.simulated_link.proofs.Unchanged.{up_after}
 use Rattle.tc_link.specs.Telemetry.{none, one, without}

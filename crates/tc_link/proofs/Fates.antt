@@ -1,15 +1,15 @@
 -- The ground's account of the submissions of a session is that of the records.
 use Rattle.tc_link.proofs.Common.{◌≡◌, ℕ, ◌+◌, ◌%◌, ◌/◌, ◌<◌, ◌≤◌, ◌⊎◌, inl, inr, true, false, List, [], ◌∷◌, ◌++◌}
 use Rattle.tc_link.proofs.Common.{length, map, Option, Some, None, Result, Ok, Err, refl, ap, sym, subst, ◌∙◌, arith}
-use Rattle.tc_link.proofs.Common.{length-append, length-map, append-nil, AllByRecursion, SegmentView, CopFault, Alert}
+use Rattle.tc_link.proofs.Common.{length-append, length-map, AllByRecursion, SegmentView, CopFault, Alert}
 use Rattle.tc_link.proofs.Common.{Directive, InitWithoutCheck, InitWithCheck, InitUnlock, InitSetVr, directive_step}
-use Rattle.tc_link.proofs.Common.{FopState, FopOutcome, FopMode, is_initiation, is_closed, Config, TmFault, LinkFault}
+use Rattle.tc_link.proofs.Common.{FopState, FopOutcome, FopMode, is_initiation, is_closed, Config}
 use Rattle.tc_link.proofs.Common.{GroundState, refill_step, with_fop, directive_outcome, segments_on, segments_of}
-use Rattle.tc_link.proofs.Common.{submit_fault, bypass_fault, after_bypass, after_submission, unless_refused}
-use Rattle.tc_link.proofs.Common.{after_extraction, telemetry_outcome, clcw_step, submitting, ahead_by, PacketOn, Event}
+use Rattle.tc_link.proofs.Common.{after_submission}
+use Rattle.tc_link.proofs.Common.{clcw_step, submitting, ahead_by, PacketOn, Event}
 use Rattle.tc_link.proofs.Common.{World, WorldOutcome, world_step, world_run, KeepsSession, world_after_directive}
 use Rattle.tc_link.proofs.Common.{BeginsNoSession, IsIdle, IsSettled, IsEvent, accepted, directive_of, option_map}
-use Rattle.tc_link.proofs.Common.{Opening, IsChecking, closed_is, HasPlainHistory, obeyed, begun, ClcwFault, Clcw}
+use Rattle.tc_link.proofs.Common.{Opening, IsChecking, closed_is, HasPlainHistory, obeyed, begun}
 use Rattle.tc_link.proofs.Common.{packet_on}
 use Rattle.tc_link.specs.Confirmation.{IsChecked}
 use Rattle.std.specs.Prelude.{◌^◌, ◌==◌}
@@ -24,10 +24,9 @@ use Rattle.nodes.specs.Fates.{after_acknowledging, after_obeying, kept_after, su
 use Rattle.nodes.specs.Ground.{moved_by, after_report, after_directive, known_on_board, sent_beyond}
 use Rattle.nodes.proofs.Owed.{moved_is, fewer_left, left_more}
 use Rattle.nodes.specs.declared.event.Event.TheVariants as events
-use Rattle.simulated_link.proofs.Counted.{frame_seen, report_seen}
-use Rattle.simulated_link.proofs.Unchanged.{AtEachLoss, lost, pulled, up_arrives, down_arrives, word_arrives, stepped}
-use Rattle.simulated_link.proofs.Unchanged.{resumes_not, not_restarted}
-use Rattle.simulated_link.specs.World.{Session, submission_of, session_after_report}
+use Rattle.simulated_link.proofs.Unchanged.{stepped}
+use Rattle.simulated_link.proofs.Unchanged.{not_restarted}
+use Rattle.simulated_link.specs.World.{Session, session_after_report}
 use Rattle.tc_link.proofs.Promised.{past_holds, keeps_what_is_known, sent_count, accepted_count, promised_so}
 use Rattle.tc_link.proofs.InOrder.{has_plain_history, total, left_with, whole_still, whole_more}
 use Rattle.tc_link.proofs.Invariant.{Holding, idle_goes, opening_stays, step_holds, octet, began_at, begun_session}
@@ -38,9 +37,6 @@ use Rattle.tc_link.specs.CountsOn.{SetsNone, CountsFrom}
 use Rattle.tc_link.specs.Fates.{whole_first, KnowsFates}
 use Rattle.tc_link.specs.Whole.{segments_each}
 use Rattle.tc_link.specs.Known.{SetsNoNumber}
-use Rattle.tm_link.specs.Decoding as telemetry_reading
-use Rattle.tm_link.specs.Layout as telemetry
-use Rattle.nodes.specs.Ground.{report_outcome}
 
 -- ---- the segments of submissions
 

@@ -3,7 +3,7 @@ use Rattle.tc_link.proofs.Common.{◌≡◌, ℕ, ◌+◌, ◌*◌, ◌/◌, ◌
 use Rattle.tc_link.proofs.Common.{Clcw, flags_number, FarmState, locks, waits, asks, report_of, ◌≤◌, max, List, [], ◌∷◌}
 use Rattle.tc_link.proofs.Common.{◌++◌, length, replicate, ap, length-append, cond_both, length-take-le, BuilderState}
 use Rattle.tc_link.proofs.Common.{idle_tail, data_size, is_at_rest, room_left, Config, report_octets, spacecraft_report}
-use Rattle.tc_link.proofs.Common.{World, Event, WorldOutcome, world_step, sym, ◌∙◌, ◌==◌, list_all, and_parts, eqb-true}
+use Rattle.tc_link.proofs.Common.{World, Event, world_step, sym, ◌∙◌, ◌==◌, list_all, and_parts, eqb-true}
 use Rattle.tc_link.proofs.Common.{Directive, SpacecraftState, begins_clean, begins_idle, reports_as, report_now, ◌⊎◌}
 use Rattle.tc_link.proofs.Common.{inl, inr, drop, SegmentView, Idle, InitWithoutCheck, InitWithCheck, InitUnlock}
 use Rattle.tc_link.proofs.Common.{InitSetVr, S6, directive_step, FopState, FopOutcome, is_closed, directive_outcome}
@@ -25,7 +25,6 @@ use Rattle.cop1.specs.Report.{value_if}
 use Rattle.cop1.specs.FopDirective.{obeys}
 use Rattle.nodes.specs.declared.event.Event.TheVariants as events
 use Rattle.simulated_link.specs.World.{is_none, is_quiet, is_idle, may_begin, says_as}
-use Rattle.simulated_link.proofs.Unchanged.{AtEachLoss, lost, pulled, up_arrives, down_arrives, word_arrives, resumes}
 use Rattle.simulated_link.proofs.Unchanged.{down_after}
 use Rattle.tc_link.proofs.Linked.{Tells, Reporting, reporting_push, WouldConfirm, AllGood, Lasts, AllSame, zeros}
 use Rattle.tc_link.proofs.Linked.{DownIs, Carries, Held, Stage, In, Begun, Late, IsEarly, ControlFits, zeros_plain}

@@ -3,30 +3,27 @@
 use Rattle.tc_link.proofs.Common.{◌≡◌, ℕ, ◌⊎◌, inl, inr, Bool, true, false, List, [], ◌∷◌, Option, Some, Result, refl}
 use Rattle.tc_link.proofs.Common.{ap, sym, subst, ◌∙◌, option_map, AllByRecursion, SegmentView, CopFault, Alert, ◌≢◌}
 use Rattle.tc_link.proofs.Common.{Directive, directive_step, Config, Event, Opening, IsConfig, is_closed, after_queue}
-use Rattle.tc_link.proofs.Common.{directive_outcome, is_initiation, World, WorldOutcome, new_world, world_step}
+use Rattle.tc_link.proofs.Common.{directive_outcome, is_initiation, World, new_world, world_step}
 use Rattle.tc_link.proofs.Common.{world_run, IsClean, IsIdle, BeginsNoSession, down_deliver_step, begins_clean}
 use Rattle.tc_link.proofs.Common.{begins_idle, session_begun_by, session_after_directive, IsDirective, IsEvent}
 use Rattle.tc_link.proofs.Common.{IsReached, obeyed, FopOutcome, closed_not, closed_is, SetVs, InitUnlock, GroundState}
-use Rattle.tc_link.proofs.Common.{and_parts, S6, ◌+◌, ◌%◌, ◌<◌, ◌++◌, length, None, arith, length-append, eq-eqb}
+use Rattle.tc_link.proofs.Common.{and_parts, S6, ◌+◌, ◌%◌, ◌<◌, ◌++◌, length, arith, length-append, eq-eqb}
 use Rattle.tc_link.proofs.Common.{append-nil, Clcw, Ad, segment_octets, Sent, PulledUnit, pull_step, clcw_step}
-use Rattle.tc_link.proofs.Common.{FopState, tick_step, after_alert, after_repeat, after_stop, after_count, due_again}
+use Rattle.tc_link.proofs.Common.{FopState, tick_step, after_alert, after_stop}
 use Rattle.tc_link.proofs.Common.{retransmits, after_new_value, after_restart, pulled_out, ticked, heard_active}
-use Rattle.tc_link.proofs.Common.{without_oldest_mark, TmFault, LinkFault, with_fop, frame_to_send, submit_fault}
-use Rattle.tc_link.proofs.Common.{after_submission, bypass_fault, after_bypass, unless_refused, after_extraction}
-use Rattle.tc_link.proofs.Common.{telemetry_outcome, world_after_pull, world_after_directive, Fates, submitting}
-use Rattle.tc_link.proofs.Common.{acknowledging, ClcwFault, report_while_active}
+use Rattle.tc_link.proofs.Common.{without_oldest_mark, with_fop, frame_to_send}
+use Rattle.tc_link.proofs.Common.{world_after_pull, world_after_directive, Fates, submitting}
+use Rattle.tc_link.proofs.Common.{report_while_active}
 use Rattle.std.proofs.lemmas.Bool.{cases_Bool}
 use Rattle.std.specs.Prelude.{◌&&◌}
-use Rattle.tm_link.specs.Layout as telemetry
-use Rattle.tm_link.specs.Decoding as telemetry_reading
 use Rattle.cop1.specs.FopPull.{after_send_first}
 use Rattle.nodes.specs.declared.event.Event.TheVariants as events
-use Rattle.nodes.specs.Ground.{can_resume, report_outcome}
+use Rattle.nodes.specs.Ground.{can_resume}
 use Rattle.simulated_link.specs.World.{Session, directed, first_sent, resumed}
-use Rattle.simulated_link.proofs.Unchanged.{AtEachLoss, lost, pulled, up_arrives, down_arrives, word_arrives, resumes}
-use Rattle.simulated_link.proofs.Unchanged.{resumes_not, BringsReport, not_restarted}
+use Rattle.simulated_link.proofs.Unchanged.{resumes}
+use Rattle.simulated_link.proofs.Unchanged.{BringsReport, not_restarted}
 use Rattle.simulated_link.proofs.Unchanged.{stepped, with_heard}
-use Rattle.simulated_link.proofs.Counted.{reported, frame_seen, report_seen}
+use Rattle.simulated_link.proofs.Counted.{reported}
 use Rattle.tc_link.specs.Taken.{BeginsSession}
 use Rattle.tc_link.specs.Known.{SetsNoNumber, MovesWithRecords}
 use Rattle.tc_link.proofs.Upward.{up_delivers, up_lost, same_keeps, releases_keep, ticks, directs, pulls_keep, not_next}

@@ -12,9 +12,9 @@ use Rattle.tc_link.proofs.Common.{FopState, FopOutcome, tick_step, TmFault, Even
 use Rattle.tc_link.proofs.Common.{spacecraft_take, spacecraft_take_bypass, spacecraft_telemetry, GroundOutcome}
 use Rattle.tc_link.proofs.Common.{submit_fault, after_submission, bypass_fault, after_bypass, unless_refused, Down}
 use Rattle.tc_link.proofs.Common.{WorldOutcome, world_step, down_deliver_step, IsChecked, replied_alert, obeyed, ticked}
-use Rattle.tc_link.proofs.Common.{nat_lt, cond_both, FarmMode, Open, after_release, farm_step, BufferReleased}
-use Rattle.tc_link.proofs.Common.{is_to_send, is_kept, limits_of, SpacecraftState, SpacecraftOutcome, body_outcome}
-use Rattle.tc_link.proofs.Common.{directive_outcome, is_initiation, session_begun_by, session_after_directive}
+use Rattle.tc_link.proofs.Common.{cond_both, FarmMode, Open, after_release}
+use Rattle.tc_link.proofs.Common.{is_kept, limits_of, body_outcome}
+use Rattle.tc_link.proofs.Common.{is_initiation, session_begun_by, session_after_directive}
 use Rattle.tc_link.proofs.Common.{up_deliver_step, directive_of, ConfirmsExactly, HasNoFalseAlarm, IsEvent, SetVs}
 use Rattle.tc_link.proofs.Common.{InitUnlock}
 use Rattle.std.specs.Prelude.{flat_map}
@@ -27,9 +27,9 @@ use Rattle.nodes.specs.declared.event.Event.TheVariants as events
 use Rattle.nodes.specs.Ground.{ground_directive}
 use Rattle.simulated_link.specs.Replies.{reply_to_submission, reply_to_directive, reply_to_alert, reply_to_taking}
 use Rattle.simulated_link.specs.Replies.{reply_to_telemetry}
-use Rattle.simulated_link.specs.World.{resumed, directed}
+use Rattle.simulated_link.specs.World.{directed}
 use Rattle.simulated_link.proofs.Counted.{IsCause, reported}
-use Rattle.simulated_link.proofs.Unchanged.{AtEachLoss, lost, pulled, up_arrives, resumes, down_arrives, word_arrives}
+use Rattle.simulated_link.proofs.Unchanged.{AtEachLoss, lost, pulled, up_arrives, resumes}
 use Rattle.simulated_link.proofs.Unchanged.{BringsReport, board_after, stepped}
 use Rattle.tc_link.specs.Confirmation.{LeavesVr, IsConfirmedExactly}
 use Rattle.tc_link.specs.InTransit.{command_in, unit_in, report_read, report_of_frame, reports_down, IsInWindow}

@@ -20,7 +20,7 @@ use Rattle.nodes.specs.Ground.{outstanding}
 use Rattle.nodes.specs.declared.event.Event.TheVariants as events
 use Rattle.simulated_link.specs.World.{world_after_telemetry}
 use Rattle.simulated_link.specs.Replies.{reply_to_alert}
-use Rattle.simulated_link.proofs.Unchanged.{pulled, up_arrives, BringsReport}
+use Rattle.simulated_link.proofs.Unchanged.{pulled, BringsReport}
 use Rattle.simulated_link.proofs.Counted.{reported as report_cases}
 use Rattle.tc_link.specs.FalseAlarms.{alert_in}
 use Rattle.tc_link.specs.Progress.{ticks_left, followed_by, all_taken, next_arrived, all_arrived, awaits, most_sent}
@@ -30,7 +30,7 @@ use Rattle.tc_link.proofs.Linked.{Tells}
 use Rattle.tc_link.proofs.ProgressNumbers.{IsOctetReport, known, Ends, ends_then, ends_repeat, ends_times, ends_once}
 use Rattle.tc_link.proofs.ProgressNumbers.{going_step, ends_trip, IsCalm, no_directive, no_resumption}
 use Rattle.tc_link.proofs.ProgressSender.{Running, HoldsNoMore, tick_on, holds_more, Obeys, heard_fresh, pull_no_more}
-use Rattle.tc_link.proofs.ProgressSender.{report_holds, active_report, tick_end, marked_all, with_kept}
+use Rattle.tc_link.proofs.ProgressSender.{report_holds, active_report, tick_end, marked_all}
 use Rattle.tc_link.proofs.ProgressSender.{step_kept}
 use Rattle.tc_link.proofs.Refilled.{refilled_keeps}
 use Rattle.tc_link.proofs.Common.{if◌then◌else◌}

@@ -1,6 +1,6 @@
 -- The numbers of the sender at every moment of a run, and how schedules are put together.
 use Rattle.tc_link.proofs.Common.{ap, ◌≡◌, ◌<◌, ◌≤◌, ℕ, ◌+◌, ◌%◌, Bool, true, false, List, [], ◌∷◌, ◌++◌, length, drop}
-use Rattle.tc_link.proofs.Common.{Option, Some, None, Result, Ok, refl, sym, subst, ◌∙◌, arith, cond_both, nat_lt}
+use Rattle.tc_link.proofs.Common.{Option, Some, None, Ok, refl, sym, subst, ◌∙◌, arith, cond_both}
 use Rattle.tc_link.proofs.Common.{ltb-true, ltb-false, length-append, length-drop, AllByRecursion, Clcw, On}
 use Rattle.tc_link.proofs.Common.{SegmentView, BodyView, Ad, Bd, Bc, Command, Unlock, SetVr, Control, Idle, Due, Sent}
 use Rattle.tc_link.proofs.Common.{ahead_by, Directive, InitWithoutCheck, InitWithCheck, InitUnlock, InitSetVr}
@@ -8,14 +8,14 @@ use Rattle.tc_link.proofs.Common.{is_initiation, begun, obeyed, directive_step, 
 use Rattle.tc_link.proofs.Common.{clcw_step, report_while_active, after_move_on, after_acknowledge, after_new_value}
 use Rattle.tc_link.proofs.Common.{retransmits, heard_active, pull_step, pulled_out, PulledUnit, after_restart}
 use Rattle.tc_link.proofs.Common.{without_oldest_mark, unmarked_unit, units_of, tick_step, ticked, after_repeat}
-use Rattle.tc_link.proofs.Common.{after_stop, after_count, due_again, after_alert, FarmState, FarmMode, Open, Wait}
-use Rattle.tc_link.proofs.Common.{Verdict, Accepted, verdict_of, farm_step, after_verdict, after_unlock, after_set_vr}
-use Rattle.tc_link.proofs.Common.{after_release, BufferReleased, report_of, Config, FitsFrame, frame_of, frame_to_send}
-use Rattle.tc_link.proofs.Common.{with_fop, is_closed, after_extraction, extract_step, IsDirective, IsEvent, PacketOn}
+use Rattle.tc_link.proofs.Common.{after_stop, due_again, after_alert, FarmState, FarmMode, Open, Wait}
+use Rattle.tc_link.proofs.Common.{Verdict, Accepted, verdict_of, after_verdict, after_unlock, after_set_vr}
+use Rattle.tc_link.proofs.Common.{after_release, report_of, Config, FitsFrame, frame_of, frame_to_send}
+use Rattle.tc_link.proofs.Common.{with_fop, is_closed, after_extraction, extract_step, IsDirective, IsEvent}
 use Rattle.tc_link.proofs.Common.{SpacecraftState, SpacecraftOutcome, body_outcome, sequence_outcome, bypass_outcome}
-use Rattle.tc_link.proofs.Common.{is_free, is_kept, limits_of, spacecraft_take, spacecraft_take_bypass}
-use Rattle.tc_link.proofs.Common.{spacecraft_telemetry, is_to_send, Event, World, WorldOutcome, new_world, world_step}
-use Rattle.tc_link.proofs.Common.{world_after_pull, up_deliver_step, down_deliver_step, TmFault, closed_not, active_on}
+use Rattle.tc_link.proofs.Common.{is_free, is_kept, limits_of}
+use Rattle.tc_link.proofs.Common.{Event, World, WorldOutcome, new_world, world_step}
+use Rattle.tc_link.proofs.Common.{world_after_pull, up_deliver_step, down_deliver_step, closed_not, active_on}
 use Rattle.tc_link.proofs.Common.{spacecraft_report, FlagsAgree, acknowledging, SetVs, ◌≢◌, ◌⊎◌, inl, inr, zero, suc}
 use Rattle.tc_link.proofs.Common.{replicate, world_run, IsIdle, IsSettled, IsReached, BeginsNoSession, option_map}
 use Rattle.tc_link.proofs.Common.{Opening, directive_of}
@@ -29,7 +29,7 @@ use Rattle.cop1.specs.FopWords.{is_outside}
 use Rattle.nodes.specs.declared.received.Received.{Received}
 use Rattle.nodes.specs.declared.event.Event.TheVariants as events
 use Rattle.simulated_link.specs.World.{world_after_telemetry, directed}
-use Rattle.simulated_link.proofs.Unchanged.{AtEachLoss, lost, up_arrives, down_arrives, resumes, BringsReport}
+use Rattle.simulated_link.proofs.Unchanged.{up_arrives, down_arrives, resumes, BringsReport}
 use Rattle.simulated_link.proofs.Unchanged.{board_after, down_after, up_after}
 use Rattle.simulated_link.proofs.Counted.{reported as report_cases}
 use Rattle.tc_link.specs.FalseAlarms.{alert_in}

@@ -1,9 +1,9 @@
 -- What the sender does in an exchange, and what is so of it at every moment of a run, in any session.
 use Rattle.tc_link.proofs.Common.{◌≡◌, ℕ, List, Option, Some, None, Result, Ok, Err, refl, SegmentView, Clcw, CopFault}
 use Rattle.tc_link.proofs.Common.{Alert, Directive, FopState, clcw_step, directive_step, pull_step, tick_step}
-use Rattle.tc_link.proofs.Common.{GroundState, with_fop, submit_fault, bypass_fault, LinkFault, after_submission}
-use Rattle.tc_link.proofs.Common.{after_bypass, unless_refused, directive_outcome, after_extraction, Event, World}
-use Rattle.tc_link.proofs.Common.{WorldOutcome, world_step, obeying, submitting, acknowledging, SetVs, InitUnlock, ◌≢◌}
+use Rattle.tc_link.proofs.Common.{GroundState, with_fop}
+use Rattle.tc_link.proofs.Common.{after_bypass, directive_outcome, Event, World}
+use Rattle.tc_link.proofs.Common.{world_step, obeying, submitting, acknowledging, SetVs, InitUnlock, ◌≢◌}
 use Rattle.tc_link.proofs.Common.{◌≤◌, ◌⊎◌, inl, inr, zero, suc, ◌+◌, ◌-◌, Bool, true, false, not, [], ◌∷◌, ◌++◌}
 use Rattle.tc_link.proofs.Common.{length, map, drop, ap, sym, ◌∙◌, arith, ◌==◌, nat_lt, cond_both, eqb-true, eq-eqb}
 use Rattle.tc_link.proofs.Common.{and_parts, not-false, subst, ne_eqb, ahead_by, NnR, Synch, FopMode, S1, S2, S3}
@@ -13,16 +13,15 @@ use Rattle.tc_link.proofs.Common.{retransmits, after_acknowledge, after_repeat, 
 use Rattle.tc_link.proofs.Common.{report_in, length-append, length-drop, length-map, option_to_list, after_restart}
 use Rattle.tc_link.proofs.Common.{heard_active, Sent, Control, Due, eqb-false, ltb-false, BodyView, Ad, Bd, Bc, S4, S5}
 use Rattle.tc_link.proofs.Common.{S6, Idle, after_alert, after_count, due_again, begun, InitWithoutCheck, InitWithCheck}
-use Rattle.tc_link.proofs.Common.{InitSetVr, FarmMode, Open, Wait, FarmState, FlagsAgree, state_of, farm_step}
-use Rattle.tc_link.proofs.Common.{after_unlock, after_set_vr, after_release, BufferReleased, Verdict, Accepted, Ahead}
-use Rattle.tc_link.proofs.Common.{NoBuffer, Outside, verdict_of, TmFault, PacketOn, SpacecraftState, SpacecraftOutcome}
+use Rattle.tc_link.proofs.Common.{InitSetVr, FarmMode, Open, Wait, FarmState, FlagsAgree, state_of}
+use Rattle.tc_link.proofs.Common.{after_unlock, after_set_vr, after_release, Verdict, Accepted, Ahead}
+use Rattle.tc_link.proofs.Common.{NoBuffer, Outside, verdict_of, SpacecraftState}
 use Rattle.tc_link.proofs.Common.{body_outcome, sequence_outcome, bypass_outcome, is_free, is_kept, limits_of}
-use Rattle.tc_link.proofs.Common.{spacecraft_take, spacecraft_take_bypass, spacecraft_telemetry, is_to_send, Unlock}
+use Rattle.tc_link.proofs.Common.{Unlock}
 use Rattle.tc_link.proofs.Common.{SetVr, or_parts}
 use Rattle.std.proofs.lemmas.Bool.{not-true}
 use Rattle.std.specs.Prelude.{IsSome, ◌&&◌, ◌||◌, nat_le, ◌/◌}
 use Rattle.std.proofs.Math.Seq.{drop-nil}
-use Rattle.tm_link.specs.Decoding as telemetry_reading
 use Rattle.cop1.specs.declared.vocabulary.Alert.TheVariants as alarms
 use Rattle.cop1.specs.declared.vocabulary.Alert.TheVariants.{Clcw as ClcwAlert, Limit, Timer}
 use Rattle.cop1.specs.FopReport.{nothing_new, move_on, ask_for_others, ask_for_all, goes_back_again, ticks_for}
@@ -38,8 +37,7 @@ use Rattle.nodes.specs.declared.event.Event.TheVariants as events
 use Rattle.nodes.specs.Packets.{put_on_map}
 use Rattle.nodes.specs.Spacecraft.{assemble_step}
 use Rattle.simulated_link.specs.World.{directed as directed_by, resumed}
-use Rattle.simulated_link.proofs.Counted.{frame_seen, report_seen, reported}
-use Rattle.simulated_link.proofs.Unchanged.{AtEachLoss, lost, pulled, up_arrives, down_arrives, word_arrives, resumes}
+use Rattle.simulated_link.proofs.Counted.{reported}
 use Rattle.simulated_link.proofs.Unchanged.{BringsReport, ground_after}
 use Rattle.tc_link.specs.Progress.{are_marked}
 use Rattle.tc_link.proofs.Refilled.{refilled_keeps}

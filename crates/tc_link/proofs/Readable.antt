@@ -4,23 +4,23 @@ use Rattle.tc_link.proofs.Common.{◌≡◌, ◌≤◌, ℕ, zero, suc, true, Li
 use Rattle.tc_link.proofs.Common.{slice_get, AllByRecursion, On, Unlock, SetVr, SegmentView, BodyView, Ad, Bd, Bc}
 use Rattle.tc_link.proofs.Common.{Config, IsConfig, FitsFrame, frame_of, Bool, false, ◌++◌, drop, Option, None, Result}
 use Rattle.tc_link.proofs.Common.{option_to_list, ap, sym, ◌∙◌, append_assoc, Clcw, segments_of, ahead_by, CopFault}
-use Rattle.tc_link.proofs.Common.{Alert, Idle, Sent, Directive, InitWithoutCheck, InitWithCheck, InitUnlock, InitSetVr}
+use Rattle.tc_link.proofs.Common.{Alert, Idle, Directive, InitWithoutCheck, InitWithCheck, InitUnlock, InitSetVr}
 use Rattle.tc_link.proofs.Common.{S1, S2, S3, S6, is_initiation, directive_step, units_of, pull_step}
 use Rattle.tc_link.proofs.Common.{without_oldest_mark, FopState, FopOutcome, clcw_step, report_while_active}
-use Rattle.tc_link.proofs.Common.{after_move_on, retransmits, after_new_value, tick_step, after_count, due_again}
+use Rattle.tc_link.proofs.Common.{after_move_on, retransmits, after_new_value, tick_step}
 use Rattle.tc_link.proofs.Common.{after_acknowledge, after_repeat, after_alert, after_stop, after_restart, heard_active}
-use Rattle.tc_link.proofs.Common.{obeyed, begun, pulled_out, ticked, TmFault, Extracted, LinkFault, GroundState}
+use Rattle.tc_link.proofs.Common.{obeyed, begun, pulled_out, ticked, TmFault, GroundState}
 use Rattle.tc_link.proofs.Common.{is_closed, unsent_segments, refill_step, with_fop, directive_outcome, submit_fault}
-use Rattle.tc_link.proofs.Common.{after_submission, after_bypass, unless_refused, segments_on, after_extraction}
-use Rattle.tc_link.proofs.Common.{telemetry_outcome, segments_fit, closed_not, active_on, SetVs, obeying, submitting}
-use Rattle.tc_link.proofs.Common.{acknowledging, ClcwFault, ◌+◌, ◌%◌, if◌then◌else◌, Err, ◌==◌, ◌||◌, nat_lt, not}
-use Rattle.tc_link.proofs.Common.{eqb-true, or_parts, not-false, PulledUnit, frame_to_send, bypass_fault, Event}
-use Rattle.tc_link.proofs.Common.{AllReadable, World, WorldOutcome, world_step, world_after_pull, IsEvent, ◌<◌, map}
-use Rattle.tc_link.proofs.Common.{cond_both, TcFault, segment_octets, FopMode, report_in, IsActive, is_to_send, is_kept}
-use Rattle.tc_link.proofs.Common.{PacketOn, limits_of, SpacecraftState, SpacecraftOutcome, frame_outcome, body_outcome}
-use Rattle.tc_link.proofs.Common.{bypass_outcome, is_own_frame, spacecraft_take, spacecraft_take_bypass}
-use Rattle.tc_link.proofs.Common.{spacecraft_telemetry, number_in, in_frame, world_after_directive, BeginsNoSession}
-use Rattle.tc_link.proofs.Common.{accepted, Fates}
+use Rattle.tc_link.proofs.Common.{after_submission, segments_on}
+use Rattle.tc_link.proofs.Common.{segments_fit, closed_not, active_on, SetVs, obeying, submitting}
+use Rattle.tc_link.proofs.Common.{◌+◌, ◌%◌, if◌then◌else◌, Err, ◌==◌, ◌||◌, nat_lt, not}
+use Rattle.tc_link.proofs.Common.{eqb-true, or_parts, not-false, PulledUnit, frame_to_send, Event}
+use Rattle.tc_link.proofs.Common.{AllReadable, World, world_step, world_after_pull, IsEvent, ◌<◌, map}
+use Rattle.tc_link.proofs.Common.{cond_both, TcFault, segment_octets, FopMode, report_in, IsActive, is_kept}
+use Rattle.tc_link.proofs.Common.{limits_of, SpacecraftState, frame_outcome, body_outcome}
+use Rattle.tc_link.proofs.Common.{bypass_outcome, is_own_frame}
+use Rattle.tc_link.proofs.Common.{number_in, in_frame, world_after_directive, BeginsNoSession}
+use Rattle.tc_link.proofs.Common.{accepted}
 use Rattle.std.proofs.lemmas.Bool.{lt-ltb, le-leb}
 use Rattle.std.specs.Prelude.{flat_map}
 use Rattle.tc_frame.specs.Layout.{body_fits, FrameView}
@@ -30,13 +30,11 @@ use Rattle.tc_frame.proofs.Spelled.{frame_again, spelling_is}
 use Rattle.tm_link.specs.Layout as telemetry
 use Rattle.tm_link.specs.Decoding.{frame_at, is_length_wrong}
 use Rattle.tm_link.specs.declared.fault.TmFault.TheVariants as faults
-use Rattle.tm_link.specs.Decoding as telemetry_reading
-use Rattle.nodes.specs.Ground.{report_outcome, can_resume}
+use Rattle.nodes.specs.Ground.{can_resume}
 use Rattle.nodes.specs.declared.event.Event.TheVariants as events
 use Rattle.simulated_link.specs.World.{directed, resumed}
-use Rattle.simulated_link.proofs.Counted.{reported, frame_seen, report_seen}
-use Rattle.simulated_link.proofs.Unchanged.{AtEachLoss, lost, up_arrives, down_arrives, word_arrives, resumes}
-use Rattle.simulated_link.proofs.Unchanged.{resumes_not, ground_after, not_restarted}
+use Rattle.simulated_link.proofs.Counted.{reported}
+use Rattle.simulated_link.proofs.Unchanged.{ground_after, not_restarted}
 use Rattle.simulated_link.proofs.Unchanged.{stepped, up_after}
 use Rattle.tc_link.specs.Readable.{IsCommandOf, IsTelemetryOf}
 use Rattle.tc_link.specs.Accepted.{AcceptsNoMore}

@@ -1,17 +1,17 @@
 -- While silence is kept the receiver's report stays, so the frames down that follow the first ones carry it.
 use Rattle.tc_link.proofs.Common.{◌≡◌, ℕ, zero, suc, ◌-◌, ◌≤◌, true, false, List, [], ◌∷◌, ◌++◌, length, refl, arith}
-use Rattle.tc_link.proofs.Common.{◌∙◌, subst, AllByRecursion, cond_both, nat_lt, list_all, Clcw, flags_number, ◌≢◌}
-use Rattle.tc_link.proofs.Common.{FarmState, FarmMode, Open, Wait, farm_step, BufferReleased, after_release, report_of}
-use Rattle.tc_link.proofs.Common.{is_to_send, Config, PacketOn, SpacecraftState, GroundState, Heard, Event, World}
-use Rattle.tc_link.proofs.Common.{WorldOutcome, world_step, spacecraft_take, spacecraft_take_bypass, spacecraft_report}
-use Rattle.tc_link.proofs.Common.{world_after_take, world_after_queueing, reports_as, report_now, up_lose_step}
-use Rattle.tc_link.proofs.Common.{up_damage_step, spacecraft_telemetry, eq-eqb, ◌==◌}
+use Rattle.tc_link.proofs.Common.{◌∙◌, subst, AllByRecursion, list_all, Clcw, flags_number, ◌≢◌}
+use Rattle.tc_link.proofs.Common.{FarmState, FarmMode, Open, Wait, after_release, report_of}
+use Rattle.tc_link.proofs.Common.{Config, GroundState, Heard, Event, World}
+use Rattle.tc_link.proofs.Common.{WorldOutcome, world_step, spacecraft_report}
+use Rattle.tc_link.proofs.Common.{reports_as, report_now}
+use Rattle.tc_link.proofs.Common.{eq-eqb, ◌==◌}
 use Rattle.nodes.specs.Ground as ground_calls
 use Rattle.nodes.specs.Ground.{ground_step}
 use Rattle.nodes.specs.declared.heard.Heard.TheVariants as heard_cases
 use Rattle.nodes.specs.declared.heard.HeardReport.{HeardReport}
 use Rattle.nodes.specs.declared.heard.HeardReport.TheVariants.{Used}
-use Rattle.simulated_link.proofs.Unchanged.{lost, first_on, up_arrives, down_arrives, TakesDown, board_after}
+use Rattle.simulated_link.proofs.Unchanged.{lost, down_arrives, TakesDown, board_after}
 use Rattle.simulated_link.specs.World.{is_idle}
 use Rattle.tm_link.specs.Decoding.{frame_at}
 use Rattle.tm_link.specs.Encoding.{spelling}
@@ -24,7 +24,7 @@ use Rattle.tc_link.proofs.Promised.{link_step_holds, past_holds}
 use Rattle.tc_link.proofs.Invariant.{Holding}
 use Rattle.tc_link.proofs.Linked.{Tells}
 use Rattle.tc_link.proofs.IdleStart.{tells_now}
-use Rattle.simulated_link.proofs.Unchanged.{word_arrives, resumes, down_after, up_after}
+use Rattle.simulated_link.proofs.Unchanged.{word_arrives, down_after, up_after}
 
 -- ---- the frames on their way down
 

@@ -2,50 +2,46 @@
 use Rattle.tc_link.proofs.Common.{◌≡◌, ◌/◌, ◌<◌, ◌≤◌, true, [], length, AllByRecursion, SegmentView, Control, Idle}
 use Rattle.tc_link.proofs.Common.{FopMode, FarmState, FlagsAgree, FopState, Config, FitsFrame, GroundState, is_closed}
 use Rattle.tc_link.proofs.Common.{SpacecraftState, IsBuilderOf, IsConfig, World, S5, None, ℕ, false, ◌∷◌, Some, refl}
-use Rattle.tc_link.proofs.Common.{◌∙◌, arith, ◌+◌, ◌%◌, Clcw, FarmMode, Open, Wait, Verdict, Accepted, Sent, S1, S2, S3}
+use Rattle.tc_link.proofs.Common.{◌∙◌, arith, ◌+◌, ◌%◌, Clcw, FarmMode, Open, Wait, Verdict, Accepted, Sent}
 use Rattle.tc_link.proofs.Common.{FarmEvent, AdArrives, BdArrives, BufferReleased, farm_step, after_verdict, goes_on}
-use Rattle.tc_link.proofs.Common.{after_unlock, after_set_vr, after_release, verdict_of, without_oldest_mark}
-use Rattle.tc_link.proofs.Common.{FopOutcome, pull_step, clcw_step, report_while_active, after_move_on, retransmits}
-use Rattle.tc_link.proofs.Common.{after_new_value, IsActive, tick_step, after_count, due_again, after_acknowledge}
-use Rattle.tc_link.proofs.Common.{after_repeat, after_alert, after_stop, after_restart, refill_step, ticked, pulled_out}
+use Rattle.tc_link.proofs.Common.{after_unlock, after_set_vr, after_release, verdict_of}
+use Rattle.tc_link.proofs.Common.{FopOutcome, pull_step, clcw_step, report_while_active, retransmits}
+use Rattle.tc_link.proofs.Common.{after_new_value, IsActive, tick_step, after_count, due_again}
+use Rattle.tc_link.proofs.Common.{after_alert, after_stop, refill_step, ticked, pulled_out}
 use Rattle.tc_link.proofs.Common.{heard_active, Bool, cond, List, ◌++◌, take, drop, map, Option, option_to_list, ap}
-use Rattle.tc_link.proofs.Common.{sym, subst, append_assoc, length-append, inl, inr, ◌==◌, and_parts, not-false}
+use Rattle.tc_link.proofs.Common.{sym, subst, append_assoc, length-append, inr, ◌==◌, and_parts, not-false}
 use Rattle.tc_link.proofs.Common.{take-append-le, drop-append-le, append-nil, segment_octets, segments_of, Directive}
 use Rattle.tc_link.proofs.Common.{LinkFault, PacketOn, packet_on, segments_on, submit_fault, after_submission}
-use Rattle.tc_link.proofs.Common.{bypass_fault, after_bypass, unless_refused, segments_fit, submitting, ◌-◌, Result, Ok}
-use Rattle.tc_link.proofs.Common.{Err, nat_lt, cond_both, eqb-false, TcFault, On, BodyView, Ad, Bd, Bc, CopFault, Alert}
+use Rattle.tc_link.proofs.Common.{bypass_fault, after_bypass, segments_fit, submitting, ◌-◌, Result, Ok}
+use Rattle.tc_link.proofs.Common.{Err, cond_both, eqb-false, TcFault, On, BodyView, Ad, Bd, Bc, CopFault, Alert}
 use Rattle.tc_link.proofs.Common.{InitWithoutCheck, InitWithCheck, InitUnlock, InitSetVr, S6, directive_step}
-use Rattle.tc_link.proofs.Common.{BuilderState, is_to_send, after_queue, data_size, is_at_rest, room_left, TmFault}
-use Rattle.tc_link.proofs.Common.{Extracted, Event, is_kept, limits_of, SpacecraftOutcome, spacecraft_report}
+use Rattle.tc_link.proofs.Common.{BuilderState, after_queue, data_size, is_at_rest, room_left}
+use Rattle.tc_link.proofs.Common.{Event, is_kept, limits_of, spacecraft_report}
 use Rattle.tc_link.proofs.Common.{frame_outcome, body_outcome, sequence_outcome, bypass_outcome, is_free, is_own_frame}
-use Rattle.tc_link.proofs.Common.{spacecraft_take, spacecraft_take_bypass, spacecraft_telemetry, with_fop}
-use Rattle.tc_link.proofs.Common.{directive_outcome, after_extraction, telemetry_outcome, WorldOutcome, new_world}
-use Rattle.tc_link.proofs.Common.{world_step, up_deliver_step, down_deliver_step, is_initiation}
+use Rattle.tc_link.proofs.Common.{with_fop}
+use Rattle.tc_link.proofs.Common.{directive_outcome, new_world}
+use Rattle.tc_link.proofs.Common.{world_step, is_initiation}
 use Rattle.tc_link.proofs.Common.{session_after_directive, IsDirective, IsEvent, obeyed, begun, SetVs, obeying}
-use Rattle.tc_link.proofs.Common.{acknowledging, ClcwFault}
 use Rattle.tc_frame.specs.declared.frame.SegmentFlags.TheVariants.{Alone}
 use Rattle.tc_frame.specs.Layout.{FrameView}
 use Rattle.tc_frame.specs.Decoding.{frame_at}
 use Rattle.map_service.specs.Packets.{packets_in, are_taken, is_some_over}
 use Rattle.map_service.specs.Cutting.{segment_with}
 use Rattle.tm_link.specs.Builder.{after_send, idle_after, with_next_count}
-use Rattle.tm_link.specs.Layout as telemetry
-use Rattle.tm_link.specs.Decoding as telemetry_reading
 use Rattle.cop1.specs.declared.farm.FarmMode.TheVariants.{Lockout}
 use Rattle.cop1.specs.Farm.{UnlockArrives, SetVrArrives, InvalidArrives}
 use Rattle.cop1.proofs.FarmFlags.{FlagsAgree-step}
 use Rattle.nodes.specs.Spacecraft.{command_event, spacecraft_receive}
 use Rattle.nodes.specs.declared.event.Event.TheVariants as events
-use Rattle.nodes.specs.Ground.{report_outcome, can_resume}
+use Rattle.nodes.specs.Ground.{can_resume}
 use Rattle.nodes.proofs.Submissions.{submit_map, bypass_fits}
 use Rattle.simulated_link.specs.World.{directed, resumed}
-use Rattle.simulated_link.proofs.Counted.{reported, frame_seen, report_seen}
-use Rattle.simulated_link.proofs.Unchanged.{AtEachLoss, lost, pulled, up_arrives, down_arrives, word_arrives, resumes}
+use Rattle.simulated_link.proofs.Counted.{reported}
 use Rattle.simulated_link.proofs.Unchanged.{board_after, ground_after}
 use Rattle.simulated_link.proofs.Unchanged.{stepped}
 use Rattle.tc_link.specs.PlainLink.{adds}
 use Rattle.tc_link.proofs.Refilled.{refilled_keeps, session_refilled}
-use Rattle.tc_link.proofs.Linked.{Fits, fits_longer, In, IsGiven, units_of_all, Held, Next, stays, beside, holds_on}
+use Rattle.tc_link.proofs.Linked.{Fits, fits_longer, In, IsGiven, units_of_all, Held, Next, holds_on}
 
 -- What holds of both nodes and of the world at every moment, in any session.
 

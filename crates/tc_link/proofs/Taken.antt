@@ -6,9 +6,9 @@ use Rattle.tc_link.proofs.Common.{SegmentView, BodyView, Ad, Bd, Bc, On, Limits,
 use Rattle.tc_link.proofs.Common.{TcFault, Verdict, Accepted, verdict_of, Config, PacketOn, packet_on, limits_of}
 use Rattle.tc_link.proofs.Common.{SpacecraftState, frame_outcome, body_outcome, sequence_outcome, bypass_outcome}
 use Rattle.tc_link.proofs.Common.{is_free, is_own_frame, is_kept, segment_to_accept, spacecraft_step, length, map}
-use Rattle.tc_link.proofs.Common.{filter, eqb, option_map, cond_both, filter-append, assembled-other, is_to_send}
-use Rattle.tc_link.proofs.Common.{TmFault, SpacecraftOutcome, spacecraft_take, spacecraft_take_bypass}
-use Rattle.tc_link.proofs.Common.{spacecraft_telemetry, Event, Opening, KeepsSession, World, WorldOutcome, IsIdle}
+use Rattle.tc_link.proofs.Common.{filter, eqb, option_map, filter-append, assembled-other}
+use Rattle.tc_link.proofs.Common.{spacecraft_take}
+use Rattle.tc_link.proofs.Common.{Event, Opening, KeepsSession, World, WorldOutcome, IsIdle}
 use Rattle.tc_link.proofs.Common.{delivered, world_step, world_run, run_answers, world_after_take, inl, inr, S1}
 use Rattle.tc_link.proofs.Common.{take_all, Directive, PlainLink}
 use Rattle.std.specs.List.{flat_map}
@@ -32,7 +32,6 @@ use Rattle.nodes.specs.declared.event.Event.TheVariants as events
 use Rattle.nodes.proofs.Delivery.{delivers}
 use Rattle.simulated_link.specs.World.{Session}
 use Rattle.simulated_link.proofs.Gained.{foreign, accepts_segment, config_stays}
-use Rattle.simulated_link.proofs.Unchanged.{AtEachLoss, lost, pulled, up_arrives, down_arrives, word_arrives, resumes}
 use Rattle.simulated_link.proofs.Unchanged.{board_after}
 use Rattle.tc_link.specs.Taken.{BeginsSession, handed_out, taken, taken_since, ready_on, HandsOutWhatIsDelivered}
 use Rattle.tc_link.specs.Taken.{HandsOutWhatIsSubmitted, HandsOutAsSubmitted, all_submitted}

@@ -2,20 +2,20 @@
 use Rattle.tc_link.proofs.Common.{◌≡◌, ℕ, Bool, true, false, if◌then◌else◌, not, List, [], ◌∷◌, ◌++◌, length, drop}
 use Rattle.tc_link.proofs.Common.{refl, sym, ap, subst, ◌∙◌, arith, append_assoc, AllByRecursion, append-nil, ◌≢◌}
 use Rattle.tc_link.proofs.Common.{all_extracted, state_after, ExtractorState, without_idle, extract_step, choice}
-use Rattle.tc_link.proofs.Common.{AreSomeOf, Option, Some, None, Result, Ok, Err, ◌+◌, ◌==◌, cond_both, and_parts}
+use Rattle.tc_link.proofs.Common.{AreSomeOf, Option, Result, Ok, Err, ◌+◌, ◌==◌, cond_both, and_parts}
 use Rattle.tc_link.proofs.Common.{eqb-true, Clcw, ClcwFault, TcFault, SegmentView, BodyView, Ad, Bd, Bc, CopFault}
 use Rattle.tc_link.proofs.Common.{Verdict, Accepted, Alert, clcw_step, FopState, BuilderState, is_to_send, after_queue}
-use Rattle.tc_link.proofs.Common.{idle_tail, Extracted, held_by, IsLaidOutBy, LinkFault, is_kept, PacketOn, limits_of}
+use Rattle.tc_link.proofs.Common.{idle_tail, Extracted, held_by, IsLaidOutBy, is_kept, limits_of}
 use Rattle.tc_link.proofs.Common.{SpacecraftState, frame_outcome, body_outcome, sequence_outcome, bypass_outcome}
-use Rattle.tc_link.proofs.Common.{is_own_frame, spacecraft_take, spacecraft_take_bypass, GroundState, GroundOutcome}
-use Rattle.tc_link.proofs.Common.{with_fop, refill_step, after_submission, after_bypass, unless_refused}
+use Rattle.tc_link.proofs.Common.{is_own_frame, GroundState, GroundOutcome}
+use Rattle.tc_link.proofs.Common.{with_fop, refill_step}
 use Rattle.tc_link.proofs.Common.{after_extraction, own_frame_outcome, Directive, obeying, submitting, acknowledging}
 use Rattle.tc_link.proofs.Common.{◌<◌, ◌≤◌, map, length-append, eq-eqb, map-append, On, directive_step, pull_step}
 use Rattle.tc_link.proofs.Common.{tick_step, TmFault, data_size, Config, telemetry_outcome, ground_telemetry, Heard}
-use Rattle.tc_link.proofs.Common.{submit_fault, bypass_fault, SpacecraftOutcome, report_octets, IsConfig, Event}
-use Rattle.tc_link.proofs.Common.{NotDetectable, Up, Down, World, WorldOutcome, world_step, world_run, new_world}
+use Rattle.tc_link.proofs.Common.{SpacecraftOutcome, report_octets, IsConfig, Event}
+use Rattle.tc_link.proofs.Common.{NotDetectable, Down, World, WorldOutcome, world_step, world_run, new_world}
 use Rattle.tc_link.proofs.Common.{down_deliver_step, down_lose_step, down_damage_step, down_damage_outcome}
-use Rattle.tc_link.proofs.Common.{up_lose_step, up_damage_step, up_damage_outcome, up_deliver_step, world_refusal}
+use Rattle.tc_link.proofs.Common.{world_refusal}
 use Rattle.tc_link.proofs.Common.{world_reply, world_after_queueing, SetVs, InitUnlock}
 use Rattle.std.specs.List.{concat}
 use Rattle.std.proofs.lemmas.List.{drop_at}
@@ -43,11 +43,10 @@ use Rattle.tm_link.proofs.BuiltFrames.{build_laid}
 use Rattle.nodes.specs.Ground.{after_directive, report_outcome, ground_take_telemetry}
 use Rattle.nodes.specs.declared.heard.HeardClcw.{HeardClcw}
 use Rattle.nodes.specs.declared.heard.Heard.TheVariants as heard_cases
-use Rattle.nodes.specs.declared.received.Received.TheVariants as received_cases
 use Rattle.nodes.specs.declared.event.Event.TheVariants as events
-use Rattle.simulated_link.specs.World.{resumed, directed, world_after_word, down_word_outcome, down_clcw_step}
+use Rattle.simulated_link.specs.World.{directed, world_after_word, down_word_outcome, down_clcw_step}
 use Rattle.simulated_link.proofs.Counted.{report_seen}
-use Rattle.simulated_link.proofs.Unchanged.{first_on, pulled, up_arrives, down_arrives, resumes, BringsReport}
+use Rattle.simulated_link.proofs.Unchanged.{first_on, down_arrives, BringsReport}
 use Rattle.simulated_link.proofs.Unchanged.{TakesDown, board_after, down_after, ground_after}
 use Rattle.tc_link.specs.Telemetry.{none, one, without, Downlink, DownlinkStep, Happens, TakeTelemetry, IsDownlinkStep}
 use Rattle.tc_link.specs.Telemetry.{new_downlink, after_event, after_taking, downlink_step, downlink_run, packets_down}

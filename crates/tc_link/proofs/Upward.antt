@@ -8,8 +8,8 @@ use Rattle.tc_link.proofs.Common.{Accepted, Ahead, NoBuffer, Outside, ◌*◌, m
 use Rattle.tc_link.proofs.Common.{Result, Ok, ap, sym, subst, slice_get, eq-eqb, drop-append-le, TcFault, On, BodyView}
 use Rattle.tc_link.proofs.Common.{Ad, Bd, after_verdict, Config, limits_of, is_kept, frame_outcome, sequence_outcome}
 use Rattle.tc_link.proofs.Common.{is_free, frame_of, World, up_deliver_step, Rises, length, farm_step, BufferReleased}
-use Rattle.tc_link.proofs.Common.{is_to_send, after_queue, PacketOn, spacecraft_take, spacecraft_take_bypass}
-use Rattle.tc_link.proofs.Common.{spacecraft_telemetry, world_after_take, world_after_queueing, map, option_to_list}
+use Rattle.tc_link.proofs.Common.{PacketOn}
+use Rattle.tc_link.proofs.Common.{map, option_to_list}
 use Rattle.tc_link.proofs.Common.{AllByRecursion, ne_eqb, append-nil, map-append, length-take-le, segment_octets}
 use Rattle.tc_link.proofs.Common.{Control, Idle, Due, Sent, FopMode, S5, units_of, PulledUnit, pull_step, oldest_marked}
 use Rattle.tc_link.proofs.Common.{without_oldest_mark, unmarked_unit, FopState, FopOutcome, IsActive, after_restart}
@@ -447,8 +447,8 @@ module _ (early : Bool) (c : Config) (d : Directive) (base : ℕ) (w : World) (k
 
     -- a buffer is released
     pub releases_keep : (left : List PacketOn) → Next early c d base g.plain (record w {
-          spacecraft = record w.spacecraft { ready = left; farm = farm_step w.spacecraft.farm BufferReleased };
-        })
+      spacecraft = record w.spacecraft { ready = left; farm = farm_step w.spacecraft.farm BufferReleased };
+    })
     releases_keep left =
         eases_keep (record w.spacecraft { ready = left; farm = farm_step w.spacecraft.farm BufferReleased }) refl
         (release_eases d base g.front w.spacecraft.farm w.spacecraft.farm.state)
