@@ -241,7 +241,8 @@ module _ (w : World) (P : World → Type 0) where
   bypassed next same None taken = taken refl
   bypassed next same (Some fault) taken = same
 
-  took : (ps : List PacketOn) → AtEachStep w events.Take P → After (world_after_take w (spacecraft_take w.spacecraft ps))
+  took : (ps : List PacketOn) → AtEachStep w events.Take P
+      → After (world_after_take w (spacecraft_take w.spacecraft ps))
   took [] each = each.same
   took (p ∷ left) each =
       cond_both (nat_lt (length left) w.spacecraft.config.ready_slots) (farm_step w.spacecraft.farm BufferReleased)

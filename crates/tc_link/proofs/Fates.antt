@@ -160,8 +160,7 @@ module _ (w : World) where
       refused_keeps InitWithoutCheck (off_refused _ w.ground_node.fop.state _ (goes refl))
   directive_keeps InitWithCheck goes quiet =
       refused_keeps InitWithCheck (off_refused _ w.ground_node.fop.state _ (goes refl))
-  directive_keeps InitUnlock goes quiet =
-      refused_keeps InitUnlock (off_refused _ w.ground_node.fop.state _ (goes refl))
+  directive_keeps InitUnlock goes quiet = refused_keeps InitUnlock (off_refused _ w.ground_node.fop.state _ (goes refl))
   directive_keeps (InitSetVr x) goes quiet =
       refused_keeps (InitSetVr x) (off_refused _ w.ground_node.fop.state _ (goes refl))
   directive_keeps (SetVs x) goes quiet =

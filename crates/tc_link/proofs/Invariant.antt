@@ -276,8 +276,7 @@ began_at w _ b = elim b [ ]
 
 pub begun_session : (w : World) (e : Event) (b : BeganAt w e)
     → (world_step w e).after.session ≡ session_begun_by b.start b.directive
-begun_session w e b =
-    ap (λ (x : World). x.session) b.is ∙ begun_is b.start b.directive b.initiates b.closed
+begun_session w e b = ap (λ (x : World). x.session) b.is ∙ begun_is b.start b.directive b.initiates b.closed
 
 -- V(S) and NN(R) change with the records of the session alone.
 
@@ -287,8 +286,7 @@ abbrev pub Same : FopState SegmentView → FopState SegmentView → Type 0
 Same f t = (t.vs ≡ f.vs) × (t.nn ≡ f.nn)
 
 pub with_same : (s : GroundState) (f : FopState SegmentView) → Same f (with_fop s f).fop
-with_same s f =
-    refilled_keeps (λ t. Same f t.fop) (record s { fop = f }) (λ waiting pending on closed. (refl, refl))
+with_same s f = refilled_keeps (λ t. Same f t.fop) (record s { fop = f }) (λ waiting pending on closed. (refl, refl))
 
 -- an alert leaves both
 alert_same : (f : FopState SegmentView) → Same f (after_alert f)

@@ -410,8 +410,7 @@ module _ (c : Config) (d : Directive) (base : ℕ) (w : World) (k : Sound c w) (
     early_cause r same by_check NnR cause =
         (under_check by_check, λ x. eqb-false r.value w.ground_node.fop.vs cause (same.2 ∙ x))
     early_cause r same by_check Synch cause = (under_check by_check, sym same.1 ∙ cause)
-    early_cause r same by_check ClcwAlert cause =
-        absurd (let yes : asks r ≡ true = same.3 cause.1 in cc (cause.0, yes))
+    early_cause r same by_check ClcwAlert cause = absurd (let yes : asks r ≡ true = same.3 cause.1 in cc (cause.0, yes))
     early_cause r same by_check _ cause = elim cause [ ]
 
     early_in : (r : Clcw) (rs : List Clcw)
@@ -437,8 +436,7 @@ module _ (c : Config) (d : Directive) (base : ℕ) (w : World) (k : Sound c w) (
         → (alert : Alert) → alert_in (down_deliver_step w bs).answer ≡ Some alert → HasCause w events.DownDeliver alert
     early_heard [] rs rest same alert e = absurd cc
     early_heard (b ∷ bs) [] rest same alert e = elim rest [ ]
-    early_heard (b ∷ bs) (r ∷ rs) rest same alert e =
-        early_in r rs same alert (sym (heard_alert_is b bs r rest.0) ∙ e)
+    early_heard (b ∷ bs) (r ∷ rs) rest same alert e = early_in r rs same alert (sym (heard_alert_is b bs r rest.0) ∙ e)
 
   cause_heard : Begun c d base w ⊎ Late c d base w → (alert : Alert)
       → alert_in (down_deliver_step w w.down).answer ≡ Some alert → HasCause w events.DownDeliver alert
@@ -481,8 +479,7 @@ module _ (c : Config) (d : Directive) (base : ℕ) (w : World) (k : Sound c w) (
   cause s events.Report alert is = absurd cc
   cause s events.DownDeliver alert is = cause_heard s alert is
   cause s events.DownClcw alert is = cause_word s alert is
-  cause s (events.Resume value) alert is =
-      none_some _ alert (resumes w value IsSilent refl (λ whole can. refl)) is
+  cause s (events.Resume value) alert is = none_some _ alert (resumes w value IsSilent refl (λ whole can. refl)) is
   cause s events.Tick alert is =
       let only : alert ≡ Timer =
       tick_only w.ground_node.fop alert

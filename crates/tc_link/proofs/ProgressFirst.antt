@@ -185,8 +185,7 @@ module _ (P : GroundState → Type 0) where
   up_first n w (b ∷ bs) p is = (p, omega (arith, is))
 
   pub ground_arrives : (w : World) → IsReached w → P w.ground_node → Ends (Arrived zero) w (all_arrived w)
-  ground_arrives w g p =
-      arrives Arrived (λ n v q. q) (λ n v h q. up_first n v v.up q.0.0 q.0.1) w g (p, refl)
+  ground_arrives w g p = arrives Arrived (λ n v q. q) (λ n v h q. up_first n v v.up q.0.0 q.0.1) w g (p, refl)
 
   pub ground_takes : (w : World) → IsReached w → Arrived zero w → Ends (Taken Arrived zero zero) w (all_taken w)
   ground_takes = takes Arrived (λ n v q. q) zero
@@ -292,12 +291,9 @@ module _ (most k : ℕ) where
       ends_once Reports w events.Report tt g (inr (
         length w.down,
         record {
-          bounds =
-              p.0.0;
-          up =
-              nil_from_length w.up p.0.1;
-          free =
-              is_free w g p.1;
+          bounds = p.0.0;
+          up = nil_from_length w.up p.0.1;
+          free = is_free w g p.1;
           olds = w.down;
           last = telemetry_writing.spelling (spacecraft_report w.spacecraft).answer;
           down = refl;
@@ -503,8 +499,7 @@ module _ (most k : ℕ) where
       (ground_arrives (IsBounded most k)) (ground_takes (IsBounded most k)) reports heard_all
 
   pub first_exchange : (w : World) → IsReached w → Bounded w → Ends ReadyWith w (exchange w)
-  first_exchange w g b =
-      ends_then Heard ReadyWith round_trip timer_run_out w (first_round_trip w g b) run_out
+  first_exchange w g b = ends_then Heard ReadyWith round_trip timer_run_out w (first_round_trip w g b) run_out
 
 -- The transmission count in an exchange, in any session.
 

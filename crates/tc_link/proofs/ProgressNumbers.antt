@@ -112,8 +112,7 @@ module _ (s : FopState SegmentView) (k : Numbered s) where
 
   module _ (r : Clcw) (octet : r.value < 256) where
     again_numbers : is_closed s.state ≡ false → (again : Bool) → Numbered (retransmits s again)
-    again_numbers on true =
-        same_numbers (retransmits s true) refl refl (marked_length s.sent) (λ t. on) k.command
+    again_numbers on true = same_numbers (retransmits s true) refl refl (marked_length s.sent) (λ t. on) k.command
     again_numbers on false = same_numbers (retransmits s false) refl refl refl (λ t. on) k.command
 
     active_numbers : is_closed s.state ≡ false → Numbers (report_while_active s r)
@@ -197,8 +196,7 @@ module _ (s : FopState SegmentView) (k : Numbered s) where
   begun_numbers : (d : Directive) → is_initiation d ≡ true → IsDirective d → s.control ≡ Idle → Numbered (begun s d)
   begun_numbers InitWithoutCheck is fits idle =
       begins_at s.vs k.vs (begun s InitWithoutCheck) refl refl refl (rw idle tt)
-  begun_numbers InitWithCheck is fits idle =
-      begins_at s.vs k.vs (begun s InitWithCheck) refl refl refl (rw idle tt)
+  begun_numbers InitWithCheck is fits idle = begins_at s.vs k.vs (begun s InitWithCheck) refl refl refl (rw idle tt)
   begun_numbers InitUnlock is fits idle = begins_at s.vs k.vs (begun s InitUnlock) refl refl refl tt
   begun_numbers (InitSetVr x) is fits idle = begins_at x fits (begun s (InitSetVr x)) refl refl refl fits
   begun_numbers _ is fits idle = absurd cc
@@ -377,8 +375,7 @@ module _ (c : Config) (w : World) (h : Holding c w) (k : HasOctets c w) where
       })
 
   off_idle : s.state ≡ S6 → s.control ≡ Idle
-  off_idle off =
-      let idle : Commanded S6 s.control = rw off at h.sound.ground_node.fop.commanded in idle
+  off_idle off = let idle : Commanded S6 s.control = rw off at h.sound.ground_node.fop.commanded in idle
 
   -- a control word by itself does what its frame does, but for telemetry
   words : After (world_step w events.DownClcw)
@@ -391,7 +388,7 @@ module _ (c : Config) (w : World) (h : Holding c w) (k : HasOctets c w) where
   directive_octets : (d : Directive) → IsDirective d → HasOctets c (directed w d)
   directive_octets d fits =
       let sender : Numbered (directed w d).ground_node.fop =
-      directed_kept Numbered queued_numbers w.ground_node k.sender d (directive_step s d).answer (directive_step s d).after
+      directed_kept Numbered queued_numbers w.ground_node k.sender d (directive_step s d).answer _
       (directive_numbers s k.sender off_idle d fits) in
       assumption (sender, k)
 
@@ -410,8 +407,7 @@ module _ (c : Config) (w : World) (h : Holding c w) (k : HasOctets c w) where
       releases = λ is left free. record {
         vr = release_octet w.spacecraft.farm k.receiver.vr w.spacecraft.farm.state;
         full = λ waits. absurd
-            (let no_wait = released w.spacecraft flags k.receiver.full w.spacecraft.farm.state refl in
-            cc (waits, no_wait));
+            (let free = released w.spacecraft flags k.receiver.full w.spacecraft.farm.state refl in cc (waits, free));
       };
       passes = λ is left. assumption k.receiver;
       queues = λ octets is. assumption k.receiver;

@@ -625,8 +625,7 @@ module _ (s : SpacecraftState) (flags : FlagsAgree s.farm) (k : WaitsFull s) whe
   sequence_full n u Accepted is waits =
       let old : s.farm.wait ≡ true = rw is at waits in
       omega (arith, k old, length-append s.ready (put_on_map u.header.map (assemble_step s u).packets))
-  sequence_full n u NoBuffer is waits =
-      full_where (no_buffer s.farm n (is_free s) is)
+  sequence_full n u NoBuffer is waits = full_where (no_buffer s.farm n (is_free s) is)
   sequence_full n u Ahead is waits = k (rw is at waits)
   sequence_full n u Behind is waits = k (rw is at waits)
   sequence_full n u Outside is waits = k (rw is at waits)

@@ -448,8 +448,9 @@ module _ (c : Config) (w : World) (k : Sound c w) (off : IsOff w) (none_up : num
     begins = λ d is closed goes. closed_not s.state closed (goes is);
     terminated = λ goes. (closed_with w.ground_node (after_alert s) refl, refl);
     numbers = λ x is goes. (closed_with (obeying w.ground_node (SetVs x)) (record s { vs = x; nn = x }) off, refl);
-    sets = λ d k n ticks plain most goes. rw plain
-        (closed_with (record w.ground_node { fates = _ }) (record s { window = k; limit = n; timer = ticks }) off, refl);
+    sets = λ d k n ticks plain most goes.
+        let f : FopState SegmentView = record s { window = k; limit = n; timer = ticks } in
+        rw plain (closed_with (record w.ground_node { fates = _ }) f off, refl);
   })
 
   closed_so : (e : Event) → BeginsNoSession w e → IsOff (world_step w e).after

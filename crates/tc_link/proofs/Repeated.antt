@@ -64,8 +64,7 @@ module _ (P : Config → FopState SegmentView → Type 0)
       (refilled_are (submitting s m octets) k)
 
   bypasses_are : (m : ℕ) (octets : List ℕ) → Are (ground_step s (Bypass m octets)).after
-  bypasses_are m octets =
-      unless_are (bypass_fault s m octets) (after_bypass s m octets) (bypass_so s.config s.fop _ k)
+  bypasses_are m octets = unless_are (bypass_fault s m octets) (after_bypass s m octets) (bypass_so s.config s.fop _ k)
 
   directs_are : (d : Directive) → P s.config (directive_step s.fop d).after → Are (ground_step s (Direct d)).after
   directs_are d same = answered (directive_step s.fop d).answer where
@@ -133,7 +132,8 @@ module _ (s : FopState SegmentView) (k : Usual s) where
       reported s r (λ o. Usually o) (assumption (active_usual r, off, k))
 
   tick_usual : Usually (tick_step s)
-  tick_usual = let off : ⊥ → s.vs ≡ s.nn = λ starting. absurd starting in ticked s (λ o. Usually o) (assumption (off, k))
+  tick_usual =
+      let off : ⊥ → s.vs ≡ s.nn = λ starting. absurd starting in ticked s (λ o. Usually o) (assumption (off, k))
 
   active_started : (m : FopMode) → IsActive m → IsStarting m → ⊥
   active_started S4 active starting = elim active [ ]
@@ -184,8 +184,7 @@ step_usual : (s : GroundState) → Usual s.fop → (e : GroundEvent) → Usual (
 step_usual s k (Submit m octets) = submits_are UsualAt waits_usual bypass_usual s k m octets
 step_usual s k (Bypass m octets) = bypasses_are UsualAt waits_usual bypass_usual s k m octets
 step_usual s k (Direct d) = directs_are UsualAt waits_usual bypass_usual s k d (direct_usual s.fop k d)
-step_usual s k (Resume value) =
-    resumes_are UsualAt waits_usual bypass_usual (λ c f d k. direct_usual f k d) s k value
+step_usual s k (Resume value) = resumes_are UsualAt waits_usual bypass_usual (λ c f d k. direct_usual f k d) s k value
 step_usual s k Pull = settled_are UsualAt waits_usual bypass_usual s k _ (pull_usual s.fop k)
 step_usual s k Tick = settled_are UsualAt waits_usual bypass_usual s k _ (tick_usual s.fop k)
 step_usual s k (Telemetry octets) =
@@ -395,8 +394,7 @@ module _ (s : FopState SegmentView) (k : Usual s) (r : Clcw) where
   -- the session begins with what is reported
   begun_known : IsStarting s.state → locks r ≡ false → waits r ≡ false → asks r ≡ false → r.value ≡ s.vs
       → Told s.nn r
-  begun_known starting l w a at =
-      record { unlocked = l; asking = a; waiting = w; at = at ∙ k.even starting }
+  begun_known starting l w a at = record { unlocked = l; asking = a; waiting = w; at = at ∙ k.even starting }
 
   known_in : (m : FopMode) → s.state ≡ m → KnownAfter (report_in s r m)
   known_in S1 is = active_known (rw is tt)
@@ -496,8 +494,7 @@ record Filled (s : GroundState) : Type 0 where
 module _ (s : GroundState) where
   moved_filled : is_closed s.fop.state ≡ false → (o : Option SegmentView) (us : List SegmentView) → s.fop.waiting ≡ o
       → s.pending ≡ us → Filled (after_moving_up s o us)
-  moved_filled on (Some u) us has is =
-      record { off = λ t. absurd (cc (t, on)); on = λ t none. absurd (cc (none, has)) }
+  moved_filled on (Some u) us has is = record { off = λ t. absurd (cc (t, on)); on = λ t none. absurd (cc (none, has)) }
   moved_filled on None [] has is = record { off = λ t. is; on = λ t none. is }
   moved_filled on None (u ∷ us) has is = record { off = λ t. absurd (cc (t, on)); on = λ t none. absurd cc }
 
@@ -541,8 +538,7 @@ module _ (c : Config) where
   step_config s is (Submit m octets) = submits_are (ConfigIs c) waits_config bypass_config s is m octets
   step_config s is (Bypass m octets) = bypasses_are (ConfigIs c) waits_config bypass_config s is m octets
   step_config s is (Direct d) = directs_are (ConfigIs c) waits_config bypass_config s is d is
-  step_config s is (Resume value) =
-      resumes_are (ConfigIs c) waits_config bypass_config (λ own f d is. is) s is value
+  step_config s is (Resume value) = resumes_are (ConfigIs c) waits_config bypass_config (λ own f d is. is) s is value
   step_config s is Pull = settled_config s is _
   step_config s is Tick = settled_config s is _
   step_config s is (Telemetry octets) =

@@ -109,8 +109,7 @@ module _ (c : Config) (s : FopState SegmentView) (k : FopSteady c s) where
 
   gives_up : (f : FopState SegmentView) → f.room ≡ s.room → f.window ≡ s.window → f.vs ≡ s.vs → f.bypass ≡ s.bypass
       → FopSteady c (after_alert f)
-  gives_up f room window vs bypass =
-      steady_so (after_alert f) room window (rw vs k.vs_octet) bypass refl
+  gives_up f room window vs bypass = steady_so (after_alert f) room window (rw vs k.vs_octet) bypass refl
 
   -- ---- a report
 

@@ -589,33 +589,14 @@ module _ (c : Config) (d : Downlink) (g : Laid c d) where
 
   taking : (ps : List (List ℕ)) → d.world.ground_node.telemetry ≡ ps
       → Laid c (after_taking d (ground_take_telemetry d.world.ground_node ps))
-  taking [] is = record {
-    sound = g.sound;
-    laid = g.laid;
-    count = g.count;
-    each = g.each;
-    way = rw (append-nil d.taken) g.way;
-  }
+  taking [] is =
+      let way : Came d.sent d.came d.world.down d.world.ground_node.extractor
+      ((d.taken ++ []) ++ d.world.ground_node.telemetry) = rw (append-nil d.taken) g.way in assumption (way, g)
   taking (p ∷ left) is =
       let same : (d.taken ++ p ∷ []) ++ left ≡ packets_down d =
       append_assoc d.taken (p ∷ []) left ∙ ap (λ (ps : List (List ℕ)). d.taken ++ ps) (sym is) in
-      record {
-        sound = record {
-          ranges = g.sound.ranges;
-          ground_node = record {
-            config = g.sound.ground_node.config;
-            fop = g.sound.ground_node.fop;
-            pending_none = g.sound.ground_node.pending_none;
-            moved = g.sound.ground_node.moved;
-          };
-          spacecraft = g.sound.spacecraft;
-          before = g.sound.before;
-        };
-        laid = g.laid;
-        count = g.count;
-        each = g.each;
-        way = subst (Came d.sent d.came d.world.down d.world.ground_node.extractor) (sym same) g.way;
-      }
+      let way = subst (Came d.sent d.came d.world.down d.world.ground_node.extractor) (sym same) g.way in
+      assumption (way, g)
 
   step_laid : (step : DownlinkStep) → IsDownlinkStep step → Laid c (downlink_step d step)
   step_laid (Happens e) fits = keeps e (step_sound c d.world g.sound e fits)

@@ -71,8 +71,7 @@ module _ (d : Directive) (base : ℕ) (front : Bool) (s : FarmState) where
 
   pub release_eases : (mode : FarmMode) → Eases d base front s (after_release s mode)
   release_eases Open = eased_same s refl refl refl refl
-  release_eases _ =
-      record { lockout = λ e. e; wait = λ e. refl; retransmit = λ e. e; so = inl (refl, refl, refl) }
+  release_eases _ = record { lockout = λ e. e; wait = λ e. refl; retransmit = λ e. e; so = inl (refl, refl, refl) }
 
   unlock_eases : (mode : FarmMode) → front ≡ true → (d ≡ InitWithCheck → ⊥) → Eases d base front s (after_unlock s mode)
   unlock_eases Open is other =
@@ -312,8 +311,7 @@ module _ (c : Config) (d : Directive) (base : ℕ) (w : World) (k : Sound c w) (
   judged_keeps i x u qs NoBuffer also same up fit here =
       left_keeps i x qs (after_verdict w.spacecraft.farm NoBuffer) also up fit refl refl
       (inr (refl, omega (arith, fit.1)))
-  judged_keeps i x u qs _ also same up fit here =
-      left_keeps i x qs w.spacecraft.farm also up fit refl refl (inl refl)
+  judged_keeps i x u qs _ also same up fit here = left_keeps i x qs w.spacecraft.farm also up fit refl refl (inl refl)
 
   late_unit : (n : ℕ) (u : SegmentView) (i : ℕ) (x : SegmentView) (qs : List (ℕ × SegmentView))
       → g.plain.up ≡ (i, x) ∷ qs → UpIs d base g.front (Ad n u ∷ fs) ((i, x) ∷ qs)
@@ -600,12 +598,9 @@ module _ (early : Bool) (c : Config) (d : Directive) (base : ℕ) (w : World) (k
           ∙ sym (ap (map segment_octets) (take_next p.units p.n u unit_is)
           ∙ map-append segment_octets (take p.n p.units) (u ∷ [])) in
           session_refilled early c d base (record w {
-            ground_node =
-                record w.ground_node { fop = after_send_first s u };
-            up =
-                w.up ++ spelling On (frame_of w.ground_node.config frame) ∷ [];
-            session =
-                record w.session { sent = w.session.sent ++ first_sent s.vs frame };
+            ground_node = record w.ground_node { fop = after_send_first s u };
+            up = w.up ++ spelling On (frame_of w.ground_node.config frame) ∷ [];
+            session = record w.session { sent = w.session.sent ++ first_sent s.vs frame };
           }) (record {
             plain = record p { n = p.n + 1; up = p.up ++ (p.n, u) ∷ [] };
             ran = inr (puts_next unit_is);
@@ -657,8 +652,7 @@ module _ (early : Bool) (c : Config) (d : Directive) (base : ℕ) (w : World) (k
           let held : Held (is_closed s.state) base s.vs s.nn (without_oldest_mark s.sent)
           (unsent_segments w.ground_node) p.a p.n p.units =
           rw on (record {
-            vs_is =
-                was.vs_is;
+            vs_is = was.vs_is;
             nn_is = was.nn_is;
             sent_is = units-without s.sent ∙ was.sent_is;
             rest_is = was.rest_is;
@@ -674,12 +668,9 @@ module _ (early : Bool) (c : Config) (d : Directive) (base : ℕ) (w : World) (k
           let sent_is : w.session.sent ++ first_sent s.vs frame ≡ map segment_octets (take p.n p.units) =
           ap (λ xs. w.session.sent ++ xs) field ∙ append-nil w.session.sent ∙ l.sent_is in
           session_refilled early c d base (record w {
-            ground_node =
-                record w.ground_node { fop = record (after_restart s) { sent = without_oldest_mark s.sent } };
-            up =
-                w.up ++ spelling On (frame_of w.ground_node.config frame) ∷ [];
-            session =
-                record w.session { sent = w.session.sent ++ first_sent s.vs frame };
+            ground_node = record w.ground_node { fop = record (after_restart s) { sent = without_oldest_mark s.sent } };
+            up = w.up ++ spelling On (frame_of w.ground_node.config frame) ∷ [];
+            session = record w.session { sent = w.session.sent ++ first_sent s.vs frame };
           }) (record {
             plain = record p { up = p.up ++ (p.a + x.0, x.1) ∷ [] };
             ran = inr (puts_again (omega arith) below unit_is);
