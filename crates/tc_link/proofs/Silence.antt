@@ -140,10 +140,10 @@ module _ (c : Config) (w : World) (h : Holding c w) (k : ℕ) (q : Quiet c k w) 
 
   -- ---- each step
 
-  -- none reports, or takes a frame on its way down
-  others : (e : Event) → IsSilent w (Happens e) → e ≢ events.Send → e ≢ events.Report → (TakesDown e → ⊥)
+  -- an event by which no report is sent, and no frame is gone
+  rest_kept : (e : Event) → IsSilent w (Happens e) → e ≢ events.Send → e ≢ events.Report → (TakesDown e → ⊥)
       → Left c k 0 (world_step w e).after
-  others e silent not_sent not_made not_gone =
+  rest_kept e silent not_sent not_made not_gone =
       let farm = w.spacecraft.farm in
       let board : report_now (world_step w e).after ≡ report_now w =
       board_after w (λ s. report_of s.farm s.config.vcid ≡ report_now w) e (record {
@@ -187,7 +187,7 @@ module _ (c : Config) (w : World) (h : Holding c w) (k : ℕ) (q : Quiet c k w) 
     up = λ b bs is reply silent. none_up b bs is;
     down = λ b bs is reply silent. first_gone b bs is (record w { down = bs }) refl refl refl;
   }) (λ b bs is r. first_gone b bs is _ refl refl refl)
-  event_kept e silent = others e silent (λ is. cc is) (λ is. cc is) (λ gone. absurd gone)
+  event_kept e silent = rest_kept e silent (λ is. cc is) (λ is. cc is) (λ gone. absurd gone)
 
   report_heard : (after : GroundState) (r : HeardReport) → Left c k 0 (after_report w after r)
   report_heard after Used = on_ground _ refl refl refl
