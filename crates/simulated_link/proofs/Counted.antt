@@ -1,9 +1,9 @@
 -- What telemetry that arrives may do at the ground, and that what is in the sent queue was sent and not
 -- acknowledged.
-use Rattle.simulated_link.proofs.Common.{◌≡◌, true, false, not, Option, None, Result, Ok, Err, refl, ◌==◌, cond_both}
-use Rattle.simulated_link.proofs.Common.{eqb-true, not-false, and_parts, Clcw, ClcwFault, SegmentView, Alert, NnR}
-use Rattle.simulated_link.proofs.Common.{Synch, Idle, FopMode, S1, S4, S5, S6, locks, waits, asks, confirms, clcw_step}
-use Rattle.simulated_link.proofs.Common.{report_in, report_while_active, IsActive, alerts, goes_on, FopState}
+use Rattle.simulated_link.proofs.Common.{◌≡◌, true, false, Option, None, Result, Ok, Err, refl, ◌==◌, cond_both}
+use Rattle.simulated_link.proofs.Common.{Clcw, ClcwFault, SegmentView, Alert}
+use Rattle.simulated_link.proofs.Common.{Idle, S1, S6, clcw_step}
+use Rattle.simulated_link.proofs.Common.{report_while_active, IsActive, goes_on, FopState}
 use Rattle.simulated_link.proofs.Common.{FopOutcome, TmFault, Extracted, extract_step, Heard, GroundState}
 use Rattle.simulated_link.proofs.Common.{GroundOutcome, with_fop, after_extraction, own_frame_outcome}
 use Rattle.simulated_link.proofs.Common.{telemetry_outcome, ◌≢◌, ◌≤◌, ◌<◌, ℕ, suc, ◌+◌, List, [], ◌∷◌, ◌++◌, length}
@@ -15,14 +15,11 @@ use Rattle.simulated_link.proofs.Common.{after_move_on, after_new_value, retrans
 use Rattle.simulated_link.proofs.Common.{after_repeat, after_alert, after_stop, Config, LinkFault, refill_step}
 use Rattle.simulated_link.proofs.Common.{unless_refused, after_submission, frame_to_send, is_initiation, first_in}
 use Rattle.simulated_link.proofs.Common.{is_closed, obeyed, begun, ticked, pulled_out, heard_active, Bool}
-use Rattle.std.specs.Prelude.{◌&&◌}
-use Rattle.std.proofs.lemmas.Bool.{not-true}
 use Rattle.tc_frame.specs.Layout as command_layout
 use Rattle.tc_frame.specs.Encoding.{spelling}
 use Rattle.clcw.specs.Decoding.{clcw_at}
 use Rattle.tm_link.specs.Layout.{FrameView}
 use Rattle.tm_link.specs.Layout as telemetry
-use Rattle.cop1.specs.declared.vocabulary.Alert.TheVariants.{Lockout, Clcw as ClcwAlert}
 use Rattle.cop1.specs.Units.{IsFop}
 use Rattle.cop1.specs.FopWords.{is_outside}
 use Rattle.nodes.specs.Ground.{after_report, report_outcome, is_own_telemetry, moved_by}

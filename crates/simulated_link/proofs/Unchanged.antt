@@ -6,19 +6,26 @@ use Rattle.simulated_link.proofs.Common.{world_step, world_after_pull, up_delive
 use Rattle.simulated_link.proofs.Common.{up_damage_step, down_deliver_step, down_lose_step, down_damage_outcome}
 use Rattle.simulated_link.proofs.Common.{down_damage_step, true, false, cond_both, Clcw, ClcwFault, GroundOutcome}
 use Rattle.simulated_link.proofs.Common.{LinkFault, ◌≢◌, IfSome, ap, sym, subst, ◌∙◌, submit_fault, limits_of, not}
-use Rattle.simulated_link.proofs.Common.{◌==◌, ◌+◌, length, Bool, if◌then◌else◌, is_closed}
+use Rattle.simulated_link.proofs.Common.{◌==◌, ◌+◌, length, Bool, if◌then◌else◌, is_closed, ◌++◌, append-nil}
+use Rattle.simulated_link.proofs.Common.{SpacecraftState, Report, spacecraft_step, PacketOn, packet_on, Directive}
+use Rattle.simulated_link.proofs.Common.{after_submission, unless_refused, clcw_step}
 use Rattle.std.proofs.Common.{IsOkUnless, IsSome, IfErr}
+use Rattle.std.specs.Borrow.{Bor}
 use Rattle.std.specs.Prelude.{nat_lt}
 use Rattle.tc_frame.specs.Layout.{FrameView}
 use Rattle.tc_frame.specs.Decoding as command
 use Rattle.clcw.specs.Decoding.{clcw_at}
 use Rattle.map_service.specs.Assembly.{is_open, is_too_long}
 use Rattle.map_service.specs.Packets.{packets_in, is_some_over}
+use Rattle.cop1.specs.Farm.{farm_step, BufferReleased}
+use Rattle.tm_link.specs.Builder.{after_queue, is_to_send}
+use Rattle.tm_link.specs.Extractor.{ExtractorState}
 use Rattle.tm_link.specs.Layout as telemetry
 use Rattle.tm_link.specs.Decoding as telemetry_reading
 use Rattle.nodes.specs.Ground.{report_outcome, can_resume, is_over_slots, bypass_fault}
 use Rattle.nodes.specs.declared.fault.LinkFault.TheVariants.{NotKnown}
 use Rattle.nodes.specs.Ground as ground
+use Rattle.nodes.specs.Spacecraft.{spacecraft_receive, spacecraft_take, spacecraft_take_bypass}
 use Rattle.nodes.specs.declared.heard.Heard.TheVariants as heard_cases
 use Rattle.nodes.specs.declared.received.Received.TheVariants as received_cases
 use Rattle.nodes.specs.declared.event.Event.TheVariants as events
@@ -27,10 +34,12 @@ use Rattle.nodes.specs.declared.fault.LinkFault.TheVariants as faults
 use Rattle.simulated_link.specs.declared.fault.SimFault.TheVariants.{NothingInTransit, Memory}
 use Rattle.simulated_link.specs.Replies.{ReplyView, Nothing, Lost, Refused, Resumed, answer_to_refusal}
 use Rattle.simulated_link.specs.World.{world_after_word, down_word_outcome, down_clcw_step, world_after_resuming}
-use Rattle.simulated_link.specs.World.{resumed}
+use Rattle.simulated_link.specs.World.{resumed, directed, world_after_submission, world_after_bypass, world_after_take}
+use Rattle.simulated_link.specs.World.{world_after_queueing, session_after_report, BeginsNoSession}
 use Rattle.simulated_link.specs.declared.reply.NodeFault.TheVariants.{Link}
 use Rattle.simulated_link.specs.declared.reply.Reply.{Reply}
 use Rattle.simulated_link.specs.declared.reply.Reply.TheVariants as replies
+use Rattle.simulated_link.proofs.Counted.{frame_seen, report_seen}
 
 -- What each event leaves as it is.
 
@@ -144,6 +153,226 @@ module _ (w : World) (value : ℕ) where
   pub resumes_not : can_resume w.ground_node value ≡ false
       → world_step w (events.Resume value) ≡ world_reply (Refused (Link NotKnown)) w
   resumes_not refused = rw refused refl
+
+-- What an event may do, by its kind.
+
+-- the first frame on its way down is there no more
+abbrev pub TakesDown : Event → Type 0
+TakesDown events.DownDeliver = Unit {0}
+TakesDown events.DownClcw = Unit {0}
+TakesDown events.DownLose = Unit {0}
+TakesDown (events.DownDamage octets) = Unit {0}
+TakesDown _ = ⊥
+
+-- it brings a report, in its frame or by itself
+abbrev pub BringsReport : Event → Type 0
+BringsReport events.DownDeliver = Unit {0}
+BringsReport events.DownClcw = Unit {0}
+BringsReport _ = ⊥
+
+-- the first frame on its way down arrived, and the ground is another
+abbrev pub with_heard : World → GroundState → List (List ℕ) → World
+with_heard w t down =
+    record w { ground_node = t; down = down; session = session_after_report w.session w.ground_node t }
+
+pub record AtEachStep (w : World) (e : Event) (P : World → Type 0) : Type 0 where
+  -- it is refused, or there is nothing to take
+  pub same : P w
+  -- the first frame on a way is there no more
+  pub up_gone : (b : List ℕ) (bs : List (List ℕ)) → w.up ≡ b ∷ bs → P (record w { up = bs })
+  pub down_gone : (b : List ℕ) (bs : List (List ℕ)) → w.down ≡ b ∷ bs → TakesDown e → P (record w { down = bs })
+  -- a frame arrives on board, a report is sent, packets are taken there, or telemetry is queued
+  pub receives : e ≡ events.UpDeliver → (b : List ℕ) (bs : List (List ℕ)) → w.up ≡ b ∷ bs
+      → P (record w { up = bs; spacecraft = (spacecraft_receive w.spacecraft b).after })
+  pub reports : e ≡ events.Report → P (world_step w events.Report).after
+  pub takes : e ≡ events.Take → (left : List PacketOn) → nat_lt (length left) w.spacecraft.config.ready_slots ≡ false
+      → P (record w { spacecraft = record w.spacecraft { ready = left } })
+  pub releases : e ≡ events.Take → (left : List PacketOn) → nat_lt (length left) w.spacecraft.config.ready_slots ≡ true
+      → P (record w {
+        spacecraft = record w.spacecraft { ready = left; farm = farm_step w.spacecraft.farm BufferReleased };
+      })
+  pub passes : e ≡ events.TakeBypass → (left : List PacketOn)
+      → P (record w { spacecraft = record w.spacecraft { bypass = left } })
+  pub queues : (octets : Bor (List ℕ)) → e ≡ events.Telemetry octets
+      → P (record w { spacecraft = record w.spacecraft { builder = after_queue w.spacecraft.builder octets.now } })
+  -- the ground takes packets, obeys a directive, resumes, counts a tick, or sends a frame if there is one
+  pub submits : (m : ℕ) (octets : List ℕ) → submit_fault w.ground_node m octets ≡ None
+      → P (record w {
+        ground_node = after_submission w.ground_node m octets;
+        session = record w.session { submissions = w.session.submissions ++ packet_on m octets ∷ [] };
+      })
+  pub bypasses : (m : ℕ) (octets : Bor (List ℕ)) → e ≡ events.Bypass m octets
+      → bypass_fault w.ground_node m octets.now ≡ None
+      → P (record w { ground_node = ground.after_bypass w.ground_node m octets.now })
+  pub directs : (d : Directive) → e ≡ events.Directive d → P (directed w d)
+  pub restarts : (value : ℕ) → e ≡ events.Resume value → can_resume w.ground_node value ≡ true → P (resumed w value)
+  pub ticks : e ≡ events.Tick → P (record w { ground_node = (ground_step w.ground_node ground.Tick).after })
+  pub sends : e ≡ events.Send → (up sent : List (List ℕ))
+      → P (record w {
+        ground_node = (ground_step w.ground_node ground.Pull).after;
+        up = up;
+        session = record w.session { sent = sent };
+      })
+  -- a frame, or a report by itself, came: the extractor and the packets are others, and the sender heard none, or it
+  pub hears_none : (b : List ℕ) (bs : List (List ℕ)) → w.down ≡ b ∷ bs → BringsReport e → (x : ExtractorState)
+      (packets : List (List ℕ))
+      → P (with_heard w (record w.ground_node { extractor = x; telemetry = packets }) bs)
+  pub hears : (b : List ℕ) (bs : List (List ℕ)) → w.down ≡ b ∷ bs → BringsReport e → (x : ExtractorState)
+      (packets : List (List ℕ)) (r : Clcw)
+      → P (with_heard w (ground.after_report (record w.ground_node { extractor = x; telemetry = packets })
+      (clcw_step w.ground_node.fop r).after) bs)
+
+module _ (w : World) (P : World → Type 0) where
+  abbrev After : WorldOutcome → Type 0
+  After o = P o.after
+
+  submitted : (m : ℕ) (octets : List ℕ) → P w → (o : Option LinkFault)
+      → (o ≡ None → After (world_after_submission w (packet_on m octets)
+      (unless_refused None w.ground_node (after_submission w.ground_node m octets))))
+      → After (world_after_submission w (packet_on m octets)
+      (unless_refused o w.ground_node (after_submission w.ground_node m octets)))
+  submitted m octets same None taken = taken refl
+  submitted m octets same (Some fault) taken =
+      subst (λ (ps : List PacketOn). P (record w { session = record w.session { submissions = ps } }))
+      (sym (append-nil w.session.submissions)) same
+
+  bypassed : (next : GroundState) → P w → (o : Option LinkFault) → (o ≡ None → P (record w { ground_node = next }))
+      → After (world_after_bypass w (unless_refused o w.ground_node next))
+  bypassed next same None taken = taken refl
+  bypassed next same (Some fault) taken = same
+
+  took : (ps : List PacketOn) → AtEachStep w events.Take P
+      → After (world_after_take w (spacecraft_take w.spacecraft ps))
+  took [] each = each.same
+  took (p ∷ left) each =
+      cond_both (nat_lt (length left) w.spacecraft.config.ready_slots) (farm_step w.spacecraft.farm BufferReleased)
+      w.spacecraft.farm (λ farm. P (record w { spacecraft = record w.spacecraft { ready = left; farm = farm } }))
+      (each.releases refl left) (each.takes refl left)
+
+  passed : (ps : List PacketOn) → AtEachStep w events.TakeBypass P
+      → After (world_after_take w (spacecraft_take_bypass w.spacecraft ps))
+  passed [] each = each.same
+  passed (p ∷ left) each = each.passes refl left
+
+  left_up : (e : Event) → AtEachStep w e P → (b : List ℕ) (bs : List (List ℕ)) → w.up ≡ b ∷ bs
+      → (r : Result FrameView TcFault) → After (up_damage_outcome w bs r)
+  left_up e each b bs is (Ok frame) = each.same
+  left_up e each b bs is (Err fault) = each.up_gone b bs is
+
+  lost_so : (e : Event) → TakesDown e → AtEachStep w e P → AtEachLoss w After
+  lost_so e down each = record {
+    refused = λ fault. each.same;
+    up = λ b bs is reply silent. each.up_gone b bs is;
+    down = λ b bs is reply silent. each.down_gone b bs is down;
+  }
+
+  pub stepped : (e : Event) → AtEachStep w e P → After (world_step w e)
+  stepped (events.Submit m octets) each =
+      submitted m octets.now each.same (submit_fault w.ground_node m octets.now) (each.submits m octets.now)
+  stepped (events.Bypass m octets) each =
+      bypassed _ each.same (bypass_fault w.ground_node m octets.now) (each.bypasses m octets refl)
+  stepped (events.Directive d) each = each.directs d refl
+  stepped (events.Resume value) each = resumes w value After each.same (λ whole can. each.restarts value refl can)
+  stepped events.Send each = pulled w After (λ reply up sent silent. each.sends refl up sent)
+  stepped events.UpDeliver each = up_arrives w After each.same (each.receives refl)
+  stepped events.UpLose each = first_on After (up_lose_step w) w.up each.same each.up_gone
+  stepped (events.UpDamage octets) each = first_on After (λ bs. up_damage_step w bs octets.now) w.up each.same
+      (λ b bs is. left_up (events.UpDamage octets) each b bs is (command.frame_at On octets.now))
+  stepped events.Report each = each.reports refl
+  stepped events.DownDeliver each = down_arrives w After each.same (λ b bs is.
+      let s : GroundState = w.ground_node in
+      frame_seen s (λ t. P (with_heard w t bs)) (record {
+        same = each.hears_none b bs is tt s.extractor s.telemetry;
+        extracts = λ x. each.hears_none b bs is tt x.after (s.telemetry ++ x.packets);
+        uses = λ x r. each.hears b bs is tt x.after (s.telemetry ++ x.packets) r;
+      }) (telemetry_reading.frame_at s.config.frame_length b))
+  stepped events.DownClcw each = word_arrives w After (lost_so events.DownClcw tt each) (λ b bs is.
+      let s : GroundState = w.ground_node in
+      report_seen s (λ t. P (with_heard w t bs)) (each.hears_none b bs is tt s.extractor s.telemetry)
+      (each.hears b bs is tt s.extractor s.telemetry))
+  stepped events.Tick each = each.ticks refl
+  stepped events.Take each = took w.spacecraft.ready each
+  stepped events.TakeBypass each = passed w.spacecraft.bypass each
+  stepped (events.Telemetry octets) each =
+      cond_both (is_to_send octets.now) _ _ (λ o. After (world_after_queueing w o)) (λ t. each.queues octets refl)
+      (λ t. each.same)
+  stepped events.DownLose each = lost w After (lost_so events.DownLose tt each) events.DownLose tt
+  stepped (events.DownDamage octets) each =
+      lost w After (lost_so (events.DownDamage octets) tt each) (events.DownDamage octets) tt
+
+-- ---- what becomes of one part of the world
+
+pub record AtEachStepOnBoard (w : World) (e : Event) (P : SpacecraftState → Type 0) : Type 0 where
+  pub same : P w.spacecraft
+  pub receives : e ≡ events.UpDeliver → (b : List ℕ) (bs : List (List ℕ)) → w.up ≡ b ∷ bs
+      → P (spacecraft_receive w.spacecraft b).after
+  pub reports : e ≡ events.Report → P (spacecraft_step w.spacecraft Report).after
+  pub takes : e ≡ events.Take → (left : List PacketOn) → nat_lt (length left) w.spacecraft.config.ready_slots ≡ false
+      → P (record w.spacecraft { ready = left })
+  pub releases : e ≡ events.Take → (left : List PacketOn) → nat_lt (length left) w.spacecraft.config.ready_slots ≡ true
+      → P (record w.spacecraft { ready = left; farm = farm_step w.spacecraft.farm BufferReleased })
+  pub passes : e ≡ events.TakeBypass → (left : List PacketOn) → P (record w.spacecraft { bypass = left })
+  pub queues : (octets : Bor (List ℕ)) → e ≡ events.Telemetry octets
+      → P (record w.spacecraft { builder = after_queue w.spacecraft.builder octets.now })
+
+pub board_after : (w : World) (P : SpacecraftState → Type 0) (e : Event) → AtEachStepOnBoard w e P
+    → P (world_step w e).after.spacecraft
+board_after w P e each = stepped w (λ new. P new.spacecraft) e (assumption each)
+
+pub record AtEachStepOnGround (w : World) (e : Event) (P : GroundState → Type 0) : Type 0 where
+  pub same : P w.ground_node
+  pub submits : (m : ℕ) (octets : List ℕ) → submit_fault w.ground_node m octets ≡ None
+      → P (after_submission w.ground_node m octets)
+  pub bypasses : (m : ℕ) (octets : Bor (List ℕ)) → e ≡ events.Bypass m octets
+      → bypass_fault w.ground_node m octets.now ≡ None → P (ground.after_bypass w.ground_node m octets.now)
+  pub directs : (d : Directive) → e ≡ events.Directive d → P (ground_step w.ground_node (ground.Direct d)).after
+  pub restarts : (value : ℕ) → e ≡ events.Resume value → can_resume w.ground_node value ≡ true
+      → P (resumed w value).ground_node
+  pub ticks : e ≡ events.Tick → P (ground_step w.ground_node ground.Tick).after
+  pub sends : e ≡ events.Send → P (ground_step w.ground_node ground.Pull).after
+  pub hears_none : BringsReport e → (x : ExtractorState) (packets : List (List ℕ))
+      → P (record w.ground_node { extractor = x; telemetry = packets })
+  pub hears : BringsReport e → (x : ExtractorState) (packets : List (List ℕ)) (r : Clcw)
+      → P (ground.after_report (record w.ground_node { extractor = x; telemetry = packets })
+      (clcw_step w.ground_node.fop r).after)
+
+pub ground_after : (w : World) (P : GroundState → Type 0) (e : Event) → AtEachStepOnGround w e P
+    → P (world_step w e).after.ground_node
+ground_after w P e each =
+    let sends : e ≡ events.Send → (up sent : List (List ℕ)) → P (ground_step w.ground_node ground.Pull).after =
+    λ is up sent. each.sends is in
+    stepped w (λ new. P new.ground_node) e (assumption (sends, each))
+
+-- what is on its way up, but for a frame that is sent, and what is on its way down, but for a report
+pub up_after : (w : World) (P : List (List ℕ) → Type 0) (e : Event) → e ≢ events.Send → P w.up
+    → ((b : List ℕ) (bs : List (List ℕ)) → w.up ≡ b ∷ bs → P bs) → P (world_step w e).after.up
+up_after w P e other same gone =
+    let sends : e ≡ events.Send → (up sent : List (List ℕ)) → P up = λ is. absurd (other is) in
+    stepped w (λ new. P new.up) e (assumption (sends, same, gone))
+
+brings_down : (e : Event) → BringsReport e → TakesDown e
+brings_down events.DownDeliver told = tt
+brings_down events.DownClcw told = tt
+brings_down _ told = elim told [ ]
+
+pub down_after : (w : World) (P : List (List ℕ) → Type 0) (e : Event) → e ≢ events.Report → P w.down
+    → (TakesDown e → (b : List ℕ) (bs : List (List ℕ)) → w.down ≡ b ∷ bs → P bs) → P (world_step w e).after.down
+down_after w P e other same gone =
+    let reports : e ≡ events.Report → P (world_step w events.Report).after.down = λ is. absurd (other is) in
+    let lost : (b : List ℕ) (bs : List (List ℕ)) → w.down ≡ b ∷ bs → TakesDown e → P bs =
+    λ b bs is t. gone t b bs is in
+    let heard : (b : List ℕ) (bs : List (List ℕ)) → w.down ≡ b ∷ bs → BringsReport e → (x : ExtractorState)
+    (packets : List (List ℕ)) → P bs = λ b bs is t x packets. gone (brings_down e t) b bs is in
+    let told : (b : List ℕ) (bs : List (List ℕ)) → w.down ≡ b ∷ bs → BringsReport e → (x : ExtractorState)
+    (packets : List (List ℕ)) (r : Clcw) → P bs = λ b bs is t x packets r. gone (brings_down e t) b bs is in
+    stepped w (λ new. P new.down) e (assumption (reports, lost, heard, told, same))
+
+-- where no session begins, the ground does not resume
+pub not_restarted : {A : Type 0} (w : World) (e : Event) → BeginsNoSession w e → (value : ℕ) → e ≡ events.Resume value
+    → can_resume w.ground_node value ≡ true → A
+not_restarted w e goes value is can =
+    absurd (let refused : can_resume w.ground_node value ≡ false = subst (BeginsNoSession w) is goes in
+    cc (can, refused))
 
 -- What is answered where the ground refuses packets.
 

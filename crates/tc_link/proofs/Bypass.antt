@@ -2,18 +2,18 @@
 use Rattle.tc_link.proofs.Common.{◌≡◌, ℕ, Bool, true, false, refl, ◌∙◌, Clcw, SegmentView, Directive, CopFault, Alert}
 use Rattle.tc_link.proofs.Common.{InitWithoutCheck, InitWithCheck, InitUnlock, InitSetVr, directive_step, FopState}
 use Rattle.tc_link.proofs.Common.{FopOutcome, clcw_step, retransmits, tick_step, heard_active, obeyed, begun, ticked}
-use Rattle.tc_link.proofs.Common.{GroundState, refill_step, with_fop, Result, Option, directive_outcome, TmFault}
-use Rattle.tc_link.proofs.Common.{telemetry_outcome, LinkFault, unless_refused, List, after_submission, after_alert}
+use Rattle.tc_link.proofs.Common.{GroundState, refill_step, with_fop, Result, Option, directive_outcome, TmFault, ◌≢◌}
+use Rattle.tc_link.proofs.Common.{telemetry_outcome, LinkFault, unless_refused, List, after_alert}
 use Rattle.tc_link.proofs.Common.{Some, None, SetVs, obeying, submitting, zero, suc, [], ◌∷◌, ◌++◌, drop, AreSomeOf}
 use Rattle.tc_link.proofs.Common.{◌+◌, ◌%◌, ◌-◌, length, map, Ok, Err, ap, sym, subst, append_assoc, append-nil}
 use Rattle.tc_link.proofs.Common.{map-append, cond_both, AllByRecursion, TcFault, On, BodyView, Ad, Bd, Bc, PulledUnit}
-use Rattle.tc_link.proofs.Common.{pull_step, pulled_out, units_of, Verdict, is_to_send, after_queue, Config, FitsFrame}
-use Rattle.tc_link.proofs.Common.{frame_of, frame_to_send, submit_fault, bypass_fault, after_bypass, PacketOn}
+use Rattle.tc_link.proofs.Common.{pull_step, pulled_out, units_of, Verdict, Config, FitsFrame}
+use Rattle.tc_link.proofs.Common.{frame_of, frame_to_send, bypass_fault, after_bypass, PacketOn}
 use Rattle.tc_link.proofs.Common.{SpacecraftState, SpacecraftOutcome, frame_outcome, body_outcome, sequence_outcome}
 use Rattle.tc_link.proofs.Common.{bypass_outcome, is_own_frame, is_kept, verdict_of, is_free, limits_of}
-use Rattle.tc_link.proofs.Common.{spacecraft_take, spacecraft_take_bypass, Heard, Event, spacecraft_telemetry, World}
-use Rattle.tc_link.proofs.Common.{WorldOutcome, world_step, world_after_pull, world_after_take, world_after_queueing}
-use Rattle.tc_link.proofs.Common.{active_on}
+use Rattle.tc_link.proofs.Common.{spacecraft_take_bypass, Heard, Event, World}
+use Rattle.tc_link.proofs.Common.{WorldOutcome, world_step, world_after_pull, world_after_take}
+use Rattle.tc_link.proofs.Common.{active_on, report_while_active}
 use Rattle.std.proofs.lemmas.List.Concat.{flat_map-append}
 use Rattle.std.specs.List.{flat_map}
 use Rattle.std.specs.Borrow.{Bor}
@@ -25,16 +25,18 @@ use Rattle.clcw.specs.Decoding.{clcw_at}
 use Rattle.tm_link.specs.Layout as telemetry
 use Rattle.tm_link.specs.Decoding.{frame_at}
 use Rattle.nodes.specs.Ground.{report_outcome, ground_step, ground_take_telemetry}
-use Rattle.nodes.specs.Spacecraft.{is_accepted, after_take}
+use Rattle.nodes.specs.Spacecraft.{is_accepted}
 use Rattle.nodes.specs.declared.received.Received.{Received}
 use Rattle.nodes.specs.declared.heard.HeardReport.{HeardReport}
 use Rattle.nodes.specs.declared.heard.HeardReport.TheVariants.{Used}
 use Rattle.nodes.specs.Ground as ground_calls
 use Rattle.nodes.specs.declared.heard.Heard.TheVariants as heard_cases
 use Rattle.nodes.specs.declared.event.Event.TheVariants as events
-use Rattle.simulated_link.specs.World.{world_after_bypass, resumed, directed}
+use Rattle.simulated_link.specs.World.{world_after_bypass, directed}
 use Rattle.simulated_link.proofs.Counted.{reported, report_seen, frame_seen}
-use Rattle.simulated_link.proofs.Unchanged.{AtEachLoss, lost, up_arrives, down_arrives, word_arrives, resumes}
+use Rattle.simulated_link.proofs.Unchanged.{up_arrives}
+use Rattle.simulated_link.proofs.Unchanged.{board_after, ground_after}
+use Rattle.simulated_link.proofs.Unchanged.{up_after}
 use Rattle.tc_link.specs.Telemetry.{none, one, without}
 use Rattle.tc_link.specs.AnyPast.{LinkStep, Happens, TakeTelemetry, Receives, Hears, HearsReport, ForgetTelemetry}
 use Rattle.tc_link.specs.AnyPast.{NewGround, NewSpacecraft, IsLinkStep, link_step, link_run, after_report}
@@ -67,39 +69,14 @@ module _ (s : FopState SegmentView) where
   again_same true = refl
   again_same false = refl
 
+  active_same : (r : Clcw) → Same (report_while_active s r).after
+  active_same r = heard_active s r (λ o. Same o.after) (assumption again_same)
+
   pub report_same : (r : Clcw) → Same (clcw_step s r).after
-  report_same r = reported s r (λ o. Same o.after) (record {
-    active = λ active. heard_active s r (λ o. Same o.after) (record {
-      locked = λ t. refl;
-      outside = λ t. refl;
-      wait_flag = λ none waiting. refl;
-      asks_none = λ asking at. refl;
-      same = refl;
-      ceases = λ none at were. refl;
-      moves = λ inside. refl;
-      others_over = λ inside asking one. refl;
-      others_wait = λ inside asking. refl;
-      others_again = λ inside asking. refl;
-      all_over = λ asking one. refl;
-      all_wait = λ asking. refl;
-      all_again = λ asking. again_same;
-    });
-    alerted = λ is x cause. refl;
-    checked = λ is confirms. refl;
-    commanded = λ is confirms. refl;
-    same = refl;
-  })
+  report_same r = reported s r (λ o. Same o.after) (assumption (active_same r))
 
   pub tick_same : Same (tick_step s).after
-  tick_same = ticked s (λ o. Same o.after) (record {
-    off = refl;
-    runs = λ left. refl;
-    stops = refl;
-    repeats = λ active. refl;
-    counts = refl;
-    commands = λ is. refl;
-    gives_up = refl;
-  })
+  tick_same = ticked s (λ o. Same o.after) (assumption)
 
 module _ (s : GroundState) where
   pub refilled_same : (refill_step s).fop.bypass ≡ s.fop.bypass
@@ -109,11 +86,6 @@ with_same : (s : GroundState) (f : FopState SegmentView) → Same s.fop f → (w
 with_same s f same = refilled_same (record s { fop = f }) ∙ same
 
 module _ (s : GroundState) where
-  pub submission_same : (m : ℕ) (octets : List ℕ) (o : Option LinkFault)
-      → (unless_refused o s (after_submission s m octets)).after.fop.bypass ≡ s.fop.bypass
-  submission_same m octets (Some fault) = refl
-  submission_same m octets None = refilled_same (submitting s m octets)
-
   abbrev Directed : Directive → FopOutcome SegmentView (Result (Option Alert) CopFault) → Type 0
   Directed d o = (directive_outcome s d o).after.fop.bypass ≡ s.fop.bypass
 
@@ -138,9 +110,6 @@ module _ (s : GroundState) where
   pub word_same : (r : Result Clcw ClcwFault) → (report_outcome s r).after.fop.bypass ≡ s.fop.bypass
   word_same =
       report_seen s (λ g. g.fop.bypass ≡ s.fop.bypass) refl (λ report. refilled_same _ ∙ report_same s.fop report)
-
-  pub ticked_same : (with_fop s (tick_step s.fop).after).fop.bypass ≡ s.fop.bypass
-  ticked_same = with_same s (tick_step s.fop).after (tick_same s.fop)
 
 -- Packets that go past the sequence control.
 
@@ -247,21 +216,11 @@ module _ (c : Config) (w : World) (h : Holding c w) where
       fewer new (rw board (some_all w.spacecraft.bypass)) (rw up (some_all (bypass_up w)))
       (rw queued (some_all (bypass_queued w)))
 
-  on_board : (s : SpacecraftState) → AreSomeOf s.bypass w.spacecraft.bypass
-      → Passes w [] [] (record w { spacecraft = s })
-  on_board s board = fewer (record w { spacecraft = s }) board (some_all (bypass_up w)) (some_all (bypass_queued w))
-
   -- ---- the first frame on its way up is there no more
 
   module _ (b : List ℕ) (bs : List (List ℕ)) (is : w.up ≡ b ∷ bs) where
     up_is : bypass_up w ≡ in_octets b ++ in_all bs
     up_is = ap (λ (way : List (List ℕ)). in_all way) is
-
-    up_gone : Passes w [] [] (record w { up = bs })
-    up_gone =
-        fewer (record w { up = bs }) (some_all w.spacecraft.bypass)
-        (subst (AreSomeOf (in_all bs)) (sym up_is) (some_later (in_octets b) (in_all bs)))
-        (some_all (bypass_queued w))
 
     arrived : (s : SpacecraftState) → AreSomeOf s.bypass (w.spacecraft.bypass ++ in_octets b)
         → Passes w [] [] (record w { up = bs; spacecraft = s })
@@ -370,59 +329,49 @@ module _ (c : Config) (w : World) (h : Holding c w) where
             (some_all (packet ∷ (left ++ rest)));
       }
 
-  take_kept : (packets : List PacketOn)
-      → Passes w [] [] (world_after_take w (spacecraft_take w.spacecraft packets)).after
-  take_kept [] = same
-  take_kept (packet ∷ left) = on_board (after_take w.spacecraft left) (some_all w.spacecraft.bypass)
-
-  queue_kept : (octets : List ℕ)
-      → Passes w [] [] (world_after_queueing w (spacecraft_telemetry w.spacecraft octets)).after
-  queue_kept octets =
-      cond_both (is_to_send octets) _ _ (λ o. Passes w [] [] (world_after_queueing w o).after)
-      (λ t. on_board (record w.spacecraft { builder = after_queue w.spacecraft.builder octets })
-      (some_all w.spacecraft.bypass)) (λ t. same)
-
   -- ---- all events
 
-  abbrev AtLoss : WorldOutcome → Type 0
-  AtLoss o = Passes w [] [] o.after
-
-  losses : AtEachLoss w AtLoss
-  losses = record {
-    refused = λ fault. same;
-    up = λ b bs is reply silent. up_gone b bs is;
-    down = λ b bs is reply silent. on_ground (record w { down = bs }) refl refl refl;
-  }
+  -- no other event passes any on
+  others : (e : Event) → e ≢ events.Send → e ≢ events.UpDeliver → e ≢ events.TakeBypass
+      → ((m : ℕ) (octets : Bor (List ℕ)) → e ≢ events.Bypass m octets) → Passes w [] [] (world_step w e).after
+  others e not_sent not_come not_taken not_given =
+      let s = w.ground_node in
+      let Queued : GroundState → Type 0 = λ t. t.fop.bypass ≡ s.fop.bypass in
+      let ring = some_all w.spacecraft.bypass in
+      let queued : Queued (world_step w e).after.ground_node = ground_after w Queued e (record {
+        same = refl;
+        submits = λ m octets none. refilled_same (submitting s m octets);
+        bypasses = λ m octets is none. absurd (not_given m octets is);
+        directs = λ d is. directive_same s d;
+        restarts = λ value is can.
+            directive_same (directed w (SetVs value)).ground_node InitUnlock ∙ directive_same s (SetVs value);
+        ticks = λ is. with_same s (tick_step s.fop).after (tick_same s.fop);
+        sends = λ is. absurd (not_sent is);
+        hears_none = λ down x packets. refl;
+        hears = λ down x packets r. refilled_same _ ∙ report_same s.fop r;
+      }) in
+      fewer (world_step w e).after
+      (board_after w (λ t. AreSomeOf t.bypass w.spacecraft.bypass) e (record {
+        same = ring;
+        receives = λ is. absurd (not_come is);
+        reports = λ is. ring;
+        takes = λ is left kept. ring;
+        releases = λ is left free. ring;
+        passes = λ is. absurd (not_taken is);
+        queues = λ octets is. ring;
+      }))
+      (up_after w (λ way. AreSomeOf (in_all way) (bypass_up w)) e not_sent (some_all (bypass_up w)) (λ b bs is.
+      subst (AreSomeOf (in_all bs)) (sym (up_is b bs is)) (some_later (in_octets b) (in_all bs))))
+      (rw queued (some_all (bypass_queued w)))
 
   event_passes : (e : Event) → Passes_on e (world_step w e)
-  event_passes (events.Submit m octets) =
-      on_ground _ refl refl (submission_same w.ground_node m octets.now (submit_fault w.ground_node m octets.now))
   event_passes (events.Bypass m octets) = bypass_event m octets (bypass_fault w.ground_node m octets.now)
-  event_passes (events.Directive d) = on_ground _ refl refl (directive_same w.ground_node d)
-  event_passes (events.Resume value) =
-      let t : GroundState = (directed w (SetVs value)).ground_node in
-      resumes w value AtLoss same (λ whole can.
-      on_ground (resumed w value) refl refl (directive_same t InitUnlock ∙ directive_same w.ground_node (SetVs value)))
   event_passes events.Send = sent_passes
   event_passes events.UpDeliver =
       up_arrives w (Passes_on events.UpDeliver) same
       (λ b bs is. arrived b bs is _ (frame_kept w.spacecraft (command.frame_at On b)))
-  event_passes events.Report =
-      fewer (world_step w events.Report).after (some_all w.spacecraft.bypass) (some_all (bypass_up w))
-      (some_all (bypass_queued w))
-  event_passes events.DownDeliver =
-      down_arrives w (Passes_on events.DownDeliver) same (λ b bs is.
-      on_ground _ refl refl (telemetry_same w.ground_node (frame_at w.ground_node.config.frame_length b)))
-  event_passes events.DownClcw =
-      word_arrives w AtLoss losses (λ b bs is r. on_ground _ refl refl (word_same w.ground_node r))
-  event_passes events.UpLose = lost w AtLoss losses events.UpLose tt
-  event_passes (events.UpDamage octets) = lost w AtLoss losses (events.UpDamage octets) tt
-  event_passes events.DownLose = lost w AtLoss losses events.DownLose tt
-  event_passes (events.DownDamage octets) = lost w AtLoss losses (events.DownDamage octets) tt
-  event_passes events.Tick = on_ground _ refl refl (ticked_same w.ground_node)
-  event_passes events.Take = take_kept w.spacecraft.ready
   event_passes events.TakeBypass = take_event w.spacecraft.bypass refl
-  event_passes (events.Telemetry octets) = queue_kept octets.now
+  event_passes e = others e (λ is. cc is) (λ is. cc is) (λ is. cc is) (λ m octets is. cc is)
 
   -- ---- the other steps
 

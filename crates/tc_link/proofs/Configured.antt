@@ -65,8 +65,7 @@ module _ (g : Config) (ready bypass : ℕ) where
   unless_as : (s next other : GroundState) (fault : Option LinkFault) → next ≡ ground_with g other
       → unless_refused fault (ground_with g s) next
       ≡ ground_outcome_with g (unless_refused fault (ground_with c s) other)
-  unless_as s next other None same =
-      ap (λ (after : GroundState). record { answer = Ok tt; after = after }) same
+  unless_as s next other None same = ap (λ (after : GroundState). record { answer = Ok tt; after = after }) same
   unless_as s next other (Some fault) same = refl
 
   directed_as : (s : GroundState) (d : Directive) (answer : Result (Option Alert) CopFault) (f : FopState SegmentView)
@@ -224,8 +223,7 @@ module _ (b : Config) (window limit timer part queue_slots : ℕ) where
       → frame_outcome (spacecraft_with b s) r
       ≡ spacecraft_outcome_with b (frame_outcome (spacecraft_with d s) r)
   received_as s (Err fault) = refl
-  received_as s (Ok frame) =
-      either (spacecraft_outcome_with b) (is_own_frame b frame) (body_as s frame.body) refl
+  received_as s (Ok frame) = either (spacecraft_outcome_with b) (is_own_frame b frame) (body_as s frame.body) refl
 
   takes_as : (s : SpacecraftState) (packets : List PacketOn)
       → spacecraft_take (spacecraft_with b s) packets

@@ -20,7 +20,7 @@ use Rattle.nodes.specs.declared.heard.HeardReport.TheVariants.{Used}
 use Rattle.nodes.specs.Ground.{report_outcome, after_moving_up}
 use Rattle.nodes.specs.declared.heard.HeardClcw.{HeardClcw}
 use Rattle.nodes.specs.declared.event.Event.TheVariants as events
-use Rattle.simulated_link.specs.World.{session_after_report, world_after_report, world_after_word, down_word_outcome}
+use Rattle.simulated_link.specs.World.{world_after_report, world_after_word, down_word_outcome}
 use Rattle.simulated_link.specs.World.{down_clcw_step}
 use Rattle.simulated_link.specs.Replies.{Down, replied_alert}
 use Rattle.simulated_link.proofs.Counted.{IsConfirming, reported}
@@ -35,6 +35,7 @@ use Rattle.tc_link.proofs.Linked.{IsLate, HeldBy, Led, ReportComes, active_led, 
 use Rattle.tc_link.proofs.IdleStart.{reporting_now, flags_are, HasReports}
 use Rattle.tc_link.proofs.Refilled.{refilled_keeps, held_again, held_same_where}
 use Rattle.tc_link.proofs.Sound.{Sound}
+use Rattle.simulated_link.proofs.Unchanged.{with_heard}
 
 -- Telemetry that is sent, arrives or doesn't in a session.
 
@@ -64,10 +65,6 @@ used_word s report = record {
 }
 
 -- ---- a report leads to another sender
-
-abbrev pub with_heard : World → GroundState → List (List ℕ) → World
-with_heard w t down =
-    record w { ground_node = t; down = down; session = session_after_report w.session w.ground_node t }
 
 -- it acknowledges `gone` units more, or none
 pub record Moves (base : ℕ) (s : FopState SegmentView) (a v gone : ℕ) (f : FopState SegmentView) : Type 0 where

@@ -1,15 +1,16 @@
 -- The ground's account of the submissions of a session is that of the records.
 use Rattle.tc_link.proofs.Common.{◌≡◌, ℕ, ◌+◌, ◌%◌, ◌/◌, ◌<◌, ◌≤◌, ◌⊎◌, inl, inr, true, false, List, [], ◌∷◌, ◌++◌}
 use Rattle.tc_link.proofs.Common.{length, map, Option, Some, None, Result, Ok, Err, refl, ap, sym, subst, ◌∙◌, arith}
-use Rattle.tc_link.proofs.Common.{length-append, length-map, append-nil, AllByRecursion, SegmentView, CopFault, Alert}
+use Rattle.tc_link.proofs.Common.{length-append, length-map, AllByRecursion, SegmentView, CopFault, Alert}
 use Rattle.tc_link.proofs.Common.{Directive, InitWithoutCheck, InitWithCheck, InitUnlock, InitSetVr, directive_step}
-use Rattle.tc_link.proofs.Common.{FopState, FopOutcome, FopMode, is_initiation, is_closed, Config, TmFault, LinkFault}
+use Rattle.tc_link.proofs.Common.{FopState, FopOutcome, FopMode, is_initiation, is_closed, Config}
 use Rattle.tc_link.proofs.Common.{GroundState, refill_step, with_fop, directive_outcome, segments_on, segments_of}
-use Rattle.tc_link.proofs.Common.{submit_fault, bypass_fault, after_bypass, after_submission, unless_refused}
-use Rattle.tc_link.proofs.Common.{after_extraction, telemetry_outcome, clcw_step, submitting, ahead_by, PacketOn, Event}
+use Rattle.tc_link.proofs.Common.{after_submission}
+use Rattle.tc_link.proofs.Common.{clcw_step, submitting, ahead_by, PacketOn, Event}
 use Rattle.tc_link.proofs.Common.{World, WorldOutcome, world_step, world_run, KeepsSession, world_after_directive}
 use Rattle.tc_link.proofs.Common.{BeginsNoSession, IsIdle, IsSettled, IsEvent, accepted, directive_of, option_map}
-use Rattle.tc_link.proofs.Common.{Opening, IsChecking, closed_is, HasPlainHistory, obeyed, begun, ClcwFault, Clcw}
+use Rattle.tc_link.proofs.Common.{Opening, IsChecking, closed_is, HasPlainHistory, obeyed, begun}
+use Rattle.tc_link.proofs.Common.{packet_on}
 use Rattle.tc_link.specs.Confirmation.{IsChecked}
 use Rattle.std.specs.Prelude.{◌^◌, ◌==◌}
 use Rattle.std.specs.List.{flat_map}
@@ -23,10 +24,9 @@ use Rattle.nodes.specs.Fates.{after_acknowledging, after_obeying, kept_after, su
 use Rattle.nodes.specs.Ground.{moved_by, after_report, after_directive, known_on_board, sent_beyond}
 use Rattle.nodes.proofs.Owed.{moved_is, fewer_left, left_more}
 use Rattle.nodes.specs.declared.event.Event.TheVariants as events
-use Rattle.simulated_link.proofs.Counted.{frame_seen, report_seen}
-use Rattle.simulated_link.proofs.Unchanged.{AtEachLoss, lost, pulled, up_arrives, down_arrives, word_arrives}
-use Rattle.simulated_link.proofs.Unchanged.{resumes_not}
-use Rattle.simulated_link.specs.World.{Session, submission_of, session_after_report}
+use Rattle.simulated_link.proofs.Unchanged.{stepped}
+use Rattle.simulated_link.proofs.Unchanged.{not_restarted}
+use Rattle.simulated_link.specs.World.{Session, session_after_report}
 use Rattle.tc_link.proofs.Promised.{past_holds, keeps_what_is_known, sent_count, accepted_count, promised_so}
 use Rattle.tc_link.proofs.InOrder.{has_plain_history, total, left_with, whole_still, whole_more}
 use Rattle.tc_link.proofs.Invariant.{Holding, idle_goes, opening_stays, step_holds, octet, began_at, begun_session}
@@ -37,9 +37,6 @@ use Rattle.tc_link.specs.CountsOn.{SetsNone, CountsFrom}
 use Rattle.tc_link.specs.Fates.{whole_first, KnowsFates}
 use Rattle.tc_link.specs.Whole.{segments_each}
 use Rattle.tc_link.specs.Known.{SetsNoNumber}
-use Rattle.tm_link.specs.Decoding as telemetry_reading
-use Rattle.tm_link.specs.Layout as telemetry
-use Rattle.nodes.specs.Ground.{report_outcome}
 
 -- ---- the segments of submissions
 
@@ -126,18 +123,6 @@ with_report s f =
     inr (with_fates counted f
     ∙ ap (λ (n : ℕ). after_acknowledging (moved_by n s.fop.nn) s.fates) (sym nn))
 
-telemetry_acknowledges : (s : GroundState) (r : Result telemetry.FrameView TmFault)
-    → Acknowledges s (telemetry_outcome s r).after
-telemetry_acknowledges s = frame_seen s (Acknowledges s) (record {
-  same = inl (refl, refl);
-  extracts = λ x. inl (refl, refl);
-  uses = λ x report. with_report (after_extraction s x) (clcw_step s.fop report).after;
-})
-
-word_acknowledges : (s : GroundState) (r : Result Clcw ClcwFault) → Acknowledges s (report_outcome s r).after
-word_acknowledges s =
-    report_seen s (Acknowledges s) (inl (refl, refl)) (λ report. with_report s (clcw_step s.fop report).after)
-
 -- ---- a directive that begins no session, and sets no number
 
 off_refused : (s : FopState SegmentView) (m : FopMode) (next : FopState SegmentView) → is_closed m ≡ false
@@ -175,8 +160,7 @@ module _ (w : World) where
       refused_keeps InitWithoutCheck (off_refused _ w.ground_node.fop.state _ (goes refl))
   directive_keeps InitWithCheck goes quiet =
       refused_keeps InitWithCheck (off_refused _ w.ground_node.fop.state _ (goes refl))
-  directive_keeps InitUnlock goes quiet =
-      refused_keeps InitUnlock (off_refused _ w.ground_node.fop.state _ (goes refl))
+  directive_keeps InitUnlock goes quiet = refused_keeps InitUnlock (off_refused _ w.ground_node.fop.state _ (goes refl))
   directive_keeps (InitSetVr x) goes quiet =
       refused_keeps (InitSetVr x) (off_refused _ w.ground_node.fop.state _ (goes refl))
   directive_keeps (SetVs x) goes quiet =
@@ -186,34 +170,13 @@ module _ (w : World) where
   directive_keeps (SetLimit x) goes quiet = obeyed_keeps (SetLimit x) refl refl _ _
   directive_keeps (SetTimer x) goes quiet = obeyed_keeps (SetTimer x) refl refl _ _
 
-  losses : AtEachLoss w (KeepsAccount w)
-  losses = record {
-    refused = λ fault. (refl, refl, refl);
-    up = λ b bs is reply silent. (refl, refl, refl);
-    down = λ b bs is reply silent. (refl, refl, refl);
-  }
-
 -- ---- one event
 
 module _ (c : Config) (w : World) (k : AccountsAt c w) (config : w.ground_node.config ≡ c)
     (most : w.session.acknowledged ≤ length (flat_map (segments c) w.session.submissions)) where
-  abbrev Still : WorldOutcome → Type 0
-  Still o = AccountsAt c o.after
-
-  same_account : (o : WorldOutcome) → KeepsAccount w o → Still o
-  same_account o is = rw (is.0, is.1, is.2) k
-
-  bypass_fates : (m : ℕ) (octets : List ℕ) (fault : Option LinkFault)
-      → (unless_refused fault w.ground_node (after_bypass w.ground_node m octets)).after.fates ≡ w.ground_node.fates
-  bypass_fates m octets (Some fault) = refl
-  bypass_fates m octets None = refl
-
-  submits : (m : ℕ) (octets : List ℕ) (fault : Option LinkFault)
-      → Accounts c (unless_refused fault w.ground_node (after_submission w.ground_node m octets)).after.fates
-      (w.session.submissions ++ submission_of (record { on_map = m; octets = octets })
-      (unless_refused fault w.ground_node (after_submission w.ground_node m octets)).answer) w.session.acknowledged
-  submits m octets (Some fault) = rw (append-nil w.session.submissions) k
-  submits m octets None =
+  submits : (m : ℕ) (octets : List ℕ) → Accounts c (after_submission w.ground_node m octets).fates
+      (w.session.submissions ++ packet_on m octets ∷ []) w.session.acknowledged
+  submits m octets =
       let s : GroundState = w.ground_node in
       let p : PacketOn = record { on_map = m; octets = octets } in
       let n : ℕ = length (segments_on s m octets) in
@@ -238,33 +201,34 @@ module _ (c : Config) (w : World) (k : AccountsAt c w) (config : w.ground_node.c
   ]
 
   step_accounts : w.ground_node.fop.nn < 256 → (e : Event) → BeginsNoSession w e → SetsNoNumber w e
-      → Still (world_step w e)
-  step_accounts octet (events.Submit m octets) goes quiet =
-      submits m octets.now (submit_fault w.ground_node m octets.now)
-  step_accounts octet (events.Bypass m octets) goes quiet =
-      rw (bypass_fates m octets.now (bypass_fault w.ground_node m octets.now)) k
-  step_accounts octet (events.Directive d) goes quiet =
-      same_account (world_step w (events.Directive d)) (directive_keeps w d goes quiet)
-  step_accounts octet events.Send goes quiet =
-      pulled w Still (λ reply up sent silent. rw (with_fates w.ground_node _) k)
-  step_accounts octet events.UpDeliver goes quiet = up_arrives w Still k (λ b bs is. k)
-  step_accounts octet events.DownDeliver goes quiet =
-      down_arrives w Still k (λ b bs is. hears
-      (telemetry_outcome w.ground_node (telemetry_reading.frame_at w.ground_node.config.frame_length b)).after octet
-      (telemetry_acknowledges w.ground_node (telemetry_reading.frame_at w.ground_node.config.frame_length b)))
-  step_accounts octet events.DownClcw goes quiet =
-      word_arrives w Still (record {
-        refused = λ fault. k;
-        up = λ b bs is reply silent. k;
-        down = λ b bs is reply silent. k;
-      }) (λ b bs is r. hears (report_outcome w.ground_node r).after octet (word_acknowledges w.ground_node r))
-  step_accounts octet (events.Resume value) goes quiet = subst Still (sym (resumes_not w value goes)) k
-  step_accounts octet events.Tick goes quiet = rw (with_fates w.ground_node _) k
-  step_accounts octet events.Report goes quiet = k
-  step_accounts octet events.Take goes quiet = k
-  step_accounts octet events.TakeBypass goes quiet = k
-  step_accounts octet (events.Telemetry octets) goes quiet = k
-  step_accounts octet e goes quiet = same_account (world_step w e) (lost w (KeepsAccount w) (losses w) e tt)
+      → AccountsAt c (world_step w e).after
+  step_accounts octet e goes quiet =
+      let s = w.ground_node in
+      stepped w (AccountsAt c) e (record {
+        same = k;
+        up_gone = λ b bs is. k;
+        down_gone = λ b bs is gone. k;
+        receives = λ is b bs first. k;
+        reports = λ is. k;
+        takes = λ is left kept. k;
+        releases = λ is left free. k;
+        passes = λ is left. k;
+        queues = λ octets is. k;
+        submits = λ m octets none. submits m octets;
+        bypasses = λ m octets is none. k;
+        directs = λ d is.
+            let kept = directive_keeps w d (subst (BeginsNoSession w) is goes) (subst (SetsNoNumber w) is quiet) in
+            rw (kept.0, kept.1, kept.2) k;
+        restarts = λ value is can. not_restarted w e goes value is can;
+        ticks = λ is. rw (with_fates s _) k;
+        sends = λ is up sent. rw (with_fates s _) k;
+        hears_none = λ b bs is told x packets. hears (record s { extractor = x; telemetry = packets }) octet
+            (inl (refl, refl));
+        hears = λ b bs is told x packets r.
+            let t : GroundState = record s { extractor = x; telemetry = packets } in
+            let f : FopState SegmentView = (clcw_step s.fop r).after in
+            hears (after_report t f) octet (with_report t f);
+      })
 
 -- ---- since the session began
 

@@ -3,7 +3,7 @@ use Rattle.tc_link.proofs.Common.{◌≡◌, ℕ, ◌+◌, ◌*◌, ◌/◌, ◌
 use Rattle.tc_link.proofs.Common.{Clcw, flags_number, FarmState, locks, waits, asks, report_of, ◌≤◌, max, List, [], ◌∷◌}
 use Rattle.tc_link.proofs.Common.{◌++◌, length, replicate, ap, length-append, cond_both, length-take-le, BuilderState}
 use Rattle.tc_link.proofs.Common.{idle_tail, data_size, is_at_rest, room_left, Config, report_octets, spacecraft_report}
-use Rattle.tc_link.proofs.Common.{World, Event, WorldOutcome, world_step, sym, ◌∙◌, ◌==◌, list_all, and_parts, eqb-true}
+use Rattle.tc_link.proofs.Common.{World, Event, world_step, sym, ◌∙◌, ◌==◌, list_all, and_parts, eqb-true}
 use Rattle.tc_link.proofs.Common.{Directive, SpacecraftState, begins_clean, begins_idle, reports_as, report_now, ◌⊎◌}
 use Rattle.tc_link.proofs.Common.{inl, inr, drop, SegmentView, Idle, InitWithoutCheck, InitWithCheck, InitUnlock}
 use Rattle.tc_link.proofs.Common.{InitSetVr, S6, directive_step, FopState, FopOutcome, is_closed, directive_outcome}
@@ -25,7 +25,7 @@ use Rattle.cop1.specs.Report.{value_if}
 use Rattle.cop1.specs.FopDirective.{obeys}
 use Rattle.nodes.specs.declared.event.Event.TheVariants as events
 use Rattle.simulated_link.specs.World.{is_none, is_quiet, is_idle, may_begin, says_as}
-use Rattle.simulated_link.proofs.Unchanged.{AtEachLoss, lost, pulled, up_arrives, down_arrives, word_arrives, resumes}
+use Rattle.simulated_link.proofs.Unchanged.{down_after}
 use Rattle.tc_link.proofs.Linked.{Tells, Reporting, reporting_push, WouldConfirm, AllGood, Lasts, AllSame, zeros}
 use Rattle.tc_link.proofs.Linked.{DownIs, Carries, Held, Stage, In, Begun, Late, IsEarly, ControlFits, zeros_plain}
 use Rattle.tc_link.proofs.Linked.{zeros_run, zeros_rise, zeros_count}
@@ -152,34 +152,15 @@ rest_reports c b bs [] h = elim h [ ]
 rest_reports c b bs (r ∷ rs) h = record { reports = rs; reporting = h.1 }
 
 module _ (c : Config) (w : World) (k : Sound c w) (t : HasReports c w.down) where
-  abbrev KeepsReports : WorldOutcome → Type 0
-  KeepsReports o = HasReports c o.after.down
-
   first_gone : (b : List ℕ) (bs : List (List ℕ)) → w.down ≡ b ∷ bs → HasReports c bs
   first_gone b bs is = rest_reports c b bs t.reports (rw is at t.reporting)
 
-  report_losses : AtEachLoss w KeepsReports
-  report_losses = record {
-    refused = λ fault. t;
-    up = λ b bs is reply silent. t;
-    down = λ b bs is reply silent. first_gone b bs is;
-  }
-
-  pub step_reports : (e : Event) → KeepsReports (world_step w e)
-  step_reports events.Send = pulled w KeepsReports (λ reply up sent silent. t)
-  step_reports events.UpDeliver = up_arrives w KeepsReports t (λ b bs is. t)
+  pub step_reports : (e : Event) → HasReports c (world_step w e).after.down
   step_reports events.Report = record {
     reports = t.reports ++ report_of w.spacecraft.farm w.spacecraft.config.vcid ∷ [];
     reporting = reporting_now c w k t.reports t.reporting;
   }
-  step_reports events.DownDeliver = down_arrives w KeepsReports t (λ b bs is. first_gone b bs is)
-  step_reports events.UpLose = lost w KeepsReports report_losses events.UpLose tt
-  step_reports (events.UpDamage octets) = lost w KeepsReports report_losses (events.UpDamage octets) tt
-  step_reports events.DownLose = lost w KeepsReports report_losses events.DownLose tt
-  step_reports (events.DownDamage octets) = lost w KeepsReports report_losses (events.DownDamage octets) tt
-  step_reports events.DownClcw = word_arrives w KeepsReports report_losses (λ b bs is r. first_gone b bs is)
-  step_reports (events.Resume value) = resumes w value KeepsReports t (λ whole can. t)
-  step_reports _ = t
+  step_reports e = down_after w (HasReports c) e (λ is. cc is) t (λ gone. first_gone)
 
 -- What the reports on their way say at an idle start: what the receiver would now.
 

@@ -1,41 +1,38 @@
 -- At every moment of a run the world is sound, and so is a session that had an idle start. V(S) and NN(R) change
 -- with its records alone.
 use Rattle.tc_link.proofs.Common.{◌≡◌, ℕ, ◌⊎◌, inl, inr, Bool, true, false, List, [], ◌∷◌, Option, Some, Result, refl}
-use Rattle.tc_link.proofs.Common.{ap, sym, subst, ◌∙◌, option_map, AllByRecursion, SegmentView, CopFault, Alert}
-use Rattle.tc_link.proofs.Common.{Directive, directive_step, Config, Event, Opening, IsConfig, is_closed}
-use Rattle.tc_link.proofs.Common.{directive_outcome, is_initiation, World, WorldOutcome, new_world, world_step}
+use Rattle.tc_link.proofs.Common.{ap, sym, subst, ◌∙◌, option_map, AllByRecursion, SegmentView, CopFault, Alert, ◌≢◌}
+use Rattle.tc_link.proofs.Common.{Directive, directive_step, Config, Event, Opening, IsConfig, is_closed, after_queue}
+use Rattle.tc_link.proofs.Common.{directive_outcome, is_initiation, World, new_world, world_step}
 use Rattle.tc_link.proofs.Common.{world_run, IsClean, IsIdle, BeginsNoSession, down_deliver_step, begins_clean}
 use Rattle.tc_link.proofs.Common.{begins_idle, session_begun_by, session_after_directive, IsDirective, IsEvent}
 use Rattle.tc_link.proofs.Common.{IsReached, obeyed, FopOutcome, closed_not, closed_is, SetVs, InitUnlock, GroundState}
-use Rattle.tc_link.proofs.Common.{and_parts, S6, ◌+◌, ◌%◌, ◌<◌, ◌++◌, length, None, arith, length-append, eq-eqb}
+use Rattle.tc_link.proofs.Common.{and_parts, S6, ◌+◌, ◌%◌, ◌<◌, ◌++◌, length, arith, length-append, eq-eqb}
 use Rattle.tc_link.proofs.Common.{append-nil, Clcw, Ad, segment_octets, Sent, PulledUnit, pull_step, clcw_step}
-use Rattle.tc_link.proofs.Common.{FopState, tick_step, after_alert, after_repeat, after_stop, after_count, due_again}
+use Rattle.tc_link.proofs.Common.{FopState, tick_step, after_alert, after_stop}
 use Rattle.tc_link.proofs.Common.{retransmits, after_new_value, after_restart, pulled_out, ticked, heard_active}
-use Rattle.tc_link.proofs.Common.{without_oldest_mark, TmFault, LinkFault, with_fop, frame_to_send, submit_fault}
-use Rattle.tc_link.proofs.Common.{after_submission, bypass_fault, after_bypass, unless_refused, after_extraction}
-use Rattle.tc_link.proofs.Common.{telemetry_outcome, world_after_pull, world_after_directive, Fates, submitting}
-use Rattle.tc_link.proofs.Common.{acknowledging, ClcwFault}
+use Rattle.tc_link.proofs.Common.{without_oldest_mark, with_fop, frame_to_send}
+use Rattle.tc_link.proofs.Common.{world_after_pull, world_after_directive, Fates, submitting}
+use Rattle.tc_link.proofs.Common.{report_while_active}
 use Rattle.std.proofs.lemmas.Bool.{cases_Bool}
 use Rattle.std.specs.Prelude.{◌&&◌}
-use Rattle.tm_link.specs.Layout as telemetry
-use Rattle.tm_link.specs.Decoding as telemetry_reading
 use Rattle.cop1.specs.FopPull.{after_send_first}
 use Rattle.nodes.specs.declared.event.Event.TheVariants as events
-use Rattle.nodes.specs.Ground.{can_resume, report_outcome}
-use Rattle.simulated_link.specs.World.{Session, directed, first_sent}
-use Rattle.simulated_link.proofs.Unchanged.{AtEachLoss, lost, pulled, up_arrives, down_arrives, word_arrives, resumes}
-use Rattle.simulated_link.proofs.Unchanged.{resumes_not}
-use Rattle.simulated_link.proofs.Counted.{reported, frame_seen, report_seen}
+use Rattle.nodes.specs.Ground.{can_resume}
+use Rattle.simulated_link.specs.World.{Session, directed, first_sent, resumed}
+use Rattle.simulated_link.proofs.Unchanged.{resumes}
+use Rattle.simulated_link.proofs.Unchanged.{BringsReport, not_restarted}
+use Rattle.simulated_link.proofs.Unchanged.{stepped, with_heard}
+use Rattle.simulated_link.proofs.Counted.{reported}
 use Rattle.tc_link.specs.Taken.{BeginsSession}
 use Rattle.tc_link.specs.Known.{SetsNoNumber, MovesWithRecords}
-use Rattle.tc_link.proofs.Upward.{up_delivers, up_lost, takes, takes_bypass, queues, ticks, directs, pulls_keep}
-use Rattle.tc_link.proofs.Upward.{not_next}
+use Rattle.tc_link.proofs.Upward.{up_delivers, up_lost, same_keeps, releases_keep, ticks, directs, pulls_keep, not_next}
 use Rattle.tc_link.proofs.IdleStart.{InSession, begins, clean_idle, HasReports, step_reports}
 use Rattle.tc_link.proofs.Readable.{Carried, step_carried}
 use Rattle.tc_link.proofs.Downward.{early_down_deliver, reports_keep, down_lost, late_down_deliver, late_down_clcw}
 use Rattle.tc_link.proofs.Downward.{early_down_clcw}
-use Rattle.tc_link.proofs.Linked.{In, Begun, Late, Next, run_to, stays}
-use Rattle.tc_link.proofs.Sound.{step_sound, new_sound, submits, bypasses, Sound}
+use Rattle.tc_link.proofs.Linked.{In, Begun, Late, Next, run_to, stays, beside}
+use Rattle.tc_link.proofs.Sound.{step_sound, new_sound, given_keeps, Sound}
 use Rattle.tc_link.proofs.Refilled.{refilled_keeps}
 
 -- At every moment of a run the world is sound, and so is a session that had an idle start.
@@ -47,17 +44,6 @@ abbrev pub opened : Session → Option Opening × ℕ
 opened s = (s.opening, s.before)
 
 module _ (w : World) where
-  -- the session is still the one that began so
-  abbrev StaysOpen : WorldOutcome → Type 0
-  StaysOpen o = opened o.after.session ≡ opened w.session
-
-  opening_losses : AtEachLoss w StaysOpen
-  opening_losses = record {
-    refused = λ fault. refl;
-    up = λ b bs is reply silent. refl;
-    down = λ b bs is reply silent. refl;
-  }
-
   abbrev Opened : Directive → FopOutcome SegmentView (Result (Option Alert) CopFault) → Type 0
   Opened d o = (is_initiation d ≡ true → is_closed w.ground_node.fop.state ≡ false)
       → opened (session_after_directive w d (directive_outcome w.ground_node d o).answer) ≡ opened w.session
@@ -71,18 +57,15 @@ module _ (w : World) where
     sets = λ d k n ticks plain most goes. rw plain refl;
   })
 
-  pub session_stays : (e : Event) → BeginsNoSession w e → StaysOpen (world_step w e)
-  session_stays (events.Directive d) goes = opened_directive d goes
-  session_stays events.Send goes = pulled w StaysOpen (λ reply up sent silent. refl)
-  session_stays events.UpDeliver goes = up_arrives w StaysOpen refl (λ b bs is. refl)
-  session_stays events.DownDeliver goes = down_arrives w StaysOpen refl (λ b bs is. refl)
-  session_stays events.UpLose goes = lost w StaysOpen opening_losses events.UpLose tt
-  session_stays (events.UpDamage octets) goes = lost w StaysOpen opening_losses (events.UpDamage octets) tt
-  session_stays events.DownLose goes = lost w StaysOpen opening_losses events.DownLose tt
-  session_stays (events.DownDamage octets) goes = lost w StaysOpen opening_losses (events.DownDamage octets) tt
-  session_stays events.DownClcw goes = word_arrives w StaysOpen opening_losses (λ b bs is r. refl)
-  session_stays (events.Resume value) goes = subst StaysOpen (sym (resumes_not w value goes)) refl
-  session_stays _ goes = refl
+  -- the session is still the one that began so
+  pub session_stays : (e : Event) → BeginsNoSession w e → opened (world_step w e).after.session ≡ opened w.session
+  session_stays e goes =
+      let directs : (d : Directive) → e ≡ events.Directive d → opened (directed w d).session ≡ opened w.session =
+      λ d is. opened_directive d (subst (BeginsNoSession w) is goes) in
+      let restarts : (value : ℕ) → e ≡ events.Resume value → can_resume w.ground_node value ≡ true
+      → opened (resumed w value).session ≡ opened w.session = λ value is can.
+      not_restarted w e goes value is can in
+      stepped w (λ new. opened new.session ≡ opened w.session) e (assumption (directs, restarts))
 
   pub opening_stays : (e : Event) → BeginsNoSession w e → (world_step w e).after.session.opening ≡ w.session.opening
   opening_stays e goes = ap (λ (o : Option Opening × ℕ). o.0) (session_stays e goes)
@@ -109,32 +92,39 @@ module _ (w : World) where
 
 module _ (early : Bool) (c : Config) (d : Directive) (base : ℕ) (w : World) (k : Sound c w) (g : In early c d base w)
   where
-    losses : AtEachLoss w (λ o. Next early c d base g.plain o.after)
-    losses = record {
-      refused = λ fault. stays g;
-      up = λ b bs is reply silent. up_lost early c d base w k g b bs is;
-      down = λ b bs is reply silent. down_lost early c d base w k g b bs is;
-    }
+    -- no report comes, and no frame is sent up or arrives there
+    others : (e : Event) → IsEvent e → BeginsNoSession w e → (BringsReport e → ⊥) → e ≢ events.Send
+        → e ≢ events.UpDeliver → Next early c d base g.plain (world_step w e).after
+    others e fits goes not_told not_sent not_come = stepped w (Next early c d base g.plain) e (record {
+      same = stays g;
+      up_gone = up_lost early c d base w k g;
+      down_gone = λ b bs is gone. down_lost early c d base w k g b bs is;
+      receives = λ is. absurd (not_come is);
+      reports = λ is. reports_keep early c d base w k g;
+      takes = λ is left kept. same_keeps early c d base w k g (record w.spacecraft { ready = left }) refl refl;
+      releases = λ is left free. releases_keep early c d base w k g left;
+      passes = λ is left. same_keeps early c d base w k g (record w.spacecraft { bypass = left }) refl refl;
+      queues = λ octets is. same_keeps early c d base w k g
+          (record w.spacecraft { builder = after_queue w.spacecraft.builder octets.now }) refl refl;
+      submits = given_keeps early c d base w k g;
+      bypasses = λ m octets is none. beside g _ (inl refl) (assumption g.linked) g.stage;
+      directs = λ x is. directs early c d base w g x (subst IsEvent is fits) (subst (BeginsNoSession w) is goes);
+      restarts = λ value is can. not_restarted w e goes value is can;
+      ticks = λ is. ticks early c d base w g;
+      sends = λ is. absurd (not_sent is);
+      hears_none = λ b bs is told. absurd (not_told told);
+      hears = λ b bs is told. absurd (not_told told);
+    })
 
     -- where it is known what telemetry leads to that arrives
     module _ (P : World → Type 0) (goes_so : (new : World) → Next early c d base g.plain new → P new)
         (heard : P (down_deliver_step w w.down).after) (word : P (world_step w events.DownClcw).after) where
       step_so : (e : Event) → IsEvent e → BeginsNoSession w e → P (world_step w e).after
-      step_so (events.Submit m octets) fits goes = goes_so _ (submits early c d base w k g m octets.now)
-      step_so (events.Bypass m octets) fits goes = goes_so _ (bypasses early c d base w k g m octets.now)
-      step_so (events.Directive e) fits goes = goes_so _ (directs early c d base w g e fits goes)
-      step_so events.Send fits goes = goes_so _ (pulls_keep early c d base w k g)
-      step_so events.UpDeliver fits goes = goes_so _ (up_delivers early c d base w k g)
-      step_so events.Report fits goes = goes_so _ (reports_keep early c d base w k g)
       step_so events.DownDeliver fits goes = heard
       step_so events.DownClcw fits goes = word
-      step_so (events.Resume value) fits goes =
-          subst (λ o. P o.after) (sym (resumes_not w value goes)) (goes_so w (stays g))
-      step_so events.Tick fits goes = goes_so _ (ticks early c d base w g)
-      step_so events.Take fits goes = goes_so _ (takes early c d base w k g)
-      step_so events.TakeBypass fits goes = goes_so _ (takes_bypass early c d base w k g)
-      step_so (events.Telemetry octets) fits goes = goes_so _ (queues early c d base w k g octets.now)
-      step_so e fits goes = goes_so _ (lost w (λ o. Next early c d base g.plain o.after) losses e tt)
+      step_so events.Send fits goes = goes_so _ (pulls_keep early c d base w k g)
+      step_so events.UpDeliver fits goes = goes_so _ (up_delivers early c d base w k g)
+      step_so e fits goes = goes_so _ (others e fits goes (λ told. absurd told) (λ is. cc is) (λ is. cc is))
 
 module _ (c : Config) (d : Directive) (base : ℕ) (w : World) (k : Sound c w) where
   pub late_step : (g : Late c d base w) (e : Event) → IsEvent e → BeginsNoSession w e
@@ -286,8 +276,7 @@ began_at w _ b = elim b [ ]
 
 pub begun_session : (w : World) (e : Event) (b : BeganAt w e)
     → (world_step w e).after.session ≡ session_begun_by b.start b.directive
-begun_session w e b =
-    ap (λ (x : World). x.session) b.is ∙ begun_is b.start b.directive b.initiates b.closed
+begun_session w e b = ap (λ (x : World). x.session) b.is ∙ begun_is b.start b.directive b.initiates b.closed
 
 -- V(S) and NN(R) change with the records of the session alone.
 
@@ -297,20 +286,7 @@ abbrev pub Same : FopState SegmentView → FopState SegmentView → Type 0
 Same f t = (t.vs ≡ f.vs) × (t.nn ≡ f.nn)
 
 pub with_same : (s : GroundState) (f : FopState SegmentView) → Same f (with_fop s f).fop
-with_same s f =
-    refilled_keeps (λ t. Same f t.fop) (record s { fop = f }) (λ waiting pending on closed. (refl, refl))
-
-submitted_same : (s : GroundState) (m : ℕ) (octets : List ℕ) (o : Option LinkFault)
-    → Same s.fop (unless_refused o s (after_submission s m octets)).after.fop
-submitted_same s m octets (Some fault) = (refl, refl)
-submitted_same s m octets None =
-    refilled_keeps (λ t. Same s.fop t.fop) (submitting s m octets)
-    (λ waiting pending on closed. (refl, refl))
-
-bypassed_same : (s : GroundState) (m : ℕ) (octets : List ℕ) (o : Option LinkFault)
-    → Same s.fop (unless_refused o s (after_bypass s m octets)).after.fop
-bypassed_same s m octets (Some fault) = (refl, refl)
-bypassed_same s m octets None = (refl, refl)
+with_same s f = refilled_keeps (λ t. Same f t.fop) (record s { fop = f }) (λ waiting pending on closed. (refl, refl))
 
 -- an alert leaves both
 alert_same : (f : FopState SegmentView) → Same f (after_alert f)
@@ -322,42 +298,15 @@ again_same f false = refl
 
 -- a report leaves V(S)
 heard_same : (f : FopState SegmentView) (r : Clcw) → (clcw_step f r).after.vs ≡ f.vs
-heard_same f r = reported f r (λ o. o.after.vs ≡ f.vs) (record {
-  active = λ active. heard_active f r (λ o. o.after.vs ≡ f.vs) (record {
-    locked = λ t. (alert_same f).0;
-    outside = λ t. (alert_same f).0;
-    wait_flag = λ t u. (alert_same f).0;
-    asks_none = λ t u. (alert_same f).0;
-    same = refl;
-    ceases = λ t u v. (alert_same f).0;
-    moves = λ t. refl;
-    others_over = λ t u v. (alert_same (after_new_value f r.value)).0;
-    others_wait = λ t u. refl;
-    others_again = λ t u. refl;
-    all_over = λ t u. (alert_same f).0;
-    all_wait = λ t. refl;
-    all_again = λ t again. again_same f again;
-  });
-  alerted = λ is x cause. (alert_same f).0;
-  checked = λ is confirms. refl;
-  commanded = λ is confirms. refl;
-  same = refl;
-})
+heard_same f r =
+    let over = (alert_same f).0 in
+    let later_over = (alert_same (after_new_value f r.value)).0 in
+    let active : (report_while_active f r).after.vs ≡ f.vs =
+    heard_active f r (λ o. o.after.vs ≡ f.vs) (assumption (over, later_over, again_same f)) in
+    reported f r (λ o. o.after.vs ≡ f.vs) (assumption (active, over))
 
-telemetry_same : (s : GroundState) (r : Result telemetry.FrameView TmFault)
-    → (telemetry_outcome s r).after.fop.vs ≡ s.fop.vs
-telemetry_same s = frame_seen s (λ t. t.fop.vs ≡ s.fop.vs) (record {
-  same = refl;
-  extracts = λ x. refl;
-  uses = λ x report.
-      let f : FopState SegmentView = (clcw_step s.fop report).after in
-      (with_same (acknowledging (after_extraction s x) f) f).0 ∙ heard_same s.fop report;
-})
-
-word_same : (s : GroundState) (r : Result Clcw ClcwFault) → (report_outcome s r).after.fop.vs ≡ s.fop.vs
-word_same s = report_seen s (λ t. t.fop.vs ≡ s.fop.vs) refl (λ report.
-    let f : FopState SegmentView = (clcw_step s.fop report).after in
-    (with_same (acknowledging s f) f).0 ∙ heard_same s.fop report)
+tick_same : (f : FopState SegmentView) → Same f (tick_step f).after
+tick_same f = ticked f (λ o. Same f o.after) (assumption (alert_same (after_stop f)))
 
 -- ---- one event
 
@@ -397,26 +346,6 @@ module _ (w : World) where
         sets = λ d k n ticks plain most goes quiet. rw plain
             (counted_so _ (record s { window = k; limit = n; timer = ticks }) (refl, refl));
       })
-
-  tick_so : MovesWithRecords w (record w { ground_node = with_fop w.ground_node (tick_step w.ground_node.fop).after })
-  tick_so =
-      let s = w.ground_node.fop in
-      ticked s (λ o. MovesWithRecords w (record w { ground_node = with_fop w.ground_node o.after })) (record {
-        off = with_so s (refl, refl);
-        runs = λ left. with_so (record s { ticks = Some left }) (refl, refl);
-        stops = with_so (after_stop s) (refl, refl);
-        repeats = λ active. with_so (after_repeat (after_stop s)) (refl, refl);
-        counts = with_so (after_count (after_stop s)) (refl, refl);
-        commands = λ is. with_so (record (after_count (after_stop s)) { control = due_again s.control }) (refl, refl);
-        gives_up = with_so (after_alert (after_stop s)) (alert_same (after_stop s));
-      })
-
-  no_moves : AtEachLoss w (λ o. MovesWithRecords w o.after)
-  no_moves = record {
-    refused = λ fault. moves_none;
-    up = λ b bs is reply silent. moves (record w { up = bs }) (refl, refl) refl refl;
-    down = λ b bs is reply silent. moves (record w { down = bs }) (refl, refl) refl refl;
-  }
 
 -- a frame is sent
 module _ (early : Bool) (c : Config) (d : Directive) (base : ℕ) (w : World) (k : Sound c w) (g : In early c d base w)
@@ -473,39 +402,40 @@ module _ (c : Config) (w : World) (k : Sound c w) (s : InSession c w) where
   pub octet : IsOctet w
   octet = elim s.session [ inl g ↦ g.linked.nn_octet | inr g ↦ g.linked.nn_octet ]
 
+  -- a report comes, or none
+  heard_so : (bs : List (List ℕ)) (t : GroundState) → t.fop.vs ≡ w.ground_node.fop.vs → IsOctet (with_heard w t bs)
+      → MovesWithRecords w (with_heard w t bs)
+  heard_so bs t same octet_after = record { vs = rw same refl; nn = omega (arith, octet, octet_after) }
+
+  moves_so : (e : Event) → e ≢ events.Send → BeginsNoSession w e → SetsNoNumber w e → IsOctet (world_step w e).after
+      → MovesWithRecords w (world_step w e).after
+  moves_so e not_sent goes quiet =
+      let s = w.ground_node in
+      stepped w (λ new. IsOctet new → MovesWithRecords w new) e (record {
+        same = λ octet. moves_none w;
+        up_gone = λ b bs is octet. record { vs = refl; nn = refl };
+        down_gone = λ b bs is gone octet. record { vs = refl; nn = refl };
+        receives = λ is b bs first octet. record { vs = refl; nn = refl };
+        reports = λ is octet. record { vs = refl; nn = refl };
+        takes = λ is left kept octet. record { vs = refl; nn = refl };
+        releases = λ is left free octet. record { vs = refl; nn = refl };
+        passes = λ is left octet. record { vs = refl; nn = refl };
+        queues = λ octets is octet. record { vs = refl; nn = refl };
+        submits = λ m octets none octet. moves w _ (with_same (submitting s m octets) s.fop) refl refl;
+        bypasses = λ m octets is none octet. record { vs = refl; nn = refl };
+        directs = λ d is octet. directive_so w d (subst (BeginsNoSession w) is goes) (subst (SetsNoNumber w) is quiet);
+        restarts = λ value is can. not_restarted w e goes value is can;
+        ticks = λ is octet. with_so w (tick_step s.fop).after (tick_same s.fop);
+        sends = λ is. absurd (not_sent is);
+        hears_none = λ b bs is told x packets. heard_so bs (record s { extractor = x; telemetry = packets }) refl;
+        hears = λ b bs is told x packets r. heard_so bs _ (refilled_keeps (λ t. t.fop.vs ≡ s.fop.vs) _
+            (λ waiting pending on off. heard_same s.fop r));
+      })
+
   pub step_moves : (e : Event) → BeginsNoSession w e → SetsNoNumber w e → IsOctet (world_step w e).after
       → MovesWithRecords w (world_step w e).after
-  step_moves (events.Submit m octets) goes quiet octet_after =
-      moves w _ (submitted_same w.ground_node m octets.now (submit_fault w.ground_node m octets.now)) refl refl
-  step_moves (events.Bypass m octets) goes quiet octet_after =
-      moves w _ (bypassed_same w.ground_node m octets.now (bypass_fault w.ground_node m octets.now)) refl refl
-  step_moves (events.Directive d) goes quiet octet_after = directive_so w d goes quiet
-  step_moves events.Send goes quiet octet_after = sends
-  step_moves events.UpDeliver goes quiet octet_after =
-      up_arrives w (λ o. MovesWithRecords w o.after) (moves_none w) (λ b bs is. record { vs = refl; nn = refl })
-  step_moves events.DownDeliver goes quiet octet_after =
-      down_arrives w (λ o. IsOctet o.after → MovesWithRecords w o.after) (λ t. moves_none w)
-      (λ b bs is t. record {
-        vs = rw (telemetry_same w.ground_node (telemetry_reading.frame_at w.ground_node.config.frame_length b)) refl;
-        nn = omega (arith, octet, t);
-      }) octet_after
-  step_moves (events.Resume value) goes quiet octet_after =
-      subst (λ o. MovesWithRecords w o.after) (sym (resumes_not w value goes)) (moves_none w)
-  step_moves events.DownClcw goes quiet octet_after =
-      word_arrives w (λ o. IsOctet o.after → MovesWithRecords w o.after) (record {
-        refused = λ fault t. moves_none w;
-        up = λ b bs is reply silent t. moves w (record w { up = bs }) (refl, refl) refl refl;
-        down = λ b bs is reply silent t. moves w (record w { down = bs }) (refl, refl) refl refl;
-      }) (λ b bs is r t. record {
-        vs = rw (word_same w.ground_node r) refl;
-        nn = omega (arith, octet, t);
-      }) octet_after
-  step_moves events.Tick goes quiet octet_after = tick_so w
-  step_moves events.Report goes quiet octet_after = record { vs = refl; nn = refl }
-  step_moves events.Take goes quiet octet_after = record { vs = refl; nn = refl }
-  step_moves events.TakeBypass goes quiet octet_after = record { vs = refl; nn = refl }
-  step_moves (events.Telemetry octets) goes quiet octet_after = record { vs = refl; nn = refl }
-  step_moves e goes quiet octet_after = lost w (λ o. MovesWithRecords w o.after) (no_moves w) e tt
+  step_moves events.Send goes quiet octet = sends
+  step_moves e goes quiet octet = moves_so e (λ is. cc is) goes quiet octet
 
 pub moves_with_records : (c : Config) (w : World) → Holding c w → (e : Event) → IsEvent e → IsIdle w
     → BeginsNoSession w e → SetsNoNumber w e → MovesWithRecords w (world_step w e).after

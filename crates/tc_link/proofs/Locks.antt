@@ -12,9 +12,9 @@ use Rattle.tc_link.proofs.Common.{FopState, FopOutcome, tick_step, TmFault, Even
 use Rattle.tc_link.proofs.Common.{spacecraft_take, spacecraft_take_bypass, spacecraft_telemetry, GroundOutcome}
 use Rattle.tc_link.proofs.Common.{submit_fault, after_submission, bypass_fault, after_bypass, unless_refused, Down}
 use Rattle.tc_link.proofs.Common.{WorldOutcome, world_step, down_deliver_step, IsChecked, replied_alert, obeyed, ticked}
-use Rattle.tc_link.proofs.Common.{nat_lt, cond_both, FarmMode, Open, after_release, farm_step, BufferReleased}
-use Rattle.tc_link.proofs.Common.{is_to_send, is_kept, limits_of, SpacecraftState, SpacecraftOutcome, body_outcome}
-use Rattle.tc_link.proofs.Common.{directive_outcome, is_initiation, session_begun_by, session_after_directive}
+use Rattle.tc_link.proofs.Common.{cond_both, FarmMode, Open, after_release}
+use Rattle.tc_link.proofs.Common.{is_kept, limits_of, body_outcome}
+use Rattle.tc_link.proofs.Common.{is_initiation, session_begun_by, session_after_directive}
 use Rattle.tc_link.proofs.Common.{up_deliver_step, directive_of, ConfirmsExactly, HasNoFalseAlarm, IsEvent, SetVs}
 use Rattle.tc_link.proofs.Common.{InitUnlock}
 use Rattle.std.specs.Prelude.{flat_map}
@@ -27,9 +27,10 @@ use Rattle.nodes.specs.declared.event.Event.TheVariants as events
 use Rattle.nodes.specs.Ground.{ground_directive}
 use Rattle.simulated_link.specs.Replies.{reply_to_submission, reply_to_directive, reply_to_alert, reply_to_taking}
 use Rattle.simulated_link.specs.Replies.{reply_to_telemetry}
-use Rattle.simulated_link.specs.World.{resumed, directed}
+use Rattle.simulated_link.specs.World.{directed}
 use Rattle.simulated_link.proofs.Counted.{IsCause, reported}
-use Rattle.simulated_link.proofs.Unchanged.{AtEachLoss, lost, pulled, up_arrives, resumes, down_arrives, word_arrives}
+use Rattle.simulated_link.proofs.Unchanged.{AtEachLoss, lost, pulled, up_arrives, resumes}
+use Rattle.simulated_link.proofs.Unchanged.{BringsReport, board_after, stepped}
 use Rattle.tc_link.specs.Confirmation.{LeavesVr, IsConfirmedExactly}
 use Rattle.tc_link.specs.InTransit.{command_in, unit_in, report_read, report_of_frame, reports_down, IsInWindow}
 use Rattle.tc_link.specs.InTransit.{IsRising, KeepsToWindow}
@@ -409,8 +410,7 @@ module _ (c : Config) (d : Directive) (base : ℕ) (w : World) (k : Sound c w) (
     early_cause r same by_check NnR cause =
         (under_check by_check, λ x. eqb-false r.value w.ground_node.fop.vs cause (same.2 ∙ x))
     early_cause r same by_check Synch cause = (under_check by_check, sym same.1 ∙ cause)
-    early_cause r same by_check ClcwAlert cause =
-        absurd (let yes : asks r ≡ true = same.3 cause.1 in cc (cause.0, yes))
+    early_cause r same by_check ClcwAlert cause = absurd (let yes : asks r ≡ true = same.3 cause.1 in cc (cause.0, yes))
     early_cause r same by_check _ cause = elim cause [ ]
 
     early_in : (r : Clcw) (rs : List Clcw)
@@ -436,8 +436,7 @@ module _ (c : Config) (d : Directive) (base : ℕ) (w : World) (k : Sound c w) (
         → (alert : Alert) → alert_in (down_deliver_step w bs).answer ≡ Some alert → HasCause w events.DownDeliver alert
     early_heard [] rs rest same alert e = absurd cc
     early_heard (b ∷ bs) [] rest same alert e = elim rest [ ]
-    early_heard (b ∷ bs) (r ∷ rs) rest same alert e =
-        early_in r rs same alert (sym (heard_alert_is b bs r rest.0) ∙ e)
+    early_heard (b ∷ bs) (r ∷ rs) rest same alert e = early_in r rs same alert (sym (heard_alert_is b bs r rest.0) ∙ e)
 
   cause_heard : Begun c d base w ⊎ Late c d base w → (alert : Alert)
       → alert_in (down_deliver_step w w.down).answer ≡ Some alert → HasCause w events.DownDeliver alert
@@ -480,8 +479,7 @@ module _ (c : Config) (d : Directive) (base : ℕ) (w : World) (k : Sound c w) (
   cause s events.Report alert is = absurd cc
   cause s events.DownDeliver alert is = cause_heard s alert is
   cause s events.DownClcw alert is = cause_word s alert is
-  cause s (events.Resume value) alert is =
-      none_some _ alert (resumes w value IsSilent refl (λ whole can. refl)) is
+  cause s (events.Resume value) alert is = none_some _ alert (resumes w value IsSilent refl (λ whole can. refl)) is
   cause s events.Tick alert is =
       let only : alert ≡ Timer =
       tick_only w.ground_node.fop alert
@@ -499,24 +497,9 @@ module _ (c : Config) (d : Directive) (base : ℕ) (w : World) (k : Sound c w) (
 
 -- ---- what leaves the receiver as it is
 
-bypass_same : (s : SpacecraftState) (ps : List PacketOn) → (spacecraft_take_bypass s ps).after.farm ≡ s.farm
-bypass_same s [] = refl
-bypass_same s (p ∷ ps) = refl
-
-queued_same : (s : SpacecraftState) (octets : List ℕ) → (spacecraft_telemetry s octets).after.farm ≡ s.farm
-queued_same s octets =
-    cond_both (is_to_send octets) _ _ (λ (o : SpacecraftOutcome (Result (Unit {0}) TmFault)). o.after.farm ≡ s.farm)
-    (λ t. refl) (λ t. refl)
-
 released : (s : FarmState) (m : FarmMode) → (after_release s m).lockout ≡ s.lockout
 released s Open = refl
 released s _ = refl
-
-taken_same : (s : SpacecraftState) (ps : List PacketOn) → (spacecraft_take s ps).after.farm.lockout ≡ s.farm.lockout
-taken_same s [] = refl
-taken_same s (p ∷ left) =
-    cond_both (nat_lt (length left) s.config.ready_slots) (farm_step s.farm BufferReleased) s.farm
-    (λ (farm : FarmState). farm.lockout ≡ s.farm.lockout) (λ t. released s.farm s.farm.state) (λ t. refl)
 
 -- ---- frames before the confirmation
 
@@ -551,32 +534,18 @@ module _ (c : Config) (d : Directive) (base : ℕ) (w : World) (k : Sound c w) w
         (next.stage.calm checked).unlocked)
   ]
 
-  abbrev IsUnlocked : WorldOutcome → Type 0
-  IsUnlocked o = o.after.spacecraft.farm.lockout ≡ false
-
-  unlocked_losses : w.spacecraft.farm.lockout ≡ false → AtEachLoss w IsUnlocked
-  unlocked_losses is = record {
-    refused = λ fault. is;
-    up = λ b bs same reply silent. is;
-    down = λ b bs same reply silent. is;
-  }
-
   not_locked : IsChecked d → Begun c d base w ⊎ Late c d base w → (e : Event) → w.spacecraft.farm.lockout ≡ false
-      → IsUnlocked (world_step w e)
-  not_locked checked s events.Send is = pulled w IsUnlocked (λ reply up sent silent. is)
+      → (world_step w e).after.spacecraft.farm.lockout ≡ false
   not_locked checked s events.UpDeliver is = up_unlocked checked s is
-  not_locked checked s events.DownDeliver is = down_arrives w IsUnlocked is (λ b bs same. is)
-  not_locked checked s events.DownClcw is = word_arrives w IsUnlocked (unlocked_losses is) (λ b bs same r. is)
-  not_locked checked s (events.Resume value) is = resumes w value IsUnlocked is (λ whole can. is)
-  not_locked checked s events.Take is = taken_same w.spacecraft w.spacecraft.ready ∙ is
-  not_locked checked s events.TakeBypass is = ap (λ f. f.lockout) (bypass_same w.spacecraft w.spacecraft.bypass) ∙ is
-  not_locked checked s (events.Telemetry octets) is = ap (λ f. f.lockout) (queued_same w.spacecraft octets.now) ∙ is
-  not_locked checked s events.UpLose is = lost w IsUnlocked (unlocked_losses is) events.UpLose tt
-  not_locked checked s (events.UpDamage octets) is = lost w IsUnlocked (unlocked_losses is) (events.UpDamage octets) tt
-  not_locked checked s events.DownLose is = lost w IsUnlocked (unlocked_losses is) events.DownLose tt
-  not_locked checked s (events.DownDamage octets) is =
-      lost w IsUnlocked (unlocked_losses is) (events.DownDamage octets) tt
-  not_locked checked s _ is = is
+  not_locked checked s e is = board_after w (λ t. t.farm.lockout ≡ false) e (record {
+    same = is;
+    receives = λ come. absurd (cc come);
+    reports = λ made. is;
+    takes = λ taken left kept. is;
+    releases = λ taken left free. released w.spacecraft.farm w.spacecraft.farm.state ∙ is;
+    passes = λ taken left. is;
+    queues = λ octets queued. is;
+  })
 
   unlocked : IsChecked d → Begun c d base w ⊎ Late c d base w → w.session.confirmed ≡ true
       → w.spacecraft.farm.lockout ≡ false
@@ -587,51 +556,44 @@ module _ (c : Config) (d : Directive) (base : ℕ) (w : World) (k : Sound c w) w
 
   -- ---- the event that confirms
 
-  resumed_unconfirmed : w.session.confirmed ≡ false → (value : ℕ) → (resumed w value).session.confirmed ≡ false
-  resumed_unconfirmed not_yet value =
-      unconfirmed_by (directed w (SetVs value)) InitUnlock
-      (ground_directive (directed w (SetVs value)).ground_node InitUnlock).answer
-      (unconfirmed_by w (SetVs value) (ground_directive w.ground_node (SetVs value)).answer not_yet)
-
-  abbrev IsUnconfirmed : WorldOutcome → Type 0
-  IsUnconfirmed o = o.after.session.confirmed ≡ false
-
-  unconfirmed_losses : w.session.confirmed ≡ false → AtEachLoss w IsUnconfirmed
-  unconfirmed_losses not_yet = record {
-    refused = λ fault. not_yet;
-    up = λ b bs is reply silent. not_yet;
-    down = λ b bs is reply silent. not_yet;
-  }
+  -- only a report confirms
+  stays_unconfirmed : (e : Event) → (BringsReport e → ⊥) → w.session.confirmed ≡ false
+      → (world_step w e).after.session.confirmed ≡ false
+  stays_unconfirmed e not_told not_yet =
+      let directs : (x : Directive) → (directed w x).session.confirmed ≡ false =
+      λ x. unconfirmed_by w x (ground_directive w.ground_node x).answer not_yet in
+      stepped w (λ new. new.session.confirmed ≡ false) e (record {
+        same = not_yet;
+        up_gone = λ b bs is. not_yet;
+        down_gone = λ b bs is gone. not_yet;
+        receives = λ is b bs first. not_yet;
+        reports = λ is. not_yet;
+        takes = λ is left kept. not_yet;
+        releases = λ is left free. not_yet;
+        passes = λ is left. not_yet;
+        queues = λ octets is. not_yet;
+        submits = λ m octets none. not_yet;
+        bypasses = λ m octets is none. not_yet;
+        directs = λ x is. directs x;
+        restarts = λ value is can. unconfirmed_by (directed w (SetVs value)) InitUnlock
+            (ground_directive (directed w (SetVs value)).ground_node InitUnlock).answer (directs (SetVs value));
+        ticks = λ is. not_yet;
+        sends = λ is up sent. not_yet;
+        hears_none = λ b bs is told. absurd (not_told told);
+        hears = λ b bs is told. absurd (not_told told);
+      })
 
   exactly : (g : Begun c d base w) (e : Event) → w.session.confirmed ≡ false
       → (world_step w e).after.session.confirmed ≡ true
       → ((world_step w e).after.spacecraft.farm.vr ≡ (world_step w e).after.ground_node.fop.vs)
       × ((world_step w e).after.ground_node.fop.nn ≡ (world_step w e).after.ground_node.fop.vs)
-  exactly g (events.Directive e) not_yet now =
-      absurd (cc (
-        unconfirmed_by w e (directive_outcome w.ground_node e (directive_step w.ground_node.fop e)).answer not_yet,
-        now,
-      ))
-  exactly g events.Send not_yet now =
-      absurd (cc (pulled w IsUnconfirmed (λ reply up sent silent. not_yet), now))
-  exactly g events.UpDeliver not_yet now = absurd (cc (up_arrives w IsUnconfirmed not_yet (λ b bs is. not_yet), now))
   exactly g events.DownDeliver not_yet now =
       elim (early_down_deliver c d base w k g)
       [ inl t ↦ absurd (let no = t.stage.confirmed_not in cc (no, now)) | inr t ↦ t.exact ]
   exactly g events.DownClcw not_yet now =
       elim (early_down_clcw c d base w k g)
       [ inl t ↦ absurd (let no = t.stage.confirmed_not in cc (no, now)) | inr t ↦ t.exact ]
-  exactly g (events.Resume value) not_yet now =
-      absurd (cc (resumes w value IsUnconfirmed not_yet (λ whole can. resumed_unconfirmed not_yet value), now))
-  exactly g events.UpLose not_yet now =
-      absurd (cc (lost w IsUnconfirmed (unconfirmed_losses not_yet) events.UpLose tt, now))
-  exactly g (events.UpDamage octets) not_yet now =
-      absurd (cc (lost w IsUnconfirmed (unconfirmed_losses not_yet) (events.UpDamage octets) tt, now))
-  exactly g events.DownLose not_yet now =
-      absurd (cc (lost w IsUnconfirmed (unconfirmed_losses not_yet) events.DownLose tt, now))
-  exactly g (events.DownDamage octets) not_yet now =
-      absurd (cc (lost w IsUnconfirmed (unconfirmed_losses not_yet) (events.DownDamage octets) tt, now))
-  exactly g _ not_yet now = absurd (cc (not_yet, now))
+  exactly g e not_yet now = absurd (cc (stays_unconfirmed e (λ told. absurd told) not_yet, now))
 
   confirms_so : IsChecked d → Begun c d base w ⊎ Late c d base w → (e : Event)
       → ConfirmsExactly w (world_step w e).after

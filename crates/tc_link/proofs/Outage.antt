@@ -25,8 +25,7 @@ record Grown (old new : Downlink) : Type 0 where
   sent_is : new.sent ≡ old.sent ++ sent
 
 grown : (d : Downlink) (steps : List DownlinkStep) → Grown d (downlink_run d steps)
-grown d [] =
-    record { came = []; sent = []; came_is = sym (append-nil d.came); sent_is = sym (append-nil d.sent) }
+grown d [] = record { came = []; sent = []; came_is = sym (append-nil d.came); sent_is = sym (append-nil d.sent) }
 grown d (Happens e ∷ steps) =
     let o : WorldOutcome = world_step d.world e in
     let rest = grown (after_event d e o) steps in

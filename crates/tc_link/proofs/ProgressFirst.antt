@@ -8,7 +8,8 @@ use Rattle.tc_link.proofs.Common.{Ok, Alert, Extracted, SpacecraftState, WorldOu
 use Rattle.tc_link.proofs.Common.{replicate, not, inl, true, cond_both, marked_unit, S1, S2, clcw_step, locks, waits}
 use Rattle.tc_link.proofs.Common.{asks, pull_step, tick_step, after_repeat, after_stop, Open, FarmState, FlagsAgree}
 use Rattle.tc_link.proofs.Common.{report_of, after_extraction, spacecraft_report, acknowledging, Bool, retransmits}
-use Rattle.tc_link.proofs.Common.{after_new_value, heard_active, pulled_out, ticked, Event, goes_on}
+use Rattle.tc_link.proofs.Common.{after_new_value, heard_active, pulled_out, ticked, Event, goes_on, after_alert}
+use Rattle.tc_link.proofs.Common.{report_while_active}
 use Rattle.std.specs.Prelude.{IsSome}
 use Rattle.std.proofs.lemmas.List.{nil_from_length}
 use Rattle.std.proofs.lemmas.Bool.{false_from_ne_true, not-true, not-false, lt-ltb}
@@ -19,7 +20,7 @@ use Rattle.nodes.specs.Ground.{outstanding}
 use Rattle.nodes.specs.declared.event.Event.TheVariants as events
 use Rattle.simulated_link.specs.World.{world_after_telemetry}
 use Rattle.simulated_link.specs.Replies.{reply_to_alert}
-use Rattle.simulated_link.proofs.Unchanged.{pulled, up_arrives}
+use Rattle.simulated_link.proofs.Unchanged.{pulled, BringsReport}
 use Rattle.simulated_link.proofs.Counted.{reported as report_cases}
 use Rattle.tc_link.specs.FalseAlarms.{alert_in}
 use Rattle.tc_link.specs.Progress.{ticks_left, followed_by, all_taken, next_arrived, all_arrived, awaits, most_sent}
@@ -29,9 +30,10 @@ use Rattle.tc_link.proofs.Linked.{Tells}
 use Rattle.tc_link.proofs.ProgressNumbers.{IsOctetReport, known, Ends, ends_then, ends_repeat, ends_times, ends_once}
 use Rattle.tc_link.proofs.ProgressNumbers.{going_step, ends_trip, IsCalm, no_directive, no_resumption}
 use Rattle.tc_link.proofs.ProgressSender.{Running, HoldsNoMore, tick_on, holds_more, Obeys, heard_fresh, pull_no_more}
-use Rattle.tc_link.proofs.ProgressSender.{report_holds, active_report, tick_end, marked_all, with_kept, hears_kept}
-use Rattle.tc_link.proofs.ProgressSender.{step_kept, words_kept}
+use Rattle.tc_link.proofs.ProgressSender.{report_holds, active_report, tick_end, marked_all}
+use Rattle.tc_link.proofs.ProgressSender.{step_kept}
 use Rattle.tc_link.proofs.Refilled.{refilled_keeps}
+use Rattle.tc_link.proofs.Common.{if◌then◌else◌}
 use Rattle.tc_link.proofs.IdleStart.{tells_now, flags_are}
 
 -- What the events of an exchange do to the ground, and the numbers that are known of it.
@@ -54,18 +56,7 @@ pub record IsAs (f g : FopState SegmentView) : Type 0 where
 module _ (s : GroundState) (f : FopState SegmentView) where
   pub with_same : IsAs (with_fop s f).fop f
   with_same = refilled_keeps (λ (t : GroundState). IsAs t.fop f) (record s { fop = f })
-      (λ waiting pending on off. record {
-        state = refl;
-        vs = refl;
-        nn = refl;
-        sent = refl;
-        bypass = refl;
-        window = refl;
-        ticks = refl;
-        control = refl;
-        count = refl;
-        limit = refl;
-      })
+      (λ waiting pending on off. assumption)
 
   pub with_config : (with_fop s f).config ≡ s.config
   with_config = refilled_keeps (λ (t : GroundState). t.config ≡ s.config) (record s { fop = f })
@@ -194,8 +185,7 @@ module _ (P : GroundState → Type 0) where
   up_first n w (b ∷ bs) p is = (p, omega (arith, is))
 
   pub ground_arrives : (w : World) → IsReached w → P w.ground_node → Ends (Arrived zero) w (all_arrived w)
-  ground_arrives w g p =
-      arrives Arrived (λ n v q. q) (λ n v h q. up_first n v v.up q.0.0 q.0.1) w g (p, refl)
+  ground_arrives w g p = arrives Arrived (λ n v q. q) (λ n v h q. up_first n v v.up q.0.0 q.0.1) w g (p, refl)
 
   pub ground_takes : (w : World) → IsReached w → Arrived zero w → Ends (Taken Arrived zero zero) w (all_taken w)
   ground_takes = takes Arrived (λ n v q. q) zero
@@ -301,12 +291,9 @@ module _ (most k : ℕ) where
       ends_once Reports w events.Report tt g (inr (
         length w.down,
         record {
-          bounds =
-              p.0.0;
-          up =
-              nil_from_length w.up p.0.1;
-          free =
-              is_free w g p.1;
+          bounds = p.0.0;
+          up = nil_from_length w.up p.0.1;
+          free = is_free w g p.1;
           olds = w.down;
           last = telemetry_writing.spelling (spacecraft_report w.spacecraft).answer;
           down = refl;
@@ -512,8 +499,7 @@ module _ (most k : ℕ) where
       (ground_arrives (IsBounded most k)) (ground_takes (IsBounded most k)) reports heard_all
 
   pub first_exchange : (w : World) → IsReached w → Bounded w → Ends ReadyWith w (exchange w)
-  first_exchange w g b =
-      ends_then Heard ReadyWith round_trip timer_run_out w (first_round_trip w g b) run_out
+  first_exchange w g b = ends_then Heard ReadyWith round_trip timer_run_out w (first_round_trip w g b) run_out
 
 -- The transmission count in an exchange, in any session.
 
@@ -534,85 +520,59 @@ module _ (s : FopState SegmentView) where
   again_goes true = (refl, λ two fine. inr (marked_all s.sent))
   again_goes false = (refl, λ two fine. fine)
 
+  active_goes : (r : Clcw) → Goes IsFine (report_while_active s r)
+  active_goes r =
+      let left : FopState SegmentView = after_new_value s r.value in
+      let over : 2 ≤ s.limit → IsFine s → IsFine (after_alert s) = λ two fine. inr refl in
+      let later_over : 2 ≤ s.limit → IsFine s → IsFine (after_alert left) = λ two fine. inr refl in
+      let moved : 2 ≤ s.limit → IsFine s → IsFine left = λ two fine. inl two in
+      let again : 2 ≤ s.limit → IsFine s → IsFine (retransmits left true) = λ two fine. inr (marked_all left.sent) in
+      heard_active s r (λ o. Goes IsFine o) (assumption (over, later_over, moved, again, again_goes))
+
   report_goes : (r : Clcw) → Goes IsFine (clcw_step s r)
-  report_goes r = report_cases s r (λ o. Goes IsFine o) (record {
-    active = λ active. heard_active s r (λ o. Goes IsFine o) (record {
-      locked = λ t. (refl, λ two fine. inr refl);
-      outside = λ t. (refl, λ two fine. inr refl);
-      wait_flag = λ none waiting. (refl, λ two fine. inr refl);
-      asks_none = λ asking at. (refl, λ two fine. inr refl);
-      same = (refl, λ two fine. fine);
-      ceases = λ none at were. (refl, λ two fine. inr refl);
-      moves = λ inside. (refl, λ two fine. inl two);
-      others_over = λ inside asking one. (refl, λ two fine. inr refl);
-      others_wait = λ inside asking. (refl, λ two fine. inl two);
-      others_again = λ inside asking. (refl, λ two fine. inr (marked_all (after_new_value s r.value).sent));
-      all_over = λ asking one. (refl, λ two fine. inr refl);
-      all_wait = λ asking. (refl, λ two fine. fine);
-      all_again = λ asking. again_goes;
-    });
-    alerted = λ is x cause. (refl, λ two fine. inr refl);
-    checked = λ is confirms. (refl, λ two fine. fine);
-    commanded = λ is confirms. (refl, λ two fine. fine);
-    same = (refl, λ two fine. fine);
-  })
+  report_goes r =
+      let over : 2 ≤ s.limit → IsFine s → IsFine (after_alert s) = λ two fine. inr refl in
+      report_cases s r (λ o. Goes IsFine o) (assumption (active_goes r, over))
 
   pull_goes : Goes IsBelow (pull_step s)
-  pull_goes = pulled_out s (λ o. Goes IsBelow o) (record {
-    none = (refl, λ two below. below);
-    command = λ c is. (refl, λ two below. below);
-    bypass = λ u us is. (refl, λ two below. below);
-    again = λ on x is. (refl, λ two below. below);
-    first = λ on u is room. (
-      refl,
-      λ two below. cond_both (is_none_sent s.sent) 1 s.count (λ n. n < s.limit) (λ t. two) (λ t. below),
-    );
-  })
+  pull_goes =
+      let first : 2 ≤ s.limit → IsBelow s → (if is_none_sent s.sent then 1 else s.count) < s.limit =
+      λ two below. cond_both (is_none_sent s.sent) 1 s.count (λ n. n < s.limit) (λ t. two) (λ t. below) in
+      pulled_out s (λ o. Goes IsBelow o) (assumption first)
 
   tick_limit : (tick_step s).after.limit ≡ s.limit
-  tick_limit = ticked s (λ o. o.after.limit ≡ s.limit) (record {
-    off = refl;
-    runs = λ left. refl;
-    stops = refl;
-    repeats = λ active. refl;
-    counts = refl;
-    commands = λ is. refl;
-    gives_up = refl;
-  })
+  tick_limit = ticked s (λ o. o.after.limit ≡ s.limit) (assumption)
 
 pub limit_stays : (w : World) (e : Event) → IsCalm e
     → (world_step w e).after.ground_node.fop.limit ≡ w.ground_node.fop.limit
 limit_stays w e calm =
     let s = w.ground_node.fop in
-    let Same : FopState SegmentView → Type 0 = λ f. f.limit ≡ s.limit in
-    step_kept Same (λ f waiting bypass is. is) w refl (tick_limit s) (pull_goes s).0
-    (hears_kept Same (λ f waiting bypass is. is) w refl (λ r. (report_goes s r).0))
-    (words_kept Same (λ f waiting bypass is. is) w refl (λ r. (report_goes s r).0)) e
-    (λ d is. no_directive e calm d is) (λ value is. no_resumption e calm value is)
+    step_kept (λ f. f.limit ≡ s.limit) (λ f waiting bypass is. is) w refl e (λ is. tick_limit s)
+    (λ is. (pull_goes s).0) (λ told r. (report_goes s r).0) (λ d is. no_directive e calm d is)
+    (λ value is. no_resumption e calm value is)
 
 -- until the report is heard
 abbrev pub IsBefore : Event → Type 0
 IsBefore e = IsCalm e × (e ≢ events.Tick) × (e ≢ events.DownDeliver)
 
-module _ (w : World) (two : 2 ≤ w.ground_node.fop.limit) where
-  abbrev BelowAfter : WorldOutcome → Type 0
-  BelowAfter o = IsBelow o.after.ground_node.fop
+no_report : {A : Type 0} (e : Event) → IsBefore e → BringsReport e → A
+no_report events.DownDeliver is told = absurd (is.2 refl)
+no_report events.DownClcw is told = elim is.0 [ ]
+no_report _ is told = elim told [ ]
 
-  pub step_below : IsBelow w.ground_node.fop → (e : Event) → IsBefore e → BelowAfter (world_step w e)
-  step_below below events.Send is = pulled w BelowAfter (λ reply up sent silent.
-      with_kept IsBelow (λ f waiting bypass is. is) w.ground_node (pull_step w.ground_node.fop).after
-      ((pull_goes w.ground_node.fop).1 two below))
-  step_below below events.UpDeliver is = up_arrives w BelowAfter below (λ b bs e. below)
-  step_below below events.Report is = below
-  step_below below events.Take is = below
-  step_below below events.Tick is = absurd (is.1 refl)
-  step_below below events.DownDeliver is = absurd (is.2 refl)
-  step_below below _ is = elim is.0 [ ]
+module _ (w : World) (two : 2 ≤ w.ground_node.fop.limit) where
+  pub step_below : IsBelow w.ground_node.fop → (e : Event) → IsBefore e
+      → IsBelow (world_step w e).after.ground_node.fop
+  step_below below e is =
+      step_kept IsBelow (λ f waiting bypass is. is) w below e (λ t. absurd (is.1 t))
+      (λ t. (pull_goes w.ground_node.fop).1 two below) (λ told. no_report e is told)
+      (λ d same. no_directive e is.0 d same) (λ value same. no_resumption e is.0 value same)
 
   pub hears_fine : IsFine w.ground_node.fop → IsFine (world_step w events.DownDeliver).after.ground_node.fop
   hears_fine fine =
-      hears_kept IsFine (λ f waiting bypass is. is) w fine
-      (λ r. (report_goes w.ground_node.fop r).1 two fine)
+      step_kept IsFine (λ f waiting bypass is. is) w fine events.DownDeliver (λ is. absurd (cc is))
+      (λ is. absurd (cc is)) (λ told r. (report_goes w.ground_node.fop r).1 two fine) (λ d is. absurd (cc is))
+      (λ value is. absurd (cc is))
 
 -- ---- the timer ends with no alert
 

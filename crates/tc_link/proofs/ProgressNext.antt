@@ -89,8 +89,7 @@ module _ (s : FopState SegmentView) (j : ℕ) (state : (s.state ≡ S1) ⊎ (s.s
       (λ t e. none nothing at (inr (ltb-false (ahead_by s.vs s.nn) s.window t)) e) goes
 
   of_bypass : (us : List SegmentView) → s.bypass ≡ us → NextPull s j
-  of_bypass (u ∷ us) is =
-      bypasses u us is (ap (pull_control s) idle ∙ ap (λ us. pull_bypass s (oldest_of us)) is)
+  of_bypass (u ∷ us) is = bypasses u us is (ap (pull_control s) idle ∙ ap (λ us. pull_bypass s (oldest_of us)) is)
   of_bypass [] is = elim (next_marked 0 j s.sent marked) [
     | inl unmarked ↦ of_waiting is unmarked.1 unmarked.0 s.waiting refl
     | inr some ↦ (
@@ -154,14 +153,8 @@ module _ (s : FopState SegmentView) (c : Clcw) (unlocked : locks c ≡ false) (f
   Acks o = Acknowledged s o
 
   gone : s.sent ≡ [] → s.state ≡ S1 → Acks (goes_on s)
-  gone empty is = record {
-    state = is;
-    sent = empty;
-    vs = refl;
-    nn = omega (arith, ap length empty, numbered, vs, nn);
-    waiting = refl;
-    window = refl;
-  }
+  gone empty is =
+      let nn_is : s.nn ≡ s.vs = omega (arith, ap length empty, numbered, vs, nn) in assumption (is, empty, nn_is)
 
   pub all_acknowledged : (s.state ≡ S1) ⊎ (s.state ≡ S2) → (s.state ≡ S2 → 1 ≤ length s.sent)
       → Acks (report_while_active s c)
@@ -184,14 +177,9 @@ module _ (s : FopState SegmentView) (c : Clcw) (unlocked : locks c ≡ false) (f
         | inr two ↦ absurd (omega (arith, asked two, empty))
       ])
       (λ t. cond_both (not (asks c)) (move_on s c.value) _ Acks
-      (λ t. record {
-        state = refl;
-        sent = drop_all (ahead_by c.value s.nn) s.sent (omega (arith, numbered, ap (λ v. ahead_by v s.nn) all));
-        vs = refl;
-        nn = all;
-        waiting = refl;
-        window = refl;
-      })
+      (λ t.
+      let left = drop_all (ahead_by c.value s.nn) s.sent (omega (arith, numbered, ap (λ v. ahead_by v s.nn) all)) in
+      assumption (left, all))
       (λ t. absurd (let it : not false ≡ false = rw none at t in cc it)))))))
 
 -- An exchange once the link is ready: whatever is sent is accepted and acknowledged.
@@ -654,8 +642,7 @@ module _ (most k : ℕ) where
 
   pub next_exchange : (w : World) → IsReached w → Ready w → IsBounded most k w.ground_node
       → Ends Advanced w (exchange w)
-  next_exchange w g r b =
-      ends_then Advanced Advanced round_trip timer_run_out w (next_round_trip w g r b) no_ticks
+  next_exchange w g r b = ends_then Advanced Advanced round_trip timer_run_out w (next_round_trip w g r b) no_ticks
 
 -- Progress: exchanges end with an alert, or with all delivered.
 

@@ -1,6 +1,6 @@
 -- The numbers of the sender at every moment of a run, and how schedules are put together.
 use Rattle.tc_link.proofs.Common.{ap, ◌≡◌, ◌<◌, ◌≤◌, ℕ, ◌+◌, ◌%◌, Bool, true, false, List, [], ◌∷◌, ◌++◌, length, drop}
-use Rattle.tc_link.proofs.Common.{Option, Some, None, Result, Ok, refl, sym, subst, ◌∙◌, arith, cond_both, nat_lt}
+use Rattle.tc_link.proofs.Common.{Option, Some, None, Ok, refl, sym, subst, ◌∙◌, arith, cond_both}
 use Rattle.tc_link.proofs.Common.{ltb-true, ltb-false, length-append, length-drop, AllByRecursion, Clcw, On}
 use Rattle.tc_link.proofs.Common.{SegmentView, BodyView, Ad, Bd, Bc, Command, Unlock, SetVr, Control, Idle, Due, Sent}
 use Rattle.tc_link.proofs.Common.{ahead_by, Directive, InitWithoutCheck, InitWithCheck, InitUnlock, InitSetVr}
@@ -8,14 +8,14 @@ use Rattle.tc_link.proofs.Common.{is_initiation, begun, obeyed, directive_step, 
 use Rattle.tc_link.proofs.Common.{clcw_step, report_while_active, after_move_on, after_acknowledge, after_new_value}
 use Rattle.tc_link.proofs.Common.{retransmits, heard_active, pull_step, pulled_out, PulledUnit, after_restart}
 use Rattle.tc_link.proofs.Common.{without_oldest_mark, unmarked_unit, units_of, tick_step, ticked, after_repeat}
-use Rattle.tc_link.proofs.Common.{after_stop, after_count, due_again, after_alert, FarmState, FarmMode, Open, Wait}
-use Rattle.tc_link.proofs.Common.{Verdict, Accepted, verdict_of, farm_step, after_verdict, after_unlock, after_set_vr}
-use Rattle.tc_link.proofs.Common.{after_release, BufferReleased, report_of, Config, FitsFrame, frame_of, frame_to_send}
-use Rattle.tc_link.proofs.Common.{with_fop, is_closed, after_extraction, extract_step, IsDirective, IsEvent, PacketOn}
+use Rattle.tc_link.proofs.Common.{after_stop, due_again, after_alert, FarmState, FarmMode, Open, Wait}
+use Rattle.tc_link.proofs.Common.{Verdict, Accepted, verdict_of, after_verdict, after_unlock, after_set_vr}
+use Rattle.tc_link.proofs.Common.{after_release, report_of, Config, FitsFrame, frame_of, frame_to_send}
+use Rattle.tc_link.proofs.Common.{with_fop, is_closed, after_extraction, extract_step, IsDirective, IsEvent}
 use Rattle.tc_link.proofs.Common.{SpacecraftState, SpacecraftOutcome, body_outcome, sequence_outcome, bypass_outcome}
-use Rattle.tc_link.proofs.Common.{is_free, is_kept, limits_of, spacecraft_take, spacecraft_take_bypass}
-use Rattle.tc_link.proofs.Common.{spacecraft_telemetry, is_to_send, Event, World, WorldOutcome, new_world, world_step}
-use Rattle.tc_link.proofs.Common.{world_after_pull, up_deliver_step, down_deliver_step, TmFault, closed_not, active_on}
+use Rattle.tc_link.proofs.Common.{is_free, is_kept, limits_of}
+use Rattle.tc_link.proofs.Common.{Event, World, WorldOutcome, new_world, world_step}
+use Rattle.tc_link.proofs.Common.{world_after_pull, up_deliver_step, down_deliver_step, closed_not, active_on}
 use Rattle.tc_link.proofs.Common.{spacecraft_report, FlagsAgree, acknowledging, SetVs, ◌≢◌, ◌⊎◌, inl, inr, zero, suc}
 use Rattle.tc_link.proofs.Common.{replicate, world_run, IsIdle, IsSettled, IsReached, BeginsNoSession, option_map}
 use Rattle.tc_link.proofs.Common.{Opening, directive_of}
@@ -29,7 +29,8 @@ use Rattle.cop1.specs.FopWords.{is_outside}
 use Rattle.nodes.specs.declared.received.Received.{Received}
 use Rattle.nodes.specs.declared.event.Event.TheVariants as events
 use Rattle.simulated_link.specs.World.{world_after_telemetry, directed}
-use Rattle.simulated_link.proofs.Unchanged.{AtEachLoss, lost, up_arrives, down_arrives, resumes}
+use Rattle.simulated_link.proofs.Unchanged.{up_arrives, down_arrives, resumes, BringsReport}
+use Rattle.simulated_link.proofs.Unchanged.{board_after, down_after, up_after}
 use Rattle.simulated_link.proofs.Counted.{reported as report_cases}
 use Rattle.tc_link.specs.FalseAlarms.{alert_in}
 use Rattle.tc_link.specs.Progress.{Schedule, followed_by, times, AlertsIn, all_sent, all_arrived, all_taken, reported}
@@ -43,7 +44,7 @@ use Rattle.tc_link.proofs.Linked.{Tells}
 use Rattle.tc_link.proofs.Lists.{oldest_stands}
 use Rattle.tc_link.proofs.IdleStart.{tells_now}
 use Rattle.tc_link.proofs.ProgressSender.{with_kept, step_kept, without_length, marked_length, WaitsFull, body_full}
-use Rattle.tc_link.proofs.ProgressSender.{taken_full, bypass_taken_full, queued_full, Timed, timed_empty, timed_step}
+use Rattle.tc_link.proofs.ProgressSender.{released, directed_kept, Timed, timed_empty, timed_step}
 use Rattle.tc_link.proofs.Sound.{Commanded, all_append}
 use Rattle.tc_link.proofs.Promised.{settled_goes, reached_step}
 
@@ -111,8 +112,7 @@ module _ (s : FopState SegmentView) (k : Numbered s) where
 
   module _ (r : Clcw) (octet : r.value < 256) where
     again_numbers : is_closed s.state ≡ false → (again : Bool) → Numbered (retransmits s again)
-    again_numbers on true =
-        same_numbers (retransmits s true) refl refl (marked_length s.sent) (λ t. on) k.command
+    again_numbers on true = same_numbers (retransmits s true) refl refl (marked_length s.sent) (λ t. on) k.command
     again_numbers on false = same_numbers (retransmits s false) refl refl refl (λ t. on) k.command
 
     active_numbers : is_closed s.state ≡ false → Numbers (report_while_active s r)
@@ -154,16 +154,10 @@ module _ (s : FopState SegmentView) (k : Numbered s) where
   due_octet (Sent command) is = is
 
   tick_numbers : Numbers (tick_step s)
-  tick_numbers = ticked s (λ o. Numbers o) (record {
-    off = k;
-    runs = λ left. same_numbers (record s { ticks = Some left }) refl refl refl (λ t. t) k.command;
-    stops = same_numbers (after_stop s) refl refl refl (λ t. t) k.command;
-    repeats = λ active. same_numbers (after_repeat (after_stop s)) refl refl (marked_length s.sent) (λ t. t) k.command;
-    counts = same_numbers (after_count (after_stop s)) refl refl refl (λ t. t) k.command;
-    commands = λ is. same_numbers (record (after_count (after_stop s)) { control = due_again s.control }) refl refl refl
-        (λ t. t) (due_octet s.control k.command);
-    gives_up = gives_up (after_stop s) refl k.nn;
-  })
+  tick_numbers =
+      let repeats = same_numbers (after_repeat (after_stop s)) refl refl (marked_length s.sent) (λ t. t) k.command in
+      let command = due_octet s.control k.command in
+      ticked s (λ o. Numbers o) (assumption (repeats, command, gives_up (after_stop s) refl k.nn, k))
 
   sent_octet : (c : Command) → s.control ≡ Due c → IsOctetIn c
   sent_octet c is = let it : IsOctetOf (Due c) = rw is at k.command in it
@@ -171,9 +165,8 @@ module _ (s : FopState SegmentView) (k : Numbered s) where
   pull_numbers : s.window ≤ 127 → Numbers (pull_step s)
   pull_numbers most = pulled_out s (λ o. Numbers o) (record {
     none = k;
-    command = λ c is. same_numbers (record (after_restart s) { control = Sent c }) refl refl refl (λ t. t)
-        (sent_octet c is);
-    bypass = λ u us is. same_numbers (record s { bypass = us }) refl refl refl (λ t. t) k.command;
+    command = λ c is. let command = sent_octet c is in assumption (command, k);
+    bypass = λ u us is. assumption k;
     again = λ active x is. same_numbers (record (after_restart s) { sent = without_oldest_mark s.sent }) refl refl
         (without_length s.sent) (λ t. t) k.command;
     first = λ active u is room.
@@ -203,8 +196,7 @@ module _ (s : FopState SegmentView) (k : Numbered s) where
   begun_numbers : (d : Directive) → is_initiation d ≡ true → IsDirective d → s.control ≡ Idle → Numbered (begun s d)
   begun_numbers InitWithoutCheck is fits idle =
       begins_at s.vs k.vs (begun s InitWithoutCheck) refl refl refl (rw idle tt)
-  begun_numbers InitWithCheck is fits idle =
-      begins_at s.vs k.vs (begun s InitWithCheck) refl refl refl (rw idle tt)
+  begun_numbers InitWithCheck is fits idle = begins_at s.vs k.vs (begun s InitWithCheck) refl refl refl (rw idle tt)
   begun_numbers InitUnlock is fits idle = begins_at s.vs k.vs (begun s InitUnlock) refl refl refl tt
   begun_numbers (InitSetVr x) is fits idle = begins_at x fits (begun s (InitSetVr x)) refl refl refl fits
   begun_numbers _ is fits idle = absurd cc
@@ -221,15 +213,13 @@ module _ (s : FopState SegmentView) (k : Numbered s) where
       numbered = λ on. closed_not s.state off on;
       most = k.most;
     };
-    sets = λ d k' n ticks plain most fits. same_numbers (record s { window = k'; limit = n; timer = ticks }) refl
-        refl refl (λ t. t) k.command;
+    sets = λ d k' n ticks plain most fits. assumption k;
   })
 
 -- whatever waits
 queued_numbers : (f : FopState SegmentView) (waiting : Option SegmentView) (bypass : List SegmentView) → Numbered f
     → Numbered (record f { waiting = waiting; bypass = bypass })
-queued_numbers f waiting bypass k =
-    record { vs = k.vs; nn = k.nn; command = k.command; numbered = k.numbered; most = k.most }
+queued_numbers f waiting bypass k = assumption k
 
 -- ---- the receiver
 
@@ -272,21 +262,6 @@ module _ (s : SpacecraftState) (octet : s.farm.vr < 256) where
   body_octet (Bc Unlock) is = unlock_octet s.farm octet s.farm.state
   body_octet (Bc (SetVr x)) is = set_octet s.farm octet x s.farm.state is
 
-  taken_octet : (ps : List PacketOn) → (spacecraft_take s ps).after.farm.vr < 256
-  taken_octet [] = octet
-  taken_octet (p ∷ left) =
-      cond_both (nat_lt (length left) s.config.ready_slots) (farm_step s.farm BufferReleased) s.farm
-      (λ (farm : FarmState). farm.vr < 256) (λ t. release_octet s.farm octet s.farm.state) (λ t. octet)
-
-  bypass_taken_octet : (ps : List PacketOn) → (spacecraft_take_bypass s ps).after.farm.vr < 256
-  bypass_taken_octet [] = octet
-  bypass_taken_octet (p ∷ left) = octet
-
-  queued_octet : (octets : List ℕ) → (spacecraft_telemetry s octets).after.farm.vr < 256
-  queued_octet octets =
-      cond_both (is_to_send octets) _ _ (λ (o : SpacecraftOutcome (Result (Unit {0}) TmFault)). o.after.farm.vr < 256)
-      (λ t. octet) (λ t. octet)
-
 -- ---- what is on its way
 
 -- a frame of the ground's, or a report of the spacecraft's, with octets
@@ -321,20 +296,6 @@ module _ (c : Config) (w : World) (h : Holding c w) (k : HasOctets c w) where
   down_of : (b : List ℕ) (bs : List (List ℕ)) → w.down ≡ b ∷ bs → AllByRecursion (IsOctetReport c) (b ∷ bs)
   down_of b bs is = subst (AllByRecursion (IsOctetReport c)) is k.down
 
-  losses : AtEachLoss w After
-  losses = record {
-    refused = λ fault. k;
-    up = λ b bs is reply silent.
-        record { sender = k.sender; receiver = k.receiver; up = (up_of b bs is).1; down = k.down };
-    down = λ b bs is reply silent.
-        record { sender = k.sender; receiver = k.receiver; up = k.up; down = (down_of b bs is).1 };
-  }
-
-  -- the receiver is another
-  with_receiver : (s : SpacecraftState) → s.farm.vr < 256 → WaitsFull s → HasOctets c (record w { spacecraft = s })
-  with_receiver s vr full =
-      record { sender = k.sender; receiver = record { vr = vr; full = full }; up = k.up; down = k.down }
-
   flags : FlagsAgree w.spacecraft.farm
   flags = h.sound.spacecraft.farm.flags
 
@@ -362,12 +323,7 @@ module _ (c : Config) (w : World) (h : Holding c w) (k : HasOctets c w) where
 
   sends : Pulls (pull_step s)
   sends = pulled_out s Pulls (record {
-    none = λ numbers. record {
-      sender = with_kept Numbered queued_numbers w.ground_node s numbers;
-      receiver = k.receiver;
-      up = k.up;
-      down = k.down;
-    };
+    none = λ numbers. let sender = with_kept Numbered queued_numbers w.ground_node s numbers in assumption (sender, k);
     command = λ command is numbers.
         sent_after (record (after_restart s) { control = Sent command }) (Bc command) tt
         (sent_octet s k.sender command is) numbers;
@@ -419,52 +375,50 @@ module _ (c : Config) (w : World) (h : Holding c w) (k : HasOctets c w) where
       })
 
   off_idle : s.state ≡ S6 → s.control ≡ Idle
-  off_idle off =
-      let idle : Commanded S6 s.control = rw off at h.sound.ground_node.fop.commanded in idle
+  off_idle off = let idle : Commanded S6 s.control = rw off at h.sound.ground_node.fop.commanded in idle
 
   -- a control word by itself does what its frame does, but for telemetry
   words : After (world_step w events.DownClcw)
   words =
       let heard : After (world_step w events.DownDeliver) = down_arrives w After k hears in
-      subst (HasOctets c) (sym (words_apart c w h.sound h.reports)) (record {
-        sender = heard.sender;
-        receiver = record { vr = heard.receiver.vr; full = heard.receiver.full };
-        up = heard.up;
-        down = heard.down;
-      })
+      subst (HasOctets c) (sym (words_apart c w h.sound h.reports)) (assumption heard)
 
-  abbrev IsOther : Event → Type 0
-  IsOther e = (value : ℕ) → e ≢ events.Resume value
-
-  numbers_step : (e : Event) → IsEvent e → IsOther e → Numbered (world_step w e).after.ground_node.fop
-  numbers_step e fits other =
-      step_kept Numbered queued_numbers w k.sender (tick_numbers s k.sender) (pull_numbers s k.sender small_window)
-      (down_arrives w (λ o. Numbered o.after.ground_node.fop) k.sender (λ b bs is. (hears b bs is).sender))
-      words.sender e (λ d is. directive_numbers s k.sender off_idle d (subst IsEvent is fits))
-      (λ value is. absurd (other value is))
-
-  -- only the sender is another
-  step_sender : (e : Event) → IsEvent e → IsOther e → (world_step w e).after.spacecraft ≡ w.spacecraft
-      → (world_step w e).after.up ≡ w.up → (world_step w e).after.down ≡ w.down → After (world_step w e)
-  step_sender e fits other craft up down = record {
-    sender = numbers_step e fits other;
-    receiver = rw craft k.receiver;
-    up = rw up k.up;
-    down = rw down k.down;
-  }
+  -- ---- all events
 
   directive_octets : (d : Directive) → IsDirective d → HasOctets c (directed w d)
-  directive_octets d fits = step_sender (events.Directive d) fits (λ value is. cc is) refl refl refl
+  directive_octets d fits =
+      let sender : Numbered (directed w d).ground_node.fop =
+      directed_kept Numbered queued_numbers w.ground_node k.sender d (directive_step s d).answer _
+      (directive_numbers s k.sender off_idle d fits) in
+      assumption (sender, k)
+
+  -- no frame is sent up or arrives there, and no report comes
+  others : (e : Event) → IsEvent e → ((value : ℕ) → e ≢ events.Resume value) → e ≢ events.Send → e ≢ events.UpDeliver
+      → e ≢ events.Report → (BringsReport e → ⊥) → After (world_step w e)
+  others e fits not_resumed not_sent not_come not_made not_told = record {
+    sender = step_kept Numbered queued_numbers w k.sender e (λ is. tick_numbers s k.sender) (λ is. absurd (not_sent is))
+        (λ told. absurd (not_told told)) (λ d is. directive_numbers s k.sender off_idle d (subst IsEvent is fits))
+        (λ value is. absurd (not_resumed value is));
+    receiver = board_after w Receives e (record {
+      same = k.receiver;
+      receives = λ is. absurd (not_come is);
+      reports = λ is. absurd (not_made is);
+      takes = λ is left kept. record { vr = k.receiver.vr; full = λ waits. ltb-false _ _ kept };
+      releases = λ is left free. record {
+        vr = release_octet w.spacecraft.farm k.receiver.vr w.spacecraft.farm.state;
+        full = λ waits. absurd
+            (let free = released w.spacecraft flags k.receiver.full w.spacecraft.farm.state refl in cc (waits, free));
+      };
+      passes = λ is left. assumption k.receiver;
+      queues = λ octets is. assumption k.receiver;
+    });
+    up = up_after w (AllByRecursion (IsOctetFrame c)) e not_sent k.up (λ b bs is. (up_of b bs is).1);
+    down = down_after w (AllByRecursion (IsOctetReport c)) e not_made k.down (λ gone b bs is. (down_of b bs is).1);
+  }
 
   -- where it is known what resuming leads to
   event_octets : ((value : ℕ) → value < 256 → HasOctets c (world_step w (events.Resume value)).after)
       → (e : Event) → IsEvent e → After (world_step w e)
-  event_octets goes (events.Submit m octets) fits =
-      step_sender (events.Submit m octets) fits (λ value is. cc is) refl refl refl
-  event_octets goes (events.Bypass m octets) fits =
-      step_sender (events.Bypass m octets) fits (λ value is. cc is) refl refl refl
-  event_octets goes (events.Directive d) fits = directive_octets d fits
-  event_octets goes events.Tick fits = step_sender events.Tick fits (λ value is. cc is) refl refl refl
   event_octets goes events.Send fits = sends (pull_numbers s k.sender small_window)
   event_octets goes events.UpDeliver fits = up_arrives w After k arrives
   event_octets goes events.Report fits = record {
@@ -475,20 +429,10 @@ module _ (c : Config) (w : World) (h : Holding c w) (k : HasOctets c w) where
         k.down ((report_of w.spacecraft.farm w.spacecraft.config.vcid, tells_now c w h.sound, k.receiver.vr), tt);
   }
   event_octets goes events.DownDeliver fits = down_arrives w After k hears
-  event_octets goes events.Take fits =
-      let ready = w.spacecraft.ready in
-      with_receiver (spacecraft_take w.spacecraft ready).after (taken_octet w.spacecraft k.receiver.vr ready)
-      (taken_full w.spacecraft flags k.receiver.full ready)
-  event_octets goes events.TakeBypass fits =
-      let ring = w.spacecraft.bypass in
-      with_receiver (spacecraft_take_bypass w.spacecraft ring).after
-      (bypass_taken_octet w.spacecraft k.receiver.vr ring) (bypass_taken_full w.spacecraft flags k.receiver.full ring)
-  event_octets goes (events.Telemetry octets) fits =
-      with_receiver (spacecraft_telemetry w.spacecraft octets.now).after
-      (queued_octet w.spacecraft k.receiver.vr octets.now) (queued_full w.spacecraft flags k.receiver.full octets.now)
-  event_octets goes (events.Resume value) fits = goes value fits
   event_octets goes events.DownClcw fits = words
-  event_octets goes e fits = lost w After losses e tt
+  event_octets goes (events.Resume value) fits = goes value fits
+  event_octets goes e fits =
+      others e fits (λ value is. cc is) (λ is. cc is) (λ is. cc is) (λ is. cc is) (λ told. absurd told)
 
 pub step_octets : (c : Config) (w : World) → Holding c w → HasOctets c w → (e : Event) → IsEvent e
     → HasOctets c (world_step w e).after

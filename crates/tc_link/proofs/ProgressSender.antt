@@ -1,9 +1,9 @@
 -- What the sender does in an exchange, and what is so of it at every moment of a run, in any session.
 use Rattle.tc_link.proofs.Common.{◌≡◌, ℕ, List, Option, Some, None, Result, Ok, Err, refl, SegmentView, Clcw, CopFault}
 use Rattle.tc_link.proofs.Common.{Alert, Directive, FopState, clcw_step, directive_step, pull_step, tick_step}
-use Rattle.tc_link.proofs.Common.{GroundState, with_fop, submit_fault, bypass_fault, LinkFault, after_submission}
-use Rattle.tc_link.proofs.Common.{after_bypass, unless_refused, directive_outcome, after_extraction, Event, World}
-use Rattle.tc_link.proofs.Common.{WorldOutcome, world_step, obeying, submitting, acknowledging, SetVs, InitUnlock, ◌≢◌}
+use Rattle.tc_link.proofs.Common.{GroundState, with_fop}
+use Rattle.tc_link.proofs.Common.{after_bypass, directive_outcome, Event, World}
+use Rattle.tc_link.proofs.Common.{world_step, obeying, submitting, acknowledging, SetVs, InitUnlock, ◌≢◌}
 use Rattle.tc_link.proofs.Common.{◌≤◌, ◌⊎◌, inl, inr, zero, suc, ◌+◌, ◌-◌, Bool, true, false, not, [], ◌∷◌, ◌++◌}
 use Rattle.tc_link.proofs.Common.{length, map, drop, ap, sym, ◌∙◌, arith, ◌==◌, nat_lt, cond_both, eqb-true, eq-eqb}
 use Rattle.tc_link.proofs.Common.{and_parts, not-false, subst, ne_eqb, ahead_by, NnR, Synch, FopMode, S1, S2, S3}
@@ -13,16 +13,15 @@ use Rattle.tc_link.proofs.Common.{retransmits, after_acknowledge, after_repeat, 
 use Rattle.tc_link.proofs.Common.{report_in, length-append, length-drop, length-map, option_to_list, after_restart}
 use Rattle.tc_link.proofs.Common.{heard_active, Sent, Control, Due, eqb-false, ltb-false, BodyView, Ad, Bd, Bc, S4, S5}
 use Rattle.tc_link.proofs.Common.{S6, Idle, after_alert, after_count, due_again, begun, InitWithoutCheck, InitWithCheck}
-use Rattle.tc_link.proofs.Common.{InitSetVr, FarmMode, Open, Wait, FarmState, FlagsAgree, state_of, farm_step}
-use Rattle.tc_link.proofs.Common.{after_unlock, after_set_vr, after_release, BufferReleased, Verdict, Accepted, Ahead}
-use Rattle.tc_link.proofs.Common.{NoBuffer, Outside, verdict_of, TmFault, PacketOn, SpacecraftState, SpacecraftOutcome}
+use Rattle.tc_link.proofs.Common.{InitSetVr, FarmMode, Open, Wait, FarmState, FlagsAgree, state_of}
+use Rattle.tc_link.proofs.Common.{after_unlock, after_set_vr, after_release, Verdict, Accepted, Ahead}
+use Rattle.tc_link.proofs.Common.{NoBuffer, Outside, verdict_of, SpacecraftState}
 use Rattle.tc_link.proofs.Common.{body_outcome, sequence_outcome, bypass_outcome, is_free, is_kept, limits_of}
-use Rattle.tc_link.proofs.Common.{spacecraft_take, spacecraft_take_bypass, spacecraft_telemetry, is_to_send, Unlock}
+use Rattle.tc_link.proofs.Common.{Unlock}
 use Rattle.tc_link.proofs.Common.{SetVr, or_parts}
 use Rattle.std.proofs.lemmas.Bool.{not-true}
 use Rattle.std.specs.Prelude.{IsSome, ◌&&◌, ◌||◌, nat_le, ◌/◌}
 use Rattle.std.proofs.Math.Seq.{drop-nil}
-use Rattle.tm_link.specs.Decoding as telemetry_reading
 use Rattle.cop1.specs.declared.vocabulary.Alert.TheVariants as alarms
 use Rattle.cop1.specs.declared.vocabulary.Alert.TheVariants.{Clcw as ClcwAlert, Limit, Timer}
 use Rattle.cop1.specs.FopReport.{nothing_new, move_on, ask_for_others, ask_for_all, goes_back_again, ticks_for}
@@ -37,9 +36,9 @@ use Rattle.cop1.specs.Units.{is_none_sent}
 use Rattle.nodes.specs.declared.event.Event.TheVariants as events
 use Rattle.nodes.specs.Packets.{put_on_map}
 use Rattle.nodes.specs.Spacecraft.{assemble_step}
-use Rattle.simulated_link.specs.World.{directed as directed_by}
-use Rattle.simulated_link.proofs.Counted.{frame_seen, report_seen, reported}
-use Rattle.simulated_link.proofs.Unchanged.{AtEachLoss, lost, pulled, up_arrives, down_arrives, word_arrives, resumes}
+use Rattle.simulated_link.specs.World.{directed as directed_by, resumed}
+use Rattle.simulated_link.proofs.Counted.{reported}
+use Rattle.simulated_link.proofs.Unchanged.{BringsReport, ground_after}
 use Rattle.tc_link.specs.Progress.{are_marked}
 use Rattle.tc_link.proofs.Refilled.{refilled_keeps}
 use Rattle.tc_link.proofs.Lists.{units-without}
@@ -54,85 +53,43 @@ module _ (P : FopState SegmentView → Type 0)
       refilled_keeps (λ (t : GroundState). P t.fop) (record s { fop = f })
       (λ waiting pending on off. queues f waiting f.bypass k)
 
-  module _ (s : GroundState) (k : P s.fop) where
-    submitted : (m : ℕ) (octets : List ℕ) (o : Option LinkFault)
-        → P (unless_refused o s (after_submission s m octets)).after.fop
-    submitted m octets (Some fault) = k
-    submitted m octets None = with_kept (submitting s m octets) s.fop k
-
-    bypassed : (m : ℕ) (octets : List ℕ) (o : Option LinkFault)
-        → P (unless_refused o s (after_bypass s m octets)).after.fop
-    bypassed m octets (Some fault) = k
-    bypassed m octets None = queues s.fop s.fop.waiting (after_bypass s m octets).fop.bypass k
-
-    directed : (d : Directive) (r : Result (Option Alert) CopFault) (f : FopState SegmentView) → P f
-        → P (directive_outcome s d (record { after = f; answer = r; gone = 0 })).after.fop
-    directed d (Ok alert) f is = with_kept (obeying s d) f is
-    directed d (Err fault) f is = k
+  pub directed_kept : (s : GroundState) → P s.fop → (d : Directive) (r : Result (Option Alert) CopFault)
+      (f : FopState SegmentView) → P f
+      → P (directive_outcome s d (record { after = f; answer = r; gone = 0 })).after.fop
+  directed_kept s k d (Ok alert) f is = with_kept (obeying s d) f is
+  directed_kept s k d (Err fault) f is = k
 
   module _ (w : World) (k : P w.ground_node.fop) where
     abbrev s : FopState SegmentView
     s = w.ground_node.fop
 
-    abbrev pub After : WorldOutcome → Type 0
-    After o = P o.after.ground_node.fop
-
-    losses : AtEachLoss w After
-    losses = record {
-      refused = λ fault. k;
-      up = λ b bs is reply silent. k;
-      down = λ b bs is reply silent. k;
-    }
-
-    pub words_kept : ((report : Clcw) → P (clcw_step s report).after) → After (world_step w events.DownClcw)
-    words_kept reports = word_arrives w After losses (λ b bs is.
-        report_seen w.ground_node (λ t. P t.fop) k (λ report.
-        let f : FopState SegmentView = (clcw_step s report).after in
-        with_kept (acknowledging w.ground_node f) f (reports report)))
-
-    pub hears_kept : ((report : Clcw) → P (clcw_step s report).after) → After (world_step w events.DownDeliver)
-    hears_kept reports = down_arrives w After k (λ b bs is.
-        frame_seen w.ground_node (λ t. P t.fop) (record {
-          same = k;
-          extracts = λ x. k;
-          uses = λ x report.
-              let f : FopState SegmentView = (clcw_step s report).after in
-              with_kept (acknowledging (after_extraction w.ground_node x) f) f (reports report);
-        }) (telemetry_reading.frame_at w.ground_node.config.frame_length b))
-
     -- with V(S) set, and a session begun by Unlock
     pub resume_kept : (value : ℕ) → P (directive_step s (SetVs value)).after
         → ((f : FopState SegmentView) → P f → P (directive_step f InitUnlock).after)
-        → After (world_step w (events.Resume value))
-    resume_kept value set begins = resumes w value After k (λ whole can.
-        let set_so = directed w.ground_node k (SetVs value) (directive_step s (SetVs value)).answer _ set in
+        → P (resumed w value).ground_node.fop
+    resume_kept value set begins =
+        let set_so = directed_kept w.ground_node k (SetVs value) (directive_step s (SetVs value)).answer _ set in
         let t : GroundState = (directed_by w (SetVs value)).ground_node in
-        directed t set_so InitUnlock (directive_step t.fop InitUnlock).answer _ (begins t.fop set_so))
+        directed_kept t set_so InitUnlock (directive_step t.fop InitUnlock).answer _ (begins t.fop set_so)
 
     -- where each report, tick, pull and directive keeps it
-    pub step_kept : P (tick_step s).after → P (pull_step s).after → After (world_step w events.DownDeliver)
-        → After (world_step w events.DownClcw) → (e : Event)
+    pub step_kept : (e : Event) → (e ≡ events.Tick → P (tick_step s).after) → (e ≡ events.Send → P (pull_step s).after)
+        → (BringsReport e → (r : Clcw) → P (clcw_step s r).after)
         → ((d : Directive) → e ≡ events.Directive d → P (directive_step s d).after)
-        → ((value : ℕ) → e ≡ events.Resume value → After (world_step w (events.Resume value)))
-        → After (world_step w e)
-    step_kept tick pull hears words (events.Submit m octets) direct resumed =
-        submitted w.ground_node k m octets.now (submit_fault w.ground_node m octets.now)
-    step_kept tick pull hears words (events.Bypass m octets) direct resumed =
-        bypassed w.ground_node k m octets.now (bypass_fault w.ground_node m octets.now)
-    step_kept tick pull hears words (events.Directive d) direct resumed =
-        directed w.ground_node k d (directive_step s d).answer (directive_step s d).after (direct d refl)
-    step_kept tick pull hears words events.Send direct resumed =
-        pulled w After (λ reply up sent silent. with_kept w.ground_node (pull_step s).after pull)
-    step_kept tick pull hears words events.UpDeliver direct resumed = up_arrives w After k (λ b bs is. k)
-    step_kept tick pull hears words events.DownDeliver direct resumed = hears
-    step_kept tick pull hears words events.DownClcw direct resumed = words
-    step_kept tick pull hears words (events.Resume value) direct resumed = resumed value refl
-    step_kept tick pull hears words events.Tick direct resumed = with_kept w.ground_node (tick_step s).after tick
-    step_kept tick pull hears words events.Report direct resumed = k
-    step_kept tick pull hears words events.Take direct resumed = k
-    step_kept tick pull hears words events.TakeBypass direct resumed = k
-    step_kept tick pull hears words (events.Telemetry octets) direct resumed = k
-    step_kept tick pull hears words e direct resumed = lost w After losses e tt
+        → ((value : ℕ) → e ≡ events.Resume value → P (resumed w value).ground_node.fop)
+        → P (world_step w e).after.ground_node.fop
+    step_kept e tick pull hears direct resumed = ground_after w (λ t. P t.fop) e (record {
+      same = k;
+      submits = λ m octets none. with_kept (submitting w.ground_node m octets) s k;
+      bypasses = λ m octets is none. queues s s.waiting (after_bypass w.ground_node m octets.now).fop.bypass k;
+      directs = λ d is. directed_kept w.ground_node k d (directive_step s d).answer _ (direct d is);
+      restarts = λ value is can. resumed value is;
+      ticks = λ is. with_kept w.ground_node (tick_step s).after (tick is);
+      sends = λ is. with_kept w.ground_node (pull_step s).after (pull is);
+      hears_none = λ down x packets. k;
+      hears = λ told x packets r. let f : FopState SegmentView = (clcw_step s r).after in
+          with_kept (acknowledging (record w.ground_node { extractor = x; telemetry = packets }) f) f (hears told r);
+    })
 
 -- What the sender does in an exchange.
 
@@ -617,21 +574,13 @@ module _ (s : FopState SegmentView) (k : Timed s) where
 -- whatever waits
 queued_timed : (f : FopState SegmentView) (waiting : Option SegmentView) (bypass : List SegmentView) → Timed f
     → Timed (record f { waiting = waiting; bypass = bypass })
-queued_timed f waiting bypass k = record {
-  active = k.active;
-  running = k.running;
-  command = k.command;
-  timer = k.timer;
-  count = k.count;
-  window = k.window;
-}
+queued_timed f waiting bypass k = assumption k
 
 pub timed_step : (w : World) → Timed w.ground_node.fop → (e : Event) → Timed (world_step w e).after.ground_node.fop
 timed_step w k e =
     let s = w.ground_node.fop in
-    step_kept Timed queued_timed w k (ticked_timed s k s.ticks refl) (pull_timed s k)
-    (hears_kept Timed queued_timed w k (report_timed s k)) (words_kept Timed queued_timed w k (report_timed s k)) e
-    (λ d is. directive_timed s k d)
+    step_kept Timed queued_timed w k e (λ is. ticked_timed s k s.ticks refl) (λ is. pull_timed s k)
+    (λ down. report_timed s k) (λ d is. directive_timed s k d)
     (λ value is. resume_kept Timed queued_timed w k value (directive_timed s k (SetVs value))
     (λ f kept. directive_timed f kept InitUnlock))
 
@@ -676,8 +625,7 @@ module _ (s : SpacecraftState) (flags : FlagsAgree s.farm) (k : WaitsFull s) whe
   sequence_full n u Accepted is waits =
       let old : s.farm.wait ≡ true = rw is at waits in
       omega (arith, k old, length-append s.ready (put_on_map u.header.map (assemble_step s u).packets))
-  sequence_full n u NoBuffer is waits =
-      full_where (no_buffer s.farm n (is_free s) is)
+  sequence_full n u NoBuffer is waits = full_where (no_buffer s.farm n (is_free s) is)
   sequence_full n u Ahead is waits = k (rw is at waits)
   sequence_full n u Behind is waits = k (rw is at waits)
   sequence_full n u Outside is waits = k (rw is at waits)
@@ -704,24 +652,7 @@ module _ (s : SpacecraftState) (flags : FlagsAgree s.farm) (k : WaitsFull s) whe
   body_full (Bc (SetVr x)) = set_full x s.farm.state
 
   -- a receiver that is released does not wait
-  released : (m : FarmMode) → s.farm.state ≡ m → (after_release s.farm m).wait ≡ false
+  pub released : (m : FarmMode) → s.farm.state ≡ m → (after_release s.farm m).wait ≡ false
   released Wait is = refl
   released Lockout is = refl
   released Open is = (open_flags s.farm.lockout s.farm.wait (sym is ∙ flags.state)).1
-
-  pub taken_full : (ps : List PacketOn) → WaitsFull (spacecraft_take s ps).after
-  taken_full [] = k
-  taken_full (p ∷ left) =
-      cond_both (nat_lt (length left) s.config.ready_slots) (farm_step s.farm BufferReleased) s.farm
-      (λ (farm : FarmState). WaitsFull (record s { ready = left; farm = farm }))
-      (λ t waits. absurd (let no = released s.farm.state refl in cc (waits, no)))
-      (λ t waits. ltb-false (length left) s.config.ready_slots t)
-
-  pub bypass_taken_full : (ps : List PacketOn) → WaitsFull (spacecraft_take_bypass s ps).after
-  bypass_taken_full [] = k
-  bypass_taken_full (p ∷ left) = k
-
-  pub queued_full : (octets : List ℕ) → WaitsFull (spacecraft_telemetry s octets).after
-  queued_full octets =
-      cond_both (is_to_send octets) _ _ (λ (o : SpacecraftOutcome (Result (Unit {0}) TmFault)). WaitsFull o.after)
-      (λ t. k) (λ t. k)

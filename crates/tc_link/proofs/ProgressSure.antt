@@ -58,14 +58,11 @@ module _ (s : FopState SegmentView) (begins : IsBeginning s.state) where
     count : t.count ≡ s.count
     limit : t.limit ≡ s.limit
 
-  stays : (t : FopState SegmentView) → t.state ≡ s.state → t.count ≡ s.count → t.limit ≡ s.limit → Stays t
-  stays t state count limit = record { state = state; count = count; limit = limit }
-
   pull_stays : Stays (pull_step s).after
   pull_stays = pulled_out s (λ o. Stays o.after) (record {
-    none = stays s refl refl refl;
-    command = λ c is. stays _ refl refl refl;
-    bypass = λ u us is. stays _ refl refl refl;
+    none = assumption;
+    command = λ c is. assumption;
+    bypass = λ u us is. assumption;
     again = λ active x is. not_active active;
     first = λ active u is room. not_active active;
   })
@@ -128,15 +125,11 @@ retried s is five =
 -- a tick while it is Active
 tick_active : (s : FopState SegmentView) → IsActive s.state
     → IsSome (tick_step s).answer ⊎ IsActive (tick_step s).after.state
-tick_active s active = ticked s (λ o. IsSome o.answer ⊎ IsActive o.after.state) (record {
-  off = inr active;
-  runs = λ left. inr active;
-  stops = inr active;
-  repeats = λ on. inr active;
-  counts = inr active;
-  commands = λ is. inr active;
-  gives_up = inl refl;
-})
+tick_active s active =
+    let P : FopOutcome SegmentView (Option Alert) → Type 0 = λ o. IsSome o.answer ⊎ IsActive o.after.state in
+    let on : P (goes_on s) = inr active in
+    let over : P (alerts (after_stop s) Timer) = inl refl in
+    ticked s P (assumption (on, over))
 
 -- ---- the exchange
 
@@ -312,7 +305,7 @@ module _ (count limit : ℕ) where
       → Repeats (record w { ground_node = with_fop w.ground_node (record w.ground_node.fop { ticks = Some left }) })
   runs w left p =
       let f : FopState SegmentView = record w.ground_node.fop { ticks = Some left } in (
-        begins_with w.ground_node f p.0 (stays w.ground_node.fop p.0.state f refl refl refl),
+        begins_with w.ground_node f p.0 (assumption),
         (with_same w.ground_node f).state ∙ p.1,
       )
 

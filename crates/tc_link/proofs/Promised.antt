@@ -294,37 +294,30 @@ one_more events i d lt all is =
 abbrev with_telemetry : World → ExtractorState → List (List ℕ) → World
 with_telemetry w extractor packets = record w { ground_node = apart w.ground_node extractor packets }
 
+session_to : (c : Config) (w new : World)
+    → ((early : Bool) (d : Directive) (base : ℕ) → In early c d base w → In early c d base new) → InSession c w
+    → InSession c new
+session_to c w new goes s = record {
+  directive = s.directive;
+  base = s.base;
+  session = elim s.session [
+    | inl g ↦ inl (goes true s.directive s.base g)
+    | inr g ↦ inr (goes false s.directive s.base g)
+  ];
+}
+
 module _ (c : Config) (w : World) (x : ExtractorState) (packets : List (List ℕ)) where
   heard_in : (early : Bool) (d : Directive) (base : ℕ) → In early c d base w
       → In early c d base (with_telemetry w x packets)
   heard_in early d base g = beside g (with_telemetry w x packets) g.ran (assumption g.linked) g.stage
 
-  heard_session : InSession c w → InSession c (with_telemetry w x packets)
-  heard_session s = record {
-    directive = s.directive;
-    base = s.base;
-    session = elim s.session [
-      | inl g ↦ inl (heard_in true s.directive s.base g)
-      | inr g ↦ inr (heard_in false s.directive s.base g)
-    ];
-  }
-
   telemetry_holds : Holding c w → Holding c (with_telemetry w x packets)
   telemetry_holds h = record {
-    sound = record {
-      ranges = h.sound.ranges;
-      ground_node = assumption h.sound.ground_node;
-      spacecraft = h.sound.spacecraft;
-      before = h.sound.before;
-    };
+    sound = assumption h.sound;
     reports = h.reports;
-    carried = record {
-      frames = h.carried.frames;
-      carries = h.carried.carries;
-      fits = record { sent = h.carried.fits.sent; unsent = h.carried.fits.unsent };
-    };
+    carried = record { frames = h.carried.frames; carries = h.carried.carries; fits = assumption h.carried.fits };
     clean = h.clean;
-    session = λ is. heard_session (h.session is);
+    session = λ is. session_to c w (with_telemetry w x packets) heard_in (h.session is);
   }
 
 -- where a Type-BD frame arrived
@@ -341,16 +334,6 @@ module _ (c : Config) (w : World) (h : Holding c w) (u : SegmentView) (kept : Bo
       run_to g (eases_keep early c d base w h.sound g (bypass_outcome w.spacecraft u kept).after (same_accepted kept)
       (bypass_eases d base g.front w.spacecraft u kept))
 
-  bypassed_session : InSession c w → InSession c bypassed
-  bypassed_session s = record {
-    directive = s.directive;
-    base = s.base;
-    session = elim s.session [
-      | inl g ↦ inl (bypassed_in true s.directive s.base g)
-      | inr g ↦ inr (bypassed_in false s.directive s.base g)
-    ];
-  }
-
   bypassed_holds : Holding c bypassed
   bypassed_holds = record {
     sound = record {
@@ -362,7 +345,7 @@ module _ (c : Config) (w : World) (h : Holding c w) (u : SegmentView) (kept : Bo
     reports = h.reports;
     carried = record { frames = h.carried.frames; carries = h.carried.carries; fits = h.carried.fits };
     clean = h.clean;
-    session = λ is. bypassed_session (h.session is);
+    session = λ is. session_to c w bypassed bypassed_in (h.session is);
   }
 
 -- ---- each step
@@ -490,8 +473,7 @@ module _ (c : Config) (w : World) (h : Holding c w) where
 link_run_holds : (c : Config) (steps : List LinkStep) (w : World) → AllByRecursion IsLinkStep steps → Holding c w
     → Holding c (link_run w steps)
 link_run_holds c [] w fits h = h
-link_run_holds c (s ∷ steps) w fits h =
-    link_run_holds c steps (link_step w s) fits.1 (link_step_holds c w h s fits.0)
+link_run_holds c (s ∷ steps) w fits h = link_run_holds c steps (link_step w s) fits.1 (link_step_holds c w h s fits.0)
 
 pub past_holds : (w : World) → (p : HasAnyPast w) → Holding p.config w
 past_holds w p =
@@ -571,8 +553,7 @@ all_zero (v ∷ vs) low up = (omega (arith, rises_to v 0 vs up.1), all_zero vs v
 
 module _ (w : World) (b : ℕ) (p : PlainLink) (h : IsHistory w b p) where
   pub sent_count : length w.session.sent ≡ p.n
-  sent_count =
-      ap length h.sent ∙ length-map (take p.n p.units) segment_octets ∙ length-take-le p.n p.units h.order.2
+  sent_count = ap length h.sent ∙ length-map (take p.n p.units) segment_octets ∙ length-take-le p.n p.units h.order.2
 
   pub accepted_count : length (accepted w) ≡ p.r
   accepted_count =

@@ -4,23 +4,23 @@ use Rattle.tc_link.proofs.Common.{◌≡◌, ◌≤◌, ℕ, zero, suc, true, Li
 use Rattle.tc_link.proofs.Common.{slice_get, AllByRecursion, On, Unlock, SetVr, SegmentView, BodyView, Ad, Bd, Bc}
 use Rattle.tc_link.proofs.Common.{Config, IsConfig, FitsFrame, frame_of, Bool, false, ◌++◌, drop, Option, None, Result}
 use Rattle.tc_link.proofs.Common.{option_to_list, ap, sym, ◌∙◌, append_assoc, Clcw, segments_of, ahead_by, CopFault}
-use Rattle.tc_link.proofs.Common.{Alert, Idle, Sent, Directive, InitWithoutCheck, InitWithCheck, InitUnlock, InitSetVr}
+use Rattle.tc_link.proofs.Common.{Alert, Idle, Directive, InitWithoutCheck, InitWithCheck, InitUnlock, InitSetVr}
 use Rattle.tc_link.proofs.Common.{S1, S2, S3, S6, is_initiation, directive_step, units_of, pull_step}
 use Rattle.tc_link.proofs.Common.{without_oldest_mark, FopState, FopOutcome, clcw_step, report_while_active}
-use Rattle.tc_link.proofs.Common.{after_move_on, retransmits, after_new_value, tick_step, after_count, due_again}
+use Rattle.tc_link.proofs.Common.{after_move_on, retransmits, after_new_value, tick_step}
 use Rattle.tc_link.proofs.Common.{after_acknowledge, after_repeat, after_alert, after_stop, after_restart, heard_active}
-use Rattle.tc_link.proofs.Common.{obeyed, begun, pulled_out, ticked, TmFault, Extracted, LinkFault, GroundState}
+use Rattle.tc_link.proofs.Common.{obeyed, begun, pulled_out, ticked, TmFault, GroundState}
 use Rattle.tc_link.proofs.Common.{is_closed, unsent_segments, refill_step, with_fop, directive_outcome, submit_fault}
-use Rattle.tc_link.proofs.Common.{after_submission, after_bypass, unless_refused, segments_on, after_extraction}
-use Rattle.tc_link.proofs.Common.{telemetry_outcome, segments_fit, closed_not, active_on, SetVs, obeying, submitting}
-use Rattle.tc_link.proofs.Common.{acknowledging, ClcwFault, ◌+◌, ◌%◌, if◌then◌else◌, Err, ◌==◌, ◌||◌, nat_lt, not}
-use Rattle.tc_link.proofs.Common.{eqb-true, or_parts, not-false, PulledUnit, frame_to_send, bypass_fault, Event}
-use Rattle.tc_link.proofs.Common.{AllReadable, World, WorldOutcome, world_step, world_after_pull, IsEvent, ◌<◌, map}
-use Rattle.tc_link.proofs.Common.{cond_both, TcFault, segment_octets, FopMode, report_in, IsActive, is_to_send, is_kept}
-use Rattle.tc_link.proofs.Common.{PacketOn, limits_of, SpacecraftState, SpacecraftOutcome, frame_outcome, body_outcome}
-use Rattle.tc_link.proofs.Common.{bypass_outcome, is_own_frame, spacecraft_take, spacecraft_take_bypass}
-use Rattle.tc_link.proofs.Common.{spacecraft_telemetry, number_in, in_frame, world_after_directive, BeginsNoSession}
-use Rattle.tc_link.proofs.Common.{accepted, Fates}
+use Rattle.tc_link.proofs.Common.{after_submission, segments_on}
+use Rattle.tc_link.proofs.Common.{segments_fit, closed_not, active_on, SetVs, obeying, submitting}
+use Rattle.tc_link.proofs.Common.{◌+◌, ◌%◌, if◌then◌else◌, Err, ◌==◌, ◌||◌, nat_lt, not}
+use Rattle.tc_link.proofs.Common.{eqb-true, or_parts, not-false, PulledUnit, frame_to_send, Event}
+use Rattle.tc_link.proofs.Common.{AllReadable, World, world_step, world_after_pull, IsEvent, ◌<◌, map}
+use Rattle.tc_link.proofs.Common.{cond_both, TcFault, segment_octets, FopMode, report_in, IsActive, is_kept}
+use Rattle.tc_link.proofs.Common.{limits_of, SpacecraftState, frame_outcome, body_outcome}
+use Rattle.tc_link.proofs.Common.{bypass_outcome, is_own_frame}
+use Rattle.tc_link.proofs.Common.{number_in, in_frame, world_after_directive, BeginsNoSession}
+use Rattle.tc_link.proofs.Common.{accepted}
 use Rattle.std.proofs.lemmas.Bool.{lt-ltb, le-leb}
 use Rattle.std.specs.Prelude.{flat_map}
 use Rattle.tc_frame.specs.Layout.{body_fits, FrameView}
@@ -30,13 +30,12 @@ use Rattle.tc_frame.proofs.Spelled.{frame_again, spelling_is}
 use Rattle.tm_link.specs.Layout as telemetry
 use Rattle.tm_link.specs.Decoding.{frame_at, is_length_wrong}
 use Rattle.tm_link.specs.declared.fault.TmFault.TheVariants as faults
-use Rattle.tm_link.specs.Decoding as telemetry_reading
-use Rattle.nodes.specs.Ground.{report_outcome}
+use Rattle.nodes.specs.Ground.{can_resume}
 use Rattle.nodes.specs.declared.event.Event.TheVariants as events
-use Rattle.simulated_link.specs.World.{directed}
-use Rattle.simulated_link.proofs.Counted.{reported, frame_seen, report_seen}
-use Rattle.simulated_link.proofs.Unchanged.{AtEachLoss, lost, up_arrives, down_arrives, word_arrives, resumes}
-use Rattle.simulated_link.proofs.Unchanged.{resumes_not}
+use Rattle.simulated_link.specs.World.{directed, resumed}
+use Rattle.simulated_link.proofs.Counted.{reported}
+use Rattle.simulated_link.proofs.Unchanged.{ground_after, not_restarted}
+use Rattle.simulated_link.proofs.Unchanged.{stepped, up_after}
 use Rattle.tc_link.specs.Readable.{IsCommandOf, IsTelemetryOf}
 use Rattle.tc_link.specs.Accepted.{AcceptsNoMore}
 use Rattle.tc_link.specs.InTransit.{numbers_up}
@@ -45,6 +44,7 @@ use Rattle.tc_link.proofs.Lists.{units-marked, units-drop, units-push, units-wit
 use Rattle.tc_link.proofs.Refilled.{refilled_keeps}
 use Rattle.tc_link.proofs.Linked.{Carries, Reporting, carries_push}
 use Rattle.tc_link.proofs.IdleStart.{HasReports}
+use Rattle.nodes.specs.Spacecraft.{spacecraft_receive}
 
 -- What is put on the link is read from it.
 
@@ -124,9 +124,6 @@ module _ (s : FopState SegmentView) (pending : List SegmentView) (k : Fit s pend
     unsent = λ running. rw waiting (k.unsent (on running));
   }
 
-  pub as_was : (f : FopState SegmentView) → f.state ≡ s.state → f.sent ≡ s.sent → f.waiting ≡ s.waiting → Fit f pending
-  as_was f state sent waiting = same f (λ running. rw state at running) (ap units_of sent) waiting
-
   -- ---- a report
 
   module _ (r : Clcw) (on : is_closed s.state ≡ false) where
@@ -165,15 +162,9 @@ module _ (s : FopState SegmentView) (pending : List SegmentView) (k : Fit s pend
   -- ---- a tick
 
   pub tick_fits : Fits (tick_step s)
-  tick_fits = ticked s (λ o. Fits o) (record {
-    off = k;
-    runs = λ left. as_was (record s { ticks = Some left }) refl refl refl;
-    stops = as_was (after_stop s) refl refl refl;
-    repeats = λ active. same (after_repeat (after_stop s)) (λ t. t) (units-marked s.sent) refl;
-    counts = as_was (after_count (after_stop s)) refl refl refl;
-    commands = λ is. as_was (record (after_count (after_stop s)) { control = due_again s.control }) refl refl refl;
-    gives_up = off (after_alert (after_stop s)) refl;
-  })
+  tick_fits =
+      let repeats = same (after_repeat (after_stop s)) (λ t. t) (units-marked s.sent) refl in
+      ticked s (λ o. Fits o) (assumption (repeats, off (after_alert (after_stop s)) refl, k))
 
   -- ---- a pull
 
@@ -183,8 +174,8 @@ module _ (s : FopState SegmentView) (pending : List SegmentView) (k : Fit s pend
   pub pull_fits : Fits (pull_step s)
   pull_fits = pulled_out s (λ o. Fits o) (record {
     none = k;
-    command = λ command is. as_was (record (after_restart s) { control = Sent command }) refl refl refl;
-    bypass = λ u us is. as_was (record s { bypass = us }) refl refl refl;
+    command = λ command is. assumption k;
+    bypass = λ u us is. assumption k;
     again = λ active x is. same (record (after_restart s) { sent = without_oldest_mark s.sent }) (λ t. t)
         (units-without s.sent) refl;
     first = λ active u is room. record {
@@ -224,23 +215,14 @@ module _ (c : Config) (s : GroundState) (g : GroundNodeSteady c s) (k : GroundFi
     refused = λ d fault on. k;
     begins = λ d is off. with_fits (obeying s d) (begun s.fop d) (begun_fits d is (g.pending_none (rw off refl)));
     terminated = with_fits s (after_alert s.fop) (off s.fop s.pending k (after_alert s.fop) refl);
-    numbers = λ x is. with_fits (obeying s (SetVs x)) (record s.fop { vs = x; nn = x })
-        (as_was s.fop s.pending k (record s.fop { vs = x; nn = x }) refl refl refl);
-    sets = λ d n limit ticks plain most.
-        let f : FopState SegmentView = record s.fop { window = n; limit = limit; timer = ticks } in
-        with_fits (obeying s d) f (as_was s.fop s.pending k f refl refl refl);
+    numbers = λ x is. with_fits (obeying s (SetVs x)) (record s.fop { vs = x; nn = x }) (assumption k);
+    sets = λ d n limit ticks plain most. with_fits (obeying s d)
+        (record s.fop { window = n; limit = limit; timer = ticks }) (assumption k);
   })
 
-  pub tick_refilled : GroundFits (with_fop s (tick_step s.fop).after)
-  tick_refilled = with_fits s (tick_step s.fop).after (tick_fits s.fop s.pending k)
-
-  pub pull_refilled : GroundFits (with_fop s (pull_step s.fop).after)
-  pull_refilled = with_fits s (pull_step s.fop).after (pull_fits s.fop s.pending k)
-
-  pub submission_fits : IsConfig c → (m : ℕ) (octets : List ℕ) (o : Option LinkFault) → submit_fault s m octets ≡ o
-      → GroundFits (unless_refused o s (after_submission s m octets)).after
-  submission_fits ranges m octets (Some fault) is = k
-  submission_fits ranges m octets None is =
+  pub submission_fits : IsConfig c → (m : ℕ) (octets : List ℕ) → submit_fault s m octets ≡ None
+      → GroundFits (after_submission s m octets)
+  submission_fits ranges m octets is =
       let t = taken_is c s m octets g.config is in
       let new : All (segments_of c.part m octets) =
       segments_fit c.part m octets ranges.part.0 ranges.part.1 t.on_map in
@@ -252,28 +234,6 @@ module _ (c : Config) (s : GroundState) (g : GroundNodeSteady c s) (k : GroundFi
         unsent = λ running. subst All (append_assoc (option_to_list s.fop.waiting) s.pending (segments_on s m octets))
             (all_append FitsFrame (unsent_segments s) (segments_on s m octets) (k.unsent running) added);
       })
-
-  pub bypass_refilled : (m : ℕ) (octets : List ℕ) (o : Option LinkFault)
-      → GroundFits (unless_refused o s (after_bypass s m octets)).after
-  bypass_refilled m octets (Some fault) = k
-  bypass_refilled m octets None = record { sent = k.sent; unsent = k.unsent }
-
-  extracted : (x : Extracted) → GroundFits (after_extraction s x)
-  extracted x = record { sent = k.sent; unsent = k.unsent }
-
-  pub telemetry_fits : (r : Result telemetry.FrameView TmFault) → GroundFits (telemetry_outcome s r).after
-  telemetry_fits = frame_seen s GroundFits (record {
-    same = k;
-    extracts = extracted;
-    uses = λ x report.
-        let f : FopState SegmentView = (clcw_step s.fop report).after in
-        with_fits (acknowledging (after_extraction s x) f) f (heard_fits s.fop s.pending k report);
-  })
-
-  pub word_fits : (r : Result Clcw ClcwFault) → GroundFits (report_outcome s r).after
-  word_fits = report_seen s GroundFits k (λ report.
-      let f : FopState SegmentView = (clcw_step s.fop report).after in
-      with_fits (acknowledging s f) f (heard_fits s.fop s.pending k report))
 
 -- Each string on its way up is a frame of the ground's, and what the ground holds to be sent fits into frames.
 
@@ -291,28 +251,14 @@ rest_carried c b bs [] h = elim h [ ]
 rest_carried c b bs (f ∷ fs) h = record { left = fs; carried = h.1 }
 
 module _ (c : Config) (w : World) (k : Sound c w) (g : Carried c w) where
-  abbrev Carries_on : WorldOutcome → Type 0
-  Carries_on o = Carried c o.after
-
   rest : (b : List ℕ) (bs : List (List ℕ)) → w.up ≡ b ∷ bs → Rest c bs
   rest b bs is = rest_carried c b bs g.frames (rw is at g.carries)
-
-  first_gone : (b : List ℕ) (bs : List (List ℕ)) → w.up ≡ b ∷ bs → Carried c (record w { up = bs })
-  first_gone b bs is =
-      let r = rest b bs is in record { frames = r.left; carries = r.carried; fits = g.fits }
-
-  losses : AtEachLoss w Carries_on
-  losses = record {
-    refused = λ fault. g;
-    up = λ b bs is reply silent. first_gone b bs is;
-    down = λ b bs is reply silent. record { frames = g.frames; carries = g.carries; fits = g.fits };
-  }
 
   -- ---- a frame is sent
 
   abbrev Pulls : FopOutcome SegmentView (PulledUnit SegmentView) → Type 0
-  Pulls o = GroundFits (with_fop w.ground_node o.after)
-      → Carries_on (world_after_pull w (with_fop w.ground_node o.after) (frame_to_send w.ground_node.config o.answer))
+  Pulls o = GroundFits (with_fop w.ground_node o.after) → Carried c
+      (world_after_pull w (with_fop w.ground_node o.after) (frame_to_send w.ground_node.config o.answer)).after
 
   pushed : (f : BodyView) → Goes f
       → Carries c (w.up ++ spelling On (frame_of w.ground_node.config f) ∷ []) (g.frames ++ f ∷ [])
@@ -350,60 +296,31 @@ module _ (c : Config) (w : World) (k : Sound c w) (g : Carried c w) where
 
   -- ---- all events
 
-  directive_carried : (d : Directive) → Carried c (directed w d)
-  directive_carried d = record {
-    frames = g.frames;
-    carries = g.carries;
-    fits = directive_fits c w.ground_node k.ground_node g.fits d;
-  }
+  ground_fits : (e : Event) → IsEvent e → GroundFits (world_step w e).after.ground_node
+  ground_fits e fits =
+      let s = w.ground_node in
+      let set : (x : ℕ) → x < 256 → Sound c (directed w (SetVs x)) = λ x. directive_sound c w k (SetVs x) in
+      ground_after w GroundFits e (record {
+        same = g.fits;
+        submits = submission_fits c s k.ground_node g.fits k.ranges;
+        bypasses = λ m octets is none. assumption g.fits;
+        directs = λ d is. directive_fits c s k.ground_node g.fits d;
+        restarts = λ value is can. directive_fits c (directed w (SetVs value)).ground_node
+            (set value (subst IsEvent is fits)).ground_node
+            (directive_fits c s k.ground_node g.fits (SetVs value)) InitUnlock;
+        ticks = λ is. with_fits s (tick_step s.fop).after (tick_fits s.fop s.pending g.fits);
+        sends = λ is. with_fits s (pull_step s.fop).after (pull_fits s.fop s.pending g.fits);
+        hears_none = λ down x packets. assumption g.fits;
+        hears = λ down x packets r. refilled_fits _ (heard_fits s.fop s.pending g.fits r);
+      })
 
-  -- where it is known what resuming leads to
-  event_carried : ((value : ℕ) → value < 256 → Carried c (world_step w (events.Resume value)).after)
-      → (e : Event) → IsEvent e → Carries_on (world_step w e)
-  event_carried goes (events.Submit m octets) fits = record {
-    frames = g.frames;
-    carries = g.carries;
-    fits = submission_fits c w.ground_node k.ground_node g.fits k.ranges m octets.now
-        (submit_fault w.ground_node m octets.now) refl;
-  }
-  event_carried goes (events.Bypass m octets) fits = record {
-    frames = g.frames;
-    carries = g.carries;
-    fits = bypass_refilled c w.ground_node k.ground_node g.fits m octets.now (bypass_fault w.ground_node m octets.now);
-  }
-  event_carried goes (events.Directive d) fits = directive_carried d
-  event_carried goes (events.Resume value) fits = goes value fits
-  event_carried goes events.Send fits = sent_carried (pull_refilled c w.ground_node k.ground_node g.fits)
-  event_carried goes events.UpDeliver fits = up_arrives w Carries_on g (λ b bs is.
-      let r = rest b bs is in record { frames = r.left; carries = r.carried; fits = g.fits })
-  event_carried goes events.Report fits = record { frames = g.frames; carries = g.carries; fits = g.fits }
-  event_carried goes events.DownDeliver fits = down_arrives w Carries_on g (λ b bs is. record {
-    frames = g.frames;
-    carries = g.carries;
-    fits = telemetry_fits c w.ground_node k.ground_node g.fits (frame_at w.ground_node.config.frame_length b);
-  })
-  event_carried goes events.Tick fits = record {
-    frames = g.frames;
-    carries = g.carries;
-    fits = tick_refilled c w.ground_node k.ground_node g.fits;
-  }
-  event_carried goes events.Take fits = record { frames = g.frames; carries = g.carries; fits = g.fits }
-  event_carried goes events.TakeBypass fits = record { frames = g.frames; carries = g.carries; fits = g.fits }
-  event_carried goes (events.Telemetry octets) fits = record { frames = g.frames; carries = g.carries; fits = g.fits }
-  event_carried goes events.DownClcw fits = word_arrives w Carries_on losses (λ b bs is r. record {
-    frames = g.frames;
-    carries = g.carries;
-    fits = word_fits c w.ground_node k.ground_node g.fits r;
-  })
-  event_carried goes e fits = lost w Carries_on losses e tt
-
-pub step_carried : (c : Config) (w : World) → Sound c w → Carried c w → (e : Event) → IsEvent e
-    → Carried c (world_step w e).after
-step_carried c w k g =
-    event_carried c w k g (λ value fits.
-    resumes w value (λ o. Carried c o.after) g (λ whole can.
-    directive_carried c (directed w (SetVs value)) (directive_sound c w k (SetVs value) fits)
-    (directive_carried c w k g (SetVs value)) InitUnlock))
+  pub step_carried : (e : Event) → IsEvent e → Carried c (world_step w e).after
+  step_carried events.Send fits =
+      let s = w.ground_node in
+      sent_carried (with_fits s (pull_step s.fop).after (pull_fits s.fop s.pending g.fits))
+  step_carried e fits =
+      let way = up_after w (Rest c) e (λ is. cc is) (record { left = g.frames; carried = g.carries }) rest in
+      record { frames = way.left; carries = way.carried; fits = ground_fits e fits }
 
 -- ---- so each can be read
 
@@ -482,47 +399,14 @@ push_none (x ∷ xs) b none new =
 
 -- ---- one event
 
--- the sender stays in S6, no Type-AD frame is sent, and none is accepted
-record Over (old new : World) : Type 0 where
-  closed : new.ground_node.fop.state ≡ S6
-  none_up : numbers_up new ≡ []
-  same : accepted new ≡ accepted old
-
 -- the ground's sender, with what is pending moved up
 closed_with : (s : GroundState) (f : FopState SegmentView) → f.state ≡ S6 → (with_fop s f).fop.state ≡ S6
 closed_with s f off = refilled_keeps (λ t. t.fop.state ≡ S6) (record s { fop = f }) (λ waiting pending on closed. off)
-
-submitted_closed : (s : GroundState) (m : ℕ) (octets : List ℕ) (o : Option LinkFault) → s.fop.state ≡ S6
-    → (unless_refused o s (after_submission s m octets)).after.fop.state ≡ S6
-submitted_closed s m octets (Some fault) off = off
-submitted_closed s m octets None off =
-    refilled_keeps (λ t. t.fop.state ≡ S6) (submitting s m octets)
-    (λ waiting pending on closed. off)
-
-bypassed_closed : (s : GroundState) (m : ℕ) (octets : List ℕ) (o : Option LinkFault) → s.fop.state ≡ S6
-    → (unless_refused o s (after_bypass s m octets)).after.fop.state ≡ S6
-bypassed_closed s m octets (Some fault) off = off
-bypassed_closed s m octets None off = off
 
 heard_in : (f : FopState SegmentView) (r : Clcw) (m : FopMode) → m ≡ S6 → f.state ≡ S6
     → (report_in f r m).after.state ≡ S6
 heard_in f r S6 is off = off
 heard_in f r _ is off = absurd cc
-
-module _ (s : GroundState) (off : s.fop.state ≡ S6) where
-  telemetry_closed : (r : Result telemetry.FrameView TmFault) → (telemetry_outcome s r).after.fop.state ≡ S6
-  telemetry_closed = frame_seen s (λ t. t.fop.state ≡ S6) (record {
-    same = off;
-    extracts = λ x. off;
-    uses = λ x report.
-        let f : FopState SegmentView = (clcw_step s.fop report).after in
-        closed_with (acknowledging (after_extraction s x) f) f (heard_in s.fop report s.fop.state off off);
-  })
-
-  word_closed : (r : Result Clcw ClcwFault) → (report_outcome s r).after.fop.state ≡ S6
-  word_closed = report_seen s (λ t. t.fop.state ≡ S6) off (λ report.
-      let f : FopState SegmentView = (clcw_step s.fop report).after in
-      closed_with (acknowledging s f) f (heard_in s.fop report s.fop.state off off))
 
 -- on board a frame that is not of Type-AD adds no segment to those accepted
 module _ (s : SpacecraftState) where
@@ -541,80 +425,55 @@ module _ (s : SpacecraftState) where
       cond_both (is_own_frame s.config frame) (body_outcome s frame.body) _ (λ o. o.after.accepted ≡ s.accepted)
       (λ t. body_same frame.body none) (λ t. refl)
 
-  taken_same : (ps : List PacketOn) → (spacecraft_take s ps).after.accepted ≡ s.accepted
-  taken_same [] = refl
-  taken_same (p ∷ left) = refl
-
-  bypass_taken_same : (ps : List PacketOn) → (spacecraft_take_bypass s ps).after.accepted ≡ s.accepted
-  bypass_taken_same [] = refl
-  bypass_taken_same (p ∷ left) = refl
-
-  queued_same : (octets : List ℕ) → (spacecraft_telemetry s octets).after.accepted ≡ s.accepted
-  queued_same octets =
-      cond_both (is_to_send octets) _ _ (λ (o : SpacecraftOutcome (Result (Unit {0}) TmFault)). o.after.accepted
-      ≡ s.accepted) (λ t. refl) (λ t. refl)
-
 abbrev IsOff : World → Type 0
 IsOff w = w.ground_node.fop.state ≡ S6
 
 module _ (c : Config) (w : World) (k : Sound c w) (off : IsOff w) (none_up : numbers_up w ≡ []) where
-  abbrev Stays : WorldOutcome → Type 0
-  Stays o = Over w o.after
+  abbrev s : FopState SegmentView
+  s = w.ground_node.fop
 
-  stays : Over w w
-  stays = record { closed = off; none_up = none_up; same = refl }
+  -- ---- the sender stays in S6, and no segments are accepted
 
-  ground_so : (g : GroundState) → g.fop.state ≡ S6 → Over w (record w { ground_node = g })
-  ground_so g closed = record { closed = closed; none_up = none_up; same = refl }
-
-  with_so : (f : FopState SegmentView) → f.state ≡ S6 → Over w (record w { ground_node = with_fop w.ground_node f })
-  with_so f closed = ground_so (with_fop w.ground_node f) (closed_with w.ground_node f closed)
-
-  counted_so : (fates : Fates) (f : FopState SegmentView) → f.state ≡ S6
-      → Over w (record w { ground_node = with_fop (record w.ground_node { fates = fates }) f })
-  counted_so fates f closed =
-      let s : GroundState = record w.ground_node { fates = fates } in
-      ground_so (with_fop s f) (closed_with s f closed)
-
-  spacecraft_so : (s : SpacecraftState) → s.accepted ≡ w.spacecraft.accepted → Over w (record w { spacecraft = s })
-  spacecraft_so s same = record {
-    closed = off;
-    none_up = none_up;
-    same = ap (λ (xs : List SegmentView). map segment_octets (drop w.session.before xs)) same;
-  }
+  abbrev Same : World → Type 0
+  Same new = accepted new ≡ accepted w
 
   abbrev ObeyedSo : Directive → FopOutcome SegmentView (Result (Option Alert) CopFault) → Type 0
   ObeyedSo d o = BeginsNoSession w (events.Directive d)
-      → Stays (world_after_directive w d (directive_outcome w.ground_node d o))
+      → ((directive_outcome w.ground_node d o).after.fop.state ≡ S6)
+      × Same (world_after_directive w d (directive_outcome w.ground_node d o)).after
 
-  directive_so : (d : Directive) → ObeyedSo d (directive_step w.ground_node.fop d)
-  directive_so =
-      let s = w.ground_node.fop in
-      obeyed s ObeyedSo (record {
-        refused = λ d fault on goes. stays;
-        begins = λ d is closed goes. closed_not s.state closed (goes is);
-        terminated = λ goes. with_so (after_alert s) refl;
-        numbers = λ x is goes. counted_so _ (record s { vs = x; nn = x }) off;
-        sets = λ d k n ticks plain most goes. rw plain
-            (counted_so _ (record s { window = k; limit = n; timer = ticks }) off);
-      })
+  directive_so : (d : Directive) → ObeyedSo d (directive_step s d)
+  directive_so = obeyed s ObeyedSo (record {
+    refused = λ d fault on goes. (off, refl);
+    begins = λ d is closed goes. closed_not s.state closed (goes is);
+    terminated = λ goes. (closed_with w.ground_node (after_alert s) refl, refl);
+    numbers = λ x is goes. (closed_with (obeying w.ground_node (SetVs x)) (record s { vs = x; nn = x }) off, refl);
+    sets = λ d k n ticks plain most goes.
+        let f : FopState SegmentView = record s { window = k; limit = n; timer = ticks } in
+        rw plain (closed_with (record w.ground_node { fates = _ }) f off, refl);
+  })
 
-  tick_so : Over w (record w { ground_node = with_fop w.ground_node (tick_step w.ground_node.fop).after })
-  tick_so =
-      let s = w.ground_node.fop in
-      ticked s (λ o. Over w (record w { ground_node = with_fop w.ground_node o.after })) (record {
-        off = with_so s off;
-        runs = λ left. with_so (record s { ticks = Some left }) off;
-        stops = with_so (after_stop s) off;
-        repeats = λ active. with_so (after_repeat (after_stop s)) off;
-        counts = with_so (after_count (after_stop s)) off;
-        commands = λ is. with_so (record (after_count (after_stop s)) { control = due_again s.control }) off;
-        gives_up = with_so (after_alert (after_stop s)) refl;
-      })
+  closed_so : (e : Event) → BeginsNoSession w e → IsOff (world_step w e).after
+  closed_so e goes = ground_after w (λ t. t.fop.state ≡ S6) e (record {
+    same = off;
+    submits = λ m octets none. closed_with (submitting w.ground_node m octets) s off;
+    bypasses = λ m octets is none. off;
+    directs = λ d is. (directive_so d (subst (BeginsNoSession w) is goes)).0;
+    restarts = λ value is can. not_restarted w e goes value is can;
+    ticks = λ is. closed_with w.ground_node (tick_step s).after (ticked s (λ o. o.after.state ≡ S6) (assumption off));
+    sends = λ is. closed_with w.ground_node (pull_step s).after (pulled_out s (λ o. o.after.state ≡ S6)
+        (assumption off));
+    hears_none = λ down x packets. off;
+    hears = λ down x packets r. refilled_keeps (λ t. t.fop.state ≡ S6) _
+        (λ waiting pending on closed. heard_in s r s.state off off);
+  })
+
+  -- ---- no Type-AD frame is on its way
 
   -- a frame that is sent is no Type-AD frame
   abbrev SendsSo : FopOutcome SegmentView (PulledUnit SegmentView) → Type 0
-  SendsSo o = Stays (world_after_pull w (with_fop w.ground_node o.after) (frame_to_send w.ground_node.config o.answer))
+  SendsSo o = numbers_up (world_after_pull w (with_fop w.ground_node o.after)
+      (frame_to_send w.ground_node.config o.answer)).after ≡ []
 
   not_active : {A : Type 0} → IsActive w.ground_node.fop.state → A
   not_active active = closed_not w.ground_node.fop.state off (active_on w.ground_node.fop.state active)
@@ -626,26 +485,16 @@ module _ (c : Config) (w : World) (k : Sound c w) (off : IsOff w) (none_up : num
       push_none w.up (spelling On (frame_of w.ground_node.config f)) none_up
       (ap numbers_in (reads_back w.ground_node.config f own goes) ∙ none)
 
-  send_so : SendsSo (pull_step w.ground_node.fop)
-  send_so =
-      let s = w.ground_node.fop in
-      pulled_out s SendsSo (record {
-        none = with_so s off;
-        command = λ command is. record {
-          closed = closed_with w.ground_node (record (after_restart s) { control = Sent command }) off;
-          none_up = sent_none (Bc command) tt refl;
-          same = refl;
-        };
-        bypass = λ u us is.
-            let fit : AllByRecursion FitsFrame (u ∷ us) = rw is at k.ground_node.fop.bypass_fits in
-            record {
-              closed = closed_with w.ground_node (record s { bypass = us }) off;
-              none_up = sent_none (Bd u) fit.0 refl;
-              same = refl;
-            };
-        again = λ active x is. not_active active;
-        first = λ active u is room. not_active active;
-      })
+  send_so : SendsSo (pull_step s)
+  send_so = pulled_out s SendsSo (record {
+    none = none_up;
+    command = λ command is. sent_none (Bc command) tt refl;
+    bypass = λ u us is.
+        let fit : AllByRecursion FitsFrame (u ∷ us) = rw is at k.ground_node.fop.bypass_fits in
+        sent_none (Bd u) fit.0 refl;
+    again = λ active x is. not_active active;
+    first = λ active u is room. not_active active;
+  })
 
   -- a frame arrives on board
   all_none : (bs : List (List ℕ)) → w.up ≡ bs → numbers bs ≡ []
@@ -657,60 +506,27 @@ module _ (c : Config) (w : World) (k : Sound c w) (off : IsOff w) (none_up : num
   up_first : (b : List ℕ) (bs : List (List ℕ)) → w.up ≡ b ∷ bs → numbers_in (reading.frame_at On b) ≡ []
   up_first b bs is = first_none (numbers_in (reading.frame_at On b)) (numbers bs) (all_none (b ∷ bs) is)
 
-  lost_so : AtEachLoss w Stays
-  lost_so = record {
-    refused = λ fault. stays;
-    up = λ b bs is reply silent. record { closed = off; none_up = up_rest b bs is; same = refl };
-    down = λ b bs is reply silent. record { closed = off; none_up = none_up; same = refl };
-  }
+  none_so : (e : Event) → numbers_up (world_step w e).after ≡ []
+  none_so events.Send = send_so
+  none_so e = up_after w (λ way. numbers way ≡ []) e (λ is. cc is) none_up up_rest
 
-  step_over : (e : Event) → BeginsNoSession w e → Stays (world_step w e)
-  step_over (events.Submit m octets) goes = record {
-    closed = submitted_closed w.ground_node m octets.now (submit_fault w.ground_node m octets.now) off;
-    none_up = none_up;
-    same = refl;
-  }
-  step_over (events.Bypass m octets) goes = record {
-    closed = bypassed_closed w.ground_node m octets.now (bypass_fault w.ground_node m octets.now) off;
-    none_up = none_up;
-    same = refl;
-  }
-  step_over (events.Directive d) goes = directive_so d goes
-  step_over (events.Resume value) goes = subst Stays (sym (resumes_not w value goes)) stays
-  step_over events.Send goes = send_so
-  step_over events.UpDeliver goes = up_arrives w Stays stays (λ b bs is. record {
-    closed = off;
-    none_up = up_rest b bs is;
-    same = ap (λ (xs : List SegmentView). map segment_octets (drop w.session.before xs))
-        (arrived_same w.spacecraft (reading.frame_at On b) (up_first b bs is));
-  })
-  step_over events.Report goes = record { closed = off; none_up = none_up; same = refl }
-  step_over events.DownDeliver goes = down_arrives w Stays stays (λ b bs is. record {
-    closed = telemetry_closed w.ground_node off (telemetry_reading.frame_at w.ground_node.config.frame_length b);
-    none_up = none_up;
-    same = refl;
-  })
-  step_over events.DownClcw goes = word_arrives w Stays lost_so (λ b bs is r. record {
-    closed = word_closed w.ground_node off r;
-    none_up = none_up;
-    same = refl;
-  })
-  step_over events.Tick goes = tick_so
-  step_over events.Take goes =
-      spacecraft_so (spacecraft_take w.spacecraft w.spacecraft.ready).after
-      (taken_same w.spacecraft w.spacecraft.ready)
-  step_over events.TakeBypass goes =
-      spacecraft_so (spacecraft_take_bypass w.spacecraft w.spacecraft.bypass).after
-      (bypass_taken_same w.spacecraft w.spacecraft.bypass)
-  step_over (events.Telemetry octets) goes =
-      spacecraft_so (spacecraft_telemetry w.spacecraft octets.now).after (queued_same w.spacecraft octets.now)
-  step_over e goes = lost w Stays lost_so e tt
+  same_so : (e : Event) → BeginsNoSession w e → Same (world_step w e).after
+  same_so e goes =
+      let receives : e ≡ events.UpDeliver → (b : List ℕ) (bs : List (List ℕ)) → w.up ≡ b ∷ bs
+      → Same (record w { up = bs; spacecraft = (spacecraft_receive w.spacecraft b).after }) = λ is b bs first.
+      ap (λ (xs : List SegmentView). map segment_octets (drop w.session.before xs))
+      (arrived_same w.spacecraft (reading.frame_at On b) (up_first b bs first)) in
+      let directs : (d : Directive) → e ≡ events.Directive d → Same (directed w d) = λ d is.
+      (directive_so d (subst (BeginsNoSession w) is goes)).1 in
+      let restarts : (value : ℕ) → e ≡ events.Resume value → can_resume w.ground_node value ≡ true
+      → Same (resumed w value) = λ value is can.
+      not_restarted w e goes value is can in
+      stepped w Same e (assumption (receives, directs, restarts))
 
 -- ---- all events
 
 pub accepts_no_more : (c : Config) (w : World) → Sound c w → IsOff w → numbers_up w ≡ [] → AcceptsNoMore w
 accepts_no_more c w k off none_up [] fits goes = refl
 accepts_no_more c w k off none_up (e ∷ es) fits goes =
-    let new : World = (world_step w e).after in
-    let over : Over w new = step_over c w k off none_up e goes.0 in
-    accepts_no_more c new (step_sound c w k e fits.0) over.closed over.none_up es fits.1 goes.1 ∙ over.same
+    accepts_no_more c (world_step w e).after (step_sound c w k e fits.0) (closed_so c w k off none_up e goes.0)
+    (none_so c w k off none_up e) es fits.1 goes.1 ∙ same_so c w k off none_up e goes.0

@@ -64,8 +64,7 @@ module _ (P : Config → FopState SegmentView → Type 0)
       (refilled_are (submitting s m octets) k)
 
   bypasses_are : (m : ℕ) (octets : List ℕ) → Are (ground_step s (Bypass m octets)).after
-  bypasses_are m octets =
-      unless_are (bypass_fault s m octets) (after_bypass s m octets) (bypass_so s.config s.fop _ k)
+  bypasses_are m octets = unless_are (bypass_fault s m octets) (after_bypass s m octets) (bypass_so s.config s.fop _ k)
 
   directs_are : (d : Directive) → P s.config (directive_step s.fop d).after → Are (ground_step s (Direct d)).after
   directs_are d same = answered (directive_step s.fop d).answer where
@@ -117,54 +116,24 @@ module _ (s : FopState SegmentView) (k : Usual s) where
     even = λ starting. absurd (not_so starting);
   }
 
-  same_so : (f : FopState SegmentView) → f.room ≡ s.room → f.window ≡ s.window → f.state ≡ s.state → f.vs ≡ s.vs
-      → f.nn ≡ s.nn → Usual f
-  same_so f room window state vs nn = record {
-    room = rw room k.room;
-    window = rw (room, window) k.window;
-    even = λ starting. rw (vs, nn) (k.even (rw state at starting));
-  }
-
   again_usual : (again : Bool) → Usual (retransmits s again)
   again_usual true = on_so (retransmits s true) refl refl (λ t. t)
   again_usual false = on_so (retransmits s false) refl refl (λ t. t)
 
   active_usual : (r : Clcw) → Usually (report_while_active s r)
-  active_usual r = heard_active s r (λ o. Usually o) (record {
-    locked = λ t. on_so (after_alert s) refl refl (λ t. t);
-    outside = λ t. on_so (after_alert s) refl refl (λ t. t);
-    wait_flag = λ none waiting. on_so (after_alert s) refl refl (λ t. t);
-    asks_none = λ asking at. on_so (after_alert s) refl refl (λ t. t);
-    same = k;
-    ceases = λ none at were. on_so (after_alert s) refl refl (λ t. t);
-    moves = λ inside. on_so (move_on s r.value).after refl refl (λ t. t);
-    others_over = λ inside asking one. on_so (after_alert (after_new_value s r.value)) refl refl (λ t. t);
-    others_wait = λ inside asking. on_so (record (after_new_value s r.value) { state = S3 }) refl refl (λ t. t);
-    others_again = λ inside asking. on_so (retransmits (after_new_value s r.value) true) refl refl (λ t. t);
-    all_over = λ asking one. on_so (after_alert s) refl refl (λ t. t);
-    all_wait = λ asking. on_so (record s { state = S3 }) refl refl (λ t. t);
-    all_again = λ asking. again_usual;
-  })
+  active_usual r =
+      let off : ⊥ → s.vs ≡ s.nn = λ starting. absurd starting in
+      let moved : ⊥ → s.vs ≡ r.value = λ starting. absurd starting in
+      heard_active s r (λ o. Usually o) (assumption (again_usual, off, moved, k))
 
   report_usual : (r : Clcw) → Usual (clcw_step s r).after
-  report_usual r = reported s r (λ o. Usually o) (record {
-    active = λ active. active_usual r;
-    alerted = λ is x cause. on_so (after_alert s) refl refl (λ t. t);
-    checked = λ is confirms. on_so (record s { state = S1; ticks = None }) refl refl (λ t. t);
-    commanded = λ is confirms. on_so (record s { state = S1; ticks = None; control = Idle }) refl refl (λ t. t);
-    same = k;
-  })
+  report_usual r =
+      let off : ⊥ → s.vs ≡ s.nn = λ starting. absurd starting in
+      reported s r (λ o. Usually o) (assumption (active_usual r, off, k))
 
   tick_usual : Usually (tick_step s)
-  tick_usual = ticked s (λ o. Usually o) (record {
-    off = k;
-    runs = λ left. same_so _ refl refl refl refl refl;
-    stops = same_so _ refl refl refl refl refl;
-    repeats = λ active. same_so _ refl refl refl refl refl;
-    counts = same_so _ refl refl refl refl refl;
-    commands = λ is. same_so _ refl refl refl refl refl;
-    gives_up = on_so _ refl refl (λ t. t);
-  })
+  tick_usual =
+      let off : ⊥ → s.vs ≡ s.nn = λ starting. absurd starting in ticked s (λ o. Usually o) (assumption (off, k))
 
   active_started : (m : FopMode) → IsActive m → IsStarting m → ⊥
   active_started S4 active starting = elim active [ ]
@@ -174,9 +143,9 @@ module _ (s : FopState SegmentView) (k : Usual s) where
   pull_usual : Usually (pull_step s)
   pull_usual = pulled_out s (λ o. Usually o) (record {
     none = k;
-    command = λ command is. same_so _ refl refl refl refl refl;
-    bypass = λ u us is. same_so _ refl refl refl refl refl;
-    again = λ active x is. same_so _ refl refl refl refl refl;
+    command = λ command is. assumption k;
+    bypass = λ u us is. assumption k;
+    again = λ active x is. assumption k;
     first = λ active u is room. on_so _ refl refl (active_started s.state active);
   })
 
@@ -205,18 +174,17 @@ UsualAt c f = Usual f
 
 waits_usual : (c : Config) (f : FopState SegmentView) (u : Option SegmentView) → UsualAt c f
     → UsualAt c (record f { waiting = u })
-waits_usual c f u k = same_so f k _ refl refl refl refl refl
+waits_usual c f u k = assumption k
 
 bypass_usual : (c : Config) (f : FopState SegmentView) (us : List SegmentView) → UsualAt c f
     → UsualAt c (record f { bypass = us })
-bypass_usual c f us k = same_so f k _ refl refl refl refl refl
+bypass_usual c f us k = assumption k
 
 step_usual : (s : GroundState) → Usual s.fop → (e : GroundEvent) → Usual (ground_step s e).after.fop
 step_usual s k (Submit m octets) = submits_are UsualAt waits_usual bypass_usual s k m octets
 step_usual s k (Bypass m octets) = bypasses_are UsualAt waits_usual bypass_usual s k m octets
 step_usual s k (Direct d) = directs_are UsualAt waits_usual bypass_usual s k d (direct_usual s.fop k d)
-step_usual s k (Resume value) =
-    resumes_are UsualAt waits_usual bypass_usual (λ c f d k. direct_usual f k d) s k value
+step_usual s k (Resume value) = resumes_are UsualAt waits_usual bypass_usual (λ c f d k. direct_usual f k d) s k value
 step_usual s k Pull = settled_are UsualAt waits_usual bypass_usual s k _ (pull_usual s.fop k)
 step_usual s k Tick = settled_are UsualAt waits_usual bypass_usual s k _ (tick_usual s.fop k)
 step_usual s k (Telemetry octets) =
@@ -426,8 +394,7 @@ module _ (s : FopState SegmentView) (k : Usual s) (r : Clcw) where
   -- the session begins with what is reported
   begun_known : IsStarting s.state → locks r ≡ false → waits r ≡ false → asks r ≡ false → r.value ≡ s.vs
       → Told s.nn r
-  begun_known starting l w a at =
-      record { unlocked = l; asking = a; waiting = w; at = at ∙ k.even starting }
+  begun_known starting l w a at = record { unlocked = l; asking = a; waiting = w; at = at ∙ k.even starting }
 
   known_in : (m : FopMode) → s.state ≡ m → KnownAfter (report_in s r m)
   known_in S1 is = active_known (rw is tt)
@@ -471,24 +438,14 @@ module _ (r : Clcw) (octet : r.value < 256) (s : FopState SegmentView) (usual : 
       (λ e. absurd (omega (arith, e, at, octet, ltb-true (ahead_by s.vs s.nn) s.window room, usual.window, usual.room)))
 
   pull_known : KnownTo (pull_step s).after r
-  pull_known = pulled_out s (λ o. KnownTo o.after r) (record {
-    none = k;
-    command = λ command is. k;
-    bypass = λ u us is. k;
-    again = λ active x is. k;
-    first = λ active u is room. first_known s.state ((s.vs + 1) % 256) active (next_apart room) k;
-  })
+  pull_known =
+      let first : IsActive s.state → (u : SegmentView) → s.waiting ≡ Some u
+      → nat_lt (ahead_by s.vs s.nn) s.window ≡ true → Known s.state ((s.vs + 1) % 256) s.nn s.limit r =
+      λ active u is room. first_known s.state ((s.vs + 1) % 256) active (next_apart room) k in
+      pulled_out s (λ o. KnownTo o.after r) (assumption (first, k))
 
   tick_known : KnownTo (tick_step s).after r
-  tick_known = ticked s (λ o. KnownTo o.after r) (record {
-    off = k;
-    runs = λ left. k;
-    stops = k;
-    repeats = λ active. k;
-    counts = k;
-    commands = λ is. k;
-    gives_up = tt;
-  })
+  tick_known = ticked s (λ o. KnownTo o.after r) (assumption k)
 
   -- a directive in S6, which does not begin a session
   set_known : (x : ℕ) (m : FopMode) → s.state ≡ m
@@ -537,8 +494,7 @@ record Filled (s : GroundState) : Type 0 where
 module _ (s : GroundState) where
   moved_filled : is_closed s.fop.state ≡ false → (o : Option SegmentView) (us : List SegmentView) → s.fop.waiting ≡ o
       → s.pending ≡ us → Filled (after_moving_up s o us)
-  moved_filled on (Some u) us has is =
-      record { off = λ t. absurd (cc (t, on)); on = λ t none. absurd (cc (none, has)) }
+  moved_filled on (Some u) us has is = record { off = λ t. absurd (cc (t, on)); on = λ t none. absurd (cc (none, has)) }
   moved_filled on None [] has is = record { off = λ t. is; on = λ t none. is }
   moved_filled on None (u ∷ us) has is = record { off = λ t. absurd (cc (t, on)); on = λ t none. absurd cc }
 
@@ -582,8 +538,7 @@ module _ (c : Config) where
   step_config s is (Submit m octets) = submits_are (ConfigIs c) waits_config bypass_config s is m octets
   step_config s is (Bypass m octets) = bypasses_are (ConfigIs c) waits_config bypass_config s is m octets
   step_config s is (Direct d) = directs_are (ConfigIs c) waits_config bypass_config s is d is
-  step_config s is (Resume value) =
-      resumes_are (ConfigIs c) waits_config bypass_config (λ own f d is. is) s is value
+  step_config s is (Resume value) = resumes_are (ConfigIs c) waits_config bypass_config (λ own f d is. is) s is value
   step_config s is Pull = settled_config s is _
   step_config s is Tick = settled_config s is _
   step_config s is (Telemetry octets) =

@@ -316,8 +316,7 @@ module _ (c : Config) (wanted : List PacketOn) (w : World) (done : ℕ) (l : Lea
   })
 
   resumed_idle : IsIdle (world_step w (events.Resume value)).after
-  resumed_idle =
-      ap (λ (s : Session). option_map (λ (o : Opening). o.idle) s.opening) begun_so ∙ ap Some set_idle
+  resumed_idle = ap (λ (s : Session). option_map (λ (o : Opening). o.idle) s.opening) begun_so ∙ ap Some set_idle
 
   leads_resumed : Leads c wanted (world_step w (events.Resume value)).after (done + more)
   leads_resumed =

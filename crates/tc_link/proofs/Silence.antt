@@ -1,17 +1,17 @@
 -- While silence is kept the receiver's report stays, so the frames down that follow the first ones carry it.
 use Rattle.tc_link.proofs.Common.{◌≡◌, ℕ, zero, suc, ◌-◌, ◌≤◌, true, false, List, [], ◌∷◌, ◌++◌, length, refl, arith}
-use Rattle.tc_link.proofs.Common.{◌∙◌, subst, AllByRecursion, cond_both, nat_lt, list_all, Clcw, flags_number}
-use Rattle.tc_link.proofs.Common.{FarmState, FarmMode, Open, Wait, farm_step, BufferReleased, after_release, report_of}
-use Rattle.tc_link.proofs.Common.{is_to_send, Config, PacketOn, SpacecraftState, GroundState, Heard, Event, World}
-use Rattle.tc_link.proofs.Common.{WorldOutcome, world_step, spacecraft_take, spacecraft_take_bypass, spacecraft_report}
-use Rattle.tc_link.proofs.Common.{world_after_take, world_after_queueing, reports_as, report_now, up_lose_step}
-use Rattle.tc_link.proofs.Common.{up_damage_step, spacecraft_telemetry, eq-eqb, ◌==◌}
+use Rattle.tc_link.proofs.Common.{◌∙◌, subst, AllByRecursion, list_all, Clcw, flags_number, ◌≢◌}
+use Rattle.tc_link.proofs.Common.{FarmState, FarmMode, Open, Wait, after_release, report_of}
+use Rattle.tc_link.proofs.Common.{Config, GroundState, Heard, Event, World}
+use Rattle.tc_link.proofs.Common.{WorldOutcome, world_step, spacecraft_report}
+use Rattle.tc_link.proofs.Common.{reports_as, report_now}
+use Rattle.tc_link.proofs.Common.{eq-eqb, ◌==◌}
 use Rattle.nodes.specs.Ground as ground_calls
 use Rattle.nodes.specs.Ground.{ground_step}
 use Rattle.nodes.specs.declared.heard.Heard.TheVariants as heard_cases
 use Rattle.nodes.specs.declared.heard.HeardReport.{HeardReport}
 use Rattle.nodes.specs.declared.heard.HeardReport.TheVariants.{Used}
-use Rattle.simulated_link.proofs.Unchanged.{lost, first_on, up_arrives, down_arrives}
+use Rattle.simulated_link.proofs.Unchanged.{lost, down_arrives, TakesDown, board_after}
 use Rattle.simulated_link.specs.World.{is_idle}
 use Rattle.tm_link.specs.Decoding.{frame_at}
 use Rattle.tm_link.specs.Encoding.{spelling}
@@ -24,7 +24,7 @@ use Rattle.tc_link.proofs.Promised.{link_step_holds, past_holds}
 use Rattle.tc_link.proofs.Invariant.{Holding}
 use Rattle.tc_link.proofs.Linked.{Tells}
 use Rattle.tc_link.proofs.IdleStart.{tells_now}
-use Rattle.simulated_link.proofs.Unchanged.{word_arrives, resumes}
+use Rattle.simulated_link.proofs.Unchanged.{word_arrives, down_after, up_after}
 
 -- ---- the frames on their way down
 
@@ -107,14 +107,6 @@ module _ (c : Config) (w : World) (h : Holding c w) (k : ℕ) (q : Quiet c k w) 
     most = omega arith;
   }
 
-  on_board : (s : SpacecraftState) → report_of s.farm s.config.vcid ≡ report_now w
-      → Left c k 0 (record w { spacecraft = s })
-  on_board s is = record {
-    left = k;
-    quiet = record { up_none = q.up_none; later = rw is q.later };
-    most = omega arith;
-  }
-
   none_up : {A : Type 0} (b : List ℕ) (bs : List (List ℕ)) → w.up ≡ b ∷ bs → A
   none_up b bs is = absurd (let none : w.up ≡ [] = q.up_none in cc)
 
@@ -133,28 +125,6 @@ module _ (c : Config) (w : World) (h : Holding c w) (k : ℕ) (q : Quiet c k w) 
 
   -- ---- on board
 
-  take_kept : (packets : List PacketOn) → w.spacecraft.farm.wait ≡ false
-      → Left c k 0 (world_after_take w (spacecraft_take w.spacecraft packets)).after
-  take_kept [] is = same
-  take_kept (packet ∷ left) is =
-      cond_both (nat_lt (length left) w.spacecraft.config.ready_slots) (farm_step w.spacecraft.farm BufferReleased)
-      w.spacecraft.farm (λ (farm : FarmState). Left c k 0
-      (record w { spacecraft = record w.spacecraft { ready = left; farm = farm } }))
-      (λ t. on_board (record w.spacecraft { ready = left; farm = farm_step w.spacecraft.farm BufferReleased })
-      (released w.spacecraft.farm w.spacecraft.config.vcid w.spacecraft.farm.state is))
-      (λ t. on_board (record w.spacecraft { ready = left }) refl)
-
-  bypass_kept : (packets : List PacketOn)
-      → Left c k 0 (world_after_take w (spacecraft_take_bypass w.spacecraft packets)).after
-  bypass_kept [] = same
-  bypass_kept (packet ∷ left) = on_board (record w.spacecraft { bypass = left }) refl
-
-  queue_kept : (octets : List ℕ)
-      → Left c k 0 (world_after_queueing w (spacecraft_telemetry w.spacecraft octets)).after
-  queue_kept octets =
-      cond_both (is_to_send octets) _ _ (λ o. Left c k 0 (world_after_queueing w o).after)
-      (λ t. on_board _ refl) (λ t. same)
-
   report_kept : Left c k 0 (world_step w events.Report).after
   report_kept =
       let b : List ℕ = spelling (spacecraft_report w.spacecraft).answer in
@@ -170,15 +140,35 @@ module _ (c : Config) (w : World) (h : Holding c w) (k : ℕ) (q : Quiet c k w) 
 
   -- ---- each step
 
+  -- an event by which no report is sent, and no frame is gone
+  rest_kept : (e : Event) → IsSilent w (Happens e) → e ≢ events.Send → e ≢ events.Report → (TakesDown e → ⊥)
+      → Left c k 0 (world_step w e).after
+  rest_kept e silent not_sent not_made not_gone =
+      let farm = w.spacecraft.farm in
+      let board : report_now (world_step w e).after ≡ report_now w =
+      board_after w (λ s. report_of s.farm s.config.vcid ≡ report_now w) e (record {
+        same = refl;
+        receives = λ is b bs first. none_up b bs first;
+        reports = λ is. absurd (not_made is);
+        takes = λ is left kept. refl;
+        releases = λ is left free. released farm w.spacecraft.config.vcid farm.state
+            (subst (λ x. IsSilent w (Happens x)) is silent);
+        passes = λ is left. refl;
+        queues = λ octets is. refl;
+      }) in
+      let down : (world_step w e).after.down ≡ w.down =
+      down_after w (λ way. way ≡ w.down) e not_made refl (λ gone. absurd (not_gone gone)) in
+      record {
+        left = k;
+        quiet = record {
+          up_none = up_after w (λ way. way ≡ []) e not_sent q.up_none (λ b bs is. none_up b bs is);
+          later = rw (board, down) q.later;
+        };
+        most = omega arith;
+      }
+
   event_kept : (e : Event) → IsSilent w (Happens e) → Keeps e (world_step w e)
   event_kept events.Send silent = elim silent [ ]
-  event_kept events.UpDeliver silent =
-      up_arrives w (Keeps events.UpDeliver) same (λ b bs is. none_up b bs is)
-  event_kept events.UpLose silent =
-      first_on (Keeps events.UpLose) (up_lose_step w) w.up same (λ b bs is. none_up b bs is)
-  event_kept (events.UpDamage octets) silent =
-      first_on (Keeps (events.UpDamage octets)) (λ bs. up_damage_step w bs octets.now) w.up same
-      (λ b bs is. none_up b bs is)
   event_kept events.Report silent = report_kept
   event_kept events.DownDeliver silent =
       down_arrives w (Keeps events.DownDeliver) same (λ b bs is. first_gone b bs is _ refl refl refl)
@@ -197,15 +187,7 @@ module _ (c : Config) (w : World) (h : Holding c w) (k : ℕ) (q : Quiet c k w) 
     up = λ b bs is reply silent. none_up b bs is;
     down = λ b bs is reply silent. first_gone b bs is (record w { down = bs }) refl refl refl;
   }) (λ b bs is r. first_gone b bs is _ refl refl refl)
-  event_kept (events.Resume value) silent =
-      resumes w value (Keeps (events.Resume value)) same (λ whole can. on_ground _ refl refl refl)
-  event_kept events.Take silent = take_kept w.spacecraft.ready silent
-  event_kept events.TakeBypass silent = bypass_kept w.spacecraft.bypass
-  event_kept (events.Telemetry octets) silent = queue_kept octets.now
-  event_kept (events.Submit m octets) silent = on_ground _ refl refl refl
-  event_kept (events.Bypass m octets) silent = on_ground _ refl refl refl
-  event_kept (events.Directive d) silent = on_ground _ refl refl refl
-  event_kept events.Tick silent = on_ground _ refl refl refl
+  event_kept e silent = rest_kept e silent (λ is. cc is) (λ is. cc is) (λ gone. absurd gone)
 
   report_heard : (after : GroundState) (r : HeardReport) → Left c k 0 (after_report w after r)
   report_heard after Used = on_ground _ refl refl refl

@@ -1,14 +1,14 @@
 -- What is taken on board since a session began is what it has delivered.
 use Rattle.tc_link.proofs.Common.{◌≡◌, ◌≤◌, ℕ, Bool, true, false, if◌then◌else◌, List, [], ◌∷◌, ◌++◌, Option, Some}
-use Rattle.tc_link.proofs.Common.{None, Result, Ok, Err, take, drop, refl, ap, sym, subst, ◌∙◌, append-nil}
+use Rattle.tc_link.proofs.Common.{None, Result, Ok, Err, take, drop, refl, ap, sym, subst, ◌∙◌, append-nil, ◌≢◌}
 use Rattle.tc_link.proofs.Common.{append_assoc, map-append, take-append-drop, option_to_list, AllByRecursion}
 use Rattle.tc_link.proofs.Common.{SegmentView, BodyView, Ad, Bd, Bc, On, Limits, assembled, assembled-push, segments_of}
 use Rattle.tc_link.proofs.Common.{TcFault, Verdict, Accepted, verdict_of, Config, PacketOn, packet_on, limits_of}
 use Rattle.tc_link.proofs.Common.{SpacecraftState, frame_outcome, body_outcome, sequence_outcome, bypass_outcome}
 use Rattle.tc_link.proofs.Common.{is_free, is_own_frame, is_kept, segment_to_accept, spacecraft_step, length, map}
-use Rattle.tc_link.proofs.Common.{filter, eqb, option_map, cond_both, filter-append, assembled-other, is_to_send}
-use Rattle.tc_link.proofs.Common.{TmFault, SpacecraftOutcome, spacecraft_take, spacecraft_take_bypass}
-use Rattle.tc_link.proofs.Common.{spacecraft_telemetry, Event, Opening, KeepsSession, World, WorldOutcome, IsIdle}
+use Rattle.tc_link.proofs.Common.{filter, eqb, option_map, filter-append, assembled-other}
+use Rattle.tc_link.proofs.Common.{spacecraft_take}
+use Rattle.tc_link.proofs.Common.{Event, Opening, KeepsSession, World, WorldOutcome, IsIdle}
 use Rattle.tc_link.proofs.Common.{delivered, world_step, world_run, run_answers, world_after_take, inl, inr, S1}
 use Rattle.tc_link.proofs.Common.{take_all, Directive, PlainLink}
 use Rattle.std.specs.List.{flat_map}
@@ -32,7 +32,7 @@ use Rattle.nodes.specs.declared.event.Event.TheVariants as events
 use Rattle.nodes.proofs.Delivery.{delivers}
 use Rattle.simulated_link.specs.World.{Session}
 use Rattle.simulated_link.proofs.Gained.{foreign, accepts_segment, config_stays}
-use Rattle.simulated_link.proofs.Unchanged.{AtEachLoss, lost, pulled, up_arrives, down_arrives, word_arrives, resumes}
+use Rattle.simulated_link.proofs.Unchanged.{board_after}
 use Rattle.tc_link.specs.Taken.{BeginsSession, handed_out, taken, taken_since, ready_on, HandsOutWhatIsDelivered}
 use Rattle.tc_link.specs.Taken.{HandsOutWhatIsSubmitted, HandsOutAsSubmitted, all_submitted}
 use Rattle.tc_link.proofs.Linked.{IsGiven, units_of_all, In}
@@ -238,46 +238,24 @@ module _ (w : World) where
   takes [] is = passes_none w.spacecraft w.spacecraft [] refl refl refl
   takes (p ∷ left) is = passes_none w.spacecraft _ (p ∷ []) refl refl (sym is)
 
-  takes_bypass : (bypass : List PacketOn)
-      → Passes w.spacecraft [] (spacecraft_take_bypass w.spacecraft bypass).after
-  takes_bypass [] = passes_none w.spacecraft _ [] refl refl refl
-  takes_bypass (p ∷ left) = passes_none w.spacecraft _ [] refl refl refl
-
-  queues : (packet : List ℕ) → Passes w.spacecraft [] (spacecraft_telemetry w.spacecraft packet).after
-  queues packet =
-      cond_both (is_to_send packet) _ _
-      (λ (o : SpacecraftOutcome (Result (Unit {0}) TmFault)). Passes w.spacecraft [] o.after)
-      (λ _. passes_none w.spacecraft _ [] refl refl refl) (λ _. passes_none w.spacecraft _ [] refl refl refl)
-
   stays : Passes w.spacecraft [] w.spacecraft
   stays = passes_none w.spacecraft w.spacecraft [] refl refl refl
 
-  abbrev HandsOutNone : WorldOutcome → Type 0
-  HandsOutNone o = Passes w.spacecraft [] o.after.spacecraft
-
-  losses : AtEachLoss w HandsOutNone
-  losses = record {
-    refused = λ fault. stays;
-    up = λ b bs is reply silent. stays;
-    down = λ b bs is reply silent. stays;
-  }
+  hands_out_none : (e : Event) → e ≢ events.Take → Passes w.spacecraft [] (world_step w e).after.spacecraft
+  hands_out_none e not_taken = board_after w (Passes w.spacecraft []) e (record {
+    same = stays;
+    receives = λ is b bs first. receives w.spacecraft b;
+    reports = λ is. passes_none w.spacecraft _ [] refl refl refl;
+    takes = λ is. absurd (not_taken is);
+    releases = λ is. absurd (not_taken is);
+    passes = λ is left. passes_none w.spacecraft _ [] refl refl refl;
+    queues = λ octets is. passes_none w.spacecraft _ [] refl refl refl;
+  })
 
   passes : (e : Event)
       → Passes w.spacecraft (handed_out e (world_step w e).answer) (world_step w e).after.spacecraft
-  passes events.Send = pulled w HandsOutNone (λ reply up sent silent. stays)
-  passes events.UpDeliver = up_arrives w HandsOutNone stays (λ b bs is. receives w.spacecraft b)
-  passes events.DownDeliver = down_arrives w HandsOutNone stays (λ b bs is. stays)
-  passes events.UpLose = lost w HandsOutNone losses events.UpLose tt
-  passes (events.UpDamage octets) = lost w HandsOutNone losses (events.UpDamage octets) tt
-  passes events.DownLose = lost w HandsOutNone losses events.DownLose tt
-  passes (events.DownDamage octets) = lost w HandsOutNone losses (events.DownDamage octets) tt
-  passes events.DownClcw = word_arrives w HandsOutNone losses (λ b bs is r. stays)
-  passes (events.Resume value) = resumes w value HandsOutNone stays (λ whole can. stays)
-  passes events.Report = passes_none w.spacecraft _ [] refl refl refl
   passes events.Take = takes w.spacecraft.ready refl
-  passes events.TakeBypass = takes_bypass w.spacecraft.bypass
-  passes (events.Telemetry octets) = queues octets.now
-  passes _ = stays
+  passes e = hands_out_none e (λ is. cc is)
 
 -- ---- a session
 

@@ -1,21 +1,21 @@
 -- Telemetry over a run: what each event does to it, what holds at every moment, and that it is what is promised.
 use Rattle.tc_link.proofs.Common.{◌≡◌, ℕ, Bool, true, false, if◌then◌else◌, not, List, [], ◌∷◌, ◌++◌, length, drop}
-use Rattle.tc_link.proofs.Common.{refl, sym, ap, subst, ◌∙◌, arith, append_assoc, AllByRecursion, append-nil}
+use Rattle.tc_link.proofs.Common.{refl, sym, ap, subst, ◌∙◌, arith, append_assoc, AllByRecursion, append-nil, ◌≢◌}
 use Rattle.tc_link.proofs.Common.{all_extracted, state_after, ExtractorState, without_idle, extract_step, choice}
-use Rattle.tc_link.proofs.Common.{AreSomeOf, Option, Some, None, Result, Ok, Err, ◌+◌, ◌==◌, cond_both, and_parts}
+use Rattle.tc_link.proofs.Common.{AreSomeOf, Option, Result, Ok, Err, ◌+◌, ◌==◌, cond_both, and_parts}
 use Rattle.tc_link.proofs.Common.{eqb-true, Clcw, ClcwFault, TcFault, SegmentView, BodyView, Ad, Bd, Bc, CopFault}
 use Rattle.tc_link.proofs.Common.{Verdict, Accepted, Alert, clcw_step, FopState, BuilderState, is_to_send, after_queue}
-use Rattle.tc_link.proofs.Common.{idle_tail, Extracted, held_by, IsLaidOutBy, LinkFault, is_kept, PacketOn, limits_of}
+use Rattle.tc_link.proofs.Common.{idle_tail, Extracted, held_by, IsLaidOutBy, is_kept, limits_of}
 use Rattle.tc_link.proofs.Common.{SpacecraftState, frame_outcome, body_outcome, sequence_outcome, bypass_outcome}
-use Rattle.tc_link.proofs.Common.{is_own_frame, spacecraft_take, spacecraft_take_bypass, GroundState, GroundOutcome}
-use Rattle.tc_link.proofs.Common.{with_fop, refill_step, after_submission, after_bypass, unless_refused}
+use Rattle.tc_link.proofs.Common.{is_own_frame, GroundState, GroundOutcome}
+use Rattle.tc_link.proofs.Common.{with_fop, refill_step}
 use Rattle.tc_link.proofs.Common.{after_extraction, own_frame_outcome, Directive, obeying, submitting, acknowledging}
 use Rattle.tc_link.proofs.Common.{◌<◌, ◌≤◌, map, length-append, eq-eqb, map-append, On, directive_step, pull_step}
 use Rattle.tc_link.proofs.Common.{tick_step, TmFault, data_size, Config, telemetry_outcome, ground_telemetry, Heard}
-use Rattle.tc_link.proofs.Common.{submit_fault, bypass_fault, SpacecraftOutcome, report_octets, IsConfig, Event}
-use Rattle.tc_link.proofs.Common.{NotDetectable, Up, Down, World, WorldOutcome, world_step, world_run, new_world}
+use Rattle.tc_link.proofs.Common.{SpacecraftOutcome, report_octets, IsConfig, Event}
+use Rattle.tc_link.proofs.Common.{NotDetectable, Down, World, WorldOutcome, world_step, world_run, new_world}
 use Rattle.tc_link.proofs.Common.{down_deliver_step, down_lose_step, down_damage_step, down_damage_outcome}
-use Rattle.tc_link.proofs.Common.{up_lose_step, up_damage_step, up_damage_outcome, up_deliver_step, world_refusal}
+use Rattle.tc_link.proofs.Common.{world_refusal}
 use Rattle.tc_link.proofs.Common.{world_reply, world_after_queueing, SetVs, InitUnlock}
 use Rattle.std.specs.List.{concat}
 use Rattle.std.proofs.lemmas.List.{drop_at}
@@ -43,17 +43,18 @@ use Rattle.tm_link.proofs.BuiltFrames.{build_laid}
 use Rattle.nodes.specs.Ground.{after_directive, report_outcome, ground_take_telemetry}
 use Rattle.nodes.specs.declared.heard.HeardClcw.{HeardClcw}
 use Rattle.nodes.specs.declared.heard.Heard.TheVariants as heard_cases
-use Rattle.nodes.specs.declared.received.Received.TheVariants as received_cases
 use Rattle.nodes.specs.declared.event.Event.TheVariants as events
-use Rattle.simulated_link.specs.World.{resumed, directed, world_after_word, down_word_outcome, down_clcw_step}
+use Rattle.simulated_link.specs.World.{directed, world_after_word, down_word_outcome, down_clcw_step}
 use Rattle.simulated_link.proofs.Counted.{report_seen}
-use Rattle.simulated_link.proofs.Unchanged.{first_on, pulled, up_arrives, down_arrives, resumes}
+use Rattle.simulated_link.proofs.Unchanged.{first_on, down_arrives, BringsReport}
+use Rattle.simulated_link.proofs.Unchanged.{TakesDown, board_after, down_after, ground_after}
 use Rattle.tc_link.specs.Telemetry.{none, one, without, Downlink, DownlinkStep, Happens, TakeTelemetry, IsDownlinkStep}
 use Rattle.tc_link.specs.Telemetry.{new_downlink, after_event, after_taking, downlink_step, downlink_run, packets_down}
 use Rattle.tc_link.specs.Telemetry.{IsTelemetryInOrder, downlink_of}
 use Rattle.tc_link.proofs.Refilled.{refilled_keeps}
 use Rattle.tc_link.proofs.Sound.{all_push, step_sound, new_sound, Sound}
 use Rattle.tc_link.proofs.IdleStart.{data_length, reads_now}
+use Rattle.std.specs.Borrow.{Bor}
 
 -- Frames that are sent and come one by one: those that came, and what an extractor makes of them.
 
@@ -198,14 +199,6 @@ module _ (s : SpacecraftState) where
       cond_both (is_own_frame s.config frame) (body_outcome s frame.body) _ (λ o. Builds o.after)
       (λ t. body_builds frame.body) (λ t. refl)
 
-  pub take_builds : (ps : List PacketOn) → Builds (spacecraft_take s ps).after
-  take_builds [] = refl
-  take_builds (p ∷ left) = refl
-
-  pub bypass_take_builds : (ps : List PacketOn) → Builds (spacecraft_take_bypass s ps).after
-  bypass_take_builds [] = refl
-  bypass_take_builds (p ∷ left) = refl
-
 -- ---- the extractor and the packets stay
 
 module _ (s : GroundState) where
@@ -215,11 +208,6 @@ module _ (s : GroundState) where
   refilled_extracts : Extracts (refill_step s)
   refilled_extracts = refilled_keeps Extracts s (λ waiting pending on off. (refl, refl))
 
-  pub bypass_extracts : (m : ℕ) (octets : List ℕ) (o : Option LinkFault)
-      → Extracts (unless_refused o s (after_bypass s m octets)).after
-  bypass_extracts m octets (Some fault) = (refl, refl)
-  bypass_extracts m octets None = (refl, refl)
-
 pub with_extracts : (s : GroundState) (f : FopState SegmentView) → Extracts s (with_fop s f)
 with_extracts s f = refilled_extracts (record s { fop = f })
 
@@ -227,11 +215,6 @@ pub directed_extracts : (s : GroundState) (d : Directive) (r : Result (Option Al
     (fop : FopState SegmentView) → Extracts s (after_directive s d r fop)
 directed_extracts s d (Ok alert) fop = with_extracts (obeying s d) fop
 directed_extracts s d (Err fault) fop = (refl, refl)
-
-pub submitted_extracts : (s : GroundState) (m : ℕ) (octets : List ℕ) (o : Option LinkFault)
-    → Extracts s (unless_refused o s (after_submission s m octets)).after
-submitted_extracts s m octets (Some fault) = (refl, refl)
-submitted_extracts s m octets None = refilled_extracts (submitting s m octets)
 
 -- ---- a frame is heard
 
@@ -524,12 +507,6 @@ module _ (c : Config) (d : Downlink) (g : Laid c d) where
 
   -- ---- all events
 
-  up_seen : (P : WorldOutcome → Type 0) (bs : List (List ℕ)) → P (world_refusal d.world NotDetectable)
-      → ((fault : TcFault) → P (world_reply (Up (received_cases.Invalid fault)) (record d.world { up = bs })))
-      → (r : Result command_layout.FrameView TcFault) → P (up_damage_outcome d.world bs r)
-  up_seen P bs refused seen (Ok frame) = refused
-  up_seen P bs refused seen (Err fault) = seen fault
-
   down_seen : (P : WorldOutcome → Type 0) (bs : List (List ℕ)) → P (world_refusal d.world NotDetectable)
       → ((fault : TmFault) → P (world_reply (Down (heard_cases.Invalid fault)) (record d.world { down = bs })))
       → (r : Result FrameView TmFault) → P (down_damage_outcome d.world bs r)
@@ -546,39 +523,50 @@ module _ (c : Config) (d : Downlink) (g : Laid c d) where
       })
   refused sound = stays d.world sound refl refl (refl, refl)
 
+  -- nothing of telemetry is queued, sent or heard
+  others : (e : Event) → ((octets : Bor (List ℕ)) → e ≢ events.Telemetry octets) → e ≢ events.Report
+      → (TakesDown e → ⊥) → (BringsReport e → ⊥) → Sound c (world_step d.world e).after
+      → Laid c (record {
+        world = (world_step d.world e).after;
+        queued = d.queued ++ [];
+        sent = d.sent ++ [];
+        came = d.came ++ [];
+        taken = d.taken;
+      })
+  others e not_queued not_made not_gone not_told sound =
+      let w = d.world in
+      let s : GroundState = w.ground_node in
+      let directs : (x : Directive) → Extracts s (directed w x).ground_node =
+      λ x. directed_extracts s x (directive_step s.fop x).answer (directive_step s.fop x).after in
+      stays (world_step w e).after sound
+      (board_after w (λ t. t.builder ≡ w.spacecraft.builder) e (record {
+        same = refl;
+        receives = λ is b bs first. arrived_builds w.spacecraft (command.frame_at On b);
+        reports = λ is. absurd (not_made is);
+        takes = λ is left kept. refl;
+        releases = λ is left free. refl;
+        passes = λ is left. refl;
+        queues = λ octets is. absurd (not_queued octets is);
+      }))
+      (down_after w (λ way. way ≡ w.down) e not_made refl (λ gone. absurd (not_gone gone)))
+      (ground_after w (Extracts s) e (record {
+        same = (refl, refl);
+        submits = λ m octets none. with_extracts (submitting s m octets) s.fop;
+        bypasses = λ m octets is none. (refl, refl);
+        directs = λ x is. directs x;
+        restarts = λ value is can.
+            let t : GroundState = (directed w (SetVs value)).ground_node in
+            let set = directs (SetVs value) in
+            let begun = directed_extracts t InitUnlock (directive_step t.fop InitUnlock).answer
+            (directive_step t.fop InitUnlock).after in
+            (begun.0 ∙ set.0, begun.1 ∙ set.1);
+        ticks = λ is. with_extracts s (tick_step s.fop).after;
+        sends = λ is. with_extracts s (pull_step s.fop).after;
+        hears_none = λ told. absurd (not_told told);
+        hears = λ told. absurd (not_told told);
+      }))
+
   keeps : (e : Event) → Keeps e (world_step d.world e)
-  keeps (events.Submit m octets) =
-      let s : GroundState = d.world.ground_node in
-      λ sound. stays (world_step d.world (events.Submit m octets)).after sound refl refl
-      (submitted_extracts s m octets.now (submit_fault s m octets.now))
-  keeps (events.Bypass m octets) =
-      let s : GroundState = d.world.ground_node in
-      λ sound. stays (world_step d.world (events.Bypass m octets)).after sound refl refl
-      (bypass_extracts s m octets.now (bypass_fault s m octets.now))
-  keeps (events.Directive x) =
-      let s : GroundState = d.world.ground_node in
-      λ sound. stays (world_step d.world (events.Directive x)).after sound refl refl
-      (directed_extracts s x (directive_step s.fop x).answer (directive_step s.fop x).after)
-  keeps events.Send =
-      let s : GroundState = d.world.ground_node in
-      pulled d.world (Keeps events.Send) (λ reply up sent silent sound.
-      stays (record d.world {
-        ground_node = with_fop s (pull_step s.fop).after;
-        up = up;
-        session = record d.world.session { sent = sent };
-      }) sound refl refl (with_extracts s (pull_step s.fop).after))
-  keeps events.UpDeliver =
-      up_arrives d.world (Keeps events.UpDeliver) refused (λ b bs is sound.
-      stays (up_deliver_step d.world (b ∷ bs)).after sound
-      (arrived_builds d.world.spacecraft (command.frame_at On b)) refl (refl, refl))
-  keeps events.UpLose =
-      first_on (Keeps events.UpLose) (up_lose_step d.world) d.world.up refused (λ b bs is sound.
-      stays (record d.world { up = bs }) sound refl refl (refl, refl))
-  keeps (events.UpDamage octets) =
-      first_on (Keeps (events.UpDamage octets)) (λ bs. up_damage_step d.world bs octets.now) d.world.up refused
-      (λ b bs is. up_seen (Keeps (events.UpDamage octets)) bs refused
-      (λ fault sound. stays (record d.world { up = bs }) sound refl refl (refl, refl))
-      (command.frame_at On octets.now))
   keeps events.Report = reported
   keeps events.DownDeliver = down_arrives d.world (Keeps events.DownDeliver) refused (λ b bs is. arrives b bs is)
   keeps events.DownLose =
@@ -590,61 +578,25 @@ module _ (c : Config) (d : Downlink) (g : Laid c d) where
   keeps events.DownClcw =
       first_on (Keeps events.DownClcw) (down_clcw_step d.world) d.world.down refused (λ b bs is.
       word_seen b bs is (frame_at d.world.ground_node.config.frame_length b))
-  keeps (events.Resume value) =
-      let s : GroundState = d.world.ground_node in
-      let t : GroundState = (directed d.world (SetVs value)).ground_node in
-      let set = directed_extracts s (SetVs value) (directive_step s.fop (SetVs value)).answer
-      (directive_step s.fop (SetVs value)).after in
-      let begun = directed_extracts t InitUnlock (directive_step t.fop InitUnlock).answer
-      (directive_step t.fop InitUnlock).after in
-      resumes d.world value (Keeps (events.Resume value)) refused (λ whole can sound.
-      stays (resumed d.world value) sound refl refl (begun.0 ∙ set.0, begun.1 ∙ set.1))
-  keeps events.Tick =
-      let s : GroundState = d.world.ground_node in
-      λ sound. stays (world_step d.world events.Tick).after sound refl refl (with_extracts s (tick_step s.fop).after)
-  keeps events.Take =
-      λ sound. stays (world_step d.world events.Take).after sound
-      (take_builds d.world.spacecraft d.world.spacecraft.ready) refl (refl, refl)
-  keeps events.TakeBypass =
-      λ sound. stays (world_step d.world events.TakeBypass).after sound
-      (bypass_take_builds d.world.spacecraft d.world.spacecraft.bypass) refl (refl, refl)
   keeps (events.Telemetry octets) =
       cond_both (is_to_send octets.now) _ _
       (λ (o : SpacecraftOutcome (Result (Unit {0}) TmFault)).
       Keeps (events.Telemetry octets) (world_after_queueing d.world o))
       (λ sends. queued octets.now sends) (λ t. refused)
+  keeps e = others e (λ octets is. cc is) (λ is. cc is) (λ gone. absurd gone) (λ told. absurd told)
 
   -- ---- a packet is taken on the ground
 
   taking : (ps : List (List ℕ)) → d.world.ground_node.telemetry ≡ ps
       → Laid c (after_taking d (ground_take_telemetry d.world.ground_node ps))
-  taking [] is = record {
-    sound = g.sound;
-    laid = g.laid;
-    count = g.count;
-    each = g.each;
-    way = rw (append-nil d.taken) g.way;
-  }
+  taking [] is =
+      let way : Came d.sent d.came d.world.down d.world.ground_node.extractor
+      ((d.taken ++ []) ++ d.world.ground_node.telemetry) = rw (append-nil d.taken) g.way in assumption (way, g)
   taking (p ∷ left) is =
       let same : (d.taken ++ p ∷ []) ++ left ≡ packets_down d =
       append_assoc d.taken (p ∷ []) left ∙ ap (λ (ps : List (List ℕ)). d.taken ++ ps) (sym is) in
-      record {
-        sound = record {
-          ranges = g.sound.ranges;
-          ground_node = record {
-            config = g.sound.ground_node.config;
-            fop = g.sound.ground_node.fop;
-            pending_none = g.sound.ground_node.pending_none;
-            moved = g.sound.ground_node.moved;
-          };
-          spacecraft = g.sound.spacecraft;
-          before = g.sound.before;
-        };
-        laid = g.laid;
-        count = g.count;
-        each = g.each;
-        way = subst (Came d.sent d.came d.world.down d.world.ground_node.extractor) (sym same) g.way;
-      }
+      let way = subst (Came d.sent d.came d.world.down d.world.ground_node.extractor) (sym same) g.way in
+      assumption (way, g)
 
   step_laid : (step : DownlinkStep) → IsDownlinkStep step → Laid c (downlink_step d step)
   step_laid (Happens e) fits = keeps e (step_sound c d.world g.sound e fits)

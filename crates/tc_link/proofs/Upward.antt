@@ -8,8 +8,8 @@ use Rattle.tc_link.proofs.Common.{Accepted, Ahead, NoBuffer, Outside, ◌*◌, m
 use Rattle.tc_link.proofs.Common.{Result, Ok, ap, sym, subst, slice_get, eq-eqb, drop-append-le, TcFault, On, BodyView}
 use Rattle.tc_link.proofs.Common.{Ad, Bd, after_verdict, Config, limits_of, is_kept, frame_outcome, sequence_outcome}
 use Rattle.tc_link.proofs.Common.{is_free, frame_of, World, up_deliver_step, Rises, length, farm_step, BufferReleased}
-use Rattle.tc_link.proofs.Common.{is_to_send, after_queue, PacketOn, spacecraft_take, spacecraft_take_bypass}
-use Rattle.tc_link.proofs.Common.{spacecraft_telemetry, world_after_take, world_after_queueing, map, option_to_list}
+use Rattle.tc_link.proofs.Common.{PacketOn}
+use Rattle.tc_link.proofs.Common.{map, option_to_list}
 use Rattle.tc_link.proofs.Common.{AllByRecursion, ne_eqb, append-nil, map-append, length-take-le, segment_octets}
 use Rattle.tc_link.proofs.Common.{Control, Idle, Due, Sent, FopMode, S5, units_of, PulledUnit, pull_step, oldest_marked}
 use Rattle.tc_link.proofs.Common.{without_oldest_mark, unmarked_unit, FopState, FopOutcome, IsActive, after_restart}
@@ -71,8 +71,7 @@ module _ (d : Directive) (base : ℕ) (front : Bool) (s : FarmState) where
 
   pub release_eases : (mode : FarmMode) → Eases d base front s (after_release s mode)
   release_eases Open = eased_same s refl refl refl refl
-  release_eases _ =
-      record { lockout = λ e. e; wait = λ e. refl; retransmit = λ e. e; so = inl (refl, refl, refl) }
+  release_eases _ = record { lockout = λ e. e; wait = λ e. refl; retransmit = λ e. e; so = inl (refl, refl, refl) }
 
   unlock_eases : (mode : FarmMode) → front ≡ true → (d ≡ InitWithCheck → ⊥) → Eases d base front s (after_unlock s mode)
   unlock_eases Open is other =
@@ -312,8 +311,7 @@ module _ (c : Config) (d : Directive) (base : ℕ) (w : World) (k : Sound c w) (
   judged_keeps i x u qs NoBuffer also same up fit here =
       left_keeps i x qs (after_verdict w.spacecraft.farm NoBuffer) also up fit refl refl
       (inr (refl, omega (arith, fit.1)))
-  judged_keeps i x u qs _ also same up fit here =
-      left_keeps i x qs w.spacecraft.farm also up fit refl refl (inl refl)
+  judged_keeps i x u qs _ also same up fit here = left_keeps i x qs w.spacecraft.farm also up fit refl refl (inl refl)
 
   late_unit : (n : ℕ) (u : SegmentView) (i : ℕ) (x : SegmentView) (qs : List (ℕ × SegmentView))
       → g.plain.up ≡ (i, x) ∷ qs → UpIs d base g.front (Ad n u ∷ fs) ((i, x) ∷ qs)
@@ -439,41 +437,19 @@ module _ (early : Bool) (c : Config) (d : Directive) (base : ℕ) (w : World) (k
     eases_keep spacecraft accepted eases =
         other_keeps early c d base w k g w.up g.frames g.linked.carries spacecraft g.linked.up_is accepted eases
 
-    same_keeps : (spacecraft : SpacecraftState) → spacecraft.accepted ≡ w.spacecraft.accepted
+    pub same_keeps : (spacecraft : SpacecraftState) → spacecraft.accepted ≡ w.spacecraft.accepted
         → spacecraft.farm ≡ w.spacecraft.farm → Next early c d base g.plain (record w { spacecraft = spacecraft })
     same_keeps spacecraft accepted farm =
         eases_keep spacecraft accepted
         (rw farm (eased_same d base g.front w.spacecraft.farm w.spacecraft.farm refl refl refl refl))
 
-    take_keeps : (packets : List PacketOn)
-        → Next early c d base g.plain (world_after_take w (spacecraft_take w.spacecraft packets)).after
-    take_keeps [] = stays g
-    take_keeps (packet ∷ left) =
-        cond_both (nat_lt (length left) w.spacecraft.config.ready_slots) (farm_step w.spacecraft.farm BufferReleased)
-        w.spacecraft.farm (λ (farm : FarmState). Next early c d base g.plain
-        (record w { spacecraft = record w.spacecraft { ready = left; farm = farm } }))
-        (λ t. eases_keep (record w.spacecraft { ready = left; farm = farm_step w.spacecraft.farm BufferReleased }) refl
-        (release_eases d base g.front w.spacecraft.farm w.spacecraft.farm.state))
-        (λ t. same_keeps (record w.spacecraft { ready = left }) refl refl)
-
-    pub takes : Next early c d base g.plain (world_after_take w (spacecraft_take w.spacecraft w.spacecraft.ready)).after
-    takes = take_keeps w.spacecraft.ready
-
-    bypass_keeps : (packets : List PacketOn)
-        → Next early c d base g.plain (world_after_take w (spacecraft_take_bypass w.spacecraft packets)).after
-    bypass_keeps [] = stays g
-    bypass_keeps (packet ∷ left) = same_keeps (record w.spacecraft { bypass = left }) refl refl
-
-    pub takes_bypass : Next early c d base g.plain
-        (world_after_take w (spacecraft_take_bypass w.spacecraft w.spacecraft.bypass)).after
-    takes_bypass = bypass_keeps w.spacecraft.bypass
-
-    pub queues : (octets : List ℕ)
-        → Next early c d base g.plain (world_after_queueing w (spacecraft_telemetry w.spacecraft octets)).after
-    queues octets =
-        cond_both (is_to_send octets) _ _ (λ o. Next early c d base g.plain (world_after_queueing w o).after)
-        (λ t. same_keeps (record w.spacecraft { builder = after_queue w.spacecraft.builder octets }) refl refl)
-        (λ t. stays g)
+    -- a buffer is released
+    pub releases_keep : (left : List PacketOn) → Next early c d base g.plain (record w {
+      spacecraft = record w.spacecraft { ready = left; farm = farm_step w.spacecraft.farm BufferReleased };
+    })
+    releases_keep left =
+        eases_keep (record w.spacecraft { ready = left; farm = farm_step w.spacecraft.farm BufferReleased }) refl
+        (release_eases d base g.front w.spacecraft.farm w.spacecraft.farm.state)
 
 -- The ground sends a frame in a session.
 
@@ -622,12 +598,9 @@ module _ (early : Bool) (c : Config) (d : Directive) (base : ℕ) (w : World) (k
           ∙ sym (ap (map segment_octets) (take_next p.units p.n u unit_is)
           ∙ map-append segment_octets (take p.n p.units) (u ∷ [])) in
           session_refilled early c d base (record w {
-            ground_node =
-                record w.ground_node { fop = after_send_first s u };
-            up =
-                w.up ++ spelling On (frame_of w.ground_node.config frame) ∷ [];
-            session =
-                record w.session { sent = w.session.sent ++ first_sent s.vs frame };
+            ground_node = record w.ground_node { fop = after_send_first s u };
+            up = w.up ++ spelling On (frame_of w.ground_node.config frame) ∷ [];
+            session = record w.session { sent = w.session.sent ++ first_sent s.vs frame };
           }) (record {
             plain = record p { n = p.n + 1; up = p.up ++ (p.n, u) ∷ [] };
             ran = inr (puts_next unit_is);
@@ -679,8 +652,7 @@ module _ (early : Bool) (c : Config) (d : Directive) (base : ℕ) (w : World) (k
           let held : Held (is_closed s.state) base s.vs s.nn (without_oldest_mark s.sent)
           (unsent_segments w.ground_node) p.a p.n p.units =
           rw on (record {
-            vs_is =
-                was.vs_is;
+            vs_is = was.vs_is;
             nn_is = was.nn_is;
             sent_is = units-without s.sent ∙ was.sent_is;
             rest_is = was.rest_is;
@@ -696,12 +668,9 @@ module _ (early : Bool) (c : Config) (d : Directive) (base : ℕ) (w : World) (k
           let sent_is : w.session.sent ++ first_sent s.vs frame ≡ map segment_octets (take p.n p.units) =
           ap (λ xs. w.session.sent ++ xs) field ∙ append-nil w.session.sent ∙ l.sent_is in
           session_refilled early c d base (record w {
-            ground_node =
-                record w.ground_node { fop = record (after_restart s) { sent = without_oldest_mark s.sent } };
-            up =
-                w.up ++ spelling On (frame_of w.ground_node.config frame) ∷ [];
-            session =
-                record w.session { sent = w.session.sent ++ first_sent s.vs frame };
+            ground_node = record w.ground_node { fop = record (after_restart s) { sent = without_oldest_mark s.sent } };
+            up = w.up ++ spelling On (frame_of w.ground_node.config frame) ∷ [];
+            session = record w.session { sent = w.session.sent ++ first_sent s.vs frame };
           }) (record {
             plain = record p { up = p.up ++ (p.a + x.0, x.1) ∷ [] };
             ran = inr (puts_again (omega arith) below unit_is);

@@ -1,7 +1,7 @@
 use Rattle.tc_link.proofs.Common.{◌≡◌, ◌≤◌, ℕ, List, [], ◌∷◌, ◌++◌, length, drop, ap, sym, ◌∙◌, append-nil}
 use Rattle.tc_link.proofs.Common.{append_assoc, Config, Event, world_step, world_run, run_answers, SimState, run_from}
 use Rattle.tc_link.proofs.Common.{new_sim, sim_run, subst, arith, AllByRecursion, take_all, IsEvent, IsReached}
-use Rattle.std.proofs.Common.{Result, Ok, Err, Option, None}
+use Rattle.std.proofs.Common.{Result, Ok, Err, None}
 use Rattle.std.specs.Result.{IsErrAnd}
 use Rattle.std.proofs.lemmas.List.{at_drop_all}
 use Rattle.simulated_link.specs.declared.fault.SimFault.{SimFault}
