@@ -193,7 +193,7 @@ def python_config(text):
     handed = "\n                         ".join(textwrap.wrap(", ".join(names), WIDE - 26))
     made = (
         (r"`Config\(window=4, timer=3\)` sets two of them:\n\n", notes.rstrip(), '"""'),
-        (r'\("blocking", c_uint32\)\]\n', "".join(f"    {it}: int\n" for it in names) + "\n", "    def __init__"),
+        (r"    _fields_ = \[[^\]]*\]\n", "".join(f"    {it}: int\n" for it in names) + "\n", "    def __init__"),
         (r"            self, \*, ", taken.lstrip(), r"\) -> None:"),
         (r"        super\(\).__init__\(", handed, r"\)\n"),
     )
