@@ -1,24 +1,22 @@
 -- The numbers of the sender at every moment of a run, and how schedules are put together.
 use Rattle.tc_link.proofs.Common.{ap, ◌≡◌, ◌<◌, ◌≤◌, ℕ, ◌+◌, ◌%◌, Bool, true, false, List, [], ◌∷◌, ◌++◌, length, drop}
-use Rattle.tc_link.proofs.Common.{Option, Some, None, Ok, refl, sym, subst, ◌∙◌, arith, cond_both}
-use Rattle.tc_link.proofs.Common.{ltb-true, ltb-false, length-append, length-drop, AllByRecursion, Clcw, On}
-use Rattle.tc_link.proofs.Common.{SegmentView, BodyView, Ad, Bd, Bc, Command, Unlock, SetVr, Control, Idle, Due, Sent}
-use Rattle.tc_link.proofs.Common.{ahead_by, Directive, InitWithoutCheck, InitWithCheck, InitUnlock, InitSetVr}
-use Rattle.tc_link.proofs.Common.{is_initiation, begun, obeyed, directive_step, FopState, FopOutcome, S1, S3, S6}
-use Rattle.tc_link.proofs.Common.{clcw_step, report_while_active, after_move_on, after_acknowledge, after_new_value}
-use Rattle.tc_link.proofs.Common.{retransmits, heard_active, pull_step, pulled_out, PulledUnit, after_restart}
-use Rattle.tc_link.proofs.Common.{without_oldest_mark, unmarked_unit, units_of, tick_step, ticked, after_repeat}
-use Rattle.tc_link.proofs.Common.{after_stop, due_again, after_alert, FarmState, FarmMode, Open, Wait}
-use Rattle.tc_link.proofs.Common.{Verdict, Accepted, verdict_of, after_verdict, after_unlock, after_set_vr}
-use Rattle.tc_link.proofs.Common.{after_release, report_of, Config, FitsFrame, frame_of, frame_to_send}
-use Rattle.tc_link.proofs.Common.{with_fop, is_closed, after_extraction, extract_step, IsDirective, IsEvent}
-use Rattle.tc_link.proofs.Common.{SpacecraftState, SpacecraftOutcome, body_outcome, sequence_outcome, bypass_outcome}
-use Rattle.tc_link.proofs.Common.{is_free, is_kept, limits_of}
-use Rattle.tc_link.proofs.Common.{Event, World, WorldOutcome, new_world, world_step}
-use Rattle.tc_link.proofs.Common.{world_after_pull, up_deliver_step, down_deliver_step, closed_not, active_on}
-use Rattle.tc_link.proofs.Common.{spacecraft_report, FlagsAgree, acknowledging, SetVs, ◌≢◌, ◌⊎◌, inl, inr, zero, suc}
-use Rattle.tc_link.proofs.Common.{replicate, world_run, IsIdle, IsSettled, IsReached, BeginsNoSession, option_map}
-use Rattle.tc_link.proofs.Common.{Opening, directive_of}
+use Rattle.tc_link.proofs.Common.{Option, Some, None, Ok, refl, sym, subst, ◌∙◌, arith, cond_both, ltb-true, ltb-false}
+use Rattle.tc_link.proofs.Common.{length-append, length-drop, AllByRecursion, Clcw, On, SegmentView, BodyView, Ad, Bd}
+use Rattle.tc_link.proofs.Common.{Bc, Command, Unlock, SetVr, Control, Idle, Due, Sent, ahead_by, Directive}
+use Rattle.tc_link.proofs.Common.{InitWithoutCheck, InitWithCheck, InitUnlock, InitSetVr, is_initiation, begun, obeyed}
+use Rattle.tc_link.proofs.Common.{directive_step, FopState, FopOutcome, S1, S3, S6, clcw_step, report_while_active}
+use Rattle.tc_link.proofs.Common.{after_move_on, after_acknowledge, after_new_value, retransmits, heard_active}
+use Rattle.tc_link.proofs.Common.{pull_step, pulled_out, PulledUnit, after_restart, without_oldest_mark, unmarked_unit}
+use Rattle.tc_link.proofs.Common.{units_of, tick_step, ticked, after_repeat, after_stop, due_again, after_alert}
+use Rattle.tc_link.proofs.Common.{FarmState, FarmMode, Open, Wait, Verdict, Accepted, verdict_of, after_verdict}
+use Rattle.tc_link.proofs.Common.{after_unlock, after_set_vr, after_release, report_of, Config, FitsFrame, frame_of}
+use Rattle.tc_link.proofs.Common.{frame_to_send, with_fop, is_closed, after_extraction, extract_step, IsDirective}
+use Rattle.tc_link.proofs.Common.{IsEvent, SpacecraftState, SpacecraftOutcome, body_outcome, sequence_outcome}
+use Rattle.tc_link.proofs.Common.{bypass_outcome, is_free, is_kept, limits_of, Event, World, WorldOutcome, new_world}
+use Rattle.tc_link.proofs.Common.{world_step, world_after_pull, up_deliver_step, down_deliver_step, closed_not}
+use Rattle.tc_link.proofs.Common.{active_on, spacecraft_report, FlagsAgree, acknowledging, SetVs, ◌≢◌, ◌⊎◌, inl, inr}
+use Rattle.tc_link.proofs.Common.{zero, suc, replicate, world_run, IsIdle, IsSettled, IsReached, BeginsNoSession}
+use Rattle.tc_link.proofs.Common.{option_map, Opening, directive_of}
 use Rattle.std.specs.Prelude.{IsSome}
 use Rattle.tc_frame.specs.Decoding.{frame_at}
 use Rattle.tc_frame.specs.Encoding.{spelling}

@@ -1,24 +1,21 @@
 -- What the sender does in an exchange, and what is so of it at every moment of a run, in any session.
 use Rattle.tc_link.proofs.Common.{◌≡◌, ℕ, List, Option, Some, None, Result, Ok, Err, refl, SegmentView, Clcw, CopFault}
 use Rattle.tc_link.proofs.Common.{Alert, Directive, FopState, clcw_step, directive_step, pull_step, tick_step}
-use Rattle.tc_link.proofs.Common.{GroundState, with_fop}
-use Rattle.tc_link.proofs.Common.{after_bypass, directive_outcome, Event, World}
-use Rattle.tc_link.proofs.Common.{world_step, obeying, submitting, acknowledging, SetVs, InitUnlock, ◌≢◌}
-use Rattle.tc_link.proofs.Common.{◌≤◌, ◌⊎◌, inl, inr, zero, suc, ◌+◌, ◌-◌, Bool, true, false, not, [], ◌∷◌, ◌++◌}
-use Rattle.tc_link.proofs.Common.{length, map, drop, ap, sym, ◌∙◌, arith, ◌==◌, nat_lt, cond_both, eqb-true, eq-eqb}
-use Rattle.tc_link.proofs.Common.{and_parts, not-false, subst, ne_eqb, ahead_by, NnR, Synch, FopMode, S1, S2, S3}
-use Rattle.tc_link.proofs.Common.{SentUnit, FopOutcome, IsActive, oldest_marked, without_oldest_mark, unmarked_unit}
-use Rattle.tc_link.proofs.Common.{marked_unit, locks, waits, asks, report_while_active, after_move_on, after_new_value}
-use Rattle.tc_link.proofs.Common.{retransmits, after_acknowledge, after_repeat, after_stop, alerts, goes_on, pulled_out}
-use Rattle.tc_link.proofs.Common.{report_in, length-append, length-drop, length-map, option_to_list, after_restart}
-use Rattle.tc_link.proofs.Common.{heard_active, Sent, Control, Due, eqb-false, ltb-false, BodyView, Ad, Bd, Bc, S4, S5}
-use Rattle.tc_link.proofs.Common.{S6, Idle, after_alert, after_count, due_again, begun, InitWithoutCheck, InitWithCheck}
-use Rattle.tc_link.proofs.Common.{InitSetVr, FarmMode, Open, Wait, FarmState, FlagsAgree, state_of}
-use Rattle.tc_link.proofs.Common.{after_unlock, after_set_vr, after_release, Verdict, Accepted, Ahead}
-use Rattle.tc_link.proofs.Common.{NoBuffer, Outside, verdict_of, SpacecraftState}
-use Rattle.tc_link.proofs.Common.{body_outcome, sequence_outcome, bypass_outcome, is_free, is_kept, limits_of}
-use Rattle.tc_link.proofs.Common.{Unlock}
-use Rattle.tc_link.proofs.Common.{SetVr, or_parts}
+use Rattle.tc_link.proofs.Common.{GroundState, with_fop, after_bypass, directive_outcome, Event, World, world_step}
+use Rattle.tc_link.proofs.Common.{obeying, submitting, acknowledging, SetVs, InitUnlock, ◌≢◌, ◌≤◌, ◌⊎◌, inl, inr, zero}
+use Rattle.tc_link.proofs.Common.{suc, ◌+◌, ◌-◌, Bool, true, false, not, [], ◌∷◌, ◌++◌, length, map, drop, ap, sym, ◌∙◌}
+use Rattle.tc_link.proofs.Common.{arith, ◌==◌, nat_lt, cond_both, eqb-true, eq-eqb, and_parts, not-false, subst, ne_eqb}
+use Rattle.tc_link.proofs.Common.{ahead_by, NnR, Synch, FopMode, S1, S2, S3, SentUnit, FopOutcome, IsActive}
+use Rattle.tc_link.proofs.Common.{oldest_marked, without_oldest_mark, unmarked_unit, marked_unit, locks, waits, asks}
+use Rattle.tc_link.proofs.Common.{report_while_active, after_move_on, after_new_value, retransmits, after_acknowledge}
+use Rattle.tc_link.proofs.Common.{after_repeat, after_stop, alerts, goes_on, pulled_out, report_in, length-append}
+use Rattle.tc_link.proofs.Common.{length-drop, length-map, option_to_list, after_restart, heard_active, Sent, Control}
+use Rattle.tc_link.proofs.Common.{Due, eqb-false, ltb-false, BodyView, Ad, Bd, Bc, S4, S5, S6, Idle, after_alert}
+use Rattle.tc_link.proofs.Common.{after_count, due_again, begun, InitWithoutCheck, InitWithCheck, InitSetVr, FarmMode}
+use Rattle.tc_link.proofs.Common.{Open, Wait, FarmState, FlagsAgree, state_of, after_unlock, after_set_vr}
+use Rattle.tc_link.proofs.Common.{after_release, Verdict, Accepted, Ahead, NoBuffer, Outside, verdict_of}
+use Rattle.tc_link.proofs.Common.{SpacecraftState, body_outcome, sequence_outcome, bypass_outcome, is_free, is_kept}
+use Rattle.tc_link.proofs.Common.{limits_of, Unlock, SetVr, or_parts}
 use Rattle.std.proofs.lemmas.Bool.{not-true}
 use Rattle.std.specs.Prelude.{IsSome, ◌&&◌, ◌||◌, nat_le, ◌/◌}
 use Rattle.std.proofs.Math.Seq.{drop-nil}
@@ -78,14 +75,14 @@ module _ (P : FopState SegmentView → Type 0)
         → ((d : Directive) → e ≡ events.Directive d → P (directive_step s d).after)
         → ((value : ℕ) → e ≡ events.Resume value → P (resumed w value).ground_node.fop)
         → P (world_step w e).after.ground_node.fop
-    step_kept e tick pull hears direct resumed = ground_after w (λ t. P t.fop) e (record {
+    step_kept e tick pull hears direct resumed = ground_after w (λ t session. P t.fop) e (record {
       same = k;
       submits = λ m octets none. with_kept (submitting w.ground_node m octets) s k;
       bypasses = λ m octets is none. queues s s.waiting (after_bypass w.ground_node m octets.now).fop.bypass k;
       directs = λ d is. directed_kept w.ground_node k d (directive_step s d).answer _ (direct d is);
       restarts = λ value is can. resumed value is;
       ticks = λ is. with_kept w.ground_node (tick_step s).after (tick is);
-      sends = λ is. with_kept w.ground_node (pull_step s).after (pull is);
+      sends = λ is sent. with_kept w.ground_node (pull_step s).after (pull is);
       hears_none = λ down x packets. k;
       hears = λ told x packets r. let f : FopState SegmentView = (clcw_step s r).after in
           with_kept (acknowledging (record w.ground_node { extractor = x; telemetry = packets }) f) f (hears told r);

@@ -20,7 +20,7 @@ use Rattle.nodes.specs.Ground.{GroundOutcome}
 use Rattle.nodes.specs.declared.fault.LinkFault.{LinkFault}
 use Rattle.nodes.specs.declared.fault.LinkFault.TheVariants.{NotKnown}
 use Rattle.nodes.specs.declared.event.Event.TheVariants as events
-use Rattle.simulated_link.specs.World.{Session, is_idle, is_none, reports_as, report_now}
+use Rattle.simulated_link.specs.World.{Session, is_idle, is_none, reports_as, report_now, world_after_resuming}
 use Rattle.tc_link.proofs.Promised.{past_holds, promised_so}
 use Rattle.tc_link.proofs.Fates.{knows_fates}
 use Rattle.tc_link.proofs.Invariant.{Holding, idle_goes, octet, began_at, begun_session, can_off}
@@ -34,7 +34,6 @@ use Rattle.tc_link.specs.Taken.{BeginsSession}
 use Rattle.tc_link.specs.Whole.{on_board, IsOneGroup, AreSingle, DeliversWhole}
 use Rattle.tm_link.specs.Decoding as telemetry_reading
 use Rattle.simulated_link.specs.Replies.{Resumed}
-use Rattle.simulated_link.specs.World.{world_after_resuming}
 
 -- ---- lists of submissions
 
