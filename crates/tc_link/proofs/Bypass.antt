@@ -1,6 +1,6 @@
 -- Packets that go past the sequence control.
 use Rattle.tc_link.proofs.Common.{◌≡◌, ℕ, Bool, true, false, refl, ◌∙◌, Clcw, SegmentView, Directive, CopFault, Alert}
-use Rattle.tc_link.proofs.Common.{InitWithoutCheck, InitWithCheck, InitUnlock, InitSetVr, directive_step, FopState}
+use Rattle.tc_link.proofs.Common.{InitWithoutCheck, InitUnlock, directive_step, FopState}
 use Rattle.tc_link.proofs.Common.{FopOutcome, clcw_step, retransmits, tick_step, heard_active, obeyed, begun, ticked}
 use Rattle.tc_link.proofs.Common.{GroundState, refill_step, with_fop, Result, Option, directive_outcome, TmFault, ◌≢◌}
 use Rattle.tc_link.proofs.Common.{telemetry_outcome, LinkFault, unless_refused, List, after_alert, Some, None, SetVs}
@@ -56,9 +56,6 @@ module _ (s : FopState SegmentView) where
 
   begun_same : (d : Directive) → Same (begun s d)
   begun_same InitWithoutCheck = refl
-  begun_same InitWithCheck = refl
-  begun_same InitUnlock = refl
-  begun_same (InitSetVr x) = refl
   begun_same _ = refl
 
   again_same : (repeats : Bool) → Same (retransmits s repeats)

@@ -14,7 +14,7 @@ use Rattle.tc_frame.specs.Decoding as command
 use Rattle.tc_frame.specs.Layout.{FrameView}
 use Rattle.tc_frame.specs.declared.frame.SegmentFlags.{SegmentFlags}
 use Rattle.tc_frame.specs.declared.frame.SegmentFlags.TheVariants.{First, Continuing, Last, Alone}
-use Rattle.cop1.specs.FopPull.{NothingPulled, ControlPulled, BypassPulled, SequencePulled}
+use Rattle.cop1.specs.FopPull.{NothingPulled}
 use Rattle.map_service.specs.Assembly.{open_part, unless_too_long, ending_part, of_map}
 use Rattle.map_service.specs.AssemblerTable.{TakeOutcome, cell, take_step}
 use Rattle.tm_link.specs.Builder.{is_to_send}
@@ -94,9 +94,7 @@ module _ (g : Config) (ready bypass : ℕ) where
 
   sends_as : (pulled : PulledUnit SegmentView) → frame_to_send g pulled ≡ frame_to_send c pulled
   sends_as NothingPulled = refl
-  sends_as (ControlPulled command) = refl
-  sends_as (BypassPulled segment) = refl
-  sends_as (SequencePulled n segment) = refl
+  sends_as _ = refl
 
   reported_as : (s : GroundState) (r : Result Clcw ClcwFault)
       → report_outcome (ground_with g s) r ≡ ground_outcome_with g (report_outcome (ground_with c s) r)

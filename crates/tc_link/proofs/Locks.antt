@@ -446,13 +446,9 @@ module _ (c : Config) (d : Directive) (base : ℕ) (w : World) (k : Sound c w) (
 
   -- a report by itself has the cause that its frame has
   word_cause : (alert : Alert) → HasCause w events.DownDeliver alert → HasCause w events.DownClcw alert
-  word_cause Limit is = (tt, is.1, is.2)
   word_cause Timer is = absurd (cc is)
   word_cause Terminated is = absurd (cc is)
-  word_cause alarms.Lockout is = is
-  word_cause NnR is = is
-  word_cause ClcwAlert is = elim is [ ]
-  word_cause Synch is = is
+  word_cause _ is = is
 
   cause_word : Begun c d base w ⊎ Late c d base w → (alert : Alert)
       → alert_in (world_step w events.DownClcw).answer ≡ Some alert → HasCause w events.DownClcw alert

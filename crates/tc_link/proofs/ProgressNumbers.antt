@@ -8,7 +8,7 @@ use Rattle.tc_link.proofs.Common.{directive_step, FopState, FopOutcome, S1, S3, 
 use Rattle.tc_link.proofs.Common.{after_move_on, after_acknowledge, after_new_value, retransmits, heard_active}
 use Rattle.tc_link.proofs.Common.{pull_step, pulled_out, PulledUnit, after_restart, without_oldest_mark, unmarked_unit}
 use Rattle.tc_link.proofs.Common.{units_of, tick_step, ticked, after_repeat, after_stop, due_again, after_alert}
-use Rattle.tc_link.proofs.Common.{FarmState, FarmMode, Open, Wait, Verdict, Accepted, verdict_of, after_verdict}
+use Rattle.tc_link.proofs.Common.{FarmState, FarmMode, Open, Verdict, Accepted, verdict_of, after_verdict}
 use Rattle.tc_link.proofs.Common.{after_unlock, after_set_vr, after_release, report_of, Config, FitsFrame, frame_of}
 use Rattle.tc_link.proofs.Common.{frame_to_send, with_fop, is_closed, after_extraction, extract_step, IsDirective}
 use Rattle.tc_link.proofs.Common.{IsEvent, SpacecraftState, SpacecraftOutcome, body_outcome, sequence_outcome}
@@ -147,9 +147,8 @@ module _ (s : FopState SegmentView) (k : Numbered s) where
     })
 
   due_octet : (control : Control) → IsOctetOf control → IsOctetOf (due_again control)
-  due_octet Idle is = tt
-  due_octet (Due command) is = is
-  due_octet (Sent command) is = is
+  due_octet Idle is = is
+  due_octet _ is = is
 
   tick_numbers : Numbers (tick_step s)
   tick_numbers =
@@ -228,18 +227,15 @@ module _ (s : FarmState) (octet : s.vr < 256) where
 
   unlock_octet : (m : FarmMode) → (after_unlock s m).vr < 256
   unlock_octet Open = octet
-  unlock_octet Wait = octet
-  unlock_octet Lockout = octet
+  unlock_octet _ = octet
 
   set_octet : (x : ℕ) (m : FarmMode) → x < 256 → (after_set_vr s x m).vr < 256
-  set_octet x Open is = is
-  set_octet x Wait is = is
   set_octet x Lockout is = octet
+  set_octet x _ is = is
 
   release_octet : (m : FarmMode) → (after_release s m).vr < 256
   release_octet Open = octet
-  release_octet Wait = octet
-  release_octet Lockout = octet
+  release_octet _ = octet
 
 abbrev pub IsOctetBody : BodyView → Type 0
 IsOctetBody (Bc command) = IsOctetIn command
@@ -469,13 +465,9 @@ IsCalm events.Take = Unit {0}
 IsCalm _ = ⊥
 
 pub calm_fits : (e : Event) → IsCalm e → IsEvent e
-calm_fits events.Send calm = tt
-calm_fits events.UpDeliver calm = tt
-calm_fits events.Report calm = tt
-calm_fits events.DownDeliver calm = tt
-calm_fits events.Tick calm = tt
-calm_fits events.Take calm = tt
-calm_fits _ calm = elim calm [ ]
+calm_fits (events.Directive d) calm = elim calm [ ]
+calm_fits (events.Resume value) calm = elim calm [ ]
+calm_fits _ calm = tt
 
 pub no_directive : {A : Type 0} (e : Event) → IsCalm e → (d : Directive) → e ≡ events.Directive d → A
 no_directive e calm d is = absurd (let no : IsCalm (events.Directive d) = subst IsCalm is calm in no)
@@ -484,13 +476,9 @@ pub no_resumption : {A : Type 0} (e : Event) → IsCalm e → (value : ℕ) → 
 no_resumption e calm value is = absurd (let no : IsCalm (events.Resume value) = subst IsCalm is calm in no)
 
 pub calm_goes : (w : World) (e : Event) → IsCalm e → BeginsNoSession w e
-calm_goes w events.Send calm = tt
-calm_goes w events.UpDeliver calm = tt
-calm_goes w events.Report calm = tt
-calm_goes w events.DownDeliver calm = tt
-calm_goes w events.Tick calm = tt
-calm_goes w events.Take calm = tt
-calm_goes w _ calm = elim calm [ ]
+calm_goes w (events.Directive d) calm = elim calm [ ]
+calm_goes w (events.Resume value) calm = elim calm [ ]
+calm_goes w _ calm = tt
 
 pub going_step : (w : World) → IsReached w → (e : Event) → IsCalm e → IsReached (world_step w e).after
 going_step w g e calm = reached_step w e g (calm_fits e calm)

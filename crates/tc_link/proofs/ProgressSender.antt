@@ -13,7 +13,7 @@ use Rattle.tc_link.proofs.Common.{length-drop, length-map, option_to_list, after
 use Rattle.tc_link.proofs.Common.{Due, eqb-false, ltb-false, BodyView, Ad, Bd, Bc, S4, S5, S6, Idle, after_alert}
 use Rattle.tc_link.proofs.Common.{after_count, due_again, begun, InitWithoutCheck, InitWithCheck, InitSetVr, FarmMode}
 use Rattle.tc_link.proofs.Common.{Open, Wait, FarmState, FlagsAgree, state_of, after_unlock, after_set_vr}
-use Rattle.tc_link.proofs.Common.{after_release, Verdict, Accepted, Ahead, NoBuffer, Outside, verdict_of}
+use Rattle.tc_link.proofs.Common.{after_release, Verdict, Accepted, NoBuffer, verdict_of}
 use Rattle.tc_link.proofs.Common.{SpacecraftState, body_outcome, sequence_outcome, bypass_outcome, is_free, is_kept}
 use Rattle.tc_link.proofs.Common.{limits_of, Unlock, SetVr, or_parts}
 use Rattle.std.proofs.lemmas.Bool.{not-true}
@@ -24,8 +24,6 @@ use Rattle.cop1.specs.declared.vocabulary.Alert.TheVariants.{Clcw as ClcwAlert, 
 use Rattle.cop1.specs.FopReport.{nothing_new, move_on, ask_for_others, ask_for_all, goes_back_again, ticks_for}
 use Rattle.cop1.specs.FopTick.{tick_with, timer_ended, while_below}
 use Rattle.cop1.specs.FopWords.{is_outside, after_gone}
-use Rattle.cop1.specs.declared.farm.FarmMode.TheVariants.{Lockout}
-use Rattle.cop1.specs.declared.farm.Verdict.TheVariants.{Behind, Discarded}
 use Rattle.cop1.specs.declared.vocabulary.Directive.TheVariants.{Terminate, SetWindow, SetLimit, SetTimer}
 use Rattle.cop1.specs.Farm.{ad_verdict, place_at}
 use Rattle.cop1.specs.FopDirective.{obeys, from_S6, terminate_in}
@@ -592,8 +590,7 @@ in_cells : (free : Bool) (m : FarmMode) → NoneFree free (ad_verdict (place_at 
     × NoneFree free (ad_verdict (place_at 127 128) free m)
 in_cells false m = (λ e. refl, λ e. refl, λ e. refl, λ e. refl)
 in_cells true Open = (λ e. absurd cc, λ e. absurd cc, λ e. absurd cc, λ e. absurd cc)
-in_cells true Wait = (λ e. absurd cc, λ e. absurd cc, λ e. absurd cc, λ e. absurd cc)
-in_cells true Lockout = (λ e. absurd cc, λ e. absurd cc, λ e. absurd cc, λ e. absurd cc)
+in_cells true _ = (λ e. absurd cc, λ e. absurd cc, λ e. absurd cc, λ e. absurd cc)
 
 no_buffer : (s : FarmState) (n : ℕ) (free : Bool) → NoneFree free (verdict_of s n free)
 no_buffer s n free =
@@ -623,10 +620,7 @@ module _ (s : SpacecraftState) (flags : FlagsAgree s.farm) (k : WaitsFull s) whe
       let old : s.farm.wait ≡ true = rw is at waits in
       omega (arith, k old, length-append s.ready (put_on_map u.header.map (assemble_step s u).packets))
   sequence_full n u NoBuffer is waits = full_where (no_buffer s.farm n (is_free s) is)
-  sequence_full n u Ahead is waits = k (rw is at waits)
-  sequence_full n u Behind is waits = k (rw is at waits)
-  sequence_full n u Outside is waits = k (rw is at waits)
-  sequence_full n u Discarded is waits = k (rw is at waits)
+  sequence_full n u _ is waits = k (rw is at waits)
 
   bypass_full : (u : SegmentView) (kept : Bool) → WaitsFull (bypass_outcome s u kept).after
   bypass_full u true waits = k waits
@@ -634,13 +628,11 @@ module _ (s : SpacecraftState) (flags : FlagsAgree s.farm) (k : WaitsFull s) whe
 
   unlock_full : (m : FarmMode) → (after_unlock s.farm m).wait ≡ true → s.config.ready_slots ≤ length s.ready
   unlock_full Open waits = k waits
-  unlock_full Wait waits = absurd cc
-  unlock_full Lockout waits = absurd cc
+  unlock_full _ waits = absurd cc
 
   set_full : (x : ℕ) (m : FarmMode) → (after_set_vr s.farm x m).wait ≡ true → s.config.ready_slots ≤ length s.ready
-  set_full x Open waits = k waits
   set_full x Wait waits = absurd cc
-  set_full x Lockout waits = k waits
+  set_full x _ waits = k waits
 
   pub body_full : (f : BodyView) → WaitsFull (body_outcome s f).after
   body_full (Ad n u) = sequence_full n u (verdict_of s.farm n (is_free s)) refl
@@ -650,6 +642,5 @@ module _ (s : SpacecraftState) (flags : FlagsAgree s.farm) (k : WaitsFull s) whe
 
   -- a receiver that is released does not wait
   pub released : (m : FarmMode) → s.farm.state ≡ m → (after_release s.farm m).wait ≡ false
-  released Wait is = refl
-  released Lockout is = refl
   released Open is = (open_flags s.farm.lockout s.farm.wait (sym is ∙ flags.state)).1
+  released _ is = refl

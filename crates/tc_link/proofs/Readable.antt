@@ -40,6 +40,7 @@ use Rattle.tc_link.proofs.Refilled.{refilled_keeps}
 use Rattle.tc_link.proofs.Linked.{Carries, Reporting, carries_push}
 use Rattle.tc_link.proofs.IdleStart.{HasReports}
 use Rattle.nodes.specs.Spacecraft.{spacecraft_receive}
+use Rattle.map_service.proofs.Groups.{behind-each}
 
 -- What is put on the link is read from it.
 
@@ -87,11 +88,6 @@ fits_at (x ∷ xs) (suc i) u all e = fits_at xs i u all.1 e
 abbrev pub All : List SegmentView → Type 0
 All us = AllByRecursion FitsFrame us
 
-all_drop : (k : ℕ) (us : List SegmentView) → All us → All (drop k us)
-all_drop zero us all = all
-all_drop (suc k) [] all = all
-all_drop (suc k) (u ∷ us) all = all_drop k us all.1
-
 pub record Fit (f : FopState SegmentView) (pending : List SegmentView) : Type 0 where
   pub sent : is_closed f.state ≡ false → All (units_of f.sent)
   pub unsent : is_closed f.state ≡ false → All (option_to_list f.waiting ++ pending)
@@ -108,7 +104,8 @@ module _ (s : FopState SegmentView) (pending : List SegmentView) (k : Fit s pend
   fewer : (f : FopState SegmentView) (n : ℕ) → (is_closed f.state ≡ false → is_closed s.state ≡ false)
       → units_of f.sent ≡ units_of (drop n s.sent) → f.waiting ≡ s.waiting → Fit f pending
   fewer f n on sent waiting = record {
-    sent = λ running. subst All (sym (sent ∙ units-drop n s.sent)) (all_drop n (units_of s.sent) (k.sent (on running)));
+    sent = λ running. subst All (sym (sent ∙ units-drop n s.sent))
+        (behind-each FitsFrame n (units_of s.sent) (k.sent (on running)));
     unsent = λ running. rw waiting (k.unsent (on running));
   }
 

@@ -253,9 +253,7 @@ module _ (s : FopState SegmentView) (k : Usual s) (r : Clcw) where
   nothing_known S1 is active told = rw is told
   nothing_known S2 is active told = tt
   nothing_known S3 is active told = tt
-  nothing_known S4 is active told = elim active [ ]
-  nothing_known S5 is active told = elim active [ ]
-  nothing_known S6 is active told = elim active [ ]
+  nothing_known _ is active told = elim active [ ]
 
   module _ (l : locks r ≡ false) (a : asks r ≡ true) (apart : (r.value == s.vs) ≡ false) where
     asked_by : (f : FopState SegmentView) (wait : Bool) → waits r ≡ wait → f.vs ≡ s.vs → r.value ≡ f.nn
@@ -282,9 +280,7 @@ module _ (s : FopState SegmentView) (k : Usual s) (r : Clcw) where
     back_known S1 is active asked = repeats_known s asked (nat_lt s.count s.limit)
     back_known S2 is active asked = rw is asked
     back_known S3 is active asked = repeats_known s asked (nat_lt s.count s.limit)
-    back_known S4 is active asked = elim active [ ]
-    back_known S5 is active asked = elim active [ ]
-    back_known S6 is active asked = elim active [ ]
+    back_known _ is active asked = elim active [ ]
 
     all_known : IsActive s.state → r.value ≡ s.nn → KnownAfter (ask_for_all s (waits r))
     all_known active at =
@@ -330,9 +326,6 @@ module _ (s : FopState SegmentView) (k : Usual s) (r : Clcw) where
   begun_known starting l w a at = record { unlocked = l; asking = a; waiting = w; at = at ∙ k.even starting }
 
   known_in : (m : FopMode) → s.state ≡ m → KnownAfter (report_in s r m)
-  known_in S1 is = active_known (rw is tt)
-  known_in S2 is = active_known (rw is tt)
-  known_in S3 is = active_known (rw is tt)
   known_in S4 is =
       cond_both (locks r) (alerts s Lockout) _ KnownAfter (λ t. tt)
       (λ l. cond_both (not (r.value == s.vs)) (alerts s NnR) _ KnownAfter (λ t. tt)
@@ -349,6 +342,7 @@ module _ (s : FopState SegmentView) (k : Usual s) (r : Clcw) where
       (eqb-true r.value s.vs p.1))
       (λ t. rw is t)
   known_in S6 is = rw is tt
+  known_in _ is = active_known (rw is tt)
 
   report_known : KnownTo (clcw_step s r).after r
   report_known = known_in s.state refl
@@ -358,12 +352,10 @@ module _ (s : FopState SegmentView) (k : Usual s) (r : Clcw) where
 module _ (r : Clcw) (octet : r.value < 256) (s : FopState SegmentView) (usual : Usual s) (k : KnownTo s r) where
   first_known : (m : FopMode) (vs : ℕ) → IsActive m → (r.value ≡ s.nn → (r.value == vs) ≡ false)
       → Known m s.vs s.nn s.limit r → Known m vs s.nn s.limit r
-  first_known S1 vs active other k = k
   first_known S2 vs active other k = let apart = other k.at in assumption (apart, k)
   first_known S3 vs active other k = let apart = other k.at in assumption (apart, k)
-  first_known S4 vs active other k = k
   first_known S5 vs active other k = elim active [ ]
-  first_known S6 vs active other k = k
+  first_known _ vs active other k = k
 
   next_apart : nat_lt (ahead_by s.vs s.nn) s.window ≡ true → r.value ≡ s.nn → (r.value == ((s.vs + 1) % 256)) ≡ false
   next_apart room at =

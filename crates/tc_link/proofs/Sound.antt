@@ -2,7 +2,7 @@
 use Rattle.tc_link.proofs.Common.{◌≡◌, ◌/◌, ◌<◌, ◌≤◌, true, [], length, AllByRecursion, SegmentView, Control, Idle}
 use Rattle.tc_link.proofs.Common.{FopMode, FarmState, FlagsAgree, FopState, Config, FitsFrame, GroundState, is_closed}
 use Rattle.tc_link.proofs.Common.{SpacecraftState, IsBuilderOf, IsConfig, World, S5, None, ℕ, false, ◌∷◌, Some, refl}
-use Rattle.tc_link.proofs.Common.{◌∙◌, arith, ◌+◌, ◌%◌, Clcw, FarmMode, Open, Wait, Verdict, Accepted, Sent, FarmEvent}
+use Rattle.tc_link.proofs.Common.{◌∙◌, arith, ◌+◌, ◌%◌, Clcw, FarmMode, Open, Verdict, Accepted, Sent, FarmEvent}
 use Rattle.tc_link.proofs.Common.{AdArrives, BdArrives, BufferReleased, farm_step, after_verdict, goes_on, after_unlock}
 use Rattle.tc_link.proofs.Common.{after_set_vr, after_release, verdict_of, FopOutcome, pull_step, clcw_step}
 use Rattle.tc_link.proofs.Common.{report_while_active, retransmits, after_new_value, IsActive, tick_step, after_count}
@@ -24,7 +24,6 @@ use Rattle.tc_frame.specs.Decoding.{frame_at}
 use Rattle.map_service.specs.Packets.{packets_in, are_taken, is_some_over}
 use Rattle.map_service.specs.Cutting.{segment_with}
 use Rattle.tm_link.specs.Builder.{after_send, idle_after, with_next_count}
-use Rattle.cop1.specs.declared.farm.FarmMode.TheVariants.{Lockout}
 use Rattle.cop1.specs.Farm.{UnlockArrives, SetVrArrives, InvalidArrives}
 use Rattle.cop1.proofs.FarmFlags.{FlagsAgree-step}
 use Rattle.nodes.specs.Spacecraft.{command_event, spacecraft_receive}
@@ -181,20 +180,17 @@ verdict_so s _ = (refl, refl)
 
 unlock_so : (s : FarmState) (m : FarmMode) → ((after_unlock s m).width ≡ s.width) × ((after_unlock s m).farm_b < 4)
 unlock_so s Open = (refl, omega arith)
-unlock_so s Wait = (refl, omega arith)
-unlock_so s Lockout = (refl, omega arith)
+unlock_so s _ = (refl, omega arith)
 
 set_so : (s : FarmState) (x : ℕ) (m : FarmMode)
     → ((after_set_vr s x m).width ≡ s.width) × ((after_set_vr s x m).farm_b < 4)
 set_so s x Open = (refl, omega arith)
-set_so s x Wait = (refl, omega arith)
-set_so s x Lockout = (refl, omega arith)
+set_so s x _ = (refl, omega arith)
 
 release_so : (s : FarmState) (m : FarmMode)
     → ((after_release s m).width ≡ s.width) × ((after_release s m).farm_b ≡ s.farm_b)
 release_so s Open = (refl, refl)
-release_so s Wait = (refl, refl)
-release_so s Lockout = (refl, refl)
+release_so s _ = (refl, refl)
 
 farm_fields : (s : FarmState) (e : FarmEvent) → s.farm_b < 4
     → ((farm_step s e).width ≡ s.width) × ((farm_step s e).farm_b < 4)

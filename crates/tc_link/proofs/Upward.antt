@@ -701,8 +701,7 @@ module _ (early : Bool) (c : Config) (d : Directive) (base : ℕ) (w : World) (k
 due_fits : (d : Directive) (base : ℕ) (control : Control) → ControlFits d base control
     → ControlFits d base (due_again control)
 due_fits d base Idle fits = fits
-due_fits d base (Due command) fits = fits
-due_fits d base (Sent command) fits = fits
+due_fits d base _ fits = fits
 
 module _ (early : Bool) (c : Config) (d : Directive) (base : ℕ) (w : World) (g : In early c d base w) where
   abbrev SenderLeaves : {A : Type 0} → FopOutcome SegmentView A → Type 0
