@@ -150,10 +150,6 @@ module _ (w : World) (value : ℕ) where
       (λ (o : GroundOutcome (Result ℕ LinkFault)). P (world_after_resuming w value o.answer)) (λ can. each _ can)
       (λ t. refused)
 
-  pub resumes_not : can_resume w.ground_node value ≡ false
-      → world_step w (events.Resume value) ≡ world_reply (Refused (Link NotKnown)) w
-  resumes_not refused = rw refused refl
-
 -- What an event may do, by its kind.
 
 -- the first frame on its way down is there no more

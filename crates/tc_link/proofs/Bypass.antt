@@ -340,8 +340,8 @@ module _ (c : Config) (w : World) (h : Holding c w) where
             directive_same (directed w (SetVs value)).ground_node InitUnlock ∙ directive_same s (SetVs value);
         ticks = λ is. with_same s (tick_step s.fop).after (tick_same s.fop);
         sends = λ is. absurd (not_sent is);
-        hears_none = λ down x packets. refl;
-        hears = λ down x packets r. refilled_same _ ∙ report_same s.fop r;
+        hears_none = λ told x packets. refl;
+        hears = λ told x packets r. refilled_same _ ∙ report_same s.fop r;
       }) in
       fewer (world_step w e).after
       (board_after w (λ t. AreSomeOf t.bypass w.spacecraft.bypass) e (record {

@@ -153,19 +153,13 @@ module _ (w : World) where
 
   directive_keeps : (d : Directive) → BeginsNoSession w (events.Directive d) → SetsNoNumber w (events.Directive d)
       → KeepsAccount w (world_step w (events.Directive d))
-  directive_keeps InitWithoutCheck goes quiet =
-      refused_keeps InitWithoutCheck (off_refused _ w.ground_node.fop.state _ (goes refl))
-  directive_keeps InitWithCheck goes quiet =
-      refused_keeps InitWithCheck (off_refused _ w.ground_node.fop.state _ (goes refl))
-  directive_keeps InitUnlock goes quiet = refused_keeps InitUnlock (off_refused _ w.ground_node.fop.state _ (goes refl))
-  directive_keeps (InitSetVr x) goes quiet =
-      refused_keeps (InitSetVr x) (off_refused _ w.ground_node.fop.state _ (goes refl))
   directive_keeps (SetVs x) goes quiet =
       refused_keeps (SetVs x) (off_refused _ w.ground_node.fop.state _ (quiet x refl))
   directive_keeps Terminate goes quiet = obeyed_keeps Terminate refl refl _ _
   directive_keeps (SetWindow x) goes quiet = obeyed_keeps (SetWindow x) refl refl _ _
   directive_keeps (SetLimit x) goes quiet = obeyed_keeps (SetLimit x) refl refl _ _
   directive_keeps (SetTimer x) goes quiet = obeyed_keeps (SetTimer x) refl refl _ _
+  directive_keeps d goes quiet = refused_keeps d (off_refused _ w.ground_node.fop.state _ (goes refl))
 
 -- ---- one event
 

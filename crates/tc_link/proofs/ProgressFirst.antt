@@ -232,9 +232,6 @@ pub record Ready (w : World) : Type 0 where
   pub quiet : Quiet w
   pub marked : are_marked w.ground_node.fop.sent ≡ true
 
-pub is_active : (w : World) → Quiet w → IsActive w.ground_node.fop.state
-is_active w q = elim q.state [ inl one ↦ rw one tt | inr two ↦ rw two tt ]
-
 -- in S1 and S2 the sender waits where not all is marked
 pub awaits_so : (w : World) → Quiet w
     → awaits w.ground_node.fop.state (are_marked w.ground_node.fop.sent) ≡ not (are_marked w.ground_node.fop.sent)

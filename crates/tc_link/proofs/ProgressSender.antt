@@ -81,7 +81,7 @@ module _ (P : FopState SegmentView → Type 0)
       restarts = λ value is can. resumed value is;
       ticks = λ is. with_kept w.ground_node (tick_step s).after (tick is);
       sends = λ is sent. with_kept w.ground_node (pull_step s).after (pull is);
-      hears_none = λ down x packets. k;
+      hears_none = λ told x packets. k;
       hears = λ told x packets r. let f : FopState SegmentView = (clcw_step s r).after in
           with_kept (acknowledging (record w.ground_node { extractor = x; telemetry = packets }) f) f (hears told r);
     })
@@ -547,10 +547,6 @@ module _ (s : FopState SegmentView) (k : Timed s) where
   terminated_timed _ = gives_up s refl k.count refl
 
   directive_timed : (d : Directive) → Times (directive_step s d)
-  directive_timed InitWithoutCheck = from_timed s.state (begun s InitWithoutCheck) (begun_timed InitWithoutCheck)
-  directive_timed InitWithCheck = from_timed s.state (begun s InitWithCheck) (begun_timed InitWithCheck)
-  directive_timed InitUnlock = from_timed s.state (begun s InitUnlock) (begun_timed InitUnlock)
-  directive_timed (InitSetVr x) = from_timed s.state (begun s (InitSetVr x)) (begun_timed (InitSetVr x))
   directive_timed Terminate = terminated_timed s.state
   directive_timed (SetVs x) =
       from_timed s.state (record s { vs = x; nn = x })
@@ -565,6 +561,7 @@ module _ (s : FopState SegmentView) (k : Timed s) where
   directive_timed (SetTimer n) =
       cond_both (n == 0) _ (obeys (record s { timer = n })) (λ o. Times o) (λ t. k)
       (λ t. same_as (record s { timer = n }) refl refl refl refl refl (omega (arith, eqb-false n 0 t)) k.window)
+  directive_timed d = from_timed s.state (begun s d) (begun_timed d)
 
 -- whatever waits
 queued_timed : (f : FopState SegmentView) (waiting : Option SegmentView) (bypass : List SegmentView) → Timed f

@@ -302,8 +302,8 @@ module _ (c : Config) (w : World) (k : Sound c w) (g : Carried c w) where
             (directive_fits c s k.ground_node g.fits (SetVs value)) InitUnlock;
         ticks = λ is. with_fits s (tick_step s.fop).after (tick_fits s.fop s.pending g.fits);
         sends = λ is sent. with_fits s (pull_step s.fop).after (pull_fits s.fop s.pending g.fits);
-        hears_none = λ down x packets. assumption g.fits;
-        hears = λ down x packets r. refilled_fits _ (heard_fits s.fop s.pending g.fits r);
+        hears_none = λ told x packets. assumption g.fits;
+        hears = λ told x packets r. refilled_fits _ (heard_fits s.fop s.pending g.fits r);
       })
 
   pub step_carried : (e : Event) → IsEvent e → Carried c (world_step w e).after
@@ -455,8 +455,8 @@ module _ (c : Config) (w : World) (k : Sound c w) (off : IsOff w) (none_up : num
     ticks = λ is. closed_with w.ground_node (tick_step s).after (ticked s (λ o. o.after.state ≡ S6) (assumption off));
     sends = λ is sent. closed_with w.ground_node (pull_step s).after (pulled_out s (λ o. o.after.state ≡ S6)
         (assumption off));
-    hears_none = λ down x packets. off;
-    hears = λ down x packets r. refilled_keeps (λ t. t.fop.state ≡ S6) _
+    hears_none = λ told x packets. off;
+    hears = λ told x packets r. refilled_keeps (λ t. t.fop.state ≡ S6) _
         (λ waiting pending on closed. heard_in s r s.state off off);
   })
 

@@ -393,10 +393,6 @@ module _ (r : Clcw) (octet : r.value < 256) (s : FopState SegmentView) (usual : 
 
   direct_known : (d : Directive) → (is_initiation d ≡ true → is_closed s.state ≡ false) → d ≢ SetLimit 1
       → KnownTo (directive_step s d).after r
-  direct_known InitWithoutCheck on other = not_begun s.state _ (on refl)
-  direct_known InitWithCheck on other = not_begun s.state _ (on refl)
-  direct_known InitUnlock on other = not_begun s.state _ (on refl)
-  direct_known (InitSetVr x) on other = not_begun s.state _ (on refl)
   direct_known Terminate on other = ended_known s.state
   direct_known (SetVs x) on other = set_known x s.state refl
   direct_known (SetWindow n) on other =
@@ -408,6 +404,7 @@ module _ (r : Clcw) (octet : r.value < 256) (s : FopState SegmentView) (usual : 
   direct_known (SetTimer n) on other =
       cond_both (n == 0) _ _ (λ (o : FopOutcome SegmentView (Result (Option Alert) CopFault)). KnownTo o.after r)
       (λ t. k) (λ t. k)
+  direct_known _ on other = not_begun s.state _ (on refl)
 
 -- ---- the ground
 
@@ -558,8 +555,9 @@ module _ (r : Clcw) (octet : r.value < 256) where
     used_again : (r.vcid == s.config.vcid) ≡ true → Repeats (using s)
     used_again own all =
         let now : GroundState = ground_run (using s).after since in
-        let config = run_config s.config since (using s).after
-        (refilled_config s.config (record (acknowledging s (clcw_step s.fop r).after) { fop = (clcw_step s.fop r).after }) refl) in
+        let f : FopState SegmentView = (clcw_step s.fop r).after in
+        let used = refilled_config s.config (record (acknowledging s f) { fop = f }) refl in
+        let config = run_config s.config since (using s).after used in
         cond_both (r.vcid == now.config.vcid) _ _
         (λ (o : GroundOutcome HeardClcw). o ≡ repeated_outcome now (using s).answer)
         (λ t. again now (using s).answer refl (run_heard since (using s).after all (uses_heard s usual)))

@@ -467,8 +467,8 @@ module _ (c : Config) (w : World) (k : Sound c w) (e : Event) (fits : IsEvent e)
     restarts = λ value is can. (resumed_sound c w k value (subst IsEvent is fits)).ground_node;
     ticks = λ is. with_so c s k.ground_node (tick_step s.fop).after (tick_so c s.fop k.ground_node.fop);
     sends = λ is sent. with_so c s k.ground_node (pull_step s.fop).after (pull_so c s.fop k.ground_node.fop);
-    hears_none = λ down x packets. assumption k.ground_node;
-    hears = λ down x packets r. refilled_so c _ k.ground_node.config (report_so c s.fop k.ground_node.fop r);
+    hears_none = λ told x packets. assumption k.ground_node;
+    hears = λ told x packets r. refilled_so c _ k.ground_node.config (report_so c s.fop k.ground_node.fop r);
   })
 
   abbrev Board : SpacecraftState → Type 0
