@@ -72,15 +72,10 @@ module _ (f : FopState SegmentView) where
   no_longer g is = omega (arith, ap length is, length-map f.sent marked_unit)
 
   ticked_shorter : IsShorter f (tick_step f)
-  ticked_shorter = ticked f (λ o. IsShorter f o) (record {
-    off = omega arith;
-    runs = λ left. omega arith;
-    stops = omega arith;
-    repeats = λ active. no_longer (after_repeat (after_stop f)) refl;
-    counts = omega arith;
-    commands = λ is. omega arith;
-    gives_up = omega arith;
-  })
+  ticked_shorter =
+      let same : length f.sent ≤ length f.sent = omega arith in
+      let none : 0 ≤ length f.sent = omega arith in
+      ticked f (λ o. IsShorter f o) (assumption (same, none, no_longer (after_repeat (after_stop f)) refl))
 
   -- an initiation leaves the queue empty
   begun_sent : (d : Directive) → is_initiation d ≡ true → (begun f d).sent ≡ []

@@ -35,7 +35,7 @@ use Rattle.simulated_link.specs.declared.fault.SimFault.TheVariants.{NothingInTr
 use Rattle.simulated_link.specs.Replies.{ReplyView, Nothing, Lost, Refused, Resumed, answer_to_refusal}
 use Rattle.simulated_link.specs.World.{world_after_word, down_word_outcome, down_clcw_step, world_after_resuming}
 use Rattle.simulated_link.specs.World.{resumed, directed, world_after_submission, world_after_bypass, world_after_take}
-use Rattle.simulated_link.specs.World.{world_after_queueing, session_after_report, BeginsNoSession}
+use Rattle.simulated_link.specs.World.{world_after_queueing, session_after_report, BeginsNoSession, Session}
 use Rattle.simulated_link.specs.declared.reply.NodeFault.TheVariants.{Link}
 use Rattle.simulated_link.specs.declared.reply.Reply.{Reply}
 use Rattle.simulated_link.specs.declared.reply.Reply.TheVariants as replies
@@ -149,10 +149,6 @@ module _ (w : World) (value : ℕ) where
       cond_both (can_resume w.ground_node value) _ _
       (λ (o : GroundOutcome (Result ℕ LinkFault)). P (world_after_resuming w value o.answer)) (λ can. each _ can)
       (λ t. refused)
-
-  pub resumes_not : can_resume w.ground_node value ≡ false
-      → world_step w (events.Resume value) ≡ world_reply (Refused (Link NotKnown)) w
-  resumes_not refused = rw refused refl
 
 -- What an event may do, by its kind.
 
@@ -319,29 +315,37 @@ pub board_after : (w : World) (P : SpacecraftState → Type 0) (e : Event) → A
     → P (world_step w e).after.spacecraft
 board_after w P e each = stepped w (λ new. P new.spacecraft) e (assumption each)
 
-pub record AtEachStepOnGround (w : World) (e : Event) (P : GroundState → Type 0) : Type 0 where
-  pub same : P w.ground_node
+-- the ground, and with it the records
+pub record AtEachStepOnGround (w : World) (e : Event) (P : GroundState → Session → Type 0) : Type 0 where
+  pub same : P w.ground_node w.session
   pub submits : (m : ℕ) (octets : List ℕ) → submit_fault w.ground_node m octets ≡ None
       → P (after_submission w.ground_node m octets)
+      (record w.session { submissions = w.session.submissions ++ packet_on m octets ∷ [] })
   pub bypasses : (m : ℕ) (octets : Bor (List ℕ)) → e ≡ events.Bypass m octets
-      → bypass_fault w.ground_node m octets.now ≡ None → P (ground.after_bypass w.ground_node m octets.now)
-  pub directs : (d : Directive) → e ≡ events.Directive d → P (ground_step w.ground_node (ground.Direct d)).after
+      → bypass_fault w.ground_node m octets.now ≡ None → P (ground.after_bypass w.ground_node m octets.now) w.session
+  pub directs : (d : Directive) → e ≡ events.Directive d → P (directed w d).ground_node (directed w d).session
   pub restarts : (value : ℕ) → e ≡ events.Resume value → can_resume w.ground_node value ≡ true
-      → P (resumed w value).ground_node
-  pub ticks : e ≡ events.Tick → P (ground_step w.ground_node ground.Tick).after
-  pub sends : e ≡ events.Send → P (ground_step w.ground_node ground.Pull).after
+      → P (resumed w value).ground_node (resumed w value).session
+  pub ticks : e ≡ events.Tick → P (ground_step w.ground_node ground.Tick).after w.session
+  pub sends : e ≡ events.Send → (sent : List (List ℕ))
+      → P (ground_step w.ground_node ground.Pull).after (record w.session { sent = sent })
   pub hears_none : BringsReport e → (x : ExtractorState) (packets : List (List ℕ))
       → P (record w.ground_node { extractor = x; telemetry = packets })
+      (session_after_report w.session w.ground_node (record w.ground_node { extractor = x; telemetry = packets }))
   pub hears : BringsReport e → (x : ExtractorState) (packets : List (List ℕ)) (r : Clcw)
       → P (ground.after_report (record w.ground_node { extractor = x; telemetry = packets })
       (clcw_step w.ground_node.fop r).after)
+      (session_after_report w.session w.ground_node
+      (ground.after_report (record w.ground_node { extractor = x; telemetry = packets })
+      (clcw_step w.ground_node.fop r).after))
 
-pub ground_after : (w : World) (P : GroundState → Type 0) (e : Event) → AtEachStepOnGround w e P
-    → P (world_step w e).after.ground_node
+pub ground_after : (w : World) (P : GroundState → Session → Type 0) (e : Event) → AtEachStepOnGround w e P
+    → P (world_step w e).after.ground_node (world_step w e).after.session
 ground_after w P e each =
-    let sends : e ≡ events.Send → (up sent : List (List ℕ)) → P (ground_step w.ground_node ground.Pull).after =
-    λ is up sent. each.sends is in
-    stepped w (λ new. P new.ground_node) e (assumption (sends, each))
+    let sends : e ≡ events.Send → (up sent : List (List ℕ))
+    → P (ground_step w.ground_node ground.Pull).after (record w.session { sent = sent }) =
+    λ is up sent. each.sends is sent in
+    stepped w (λ new. P new.ground_node new.session) e (assumption (sends, each))
 
 -- what is on its way up, but for a frame that is sent, and what is on its way down, but for a report
 pub up_after : (w : World) (P : List (List ℕ) → Type 0) (e : Event) → e ≢ events.Send → P w.up

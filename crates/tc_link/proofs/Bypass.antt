@@ -1,19 +1,17 @@
 -- Packets that go past the sequence control.
 use Rattle.tc_link.proofs.Common.{◌≡◌, ℕ, Bool, true, false, refl, ◌∙◌, Clcw, SegmentView, Directive, CopFault, Alert}
-use Rattle.tc_link.proofs.Common.{InitWithoutCheck, InitWithCheck, InitUnlock, InitSetVr, directive_step, FopState}
+use Rattle.tc_link.proofs.Common.{InitWithoutCheck, InitUnlock, directive_step, FopState}
 use Rattle.tc_link.proofs.Common.{FopOutcome, clcw_step, retransmits, tick_step, heard_active, obeyed, begun, ticked}
 use Rattle.tc_link.proofs.Common.{GroundState, refill_step, with_fop, Result, Option, directive_outcome, TmFault, ◌≢◌}
-use Rattle.tc_link.proofs.Common.{telemetry_outcome, LinkFault, unless_refused, List, after_alert}
-use Rattle.tc_link.proofs.Common.{Some, None, SetVs, obeying, submitting, zero, suc, [], ◌∷◌, ◌++◌, drop, AreSomeOf}
-use Rattle.tc_link.proofs.Common.{◌+◌, ◌%◌, ◌-◌, length, map, Ok, Err, ap, sym, subst, append_assoc, append-nil}
-use Rattle.tc_link.proofs.Common.{map-append, cond_both, AllByRecursion, TcFault, On, BodyView, Ad, Bd, Bc, PulledUnit}
-use Rattle.tc_link.proofs.Common.{pull_step, pulled_out, units_of, Verdict, Config, FitsFrame}
-use Rattle.tc_link.proofs.Common.{frame_of, frame_to_send, bypass_fault, after_bypass, PacketOn}
-use Rattle.tc_link.proofs.Common.{SpacecraftState, SpacecraftOutcome, frame_outcome, body_outcome, sequence_outcome}
-use Rattle.tc_link.proofs.Common.{bypass_outcome, is_own_frame, is_kept, verdict_of, is_free, limits_of}
-use Rattle.tc_link.proofs.Common.{spacecraft_take_bypass, Heard, Event, World}
-use Rattle.tc_link.proofs.Common.{WorldOutcome, world_step, world_after_pull, world_after_take}
-use Rattle.tc_link.proofs.Common.{active_on, report_while_active}
+use Rattle.tc_link.proofs.Common.{telemetry_outcome, LinkFault, unless_refused, List, after_alert, Some, None, SetVs}
+use Rattle.tc_link.proofs.Common.{obeying, submitting, zero, suc, [], ◌∷◌, ◌++◌, drop, AreSomeOf, ◌+◌, ◌%◌, ◌-◌, length}
+use Rattle.tc_link.proofs.Common.{map, Ok, Err, ap, sym, subst, append_assoc, append-nil, map-append, cond_both}
+use Rattle.tc_link.proofs.Common.{AllByRecursion, TcFault, On, BodyView, Ad, Bd, Bc, PulledUnit, pull_step, pulled_out}
+use Rattle.tc_link.proofs.Common.{units_of, Verdict, Config, FitsFrame, frame_of, frame_to_send, bypass_fault}
+use Rattle.tc_link.proofs.Common.{after_bypass, PacketOn, SpacecraftState, SpacecraftOutcome, frame_outcome}
+use Rattle.tc_link.proofs.Common.{body_outcome, sequence_outcome, bypass_outcome, is_own_frame, is_kept, verdict_of}
+use Rattle.tc_link.proofs.Common.{is_free, limits_of, spacecraft_take_bypass, Heard, Event, World, WorldOutcome}
+use Rattle.tc_link.proofs.Common.{world_step, world_after_pull, world_after_take, active_on, report_while_active}
 use Rattle.std.proofs.lemmas.List.Concat.{flat_map-append}
 use Rattle.std.specs.List.{flat_map}
 use Rattle.std.specs.Borrow.{Bor}
@@ -34,9 +32,7 @@ use Rattle.nodes.specs.declared.heard.Heard.TheVariants as heard_cases
 use Rattle.nodes.specs.declared.event.Event.TheVariants as events
 use Rattle.simulated_link.specs.World.{world_after_bypass, directed}
 use Rattle.simulated_link.proofs.Counted.{reported, report_seen, frame_seen}
-use Rattle.simulated_link.proofs.Unchanged.{up_arrives}
-use Rattle.simulated_link.proofs.Unchanged.{board_after, ground_after}
-use Rattle.simulated_link.proofs.Unchanged.{up_after}
+use Rattle.simulated_link.proofs.Unchanged.{up_arrives, board_after, ground_after, up_after}
 use Rattle.tc_link.specs.Telemetry.{none, one, without}
 use Rattle.tc_link.specs.AnyPast.{LinkStep, Happens, TakeTelemetry, Receives, Hears, HearsReport, ForgetTelemetry}
 use Rattle.tc_link.specs.AnyPast.{NewGround, NewSpacecraft, IsLinkStep, link_step, link_run, after_report}
@@ -60,9 +56,6 @@ module _ (s : FopState SegmentView) where
 
   begun_same : (d : Directive) → Same (begun s d)
   begun_same InitWithoutCheck = refl
-  begun_same InitWithCheck = refl
-  begun_same InitUnlock = refl
-  begun_same (InitSetVr x) = refl
   begun_same _ = refl
 
   again_same : (repeats : Bool) → Same (retransmits s repeats)
@@ -338,7 +331,7 @@ module _ (c : Config) (w : World) (h : Holding c w) where
       let s = w.ground_node in
       let Queued : GroundState → Type 0 = λ t. t.fop.bypass ≡ s.fop.bypass in
       let ring = some_all w.spacecraft.bypass in
-      let queued : Queued (world_step w e).after.ground_node = ground_after w Queued e (record {
+      let queued : Queued (world_step w e).after.ground_node = ground_after w (λ t session. Queued t) e (record {
         same = refl;
         submits = λ m octets none. refilled_same (submitting s m octets);
         bypasses = λ m octets is none. absurd (not_given m octets is);
@@ -347,8 +340,8 @@ module _ (c : Config) (w : World) (h : Holding c w) where
             directive_same (directed w (SetVs value)).ground_node InitUnlock ∙ directive_same s (SetVs value);
         ticks = λ is. with_same s (tick_step s.fop).after (tick_same s.fop);
         sends = λ is. absurd (not_sent is);
-        hears_none = λ down x packets. refl;
-        hears = λ down x packets r. refilled_same _ ∙ report_same s.fop r;
+        hears_none = λ told x packets. refl;
+        hears = λ told x packets r. refilled_same _ ∙ report_same s.fop r;
       }) in
       fewer (world_step w e).after
       (board_after w (λ t. AreSomeOf t.bypass w.spacecraft.bypass) e (record {

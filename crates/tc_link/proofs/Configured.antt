@@ -2,12 +2,11 @@
 use Rattle.tc_link.proofs.Common.{◌≡◌, ℕ, Bool, true, false, List, [], ◌∷◌, Option, Some, None, Result, Ok, Err, refl}
 use Rattle.tc_link.proofs.Common.{ap, subst, ◌∙◌, ◌==◌, if◌then◌else◌, length, Clcw, ClcwFault, SegmentView, BodyView}
 use Rattle.tc_link.proofs.Common.{Ad, Bd, Bc, TcFault, On, Verdict, CopFault, Alert, FopState, PulledUnit, Config}
-use Rattle.tc_link.proofs.Common.{IsConfig, limits_of, LinkFault, GroundState, SpacecraftState, is_kept}
-use Rattle.tc_link.proofs.Common.{refill_step, with_fop, unless_refused, submit_fault, is_closed}
-use Rattle.tc_link.proofs.Common.{bypass_fault, after_bypass, frame_to_send, after_extraction}
-use Rattle.tc_link.proofs.Common.{telemetry_outcome, frame_outcome, body_outcome, sequence_outcome, bypass_outcome}
-use Rattle.tc_link.proofs.Common.{is_free, is_own_frame, verdict_of, directive_step, pull_step, tick_step, clcw_step}
-use Rattle.tc_link.proofs.Common.{extract_step, Extracted, TmFault, AdArrives, is_open}
+use Rattle.tc_link.proofs.Common.{IsConfig, limits_of, LinkFault, GroundState, SpacecraftState, is_kept, refill_step}
+use Rattle.tc_link.proofs.Common.{with_fop, unless_refused, submit_fault, is_closed, bypass_fault, after_bypass}
+use Rattle.tc_link.proofs.Common.{frame_to_send, after_extraction, telemetry_outcome, frame_outcome, body_outcome}
+use Rattle.tc_link.proofs.Common.{sequence_outcome, bypass_outcome, is_free, is_own_frame, verdict_of, directive_step}
+use Rattle.tc_link.proofs.Common.{pull_step, tick_step, clcw_step, extract_step, Extracted, TmFault, AdArrives, is_open}
 use Rattle.tc_link.proofs.Common.{Directive, InitUnlock, SetVs, ahead_by, obeying, submitting, acknowledging}
 use Rattle.std.specs.Prelude.{◌++◌}
 use Rattle.clcw.specs.Decoding.{clcw_at}
@@ -15,7 +14,7 @@ use Rattle.tc_frame.specs.Decoding as command
 use Rattle.tc_frame.specs.Layout.{FrameView}
 use Rattle.tc_frame.specs.declared.frame.SegmentFlags.{SegmentFlags}
 use Rattle.tc_frame.specs.declared.frame.SegmentFlags.TheVariants.{First, Continuing, Last, Alone}
-use Rattle.cop1.specs.FopPull.{NothingPulled, ControlPulled, BypassPulled, SequencePulled}
+use Rattle.cop1.specs.FopPull.{NothingPulled}
 use Rattle.map_service.specs.Assembly.{open_part, unless_too_long, ending_part, of_map}
 use Rattle.map_service.specs.AssemblerTable.{TakeOutcome, cell, take_step}
 use Rattle.tm_link.specs.Builder.{is_to_send}
@@ -95,9 +94,7 @@ module _ (g : Config) (ready bypass : ℕ) where
 
   sends_as : (pulled : PulledUnit SegmentView) → frame_to_send g pulled ≡ frame_to_send c pulled
   sends_as NothingPulled = refl
-  sends_as (ControlPulled command) = refl
-  sends_as (BypassPulled segment) = refl
-  sends_as (SequencePulled n segment) = refl
+  sends_as _ = refl
 
   reported_as : (s : GroundState) (r : Result Clcw ClcwFault)
       → report_outcome (ground_with g s) r ≡ ground_outcome_with g (report_outcome (ground_with c s) r)

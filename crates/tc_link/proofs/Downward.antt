@@ -20,8 +20,7 @@ use Rattle.nodes.specs.declared.heard.HeardReport.TheVariants.{Used}
 use Rattle.nodes.specs.Ground.{report_outcome, after_moving_up}
 use Rattle.nodes.specs.declared.heard.HeardClcw.{HeardClcw}
 use Rattle.nodes.specs.declared.event.Event.TheVariants as events
-use Rattle.simulated_link.specs.World.{world_after_report, world_after_word, down_word_outcome}
-use Rattle.simulated_link.specs.World.{down_clcw_step}
+use Rattle.simulated_link.specs.World.{world_after_report, world_after_word, down_word_outcome, down_clcw_step}
 use Rattle.simulated_link.specs.Replies.{Down, replied_alert}
 use Rattle.simulated_link.proofs.Counted.{IsConfirming, reported}
 use Rattle.tc_link.specs.PlainLink.{reports as tells, loses_down, hears, ignores}

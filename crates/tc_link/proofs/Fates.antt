@@ -1,16 +1,14 @@
 -- The ground's account of the submissions of a session is that of the records.
 use Rattle.tc_link.proofs.Common.{◌≡◌, ℕ, ◌+◌, ◌%◌, ◌/◌, ◌<◌, ◌≤◌, ◌⊎◌, inl, inr, true, false, List, [], ◌∷◌, ◌++◌}
 use Rattle.tc_link.proofs.Common.{length, map, Option, Some, None, Result, Ok, Err, refl, ap, sym, subst, ◌∙◌, arith}
-use Rattle.tc_link.proofs.Common.{length-append, length-map, AllByRecursion, SegmentView, CopFault, Alert}
-use Rattle.tc_link.proofs.Common.{Directive, InitWithoutCheck, InitWithCheck, InitUnlock, InitSetVr, directive_step}
-use Rattle.tc_link.proofs.Common.{FopState, FopOutcome, FopMode, is_initiation, is_closed, Config}
-use Rattle.tc_link.proofs.Common.{GroundState, refill_step, with_fop, directive_outcome, segments_on, segments_of}
-use Rattle.tc_link.proofs.Common.{after_submission}
-use Rattle.tc_link.proofs.Common.{clcw_step, submitting, ahead_by, PacketOn, Event}
-use Rattle.tc_link.proofs.Common.{World, WorldOutcome, world_step, world_run, KeepsSession, world_after_directive}
-use Rattle.tc_link.proofs.Common.{BeginsNoSession, IsIdle, IsSettled, IsEvent, accepted, directive_of, option_map}
-use Rattle.tc_link.proofs.Common.{Opening, IsChecking, closed_is, HasPlainHistory, obeyed, begun}
-use Rattle.tc_link.proofs.Common.{packet_on}
+use Rattle.tc_link.proofs.Common.{length-append, length-map, AllByRecursion, SegmentView, CopFault, Alert, Directive}
+use Rattle.tc_link.proofs.Common.{InitWithoutCheck, InitWithCheck, InitUnlock, InitSetVr, directive_step, FopState}
+use Rattle.tc_link.proofs.Common.{FopOutcome, FopMode, is_initiation, is_closed, Config, GroundState, refill_step}
+use Rattle.tc_link.proofs.Common.{with_fop, directive_outcome, segments_on, segments_of, after_submission, clcw_step}
+use Rattle.tc_link.proofs.Common.{submitting, ahead_by, PacketOn, Event, World, WorldOutcome, world_step, world_run}
+use Rattle.tc_link.proofs.Common.{KeepsSession, world_after_directive, BeginsNoSession, IsIdle, IsSettled, IsEvent}
+use Rattle.tc_link.proofs.Common.{accepted, directive_of, option_map, Opening, IsChecking, closed_is, HasPlainHistory}
+use Rattle.tc_link.proofs.Common.{obeyed, begun, packet_on}
 use Rattle.tc_link.specs.Confirmation.{IsChecked}
 use Rattle.std.specs.Prelude.{◌^◌, ◌==◌}
 use Rattle.std.specs.List.{flat_map}
@@ -24,8 +22,7 @@ use Rattle.nodes.specs.Fates.{after_acknowledging, after_obeying, kept_after, su
 use Rattle.nodes.specs.Ground.{moved_by, after_report, after_directive, known_on_board, sent_beyond}
 use Rattle.nodes.proofs.Owed.{moved_is, fewer_left, left_more}
 use Rattle.nodes.specs.declared.event.Event.TheVariants as events
-use Rattle.simulated_link.proofs.Unchanged.{stepped}
-use Rattle.simulated_link.proofs.Unchanged.{not_restarted}
+use Rattle.simulated_link.proofs.Unchanged.{ground_after, not_restarted}
 use Rattle.simulated_link.specs.World.{Session, session_after_report}
 use Rattle.tc_link.proofs.Promised.{past_holds, keeps_what_is_known, sent_count, accepted_count, promised_so}
 use Rattle.tc_link.proofs.InOrder.{has_plain_history, total, left_with, whole_still, whole_more}
@@ -156,19 +153,13 @@ module _ (w : World) where
 
   directive_keeps : (d : Directive) → BeginsNoSession w (events.Directive d) → SetsNoNumber w (events.Directive d)
       → KeepsAccount w (world_step w (events.Directive d))
-  directive_keeps InitWithoutCheck goes quiet =
-      refused_keeps InitWithoutCheck (off_refused _ w.ground_node.fop.state _ (goes refl))
-  directive_keeps InitWithCheck goes quiet =
-      refused_keeps InitWithCheck (off_refused _ w.ground_node.fop.state _ (goes refl))
-  directive_keeps InitUnlock goes quiet = refused_keeps InitUnlock (off_refused _ w.ground_node.fop.state _ (goes refl))
-  directive_keeps (InitSetVr x) goes quiet =
-      refused_keeps (InitSetVr x) (off_refused _ w.ground_node.fop.state _ (goes refl))
   directive_keeps (SetVs x) goes quiet =
       refused_keeps (SetVs x) (off_refused _ w.ground_node.fop.state _ (quiet x refl))
   directive_keeps Terminate goes quiet = obeyed_keeps Terminate refl refl _ _
   directive_keeps (SetWindow x) goes quiet = obeyed_keeps (SetWindow x) refl refl _ _
   directive_keeps (SetLimit x) goes quiet = obeyed_keeps (SetLimit x) refl refl _ _
   directive_keeps (SetTimer x) goes quiet = obeyed_keeps (SetTimer x) refl refl _ _
+  directive_keeps d goes quiet = refused_keeps d (off_refused _ w.ground_node.fop.state _ (goes refl))
 
 -- ---- one event
 
@@ -204,16 +195,8 @@ module _ (c : Config) (w : World) (k : AccountsAt c w) (config : w.ground_node.c
       → AccountsAt c (world_step w e).after
   step_accounts octet e goes quiet =
       let s = w.ground_node in
-      stepped w (AccountsAt c) e (record {
+      ground_after w (λ t session. Accounts c t.fates session.submissions session.acknowledged) e (record {
         same = k;
-        up_gone = λ b bs is. k;
-        down_gone = λ b bs is gone. k;
-        receives = λ is b bs first. k;
-        reports = λ is. k;
-        takes = λ is left kept. k;
-        releases = λ is left free. k;
-        passes = λ is left. k;
-        queues = λ octets is. k;
         submits = λ m octets none. submits m octets;
         bypasses = λ m octets is none. k;
         directs = λ d is.
@@ -221,10 +204,10 @@ module _ (c : Config) (w : World) (k : AccountsAt c w) (config : w.ground_node.c
             rw (kept.0, kept.1, kept.2) k;
         restarts = λ value is can. not_restarted w e goes value is can;
         ticks = λ is. rw (with_fates s _) k;
-        sends = λ is up sent. rw (with_fates s _) k;
-        hears_none = λ b bs is told x packets. hears (record s { extractor = x; telemetry = packets }) octet
+        sends = λ is sent. rw (with_fates s _) k;
+        hears_none = λ told x packets. hears (record s { extractor = x; telemetry = packets }) octet
             (inl (refl, refl));
-        hears = λ b bs is told x packets r.
+        hears = λ told x packets r.
             let t : GroundState = record s { extractor = x; telemetry = packets } in
             let f : FopState SegmentView = (clcw_step s.fop r).after in
             hears (after_report t f) octet (with_report t f);

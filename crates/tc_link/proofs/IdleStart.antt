@@ -3,13 +3,12 @@ use Rattle.tc_link.proofs.Common.{◌≡◌, ℕ, ◌+◌, ◌*◌, ◌/◌, ◌
 use Rattle.tc_link.proofs.Common.{Clcw, flags_number, FarmState, locks, waits, asks, report_of, ◌≤◌, max, List, [], ◌∷◌}
 use Rattle.tc_link.proofs.Common.{◌++◌, length, replicate, ap, length-append, cond_both, length-take-le, BuilderState}
 use Rattle.tc_link.proofs.Common.{idle_tail, data_size, is_at_rest, room_left, Config, report_octets, spacecraft_report}
-use Rattle.tc_link.proofs.Common.{World, Event, world_step, sym, ◌∙◌, ◌==◌, list_all, and_parts, eqb-true}
-use Rattle.tc_link.proofs.Common.{Directive, SpacecraftState, begins_clean, begins_idle, reports_as, report_now, ◌⊎◌}
-use Rattle.tc_link.proofs.Common.{inl, inr, drop, SegmentView, Idle, InitWithoutCheck, InitWithCheck, InitUnlock}
-use Rattle.tc_link.proofs.Common.{InitSetVr, S6, directive_step, FopState, FopOutcome, is_closed, directive_outcome}
-use Rattle.tc_link.proofs.Common.{refill_step, world_after_directive, session_begun_by, IsDirective, obeyed, begun}
-use Rattle.tc_link.proofs.Common.{is_initiation, Alert, CopFault, Option, None, Result, option_to_list, IsChecked}
-use Rattle.tc_link.proofs.Common.{closed_is, obeying}
+use Rattle.tc_link.proofs.Common.{World, Event, world_step, sym, ◌∙◌, ◌==◌, list_all, and_parts, eqb-true, Directive}
+use Rattle.tc_link.proofs.Common.{SpacecraftState, begins_clean, begins_idle, reports_as, report_now, ◌⊎◌, inl, inr}
+use Rattle.tc_link.proofs.Common.{drop, SegmentView, Idle, InitWithoutCheck, InitWithCheck, InitUnlock, InitSetVr, S6}
+use Rattle.tc_link.proofs.Common.{directive_step, FopState, FopOutcome, is_closed, directive_outcome, refill_step}
+use Rattle.tc_link.proofs.Common.{world_after_directive, session_begun_by, IsDirective, obeyed, begun, is_initiation}
+use Rattle.tc_link.proofs.Common.{Alert, CopFault, Option, None, Result, option_to_list, IsChecked, closed_is, obeying}
 use Rattle.std.proofs.lemmas.List.{length-replicate, drop_all}
 use Rattle.std.specs.Int.RustNames.{bit_and}
 use Rattle.clcw.specs.Decoding.{clcw_at}

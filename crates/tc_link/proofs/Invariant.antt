@@ -3,26 +3,22 @@
 use Rattle.tc_link.proofs.Common.{◌≡◌, ℕ, ◌⊎◌, inl, inr, Bool, true, false, List, [], ◌∷◌, Option, Some, Result, refl}
 use Rattle.tc_link.proofs.Common.{ap, sym, subst, ◌∙◌, option_map, AllByRecursion, SegmentView, CopFault, Alert, ◌≢◌}
 use Rattle.tc_link.proofs.Common.{Directive, directive_step, Config, Event, Opening, IsConfig, is_closed, after_queue}
-use Rattle.tc_link.proofs.Common.{directive_outcome, is_initiation, World, new_world, world_step}
-use Rattle.tc_link.proofs.Common.{world_run, IsClean, IsIdle, BeginsNoSession, down_deliver_step, begins_clean}
-use Rattle.tc_link.proofs.Common.{begins_idle, session_begun_by, session_after_directive, IsDirective, IsEvent}
-use Rattle.tc_link.proofs.Common.{IsReached, obeyed, FopOutcome, closed_not, closed_is, SetVs, InitUnlock, GroundState}
-use Rattle.tc_link.proofs.Common.{and_parts, S6, ◌+◌, ◌%◌, ◌<◌, ◌++◌, length, arith, length-append, eq-eqb}
-use Rattle.tc_link.proofs.Common.{append-nil, Clcw, Ad, segment_octets, Sent, PulledUnit, pull_step, clcw_step}
-use Rattle.tc_link.proofs.Common.{FopState, tick_step, after_alert, after_stop}
-use Rattle.tc_link.proofs.Common.{retransmits, after_new_value, after_restart, pulled_out, ticked, heard_active}
-use Rattle.tc_link.proofs.Common.{without_oldest_mark, with_fop, frame_to_send}
-use Rattle.tc_link.proofs.Common.{world_after_pull, world_after_directive, Fates, submitting}
-use Rattle.tc_link.proofs.Common.{report_while_active}
+use Rattle.tc_link.proofs.Common.{directive_outcome, is_initiation, World, new_world, world_step, world_run, IsClean}
+use Rattle.tc_link.proofs.Common.{IsIdle, BeginsNoSession, down_deliver_step, begins_clean, begins_idle}
+use Rattle.tc_link.proofs.Common.{session_begun_by, session_after_directive, IsDirective, IsEvent, IsReached, obeyed}
+use Rattle.tc_link.proofs.Common.{FopOutcome, closed_not, closed_is, SetVs, InitUnlock, GroundState, and_parts, S6, ◌+◌}
+use Rattle.tc_link.proofs.Common.{◌%◌, ◌<◌, ◌++◌, length, arith, length-append, eq-eqb, append-nil, Clcw, Ad}
+use Rattle.tc_link.proofs.Common.{segment_octets, Sent, PulledUnit, pull_step, clcw_step, FopState, tick_step}
+use Rattle.tc_link.proofs.Common.{after_alert, after_stop, retransmits, after_new_value, after_restart, pulled_out}
+use Rattle.tc_link.proofs.Common.{ticked, heard_active, without_oldest_mark, with_fop, frame_to_send, world_after_pull}
+use Rattle.tc_link.proofs.Common.{world_after_directive, Fates, submitting, report_while_active}
 use Rattle.std.proofs.lemmas.Bool.{cases_Bool}
 use Rattle.std.specs.Prelude.{◌&&◌}
 use Rattle.cop1.specs.FopPull.{after_send_first}
 use Rattle.nodes.specs.declared.event.Event.TheVariants as events
 use Rattle.nodes.specs.Ground.{can_resume}
-use Rattle.simulated_link.specs.World.{Session, directed, first_sent, resumed}
-use Rattle.simulated_link.proofs.Unchanged.{resumes}
-use Rattle.simulated_link.proofs.Unchanged.{BringsReport, not_restarted}
-use Rattle.simulated_link.proofs.Unchanged.{stepped, with_heard}
+use Rattle.simulated_link.specs.World.{Session, directed, first_sent, resumed, session_after_report}
+use Rattle.simulated_link.proofs.Unchanged.{resumes, ground_after, BringsReport, not_restarted, stepped}
 use Rattle.simulated_link.proofs.Counted.{reported}
 use Rattle.tc_link.specs.Taken.{BeginsSession}
 use Rattle.tc_link.specs.Known.{SetsNoNumber, MovesWithRecords}
@@ -402,40 +398,36 @@ module _ (c : Config) (w : World) (k : Sound c w) (s : InSession c w) where
   pub octet : IsOctet w
   octet = elim s.session [ inl g ↦ g.linked.nn_octet | inr g ↦ g.linked.nn_octet ]
 
-  -- a report comes, or none
-  heard_so : (bs : List (List ℕ)) (t : GroundState) → t.fop.vs ≡ w.ground_node.fop.vs → IsOctet (with_heard w t bs)
-      → MovesWithRecords w (with_heard w t bs)
-  heard_so bs t same octet_after = record { vs = rw same refl; nn = omega (arith, octet, octet_after) }
+  -- the ground is this, and these are the records
+  abbrev Moves : GroundState → Session → Type 0
+  Moves t session = t.fop.nn < 256 → MovesWithRecords w (record w { ground_node = t; session = session })
 
-  moves_so : (e : Event) → e ≢ events.Send → BeginsNoSession w e → SetsNoNumber w e → IsOctet (world_step w e).after
-      → MovesWithRecords w (world_step w e).after
+  -- a report comes, or none
+  heard_so : (t : GroundState) → t.fop.vs ≡ w.ground_node.fop.vs
+      → Moves t (session_after_report w.session w.ground_node t)
+  heard_so t same octet_after = record { vs = rw same refl; nn = omega (arith, octet, octet_after) }
+
+  moves_so : (e : Event) → e ≢ events.Send → BeginsNoSession w e → SetsNoNumber w e
+      → Moves (world_step w e).after.ground_node (world_step w e).after.session
   moves_so e not_sent goes quiet =
       let s = w.ground_node in
-      stepped w (λ new. IsOctet new → MovesWithRecords w new) e (record {
+      ground_after w Moves e (record {
         same = λ octet. moves_none w;
-        up_gone = λ b bs is octet. record { vs = refl; nn = refl };
-        down_gone = λ b bs is gone octet. record { vs = refl; nn = refl };
-        receives = λ is b bs first octet. record { vs = refl; nn = refl };
-        reports = λ is octet. record { vs = refl; nn = refl };
-        takes = λ is left kept octet. record { vs = refl; nn = refl };
-        releases = λ is left free octet. record { vs = refl; nn = refl };
-        passes = λ is left octet. record { vs = refl; nn = refl };
-        queues = λ octets is octet. record { vs = refl; nn = refl };
         submits = λ m octets none octet. moves w _ (with_same (submitting s m octets) s.fop) refl refl;
         bypasses = λ m octets is none octet. record { vs = refl; nn = refl };
         directs = λ d is octet. directive_so w d (subst (BeginsNoSession w) is goes) (subst (SetsNoNumber w) is quiet);
         restarts = λ value is can. not_restarted w e goes value is can;
         ticks = λ is octet. with_so w (tick_step s.fop).after (tick_same s.fop);
         sends = λ is. absurd (not_sent is);
-        hears_none = λ b bs is told x packets. heard_so bs (record s { extractor = x; telemetry = packets }) refl;
-        hears = λ b bs is told x packets r. heard_so bs _ (refilled_keeps (λ t. t.fop.vs ≡ s.fop.vs) _
+        hears_none = λ told x packets. heard_so (record s { extractor = x; telemetry = packets }) refl;
+        hears = λ told x packets r. heard_so _ (refilled_keeps (λ t. t.fop.vs ≡ s.fop.vs) _
             (λ waiting pending on off. heard_same s.fop r));
       })
 
   pub step_moves : (e : Event) → BeginsNoSession w e → SetsNoNumber w e → IsOctet (world_step w e).after
       → MovesWithRecords w (world_step w e).after
   step_moves events.Send goes quiet octet = sends
-  step_moves e goes quiet octet = moves_so e (λ is. cc is) goes quiet octet
+  step_moves e goes quiet octet = assumption (moves_so e (λ is. cc is) goes quiet octet)
 
 pub moves_with_records : (c : Config) (w : World) → Holding c w → (e : Event) → IsEvent e → IsIdle w
     → BeginsNoSession w e → SetsNoNumber w e → MovesWithRecords w (world_step w e).after

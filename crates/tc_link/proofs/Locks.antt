@@ -12,11 +12,9 @@ use Rattle.tc_link.proofs.Common.{FopState, FopOutcome, tick_step, TmFault, Even
 use Rattle.tc_link.proofs.Common.{spacecraft_take, spacecraft_take_bypass, spacecraft_telemetry, GroundOutcome}
 use Rattle.tc_link.proofs.Common.{submit_fault, after_submission, bypass_fault, after_bypass, unless_refused, Down}
 use Rattle.tc_link.proofs.Common.{WorldOutcome, world_step, down_deliver_step, IsChecked, replied_alert, obeyed, ticked}
-use Rattle.tc_link.proofs.Common.{cond_both, FarmMode, Open, after_release}
-use Rattle.tc_link.proofs.Common.{is_kept, limits_of, body_outcome}
-use Rattle.tc_link.proofs.Common.{is_initiation, session_begun_by, session_after_directive}
-use Rattle.tc_link.proofs.Common.{up_deliver_step, directive_of, ConfirmsExactly, HasNoFalseAlarm, IsEvent, SetVs}
-use Rattle.tc_link.proofs.Common.{InitUnlock}
+use Rattle.tc_link.proofs.Common.{cond_both, FarmMode, Open, after_release, is_kept, limits_of, body_outcome}
+use Rattle.tc_link.proofs.Common.{is_initiation, session_begun_by, session_after_directive, up_deliver_step}
+use Rattle.tc_link.proofs.Common.{directive_of, ConfirmsExactly, HasNoFalseAlarm, IsEvent, SetVs, InitUnlock}
 use Rattle.std.specs.Prelude.{flat_map}
 use Rattle.std.proofs.lemmas.Bool.{cases_lt}
 use Rattle.tc_frame.specs.Decoding.{frame_at}
@@ -29,8 +27,8 @@ use Rattle.simulated_link.specs.Replies.{reply_to_submission, reply_to_directive
 use Rattle.simulated_link.specs.Replies.{reply_to_telemetry}
 use Rattle.simulated_link.specs.World.{directed}
 use Rattle.simulated_link.proofs.Counted.{IsCause, reported}
-use Rattle.simulated_link.proofs.Unchanged.{AtEachLoss, lost, pulled, up_arrives, resumes}
-use Rattle.simulated_link.proofs.Unchanged.{BringsReport, board_after, stepped}
+use Rattle.simulated_link.proofs.Unchanged.{AtEachLoss, lost, pulled, up_arrives, resumes, ground_after}
+use Rattle.simulated_link.proofs.Unchanged.{BringsReport, board_after}
 use Rattle.tc_link.specs.Confirmation.{LeavesVr, IsConfirmedExactly}
 use Rattle.tc_link.specs.InTransit.{command_in, unit_in, report_read, report_of_frame, reports_down, IsInWindow}
 use Rattle.tc_link.specs.InTransit.{IsRising, KeepsToWindow}
@@ -448,13 +446,9 @@ module _ (c : Config) (d : Directive) (base : ℕ) (w : World) (k : Sound c w) (
 
   -- a report by itself has the cause that its frame has
   word_cause : (alert : Alert) → HasCause w events.DownDeliver alert → HasCause w events.DownClcw alert
-  word_cause Limit is = (tt, is.1, is.2)
   word_cause Timer is = absurd (cc is)
   word_cause Terminated is = absurd (cc is)
-  word_cause alarms.Lockout is = is
-  word_cause NnR is = is
-  word_cause ClcwAlert is = elim is [ ]
-  word_cause Synch is = is
+  word_cause _ is = is
 
   cause_word : Begun c d base w ⊎ Late c d base w → (alert : Alert)
       → alert_in (world_step w events.DownClcw).answer ≡ Some alert → HasCause w events.DownClcw alert
@@ -562,25 +556,17 @@ module _ (c : Config) (d : Directive) (base : ℕ) (w : World) (k : Sound c w) w
   stays_unconfirmed e not_told not_yet =
       let directs : (x : Directive) → (directed w x).session.confirmed ≡ false =
       λ x. unconfirmed_by w x (ground_directive w.ground_node x).answer not_yet in
-      stepped w (λ new. new.session.confirmed ≡ false) e (record {
+      ground_after w (λ t session. session.confirmed ≡ false) e (record {
         same = not_yet;
-        up_gone = λ b bs is. not_yet;
-        down_gone = λ b bs is gone. not_yet;
-        receives = λ is b bs first. not_yet;
-        reports = λ is. not_yet;
-        takes = λ is left kept. not_yet;
-        releases = λ is left free. not_yet;
-        passes = λ is left. not_yet;
-        queues = λ octets is. not_yet;
         submits = λ m octets none. not_yet;
         bypasses = λ m octets is none. not_yet;
         directs = λ x is. directs x;
         restarts = λ value is can. unconfirmed_by (directed w (SetVs value)) InitUnlock
             (ground_directive (directed w (SetVs value)).ground_node InitUnlock).answer (directs (SetVs value));
         ticks = λ is. not_yet;
-        sends = λ is up sent. not_yet;
-        hears_none = λ b bs is told. absurd (not_told told);
-        hears = λ b bs is told. absurd (not_told told);
+        sends = λ is sent. not_yet;
+        hears_none = λ told. absurd (not_told told);
+        hears = λ told. absurd (not_told told);
       })
 
   exactly : (g : Begun c d base w) (e : Event) → w.session.confirmed ≡ false

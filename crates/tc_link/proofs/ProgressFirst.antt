@@ -9,7 +9,7 @@ use Rattle.tc_link.proofs.Common.{replicate, not, inl, true, cond_both, marked_u
 use Rattle.tc_link.proofs.Common.{asks, pull_step, tick_step, after_repeat, after_stop, Open, FarmState, FlagsAgree}
 use Rattle.tc_link.proofs.Common.{report_of, after_extraction, spacecraft_report, acknowledging, Bool, retransmits}
 use Rattle.tc_link.proofs.Common.{after_new_value, heard_active, pulled_out, ticked, Event, goes_on, after_alert}
-use Rattle.tc_link.proofs.Common.{report_while_active}
+use Rattle.tc_link.proofs.Common.{report_while_active, if◌then◌else◌}
 use Rattle.std.specs.Prelude.{IsSome}
 use Rattle.std.proofs.lemmas.List.{nil_from_length}
 use Rattle.std.proofs.lemmas.Bool.{false_from_ne_true, not-true, not-false, lt-ltb}
@@ -30,10 +30,8 @@ use Rattle.tc_link.proofs.Linked.{Tells}
 use Rattle.tc_link.proofs.ProgressNumbers.{IsOctetReport, known, Ends, ends_then, ends_repeat, ends_times, ends_once}
 use Rattle.tc_link.proofs.ProgressNumbers.{going_step, ends_trip, IsCalm, no_directive, no_resumption}
 use Rattle.tc_link.proofs.ProgressSender.{Running, HoldsNoMore, tick_on, holds_more, Obeys, heard_fresh, pull_no_more}
-use Rattle.tc_link.proofs.ProgressSender.{report_holds, active_report, tick_end, marked_all}
-use Rattle.tc_link.proofs.ProgressSender.{step_kept}
+use Rattle.tc_link.proofs.ProgressSender.{report_holds, active_report, tick_end, marked_all, step_kept}
 use Rattle.tc_link.proofs.Refilled.{refilled_keeps}
-use Rattle.tc_link.proofs.Common.{if◌then◌else◌}
 use Rattle.tc_link.proofs.IdleStart.{tells_now, flags_are}
 
 -- What the events of an exchange do to the ground, and the numbers that are known of it.
@@ -233,9 +231,6 @@ pub record Quiet (w : World) : Type 0 where
 pub record Ready (w : World) : Type 0 where
   pub quiet : Quiet w
   pub marked : are_marked w.ground_node.fop.sent ≡ true
-
-pub is_active : (w : World) → Quiet w → IsActive w.ground_node.fop.state
-is_active w q = elim q.state [ inl one ↦ rw one tt | inr two ↦ rw two tt ]
 
 -- in S1 and S2 the sender waits where not all is marked
 pub awaits_so : (w : World) → Quiet w

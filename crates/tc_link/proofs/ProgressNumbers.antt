@@ -1,24 +1,22 @@
 -- The numbers of the sender at every moment of a run, and how schedules are put together.
 use Rattle.tc_link.proofs.Common.{ap, ◌≡◌, ◌<◌, ◌≤◌, ℕ, ◌+◌, ◌%◌, Bool, true, false, List, [], ◌∷◌, ◌++◌, length, drop}
-use Rattle.tc_link.proofs.Common.{Option, Some, None, Ok, refl, sym, subst, ◌∙◌, arith, cond_both}
-use Rattle.tc_link.proofs.Common.{ltb-true, ltb-false, length-append, length-drop, AllByRecursion, Clcw, On}
-use Rattle.tc_link.proofs.Common.{SegmentView, BodyView, Ad, Bd, Bc, Command, Unlock, SetVr, Control, Idle, Due, Sent}
-use Rattle.tc_link.proofs.Common.{ahead_by, Directive, InitWithoutCheck, InitWithCheck, InitUnlock, InitSetVr}
-use Rattle.tc_link.proofs.Common.{is_initiation, begun, obeyed, directive_step, FopState, FopOutcome, S1, S3, S6}
-use Rattle.tc_link.proofs.Common.{clcw_step, report_while_active, after_move_on, after_acknowledge, after_new_value}
-use Rattle.tc_link.proofs.Common.{retransmits, heard_active, pull_step, pulled_out, PulledUnit, after_restart}
-use Rattle.tc_link.proofs.Common.{without_oldest_mark, unmarked_unit, units_of, tick_step, ticked, after_repeat}
-use Rattle.tc_link.proofs.Common.{after_stop, due_again, after_alert, FarmState, FarmMode, Open, Wait}
-use Rattle.tc_link.proofs.Common.{Verdict, Accepted, verdict_of, after_verdict, after_unlock, after_set_vr}
-use Rattle.tc_link.proofs.Common.{after_release, report_of, Config, FitsFrame, frame_of, frame_to_send}
-use Rattle.tc_link.proofs.Common.{with_fop, is_closed, after_extraction, extract_step, IsDirective, IsEvent}
-use Rattle.tc_link.proofs.Common.{SpacecraftState, SpacecraftOutcome, body_outcome, sequence_outcome, bypass_outcome}
-use Rattle.tc_link.proofs.Common.{is_free, is_kept, limits_of}
-use Rattle.tc_link.proofs.Common.{Event, World, WorldOutcome, new_world, world_step}
-use Rattle.tc_link.proofs.Common.{world_after_pull, up_deliver_step, down_deliver_step, closed_not, active_on}
-use Rattle.tc_link.proofs.Common.{spacecraft_report, FlagsAgree, acknowledging, SetVs, ◌≢◌, ◌⊎◌, inl, inr, zero, suc}
-use Rattle.tc_link.proofs.Common.{replicate, world_run, IsIdle, IsSettled, IsReached, BeginsNoSession, option_map}
-use Rattle.tc_link.proofs.Common.{Opening, directive_of}
+use Rattle.tc_link.proofs.Common.{Option, Some, None, Ok, refl, sym, subst, ◌∙◌, arith, cond_both, ltb-true, ltb-false}
+use Rattle.tc_link.proofs.Common.{length-append, length-drop, AllByRecursion, Clcw, On, SegmentView, BodyView, Ad, Bd}
+use Rattle.tc_link.proofs.Common.{Bc, Command, Unlock, SetVr, Control, Idle, Due, Sent, ahead_by, Directive}
+use Rattle.tc_link.proofs.Common.{InitWithoutCheck, InitWithCheck, InitUnlock, InitSetVr, is_initiation, begun, obeyed}
+use Rattle.tc_link.proofs.Common.{directive_step, FopState, FopOutcome, S1, S3, S6, clcw_step, report_while_active}
+use Rattle.tc_link.proofs.Common.{after_move_on, after_acknowledge, after_new_value, retransmits, heard_active}
+use Rattle.tc_link.proofs.Common.{pull_step, pulled_out, PulledUnit, after_restart, without_oldest_mark, unmarked_unit}
+use Rattle.tc_link.proofs.Common.{units_of, tick_step, ticked, after_repeat, after_stop, due_again, after_alert}
+use Rattle.tc_link.proofs.Common.{FarmState, FarmMode, Open, Verdict, Accepted, verdict_of, after_verdict}
+use Rattle.tc_link.proofs.Common.{after_unlock, after_set_vr, after_release, report_of, Config, FitsFrame, frame_of}
+use Rattle.tc_link.proofs.Common.{frame_to_send, with_fop, is_closed, after_extraction, extract_step, IsDirective}
+use Rattle.tc_link.proofs.Common.{IsEvent, SpacecraftState, SpacecraftOutcome, body_outcome, sequence_outcome}
+use Rattle.tc_link.proofs.Common.{bypass_outcome, is_free, is_kept, limits_of, Event, World, WorldOutcome, new_world}
+use Rattle.tc_link.proofs.Common.{world_step, world_after_pull, up_deliver_step, down_deliver_step, closed_not}
+use Rattle.tc_link.proofs.Common.{active_on, spacecraft_report, FlagsAgree, acknowledging, SetVs, ◌≢◌, ◌⊎◌, inl, inr}
+use Rattle.tc_link.proofs.Common.{zero, suc, replicate, world_run, IsIdle, IsSettled, IsReached, BeginsNoSession}
+use Rattle.tc_link.proofs.Common.{option_map, Opening, directive_of}
 use Rattle.std.specs.Prelude.{IsSome}
 use Rattle.tc_frame.specs.Decoding.{frame_at}
 use Rattle.tc_frame.specs.Encoding.{spelling}
@@ -149,9 +147,8 @@ module _ (s : FopState SegmentView) (k : Numbered s) where
     })
 
   due_octet : (control : Control) → IsOctetOf control → IsOctetOf (due_again control)
-  due_octet Idle is = tt
-  due_octet (Due command) is = is
-  due_octet (Sent command) is = is
+  due_octet Idle is = is
+  due_octet _ is = is
 
   tick_numbers : Numbers (tick_step s)
   tick_numbers =
@@ -230,18 +227,15 @@ module _ (s : FarmState) (octet : s.vr < 256) where
 
   unlock_octet : (m : FarmMode) → (after_unlock s m).vr < 256
   unlock_octet Open = octet
-  unlock_octet Wait = octet
-  unlock_octet Lockout = octet
+  unlock_octet _ = octet
 
   set_octet : (x : ℕ) (m : FarmMode) → x < 256 → (after_set_vr s x m).vr < 256
-  set_octet x Open is = is
-  set_octet x Wait is = is
   set_octet x Lockout is = octet
+  set_octet x _ is = is
 
   release_octet : (m : FarmMode) → (after_release s m).vr < 256
   release_octet Open = octet
-  release_octet Wait = octet
-  release_octet Lockout = octet
+  release_octet _ = octet
 
 abbrev pub IsOctetBody : BodyView → Type 0
 IsOctetBody (Bc command) = IsOctetIn command
@@ -471,13 +465,9 @@ IsCalm events.Take = Unit {0}
 IsCalm _ = ⊥
 
 pub calm_fits : (e : Event) → IsCalm e → IsEvent e
-calm_fits events.Send calm = tt
-calm_fits events.UpDeliver calm = tt
-calm_fits events.Report calm = tt
-calm_fits events.DownDeliver calm = tt
-calm_fits events.Tick calm = tt
-calm_fits events.Take calm = tt
-calm_fits _ calm = elim calm [ ]
+calm_fits (events.Directive d) calm = elim calm [ ]
+calm_fits (events.Resume value) calm = elim calm [ ]
+calm_fits _ calm = tt
 
 pub no_directive : {A : Type 0} (e : Event) → IsCalm e → (d : Directive) → e ≡ events.Directive d → A
 no_directive e calm d is = absurd (let no : IsCalm (events.Directive d) = subst IsCalm is calm in no)
@@ -486,13 +476,9 @@ pub no_resumption : {A : Type 0} (e : Event) → IsCalm e → (value : ℕ) → 
 no_resumption e calm value is = absurd (let no : IsCalm (events.Resume value) = subst IsCalm is calm in no)
 
 pub calm_goes : (w : World) (e : Event) → IsCalm e → BeginsNoSession w e
-calm_goes w events.Send calm = tt
-calm_goes w events.UpDeliver calm = tt
-calm_goes w events.Report calm = tt
-calm_goes w events.DownDeliver calm = tt
-calm_goes w events.Tick calm = tt
-calm_goes w events.Take calm = tt
-calm_goes w _ calm = elim calm [ ]
+calm_goes w (events.Directive d) calm = elim calm [ ]
+calm_goes w (events.Resume value) calm = elim calm [ ]
+calm_goes w _ calm = tt
 
 pub going_step : (w : World) → IsReached w → (e : Event) → IsCalm e → IsReached (world_step w e).after
 going_step w g e calm = reached_step w e g (calm_fits e calm)

@@ -1,24 +1,21 @@
 -- What the sender does in an exchange, and what is so of it at every moment of a run, in any session.
 use Rattle.tc_link.proofs.Common.{◌≡◌, ℕ, List, Option, Some, None, Result, Ok, Err, refl, SegmentView, Clcw, CopFault}
 use Rattle.tc_link.proofs.Common.{Alert, Directive, FopState, clcw_step, directive_step, pull_step, tick_step}
-use Rattle.tc_link.proofs.Common.{GroundState, with_fop}
-use Rattle.tc_link.proofs.Common.{after_bypass, directive_outcome, Event, World}
-use Rattle.tc_link.proofs.Common.{world_step, obeying, submitting, acknowledging, SetVs, InitUnlock, ◌≢◌}
-use Rattle.tc_link.proofs.Common.{◌≤◌, ◌⊎◌, inl, inr, zero, suc, ◌+◌, ◌-◌, Bool, true, false, not, [], ◌∷◌, ◌++◌}
-use Rattle.tc_link.proofs.Common.{length, map, drop, ap, sym, ◌∙◌, arith, ◌==◌, nat_lt, cond_both, eqb-true, eq-eqb}
-use Rattle.tc_link.proofs.Common.{and_parts, not-false, subst, ne_eqb, ahead_by, NnR, Synch, FopMode, S1, S2, S3}
-use Rattle.tc_link.proofs.Common.{SentUnit, FopOutcome, IsActive, oldest_marked, without_oldest_mark, unmarked_unit}
-use Rattle.tc_link.proofs.Common.{marked_unit, locks, waits, asks, report_while_active, after_move_on, after_new_value}
-use Rattle.tc_link.proofs.Common.{retransmits, after_acknowledge, after_repeat, after_stop, alerts, goes_on, pulled_out}
-use Rattle.tc_link.proofs.Common.{report_in, length-append, length-drop, length-map, option_to_list, after_restart}
-use Rattle.tc_link.proofs.Common.{heard_active, Sent, Control, Due, eqb-false, ltb-false, BodyView, Ad, Bd, Bc, S4, S5}
-use Rattle.tc_link.proofs.Common.{S6, Idle, after_alert, after_count, due_again, begun, InitWithoutCheck, InitWithCheck}
-use Rattle.tc_link.proofs.Common.{InitSetVr, FarmMode, Open, Wait, FarmState, FlagsAgree, state_of}
-use Rattle.tc_link.proofs.Common.{after_unlock, after_set_vr, after_release, Verdict, Accepted, Ahead}
-use Rattle.tc_link.proofs.Common.{NoBuffer, Outside, verdict_of, SpacecraftState}
-use Rattle.tc_link.proofs.Common.{body_outcome, sequence_outcome, bypass_outcome, is_free, is_kept, limits_of}
-use Rattle.tc_link.proofs.Common.{Unlock}
-use Rattle.tc_link.proofs.Common.{SetVr, or_parts}
+use Rattle.tc_link.proofs.Common.{GroundState, with_fop, after_bypass, directive_outcome, Event, World, world_step}
+use Rattle.tc_link.proofs.Common.{obeying, submitting, acknowledging, SetVs, InitUnlock, ◌≢◌, ◌≤◌, ◌⊎◌, inl, inr, zero}
+use Rattle.tc_link.proofs.Common.{suc, ◌+◌, ◌-◌, Bool, true, false, not, [], ◌∷◌, ◌++◌, length, map, drop, ap, sym, ◌∙◌}
+use Rattle.tc_link.proofs.Common.{arith, ◌==◌, nat_lt, cond_both, eqb-true, eq-eqb, and_parts, not-false, subst, ne_eqb}
+use Rattle.tc_link.proofs.Common.{ahead_by, NnR, Synch, FopMode, S1, S2, S3, SentUnit, FopOutcome, IsActive}
+use Rattle.tc_link.proofs.Common.{oldest_marked, without_oldest_mark, unmarked_unit, marked_unit, locks, waits, asks}
+use Rattle.tc_link.proofs.Common.{report_while_active, after_move_on, after_new_value, retransmits, after_acknowledge}
+use Rattle.tc_link.proofs.Common.{after_repeat, after_stop, alerts, goes_on, pulled_out, report_in, length-append}
+use Rattle.tc_link.proofs.Common.{length-drop, length-map, option_to_list, after_restart, heard_active, Sent, Control}
+use Rattle.tc_link.proofs.Common.{Due, eqb-false, ltb-false, BodyView, Ad, Bd, Bc, S4, S5, S6, Idle, after_alert}
+use Rattle.tc_link.proofs.Common.{after_count, due_again, begun, InitWithoutCheck, InitWithCheck, InitSetVr, FarmMode}
+use Rattle.tc_link.proofs.Common.{Open, Wait, FarmState, FlagsAgree, state_of, after_unlock, after_set_vr}
+use Rattle.tc_link.proofs.Common.{after_release, Verdict, Accepted, NoBuffer, verdict_of}
+use Rattle.tc_link.proofs.Common.{SpacecraftState, body_outcome, sequence_outcome, bypass_outcome, is_free, is_kept}
+use Rattle.tc_link.proofs.Common.{limits_of, Unlock, SetVr, or_parts}
 use Rattle.std.proofs.lemmas.Bool.{not-true}
 use Rattle.std.specs.Prelude.{IsSome, ◌&&◌, ◌||◌, nat_le, ◌/◌}
 use Rattle.std.proofs.Math.Seq.{drop-nil}
@@ -27,8 +24,6 @@ use Rattle.cop1.specs.declared.vocabulary.Alert.TheVariants.{Clcw as ClcwAlert, 
 use Rattle.cop1.specs.FopReport.{nothing_new, move_on, ask_for_others, ask_for_all, goes_back_again, ticks_for}
 use Rattle.cop1.specs.FopTick.{tick_with, timer_ended, while_below}
 use Rattle.cop1.specs.FopWords.{is_outside, after_gone}
-use Rattle.cop1.specs.declared.farm.FarmMode.TheVariants.{Lockout}
-use Rattle.cop1.specs.declared.farm.Verdict.TheVariants.{Behind, Discarded}
 use Rattle.cop1.specs.declared.vocabulary.Directive.TheVariants.{Terminate, SetWindow, SetLimit, SetTimer}
 use Rattle.cop1.specs.Farm.{ad_verdict, place_at}
 use Rattle.cop1.specs.FopDirective.{obeys, from_S6, terminate_in}
@@ -78,15 +73,15 @@ module _ (P : FopState SegmentView → Type 0)
         → ((d : Directive) → e ≡ events.Directive d → P (directive_step s d).after)
         → ((value : ℕ) → e ≡ events.Resume value → P (resumed w value).ground_node.fop)
         → P (world_step w e).after.ground_node.fop
-    step_kept e tick pull hears direct resumed = ground_after w (λ t. P t.fop) e (record {
+    step_kept e tick pull hears direct resumed = ground_after w (λ t session. P t.fop) e (record {
       same = k;
       submits = λ m octets none. with_kept (submitting w.ground_node m octets) s k;
       bypasses = λ m octets is none. queues s s.waiting (after_bypass w.ground_node m octets.now).fop.bypass k;
       directs = λ d is. directed_kept w.ground_node k d (directive_step s d).answer _ (direct d is);
       restarts = λ value is can. resumed value is;
       ticks = λ is. with_kept w.ground_node (tick_step s).after (tick is);
-      sends = λ is. with_kept w.ground_node (pull_step s).after (pull is);
-      hears_none = λ down x packets. k;
+      sends = λ is sent. with_kept w.ground_node (pull_step s).after (pull is);
+      hears_none = λ told x packets. k;
       hears = λ told x packets r. let f : FopState SegmentView = (clcw_step s r).after in
           with_kept (acknowledging (record w.ground_node { extractor = x; telemetry = packets }) f) f (hears told r);
     })
@@ -552,10 +547,6 @@ module _ (s : FopState SegmentView) (k : Timed s) where
   terminated_timed _ = gives_up s refl k.count refl
 
   directive_timed : (d : Directive) → Times (directive_step s d)
-  directive_timed InitWithoutCheck = from_timed s.state (begun s InitWithoutCheck) (begun_timed InitWithoutCheck)
-  directive_timed InitWithCheck = from_timed s.state (begun s InitWithCheck) (begun_timed InitWithCheck)
-  directive_timed InitUnlock = from_timed s.state (begun s InitUnlock) (begun_timed InitUnlock)
-  directive_timed (InitSetVr x) = from_timed s.state (begun s (InitSetVr x)) (begun_timed (InitSetVr x))
   directive_timed Terminate = terminated_timed s.state
   directive_timed (SetVs x) =
       from_timed s.state (record s { vs = x; nn = x })
@@ -570,6 +561,7 @@ module _ (s : FopState SegmentView) (k : Timed s) where
   directive_timed (SetTimer n) =
       cond_both (n == 0) _ (obeys (record s { timer = n })) (λ o. Times o) (λ t. k)
       (λ t. same_as (record s { timer = n }) refl refl refl refl refl (omega (arith, eqb-false n 0 t)) k.window)
+  directive_timed d = from_timed s.state (begun s d) (begun_timed d)
 
 -- whatever waits
 queued_timed : (f : FopState SegmentView) (waiting : Option SegmentView) (bypass : List SegmentView) → Timed f
@@ -595,8 +587,7 @@ in_cells : (free : Bool) (m : FarmMode) → NoneFree free (ad_verdict (place_at 
     × NoneFree free (ad_verdict (place_at 127 128) free m)
 in_cells false m = (λ e. refl, λ e. refl, λ e. refl, λ e. refl)
 in_cells true Open = (λ e. absurd cc, λ e. absurd cc, λ e. absurd cc, λ e. absurd cc)
-in_cells true Wait = (λ e. absurd cc, λ e. absurd cc, λ e. absurd cc, λ e. absurd cc)
-in_cells true Lockout = (λ e. absurd cc, λ e. absurd cc, λ e. absurd cc, λ e. absurd cc)
+in_cells true _ = (λ e. absurd cc, λ e. absurd cc, λ e. absurd cc, λ e. absurd cc)
 
 no_buffer : (s : FarmState) (n : ℕ) (free : Bool) → NoneFree free (verdict_of s n free)
 no_buffer s n free =
@@ -626,10 +617,7 @@ module _ (s : SpacecraftState) (flags : FlagsAgree s.farm) (k : WaitsFull s) whe
       let old : s.farm.wait ≡ true = rw is at waits in
       omega (arith, k old, length-append s.ready (put_on_map u.header.map (assemble_step s u).packets))
   sequence_full n u NoBuffer is waits = full_where (no_buffer s.farm n (is_free s) is)
-  sequence_full n u Ahead is waits = k (rw is at waits)
-  sequence_full n u Behind is waits = k (rw is at waits)
-  sequence_full n u Outside is waits = k (rw is at waits)
-  sequence_full n u Discarded is waits = k (rw is at waits)
+  sequence_full n u _ is waits = k (rw is at waits)
 
   bypass_full : (u : SegmentView) (kept : Bool) → WaitsFull (bypass_outcome s u kept).after
   bypass_full u true waits = k waits
@@ -637,13 +625,11 @@ module _ (s : SpacecraftState) (flags : FlagsAgree s.farm) (k : WaitsFull s) whe
 
   unlock_full : (m : FarmMode) → (after_unlock s.farm m).wait ≡ true → s.config.ready_slots ≤ length s.ready
   unlock_full Open waits = k waits
-  unlock_full Wait waits = absurd cc
-  unlock_full Lockout waits = absurd cc
+  unlock_full _ waits = absurd cc
 
   set_full : (x : ℕ) (m : FarmMode) → (after_set_vr s.farm x m).wait ≡ true → s.config.ready_slots ≤ length s.ready
-  set_full x Open waits = k waits
   set_full x Wait waits = absurd cc
-  set_full x Lockout waits = k waits
+  set_full x _ waits = k waits
 
   pub body_full : (f : BodyView) → WaitsFull (body_outcome s f).after
   body_full (Ad n u) = sequence_full n u (verdict_of s.farm n (is_free s)) refl
@@ -653,6 +639,5 @@ module _ (s : SpacecraftState) (flags : FlagsAgree s.farm) (k : WaitsFull s) whe
 
   -- a receiver that is released does not wait
   pub released : (m : FarmMode) → s.farm.state ≡ m → (after_release s.farm m).wait ≡ false
-  released Wait is = refl
-  released Lockout is = refl
   released Open is = (open_flags s.farm.lockout s.farm.wait (sym is ∙ flags.state)).1
+  released _ is = refl

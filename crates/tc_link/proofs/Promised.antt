@@ -197,7 +197,7 @@ promised_of w e r fits is = promised_of_so r.config w (reached_holds w r) e fits
 
 -- ---- how worlds are reached
 
-run_push : (w : World) (events : List Event) (e : Event)
+pub run_push : (w : World) (events : List Event) (e : Event)
     → world_run w (events ++ e ∷ []) ≡ (world_step (world_run w events) e).after
 run_push w [] e = refl
 run_push w (x ∷ xs) e = run_push (world_step w x).after xs e

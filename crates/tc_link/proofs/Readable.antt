@@ -4,23 +4,19 @@ use Rattle.tc_link.proofs.Common.{◌≡◌, ◌≤◌, ℕ, zero, suc, true, Li
 use Rattle.tc_link.proofs.Common.{slice_get, AllByRecursion, On, Unlock, SetVr, SegmentView, BodyView, Ad, Bd, Bc}
 use Rattle.tc_link.proofs.Common.{Config, IsConfig, FitsFrame, frame_of, Bool, false, ◌++◌, drop, Option, None, Result}
 use Rattle.tc_link.proofs.Common.{option_to_list, ap, sym, ◌∙◌, append_assoc, Clcw, segments_of, ahead_by, CopFault}
-use Rattle.tc_link.proofs.Common.{Alert, Idle, Directive, InitWithoutCheck, InitWithCheck, InitUnlock, InitSetVr}
-use Rattle.tc_link.proofs.Common.{S1, S2, S3, S6, is_initiation, directive_step, units_of, pull_step}
-use Rattle.tc_link.proofs.Common.{without_oldest_mark, FopState, FopOutcome, clcw_step, report_while_active}
-use Rattle.tc_link.proofs.Common.{after_move_on, retransmits, after_new_value, tick_step}
-use Rattle.tc_link.proofs.Common.{after_acknowledge, after_repeat, after_alert, after_stop, after_restart, heard_active}
-use Rattle.tc_link.proofs.Common.{obeyed, begun, pulled_out, ticked, TmFault, GroundState}
+use Rattle.tc_link.proofs.Common.{Alert, Idle, Directive, InitWithoutCheck, InitWithCheck, InitUnlock, InitSetVr, S1}
+use Rattle.tc_link.proofs.Common.{S2, S3, S6, is_initiation, directive_step, units_of, pull_step, without_oldest_mark}
+use Rattle.tc_link.proofs.Common.{FopState, FopOutcome, clcw_step, report_while_active, after_move_on, retransmits}
+use Rattle.tc_link.proofs.Common.{after_new_value, tick_step, after_acknowledge, after_repeat, after_alert, after_stop}
+use Rattle.tc_link.proofs.Common.{after_restart, heard_active, obeyed, begun, pulled_out, ticked, TmFault, GroundState}
 use Rattle.tc_link.proofs.Common.{is_closed, unsent_segments, refill_step, with_fop, directive_outcome, submit_fault}
-use Rattle.tc_link.proofs.Common.{after_submission, segments_on}
-use Rattle.tc_link.proofs.Common.{segments_fit, closed_not, active_on, SetVs, obeying, submitting}
-use Rattle.tc_link.proofs.Common.{◌+◌, ◌%◌, if◌then◌else◌, Err, ◌==◌, ◌||◌, nat_lt, not}
-use Rattle.tc_link.proofs.Common.{eqb-true, or_parts, not-false, PulledUnit, frame_to_send, Event}
-use Rattle.tc_link.proofs.Common.{AllReadable, World, world_step, world_after_pull, IsEvent, ◌<◌, map}
-use Rattle.tc_link.proofs.Common.{cond_both, TcFault, segment_octets, FopMode, report_in, IsActive, is_kept}
-use Rattle.tc_link.proofs.Common.{limits_of, SpacecraftState, frame_outcome, body_outcome}
-use Rattle.tc_link.proofs.Common.{bypass_outcome, is_own_frame}
-use Rattle.tc_link.proofs.Common.{number_in, in_frame, world_after_directive, BeginsNoSession}
-use Rattle.tc_link.proofs.Common.{accepted}
+use Rattle.tc_link.proofs.Common.{after_submission, segments_on, segments_fit, closed_not, active_on, SetVs, obeying}
+use Rattle.tc_link.proofs.Common.{submitting, ◌+◌, ◌%◌, if◌then◌else◌, Err, ◌==◌, ◌||◌, nat_lt, not, eqb-true, or_parts}
+use Rattle.tc_link.proofs.Common.{not-false, PulledUnit, frame_to_send, Event, AllReadable, World, world_step}
+use Rattle.tc_link.proofs.Common.{world_after_pull, IsEvent, ◌<◌, map, cond_both, TcFault, segment_octets, FopMode}
+use Rattle.tc_link.proofs.Common.{report_in, IsActive, is_kept, limits_of, SpacecraftState, frame_outcome, body_outcome}
+use Rattle.tc_link.proofs.Common.{bypass_outcome, is_own_frame, number_in, in_frame, world_after_directive}
+use Rattle.tc_link.proofs.Common.{BeginsNoSession, accepted}
 use Rattle.std.proofs.lemmas.Bool.{lt-ltb, le-leb}
 use Rattle.std.specs.Prelude.{flat_map}
 use Rattle.tc_frame.specs.Layout.{body_fits, FrameView}
@@ -34,8 +30,7 @@ use Rattle.nodes.specs.Ground.{can_resume}
 use Rattle.nodes.specs.declared.event.Event.TheVariants as events
 use Rattle.simulated_link.specs.World.{directed, resumed}
 use Rattle.simulated_link.proofs.Counted.{reported}
-use Rattle.simulated_link.proofs.Unchanged.{ground_after, not_restarted}
-use Rattle.simulated_link.proofs.Unchanged.{stepped, up_after}
+use Rattle.simulated_link.proofs.Unchanged.{ground_after, not_restarted, stepped, up_after}
 use Rattle.tc_link.specs.Readable.{IsCommandOf, IsTelemetryOf}
 use Rattle.tc_link.specs.Accepted.{AcceptsNoMore}
 use Rattle.tc_link.specs.InTransit.{numbers_up}
@@ -45,6 +40,7 @@ use Rattle.tc_link.proofs.Refilled.{refilled_keeps}
 use Rattle.tc_link.proofs.Linked.{Carries, Reporting, carries_push}
 use Rattle.tc_link.proofs.IdleStart.{HasReports}
 use Rattle.nodes.specs.Spacecraft.{spacecraft_receive}
+use Rattle.map_service.proofs.Groups.{behind-each}
 
 -- What is put on the link is read from it.
 
@@ -92,11 +88,6 @@ fits_at (x ∷ xs) (suc i) u all e = fits_at xs i u all.1 e
 abbrev pub All : List SegmentView → Type 0
 All us = AllByRecursion FitsFrame us
 
-all_drop : (k : ℕ) (us : List SegmentView) → All us → All (drop k us)
-all_drop zero us all = all
-all_drop (suc k) [] all = all
-all_drop (suc k) (u ∷ us) all = all_drop k us all.1
-
 pub record Fit (f : FopState SegmentView) (pending : List SegmentView) : Type 0 where
   pub sent : is_closed f.state ≡ false → All (units_of f.sent)
   pub unsent : is_closed f.state ≡ false → All (option_to_list f.waiting ++ pending)
@@ -113,7 +104,8 @@ module _ (s : FopState SegmentView) (pending : List SegmentView) (k : Fit s pend
   fewer : (f : FopState SegmentView) (n : ℕ) → (is_closed f.state ≡ false → is_closed s.state ≡ false)
       → units_of f.sent ≡ units_of (drop n s.sent) → f.waiting ≡ s.waiting → Fit f pending
   fewer f n on sent waiting = record {
-    sent = λ running. subst All (sym (sent ∙ units-drop n s.sent)) (all_drop n (units_of s.sent) (k.sent (on running)));
+    sent = λ running. subst All (sym (sent ∙ units-drop n s.sent))
+        (behind-each FitsFrame n (units_of s.sent) (k.sent (on running)));
     unsent = λ running. rw waiting (k.unsent (on running));
   }
 
@@ -300,7 +292,7 @@ module _ (c : Config) (w : World) (k : Sound c w) (g : Carried c w) where
   ground_fits e fits =
       let s = w.ground_node in
       let set : (x : ℕ) → x < 256 → Sound c (directed w (SetVs x)) = λ x. directive_sound c w k (SetVs x) in
-      ground_after w GroundFits e (record {
+      ground_after w (λ t session. GroundFits t) e (record {
         same = g.fits;
         submits = submission_fits c s k.ground_node g.fits k.ranges;
         bypasses = λ m octets is none. assumption g.fits;
@@ -309,9 +301,9 @@ module _ (c : Config) (w : World) (k : Sound c w) (g : Carried c w) where
             (set value (subst IsEvent is fits)).ground_node
             (directive_fits c s k.ground_node g.fits (SetVs value)) InitUnlock;
         ticks = λ is. with_fits s (tick_step s.fop).after (tick_fits s.fop s.pending g.fits);
-        sends = λ is. with_fits s (pull_step s.fop).after (pull_fits s.fop s.pending g.fits);
-        hears_none = λ down x packets. assumption g.fits;
-        hears = λ down x packets r. refilled_fits _ (heard_fits s.fop s.pending g.fits r);
+        sends = λ is sent. with_fits s (pull_step s.fop).after (pull_fits s.fop s.pending g.fits);
+        hears_none = λ told x packets. assumption g.fits;
+        hears = λ told x packets r. refilled_fits _ (heard_fits s.fop s.pending g.fits r);
       })
 
   pub step_carried : (e : Event) → IsEvent e → Carried c (world_step w e).after
@@ -454,17 +446,17 @@ module _ (c : Config) (w : World) (k : Sound c w) (off : IsOff w) (none_up : num
   })
 
   closed_so : (e : Event) → BeginsNoSession w e → IsOff (world_step w e).after
-  closed_so e goes = ground_after w (λ t. t.fop.state ≡ S6) e (record {
+  closed_so e goes = ground_after w (λ t session. t.fop.state ≡ S6) e (record {
     same = off;
     submits = λ m octets none. closed_with (submitting w.ground_node m octets) s off;
     bypasses = λ m octets is none. off;
     directs = λ d is. (directive_so d (subst (BeginsNoSession w) is goes)).0;
     restarts = λ value is can. not_restarted w e goes value is can;
     ticks = λ is. closed_with w.ground_node (tick_step s).after (ticked s (λ o. o.after.state ≡ S6) (assumption off));
-    sends = λ is. closed_with w.ground_node (pull_step s).after (pulled_out s (λ o. o.after.state ≡ S6)
+    sends = λ is sent. closed_with w.ground_node (pull_step s).after (pulled_out s (λ o. o.after.state ≡ S6)
         (assumption off));
-    hears_none = λ down x packets. off;
-    hears = λ down x packets r. refilled_keeps (λ t. t.fop.state ≡ S6) _
+    hears_none = λ told x packets. off;
+    hears = λ told x packets r. refilled_keeps (λ t. t.fop.state ≡ S6) _
         (λ waiting pending on closed. heard_in s r s.state off off);
   })
 

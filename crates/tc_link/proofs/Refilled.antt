@@ -1,19 +1,24 @@
 -- What is pending moves up, and what is known of the ground is still so.
 use Rattle.tc_link.proofs.Common.{◌≡◌, ℕ, ◌+◌, ◌*◌, ◌<◌, Bool, true, false, List, [], ◌∷◌, ◌++◌, drop, Option, Some}
-use Rattle.tc_link.proofs.Common.{None, option_to_list, refl, ◌∙◌, arith, inl, cond_both, SegmentView, Control}
+use Rattle.tc_link.proofs.Common.{None, option_to_list, refl, ◌∙◌, arith, inl, cond_both, SegmentView, Control, Clcw}
 use Rattle.tc_link.proofs.Common.{Directive, FopMode, S6, FopState, SentUnit, units_of, Config, GroundState, is_closed}
 use Rattle.tc_link.proofs.Common.{unsent_segments, refill_step, with_fop, IsChecked, PlainLink, World, Fates, Result}
 use Rattle.tc_link.proofs.Common.{Ok, Err, ap, eq-eqb, Alert, CopFault, tick_step, pull_step, directive_step, LinkFault}
-use Rattle.tc_link.proofs.Common.{GroundOutcome, unless_refused, submit_fault, bypass_fault, after_submission}
-use Rattle.tc_link.proofs.Common.{after_bypass, after_acknowledging, obeying, submitting, moved_by}
+use Rattle.tc_link.proofs.Common.{GroundOutcome, unless_refused, submit_fault, bypass_fault, after_submission, subst}
+use Rattle.tc_link.proofs.Common.{after_bypass, after_acknowledging, obeying, moved_by, ExtractorState}
+use Rattle.tc_link.proofs.Common.{clcw_step, with_submission}
 use Rattle.std.specs.Prelude.{◌^◌}
 use Rattle.nodes.specs.Ground.{after_moving_up, GroundEvent, Submit, Bypass, Direct, Resume, Pull, Tick, Telemetry}
 use Rattle.nodes.specs.Ground.{ControlWord, TakeTelemetry, ForgetTelemetry, ground_step, ground_take_telemetry}
-use Rattle.nodes.specs.Ground.{can_resume, after_directive}
+use Rattle.nodes.specs.Ground.{can_resume, after_directive, after_report, after_resuming, ground_directive}
 use Rattle.nodes.specs.Fates.{whole_with, kept_after, counted_from}
 use Rattle.tc_link.specs.Repeated.{BringsNoReport}
 use Rattle.tc_link.proofs.Linked.{IsEarly, ControlFits, In, Held, Kept, Next, SessionBy, WithSender, Calm, beside}
 use Rattle.tc_link.proofs.Linked.{IsLate, asked, Ranks, bit, ranks_lower}
+use Rattle.tm_link.specs.Extractor.{new_extractor}
+use Rattle.simulated_link.proofs.Counted.{frame_seen, report_seen}
+use Rattle.clcw.specs.Decoding.{clcw_at}
+use Rattle.tm_link.specs.Decoding.{frame_at}
 
 abbrev pub queued_as : GroundState → Option SegmentView → List SegmentView → GroundState
 queued_as s waiting pending = record s { fop = record s.fop { waiting = waiting }; pending = pending }
@@ -164,43 +169,97 @@ counted_same n k small =
 pub refilled_counts : (s : GroundState) → Counts s.fates → Counts (refill_step s).fates
 refilled_counts s k = refilled_keeps (λ (g : GroundState). Counts g.fates) s (λ waiting pending on off. k)
 
+-- What a call of the ground may do, by its kind.
+
+-- it may bring a report
+abbrev pub IsHeard : GroundEvent → Type 0
+IsHeard (Telemetry octets) = Unit {0}
+IsHeard (ControlWord octets) = Unit {0}
+IsHeard _ = ⊥
+
+pub record AtEachCall (s : GroundState) (e : GroundEvent) (P : GroundState → Type 0) : Type 0 where
+  -- it is refused, or there is nothing to take
+  pub same : P s
+  pub submits : (pending : List SegmentView) (n : ℕ)
+      → P (refill_step (record s { pending = pending; fates = with_submission n s.fates }))
+  pub bypasses : (us : List SegmentView) → P (record s { fop = record s.fop { bypass = us } })
+  pub directs : (d : Directive) → e ≡ Direct d
+      → P (refill_step (record (obeying s d) { fop = (directive_step s.fop d).after }))
+  pub resumes : (value : ℕ) → e ≡ Resume value → can_resume s value ≡ true → P (after_resuming s value)
+  pub pulls : P (refill_step (record s { fop = (pull_step s.fop).after }))
+  pub ticks : P (refill_step (record s { fop = (tick_step s.fop).after }))
+  -- telemetry is another, and a report may be heard beside it
+  pub takes : (x : ExtractorState) (packets : List (List ℕ)) → P (record s { extractor = x; telemetry = packets })
+  pub hears : IsHeard e → (x : ExtractorState) (packets : List (List ℕ)) (r : Clcw)
+      → P (after_report (record s { extractor = x; telemetry = packets }) (clcw_step s.fop r).after)
+
+module _ (s : GroundState) (P : GroundState → Type 0) where
+  accepted_or : (fault : Option LinkFault) (next : GroundState) → P s → P next → P (unless_refused fault s next).after
+  accepted_or None next same taken = taken
+  accepted_or (Some fault) next same taken = same
+
+  obeyed_or : (d : Directive) (r : Result (Option Alert) CopFault) (f : FopState SegmentView) → P s
+      → P (refill_step (record (obeying s d) { fop = f })) → P (after_directive s d r f)
+  obeyed_or d (Ok alert) f same led = led
+  obeyed_or d (Err fault) f same led = same
+
+  taken_or : (packets : List (List ℕ)) → P s
+      → ((left : List (List ℕ)) → P (record s { extractor = s.extractor; telemetry = left }))
+      → P (ground_take_telemetry s packets).after
+  taken_or [] same taken = same
+  taken_or (packet ∷ left) same taken = taken left
+
+  pub directed_so : (d : Directive) → P s
+      → P (refill_step (record (obeying s d) { fop = (directive_step s.fop d).after })) → P (ground_directive s d).after
+  directed_so d = obeyed_or d (directive_step s.fop d).answer (directive_step s.fop d).after
+
+  pub called : (e : GroundEvent) → AtEachCall s e P → P (ground_step s e).after
+  called (Submit m octets) each =
+      accepted_or (submit_fault s m octets) (after_submission s m octets) each.same (each.submits _ _)
+  called (Bypass m octets) each =
+      accepted_or (bypass_fault s m octets) (after_bypass s m octets) each.same (each.bypasses _)
+  called (Direct d) each = directed_so d each.same (each.directs d refl)
+  called (Resume value) each =
+      cond_both (can_resume s value) _ _ (λ (o : GroundOutcome (Result ℕ LinkFault)). P o.after)
+      (each.resumes value refl) (λ t. each.same)
+  called Pull each = each.pulls
+  called Tick each = each.ticks
+  called (Telemetry octets) each = frame_seen s P (record {
+    same = each.same;
+    extracts = λ x. each.takes x.after (s.telemetry ++ x.packets);
+    uses = λ x r. each.hears tt x.after (s.telemetry ++ x.packets) r;
+  }) (frame_at s.config.frame_length octets)
+  called (ControlWord octets) each =
+      report_seen s P each.same (each.hears tt s.extractor s.telemetry) (clcw_at octets)
+  called TakeTelemetry each = taken_or s.telemetry each.same (each.takes s.extractor)
+  called ForgetTelemetry each = each.takes new_extractor s.telemetry
+
+-- a call that brings none, and begins no session
+pub none_heard : {A : Type 0} (s : GroundState) (e : GroundEvent) → BringsNoReport s e → IsHeard e → A
+none_heard s (Telemetry octets) goes heard = elim goes [ ]
+none_heard s (ControlWord octets) goes heard = elim goes [ ]
+none_heard s _ goes heard = elim heard [ ]
+
+pub none_resumed : {A : Type 0} (s : GroundState) (e : GroundEvent) → BringsNoReport s e → (value : ℕ)
+    → e ≡ Resume value → can_resume s value ≡ true → A
+none_resumed s e goes value is can =
+    absurd (let refused : can_resume s value ≡ false = subst (BringsNoReport s) is goes in cc (can, refused))
+
 module _ (s : GroundState) (k : Counts s.fates) where
-  abbrev Counted : GroundState → Type 0
-  Counted g = Counts g.fates
-
-  submits_count : (m : ℕ) (octets : List ℕ) (o : Option LinkFault)
-      → Counted (unless_refused o s (after_submission s m octets)).after
-  submits_count m octets (Some fault) = k
-  submits_count m octets None = refilled_counts (submitting s m octets) k
-
-  bypasses_count : (m : ℕ) (octets : List ℕ) (o : Option LinkFault)
-      → Counted (unless_refused o s (after_bypass s m octets)).after
-  bypasses_count m octets (Some fault) = k
-  bypasses_count m octets None = k
-
   counted_anew : (o : Option Bool) → Counts (counted_from o s.fates)
   counted_anew None = k
   counted_anew (Some kept) = omega arith
 
-  directs_count : (d : Directive) (r : Result (Option Alert) CopFault) (f : FopState SegmentView)
-      → Counted (after_directive s d r f)
-  directs_count d (Ok alert) f = refilled_counts (record (obeying s d) { fop = f }) (counted_anew (kept_after d))
-  directs_count d (Err fault) f = k
-
-  takes_count : (packets : List (List ℕ)) → Counted (ground_take_telemetry s packets).after
-  takes_count [] = k
-  takes_count (packet ∷ left) = k
-
-  pub step_counts : (e : GroundEvent) → BringsNoReport s e → Counted (ground_step s e).after
-  step_counts (Submit m octets) goes = submits_count m octets (submit_fault s m octets)
-  step_counts (Bypass m octets) goes = bypasses_count m octets (bypass_fault s m octets)
-  step_counts (Direct d) goes = directs_count d (directive_step s.fop d).answer (directive_step s.fop d).after
-  step_counts (Resume value) goes =
-      cond_both (can_resume s value) _ _ (λ (o : GroundOutcome (Result ℕ LinkFault)). Counted o.after)
-      (λ t. absurd (cc (t, goes))) (λ t. k)
-  step_counts Pull goes = refilled_counts (record s { fop = (pull_step s.fop).after }) k
-  step_counts Tick goes = refilled_counts (record s { fop = (tick_step s.fop).after }) k
-  step_counts (Telemetry octets) goes = elim goes [ ]
-  step_counts (ControlWord octets) goes = elim goes [ ]
-  step_counts TakeTelemetry goes = takes_count s.telemetry
-  step_counts ForgetTelemetry goes = k
+  pub step_counts : (e : GroundEvent) → BringsNoReport s e → Counts (ground_step s e).after.fates
+  step_counts e goes = called s (λ g. Counts g.fates) e (record {
+    same = k;
+    submits = λ pending n. refilled_counts _ k;
+    bypasses = λ us. k;
+    directs = λ d is. refilled_counts (record (obeying s d) { fop = (directive_step s.fop d).after })
+        (counted_anew (kept_after d));
+    resumes = λ value is can. none_resumed s e goes value is can;
+    pulls = refilled_counts (record s { fop = (pull_step s.fop).after }) k;
+    ticks = refilled_counts (record s { fop = (tick_step s.fop).after }) k;
+    takes = λ x packets. k;
+    hears = λ heard x packets r. none_heard s e goes heard;
+  })

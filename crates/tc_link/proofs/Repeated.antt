@@ -7,10 +7,10 @@ use Rattle.tc_link.proofs.Common.{S6, FopMode, FopState, FopOutcome, Alert, CopF
 use Rattle.tc_link.proofs.Common.{locks, waits, asks, confirms, clcw_step, report_in, report_while_active}
 use Rattle.tc_link.proofs.Common.{after_new_value, retransmits, goes_on, alerts, after_alert, ahead_by, ticked}
 use Rattle.tc_link.proofs.Common.{pulled_out, heard_active, obeyed, begun, is_initiation, tick_step, pull_step}
-use Rattle.tc_link.proofs.Common.{directive_step, Config, LinkFault, IsConfig, GroundState, GroundOutcome, is_closed}
-use Rattle.tc_link.proofs.Common.{telemetry_outcome, obeying, submitting, acknowledging, and_parts, extract_step}
-use Rattle.tc_link.proofs.Common.{refill_step, with_fop, unless_refused, submit_fault, after_submission, bypass_fault}
-use Rattle.tc_link.proofs.Common.{after_bypass, after_extraction, TmFault, Fates, after_report}
+use Rattle.tc_link.proofs.Common.{directive_step, Config, IsConfig, GroundState, GroundOutcome, is_closed}
+use Rattle.tc_link.proofs.Common.{telemetry_outcome, obeying, acknowledging, and_parts, extract_step}
+use Rattle.tc_link.proofs.Common.{refill_step}
+use Rattle.tc_link.proofs.Common.{after_extraction, TmFault, Fates, after_report, with_submission}
 use Rattle.std.specs.Prelude.{◌&&◌, ◌/◌, IfOk, slice_index}
 use Rattle.std.proofs.lemmas.Bool.{not-true}
 use Rattle.octets.specs.Number.{IsOctets}
@@ -21,76 +21,19 @@ use Rattle.cop1.specs.FopWords.{is_outside, after_gone}
 use Rattle.cop1.specs.declared.vocabulary.Alert.TheVariants.{Lockout, Clcw as ClcwAlert}
 use Rattle.cop1.specs.declared.vocabulary.Directive.TheVariants.{Terminate, SetVs, SetWindow, SetLimit, SetTimer}
 use Rattle.tm_link.specs.Decoding.{frame_at}
-use Rattle.simulated_link.proofs.Counted.{reported, report_seen, frame_seen}
+use Rattle.simulated_link.proofs.Counted.{reported}
 use Rattle.tm_link.specs.Layout.{FrameView}
 use Rattle.nodes.specs.declared.heard.Heard.{Heard}
 use Rattle.nodes.specs.declared.heard.HeardClcw.{HeardClcw}
 use Rattle.nodes.specs.declared.heard.HeardReport.TheVariants.{Used, OtherChannel}
-use Rattle.nodes.specs.Ground.{GroundEvent, Submit, Bypass, Direct, Pull, Tick, Telemetry, ControlWord, TakeTelemetry}
-use Rattle.nodes.specs.Ground.{ForgetTelemetry, new_ground, ground_step, ground_take_telemetry, after_moving_up}
-use Rattle.nodes.specs.Ground.{after_directive, report_outcome, is_own_telemetry}
-use Rattle.nodes.specs.Ground.{Resume, can_resume, ground_resume, ground_directive}
+use Rattle.nodes.specs.Ground.{GroundEvent}
+use Rattle.nodes.specs.Ground.{new_ground, ground_step, after_moving_up}
+use Rattle.nodes.specs.Ground.{report_outcome, is_own_telemetry}
+use Rattle.nodes.specs.Ground.{ground_directive}
 use Rattle.tc_link.specs.Repeated.{ground_run, BringsNoReport, BringNoReport, repeated_outcome, RepeatsNothing}
 use Rattle.tc_link.specs.Repeated.{RepeatsNothingOfFrames, word_of}
-use Rattle.tc_link.proofs.Refilled.{refilled_keeps, Counts, counted_same, refilled_counts, step_counts}
-
--- ---- what is so of the configuration and the sender, whatever waits, is so after each call
-
-module _ (P : Config → FopState SegmentView → Type 0)
-    (waits_so : (c : Config) (f : FopState SegmentView) (u : Option SegmentView) → P c f
-    → P c (record f { waiting = u }))
-    (bypass_so : (c : Config) (f : FopState SegmentView) (us : List SegmentView) → P c f
-    → P c (record f { bypass = us }))
-    (s : GroundState) (k : P s.config s.fop) where
-  abbrev Are : GroundState → Type 0
-  Are g = P g.config g.fop
-
-  refilled_are : (g : GroundState) → Are g → Are (refill_step g)
-  refilled_are g same = refilled_keeps Are g (λ waiting pending on off. waits_so g.config g.fop waiting same)
-
-  settled_are : (f : FopState SegmentView) → P s.config f → Are (with_fop s f)
-  settled_are f same = refilled_are (record s { fop = f }) same
-
-  reports_are : (f : FopState SegmentView) → P s.config f → Are (after_report s f)
-  reports_are f same = refilled_are (record (acknowledging s f) { fop = f }) same
-
-  unless_are : (fault : Option LinkFault) (next : GroundState) → Are next → Are (unless_refused fault s next).after
-  unless_are None next same = same
-  unless_are (Some fault) next same = k
-
-  submits_are : (m : ℕ) (octets : List ℕ) → Are (ground_step s (Submit m octets)).after
-  submits_are m octets =
-      unless_are (submit_fault s m octets) (after_submission s m octets)
-      (refilled_are (submitting s m octets) k)
-
-  bypasses_are : (m : ℕ) (octets : List ℕ) → Are (ground_step s (Bypass m octets)).after
-  bypasses_are m octets = unless_are (bypass_fault s m octets) (after_bypass s m octets) (bypass_so s.config s.fop _ k)
-
-  directs_are : (d : Directive) → P s.config (directive_step s.fop d).after → Are (ground_step s (Direct d)).after
-  directs_are d same = answered (directive_step s.fop d).answer where
-    answered : (answer : Result (Option Alert) CopFault)
-        → Are (after_directive s d answer (directive_step s.fop d).after)
-    answered (Ok alert) = refilled_are (record (obeying s d) { fop = (directive_step s.fop d).after }) same
-    answered (Err fault) = k
-
-  takes_are : (packets : List (List ℕ)) → Are (ground_take_telemetry s packets).after
-  takes_are [] = k
-  takes_are (packet ∷ left) = k
-
--- where a directive keeps it
-resumes_are : (P : Config → FopState SegmentView → Type 0)
-    → ((c : Config) (f : FopState SegmentView) (u : Option SegmentView) → P c f → P c (record f { waiting = u }))
-    → ((c : Config) (f : FopState SegmentView) (us : List SegmentView) → P c f → P c (record f { bypass = us }))
-    → ((c : Config) (f : FopState SegmentView) (d : Directive) → P c f → P c (directive_step f d).after)
-    → (s : GroundState) → P s.config s.fop → (value : ℕ)
-    → P (ground_resume s value).after.config (ground_resume s value).after.fop
-resumes_are P waits_so bypass_so directs s k value =
-    let set : GroundState = (ground_directive s (SetVs value)).after in
-    let so : P set.config set.fop =
-    directs_are P waits_so bypass_so s k (SetVs value) (directs s.config s.fop (SetVs value) k) in
-    cond_both (can_resume s value) _ _
-    (λ (o : GroundOutcome (Result ℕ LinkFault)). P o.after.config o.after.fop)
-    (λ t. directs_are P waits_so bypass_so set so InitUnlock (directs set.config set.fop InitUnlock so)) (λ t. k)
+use Rattle.tc_link.proofs.Refilled.{refilled_keeps, Counts, counted_same, refilled_counts, step_counts, called}
+use Rattle.tc_link.proofs.Refilled.{directed_so, none_heard, none_resumed}
 
 -- ---- the numbers of a sender, as far as they matter here
 
@@ -169,35 +112,25 @@ module _ (s : FopState SegmentView) (k : Usual s) where
         { room = k.room; window = most s.room k.window (omega arith); even = k.even };
   }) d
 
-abbrev UsualAt : Config → FopState SegmentView → Type 0
-UsualAt c f = Usual f
+refilled_usual : (g : GroundState) → Usual g.fop → Usual (refill_step g).fop
+refilled_usual g k = refilled_keeps (λ t. Usual t.fop) g (λ waiting pending on off. assumption k)
 
-waits_usual : (c : Config) (f : FopState SegmentView) (u : Option SegmentView) → UsualAt c f
-    → UsualAt c (record f { waiting = u })
-waits_usual c f u k = assumption k
-
-bypass_usual : (c : Config) (f : FopState SegmentView) (us : List SegmentView) → UsualAt c f
-    → UsualAt c (record f { bypass = us })
-bypass_usual c f us k = assumption k
+directed_usual : (s : GroundState) → Usual s.fop → (d : Directive) → Usual (ground_directive s d).after.fop
+directed_usual s k d = directed_so s (λ g. Usual g.fop) d k (refilled_usual _ (direct_usual s.fop k d))
 
 step_usual : (s : GroundState) → Usual s.fop → (e : GroundEvent) → Usual (ground_step s e).after.fop
-step_usual s k (Submit m octets) = submits_are UsualAt waits_usual bypass_usual s k m octets
-step_usual s k (Bypass m octets) = bypasses_are UsualAt waits_usual bypass_usual s k m octets
-step_usual s k (Direct d) = directs_are UsualAt waits_usual bypass_usual s k d (direct_usual s.fop k d)
-step_usual s k (Resume value) = resumes_are UsualAt waits_usual bypass_usual (λ c f d k. direct_usual f k d) s k value
-step_usual s k Pull = settled_are UsualAt waits_usual bypass_usual s k _ (pull_usual s.fop k)
-step_usual s k Tick = settled_are UsualAt waits_usual bypass_usual s k _ (tick_usual s.fop k)
-step_usual s k (Telemetry octets) =
-    frame_seen s (λ g. Usual g.fop) (record {
-      same = k;
-      extracts = λ x. k;
-      uses = λ x r. reports_are UsualAt waits_usual bypass_usual (after_extraction s x) k _ (report_usual s.fop k r);
-    }) (frame_at s.config.frame_length octets)
-step_usual s k (ControlWord octets) =
-    report_seen s (λ g. Usual g.fop) k
-    (λ r. reports_are UsualAt waits_usual bypass_usual s k _ (report_usual s.fop k r)) (clcw_at octets)
-step_usual s k TakeTelemetry = takes_are UsualAt waits_usual bypass_usual s k s.telemetry
-step_usual s k ForgetTelemetry = k
+step_usual s k e = called s (λ g. Usual g.fop) e (record {
+  same = k;
+  submits = λ pending n. refilled_usual _ k;
+  bypasses = λ us. assumption k;
+  directs = λ d is. refilled_usual _ (direct_usual s.fop k d);
+  resumes = λ value is can. directed_usual (ground_directive s (SetVs value)).after (directed_usual s k (SetVs value))
+      InitUnlock;
+  pulls = refilled_usual _ (pull_usual s.fop k);
+  ticks = refilled_usual _ (tick_usual s.fop k);
+  takes = λ x packets. k;
+  hears = λ heard x packets r. refilled_usual _ (report_usual s.fop k r);
+})
 
 run_usual : (es : List GroundEvent) (s : GroundState) → Usual s.fop → Usual (ground_run s es).fop
 run_usual [] s k = k
@@ -320,9 +253,7 @@ module _ (s : FopState SegmentView) (k : Usual s) (r : Clcw) where
   nothing_known S1 is active told = rw is told
   nothing_known S2 is active told = tt
   nothing_known S3 is active told = tt
-  nothing_known S4 is active told = elim active [ ]
-  nothing_known S5 is active told = elim active [ ]
-  nothing_known S6 is active told = elim active [ ]
+  nothing_known _ is active told = elim active [ ]
 
   module _ (l : locks r ≡ false) (a : asks r ≡ true) (apart : (r.value == s.vs) ≡ false) where
     asked_by : (f : FopState SegmentView) (wait : Bool) → waits r ≡ wait → f.vs ≡ s.vs → r.value ≡ f.nn
@@ -349,9 +280,7 @@ module _ (s : FopState SegmentView) (k : Usual s) (r : Clcw) where
     back_known S1 is active asked = repeats_known s asked (nat_lt s.count s.limit)
     back_known S2 is active asked = rw is asked
     back_known S3 is active asked = repeats_known s asked (nat_lt s.count s.limit)
-    back_known S4 is active asked = elim active [ ]
-    back_known S5 is active asked = elim active [ ]
-    back_known S6 is active asked = elim active [ ]
+    back_known _ is active asked = elim active [ ]
 
     all_known : IsActive s.state → r.value ≡ s.nn → KnownAfter (ask_for_all s (waits r))
     all_known active at =
@@ -397,9 +326,6 @@ module _ (s : FopState SegmentView) (k : Usual s) (r : Clcw) where
   begun_known starting l w a at = record { unlocked = l; asking = a; waiting = w; at = at ∙ k.even starting }
 
   known_in : (m : FopMode) → s.state ≡ m → KnownAfter (report_in s r m)
-  known_in S1 is = active_known (rw is tt)
-  known_in S2 is = active_known (rw is tt)
-  known_in S3 is = active_known (rw is tt)
   known_in S4 is =
       cond_both (locks r) (alerts s Lockout) _ KnownAfter (λ t. tt)
       (λ l. cond_both (not (r.value == s.vs)) (alerts s NnR) _ KnownAfter (λ t. tt)
@@ -416,6 +342,7 @@ module _ (s : FopState SegmentView) (k : Usual s) (r : Clcw) where
       (eqb-true r.value s.vs p.1))
       (λ t. rw is t)
   known_in S6 is = rw is tt
+  known_in _ is = active_known (rw is tt)
 
   report_known : KnownTo (clcw_step s r).after r
   report_known = known_in s.state refl
@@ -425,12 +352,10 @@ module _ (s : FopState SegmentView) (k : Usual s) (r : Clcw) where
 module _ (r : Clcw) (octet : r.value < 256) (s : FopState SegmentView) (usual : Usual s) (k : KnownTo s r) where
   first_known : (m : FopMode) (vs : ℕ) → IsActive m → (r.value ≡ s.nn → (r.value == vs) ≡ false)
       → Known m s.vs s.nn s.limit r → Known m vs s.nn s.limit r
-  first_known S1 vs active other k = k
   first_known S2 vs active other k = let apart = other k.at in assumption (apart, k)
   first_known S3 vs active other k = let apart = other k.at in assumption (apart, k)
-  first_known S4 vs active other k = k
   first_known S5 vs active other k = elim active [ ]
-  first_known S6 vs active other k = k
+  first_known _ vs active other k = k
 
   next_apart : nat_lt (ahead_by s.vs s.nn) s.window ≡ true → r.value ≡ s.nn → (r.value == ((s.vs + 1) % 256)) ≡ false
   next_apart room at =
@@ -468,10 +393,6 @@ module _ (r : Clcw) (octet : r.value < 256) (s : FopState SegmentView) (usual : 
 
   direct_known : (d : Directive) → (is_initiation d ≡ true → is_closed s.state ≡ false) → d ≢ SetLimit 1
       → KnownTo (directive_step s d).after r
-  direct_known InitWithoutCheck on other = not_begun s.state _ (on refl)
-  direct_known InitWithCheck on other = not_begun s.state _ (on refl)
-  direct_known InitUnlock on other = not_begun s.state _ (on refl)
-  direct_known (InitSetVr x) on other = not_begun s.state _ (on refl)
   direct_known Terminate on other = ended_known s.state
   direct_known (SetVs x) on other = set_known x s.state refl
   direct_known (SetWindow n) on other =
@@ -483,6 +404,7 @@ module _ (r : Clcw) (octet : r.value < 256) (s : FopState SegmentView) (usual : 
   direct_known (SetTimer n) on other =
       cond_both (n == 0) _ _ (λ (o : FopOutcome SegmentView (Result (Option Alert) CopFault)). KnownTo o.after r)
       (λ t. k) (λ t. k)
+  direct_known _ on other = not_begun s.state _ (on refl)
 
 -- ---- the ground
 
@@ -516,41 +438,26 @@ module _ (s : GroundState) where
       (λ g. g ≡ s) (λ off. ap (λ us. record s { pending = us }) (sym (k.off off)))
       (λ on. stays_put on k s.fop.waiting s.pending refl refl)
 
-abbrev ConfigIs : Config → Config → FopState SegmentView → Type 0
-ConfigIs c own f = own ≡ c
-
 module _ (c : Config) where
-  waits_config : (own : Config) (f : FopState SegmentView) (u : Option SegmentView) → ConfigIs c own f
-      → ConfigIs c own (record f { waiting = u })
-  waits_config own f u is = is
+  refilled_config : (g : GroundState) → g.config ≡ c → (refill_step g).config ≡ c
+  refilled_config g is = refilled_keeps (λ t. t.config ≡ c) g (λ waiting pending on off. is)
 
-  bypass_config : (own : Config) (f : FopState SegmentView) (us : List SegmentView) → ConfigIs c own f
-      → ConfigIs c own (record f { bypass = us })
-  bypass_config own f us is = is
-
-  settled_config : (s : GroundState) → s.config ≡ c → (f : FopState SegmentView) → (with_fop s f).config ≡ c
-  settled_config s is f = settled_are (ConfigIs c) waits_config bypass_config s is f is
-
-  reported_config : (s : GroundState) → s.config ≡ c → (f : FopState SegmentView) → (after_report s f).config ≡ c
-  reported_config s is f = reports_are (ConfigIs c) waits_config bypass_config s is f is
+  directed_config : (s : GroundState) → s.config ≡ c → (d : Directive) → (ground_directive s d).after.config ≡ c
+  directed_config s is d = directed_so s (λ g. g.config ≡ c) d is (refilled_config _ is)
 
   step_config : (s : GroundState) → s.config ≡ c → (e : GroundEvent) → (ground_step s e).after.config ≡ c
-  step_config s is (Submit m octets) = submits_are (ConfigIs c) waits_config bypass_config s is m octets
-  step_config s is (Bypass m octets) = bypasses_are (ConfigIs c) waits_config bypass_config s is m octets
-  step_config s is (Direct d) = directs_are (ConfigIs c) waits_config bypass_config s is d is
-  step_config s is (Resume value) = resumes_are (ConfigIs c) waits_config bypass_config (λ own f d is. is) s is value
-  step_config s is Pull = settled_config s is _
-  step_config s is Tick = settled_config s is _
-  step_config s is (Telemetry octets) =
-      frame_seen s (λ g. g.config ≡ c) (record {
-        same = is;
-        extracts = λ x. is;
-        uses = λ x r. reported_config (after_extraction s x) is (clcw_step s.fop r).after;
-      }) (frame_at s.config.frame_length octets)
-  step_config s is (ControlWord octets) =
-      report_seen s (λ g. g.config ≡ c) is (λ r. reported_config s is _) (clcw_at octets)
-  step_config s is TakeTelemetry = takes_are (ConfigIs c) waits_config bypass_config s is s.telemetry
-  step_config s is ForgetTelemetry = is
+  step_config s is e = called s (λ g. g.config ≡ c) e (record {
+    same = is;
+    submits = λ pending n. refilled_config _ is;
+    bypasses = λ us. is;
+    directs = λ d same. refilled_config _ is;
+    resumes = λ value same can. directed_config (ground_directive s (SetVs value)).after
+        (directed_config s is (SetVs value)) InitUnlock;
+    pulls = refilled_config _ is;
+    ticks = refilled_config _ is;
+    takes = λ x packets. is;
+    hears = λ heard x packets r. refilled_config _ is;
+  })
 
   run_config : (es : List GroundEvent) (s : GroundState) → s.config ≡ c → (ground_run s es).config ≡ c
   run_config [] s is = is
@@ -564,68 +471,36 @@ record IsKnown (r : Clcw) (s : GroundState) : Type 0 where
   counts : Counts s.fates
 
 module _ (r : Clcw) (octet : r.value < 256) where
-  abbrev KnownAt : Config → FopState SegmentView → Type 0
-  KnownAt c f = KnownTo f r
-
-  waits_known : (c : Config) (f : FopState SegmentView) (u : Option SegmentView) → KnownAt c f
-      → KnownAt c (record f { waiting = u })
-  waits_known c f u k = k
-
-  bypass_known : (c : Config) (f : FopState SegmentView) (us : List SegmentView) → KnownAt c f
-      → KnownAt c (record f { bypass = us })
-  bypass_known c f us k = k
-
-  settled_known : (s : GroundState) → KnownTo s.fop r → (f : FopState SegmentView) → KnownTo f r
-      → KnownTo (with_fop s f).fop r
-  settled_known s k f known = settled_are KnownAt waits_known bypass_known s k f known
+  refilled_known : (g : GroundState) → KnownTo g.fop r → KnownTo (refill_step g).fop r
+  refilled_known g k = refilled_keeps (λ t. KnownTo t.fop r) g (λ waiting pending on off. k)
 
   module _ (s : GroundState) (h : IsKnown r s) where
     step_known : (e : GroundEvent) → BringsNoReport s e → KnownTo (ground_step s e).after.fop r
-    step_known (Submit m octets) goes = submits_are KnownAt waits_known bypass_known s h.known m octets
-    step_known (Bypass m octets) goes = bypasses_are KnownAt waits_known bypass_known s h.known m octets
-    step_known (Direct d) goes =
-        directs_are KnownAt waits_known bypass_known s h.known d
-        (direct_known r octet s.fop h.usual h.known d goes.0 goes.1)
-    step_known (Resume value) goes =
-        cond_both (can_resume s value) _ _ (λ (o : GroundOutcome (Result ℕ LinkFault)). KnownTo o.after.fop r)
-        (λ t. absurd (cc (t, goes))) (λ t. h.known)
-    step_known Pull goes = settled_known s h.known _ (pull_known r octet s.fop h.usual h.known)
-    step_known Tick goes = settled_known s h.known _ (tick_known r octet s.fop h.usual h.known)
-    step_known (Telemetry octets) goes = elim goes [ ]
-    step_known (ControlWord octets) goes = elim goes [ ]
-    step_known TakeTelemetry goes = takes_are KnownAt waits_known bypass_known s h.known s.telemetry
-    step_known ForgetTelemetry goes = h.known
-
-    unless_filled : (fault : Option LinkFault) (next : GroundState) → Filled next
-        → Filled (unless_refused fault s next).after
-    unless_filled None next filled = filled
-    unless_filled (Some fault) next filled = h.filled
-
-    takes_filled : (packets : List (List ℕ)) → Filled (ground_take_telemetry s packets).after
-    takes_filled [] = h.filled
-    takes_filled (packet ∷ left) = assumption h.filled
-
-    directs_filled : (d : Directive) (answer : Result (Option Alert) CopFault) (f : FopState SegmentView)
-        → Filled (after_directive s d answer f)
-    directs_filled d (Ok alert) f = refill_filled (record (obeying s d) { fop = f })
-    directs_filled d (Err fault) f = h.filled
+    step_known e goes = called s (λ g. KnownTo g.fop r) e (record {
+      same = h.known;
+      submits = λ pending n. refilled_known _ h.known;
+      bypasses = λ us. h.known;
+      directs = λ d is. let calm = subst (BringsNoReport s) is goes in
+          refilled_known _ (direct_known r octet s.fop h.usual h.known d calm.0 calm.1);
+      resumes = λ value is can. none_resumed s e goes value is can;
+      pulls = refilled_known _ (pull_known r octet s.fop h.usual h.known);
+      ticks = refilled_known _ (tick_known r octet s.fop h.usual h.known);
+      takes = λ x packets. h.known;
+      hears = λ heard x packets r. none_heard s e goes heard;
+    })
 
     step_filled : (e : GroundEvent) → BringsNoReport s e → Filled (ground_step s e).after
-    step_filled (Submit m octets) goes =
-        unless_filled (submit_fault s m octets) (after_submission s m octets)
-        (refill_filled (submitting s m octets))
-    step_filled (Bypass m octets) goes =
-        unless_filled (bypass_fault s m octets) (after_bypass s m octets) (assumption h.filled)
-    step_filled (Direct d) goes = directs_filled d (directive_step s.fop d).answer (directive_step s.fop d).after
-    step_filled (Resume value) goes =
-        cond_both (can_resume s value) _ _ (λ (o : GroundOutcome (Result ℕ LinkFault)). Filled o.after)
-        (λ t. absurd (cc (t, goes))) (λ t. h.filled)
-    step_filled Pull goes = refill_filled (record s { fop = (pull_step s.fop).after })
-    step_filled Tick goes = refill_filled (record s { fop = (tick_step s.fop).after })
-    step_filled (Telemetry octets) goes = elim goes [ ]
-    step_filled (ControlWord octets) goes = elim goes [ ]
-    step_filled TakeTelemetry goes = takes_filled s.telemetry
-    step_filled ForgetTelemetry goes = assumption h.filled
+    step_filled e goes = called s Filled e (record {
+      same = h.filled;
+      submits = λ pending n. refill_filled (record s { pending = pending; fates = with_submission n s.fates });
+      bypasses = λ us. assumption h.filled;
+      directs = λ d is. refill_filled (record (obeying s d) { fop = (directive_step s.fop d).after });
+      resumes = λ value is can. none_resumed s e goes value is can;
+      pulls = refill_filled (record s { fop = (pull_step s.fop).after });
+      ticks = refill_filled (record s { fop = (tick_step s.fop).after });
+      takes = λ x packets. assumption h.filled;
+      hears = λ heard x packets r. none_heard s e goes heard;
+    })
 
     step_heard : (e : GroundEvent) → BringsNoReport s e → IsKnown r (ground_step s e).after
     step_heard e goes = record {
@@ -645,8 +520,8 @@ module _ (r : Clcw) (octet : r.value < 256) where
       let f : FopState SegmentView = (clcw_step s.fop r).after in
       let t : GroundState = record (acknowledging s f) { fop = f } in
       record {
-        usual = reports_are UsualAt waits_usual bypass_usual s usual f (report_usual s.fop usual r);
-        known = refilled_keeps (λ g. KnownTo g.fop r) t (λ waiting pending on off. report_known s.fop usual r);
+        usual = refilled_usual t (report_usual s.fop usual r);
+        known = refilled_known t (report_known s.fop usual r);
         filled = refill_filled t;
         counts = refilled_counts t (omega arith);
       }
@@ -680,7 +555,9 @@ module _ (r : Clcw) (octet : r.value < 256) where
     used_again : (r.vcid == s.config.vcid) ≡ true → Repeats (using s)
     used_again own all =
         let now : GroundState = ground_run (using s).after since in
-        let config = run_config s.config since (using s).after (reported_config s.config s refl _) in
+        let f : FopState SegmentView = (clcw_step s.fop r).after in
+        let used = refilled_config s.config (record (acknowledging s f) { fop = f }) refl in
+        let config = run_config s.config since (using s).after used in
         cond_both (r.vcid == now.config.vcid) _ _
         (λ (o : GroundOutcome HeardClcw). o ≡ repeated_outcome now (using s).answer)
         (λ t. again now (using s).answer refl (run_heard since (using s).after all (uses_heard s usual)))

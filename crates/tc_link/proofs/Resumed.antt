@@ -20,7 +20,7 @@ use Rattle.nodes.specs.Ground.{GroundOutcome}
 use Rattle.nodes.specs.declared.fault.LinkFault.{LinkFault}
 use Rattle.nodes.specs.declared.fault.LinkFault.TheVariants.{NotKnown}
 use Rattle.nodes.specs.declared.event.Event.TheVariants as events
-use Rattle.simulated_link.specs.World.{Session, is_idle, is_none, reports_as, report_now}
+use Rattle.simulated_link.specs.World.{Session, is_idle, is_none, reports_as, report_now, world_after_resuming}
 use Rattle.tc_link.proofs.Promised.{past_holds, promised_so}
 use Rattle.tc_link.proofs.Fates.{knows_fates}
 use Rattle.tc_link.proofs.Invariant.{Holding, idle_goes, octet, began_at, begun_session, can_off}
@@ -34,7 +34,8 @@ use Rattle.tc_link.specs.Taken.{BeginsSession}
 use Rattle.tc_link.specs.Whole.{on_board, IsOneGroup, AreSingle, DeliversWhole}
 use Rattle.tm_link.specs.Decoding as telemetry_reading
 use Rattle.simulated_link.specs.Replies.{Resumed}
-use Rattle.simulated_link.specs.World.{world_after_resuming}
+use Rattle.map_service.proofs.Groups.{behind-each}
+use Rattle.tc_link.proofs.Promised.{run_push}
 
 -- ---- lists of submissions
 
@@ -52,21 +53,11 @@ take_further {X} (suc j) k (x ∷ xs) =
     let is : suc j + k ≡ suc (j + k) = omega arith in
     ap (λ (n : ℕ). take n (x ∷ xs)) is ∙ ap (λ (ys : List X). x ∷ ys) (take_further j k xs)
 
-all_of_drop : {X : Type 0} (P : X → Type 0) (k : ℕ) (xs : List X) → AllByRecursion P xs → AllByRecursion P (drop k xs)
-all_of_drop P zero xs all = all
-all_of_drop P (suc k) [] all = tt
-all_of_drop P (suc k) (x ∷ xs) all = all_of_drop P k xs all.1
-
 all_of_front : {X : Type 0} (P : X → Type 0) (xs ys : List X) → AllByRecursion P (xs ++ ys) → AllByRecursion P xs
 all_of_front P [] ys all = tt
 all_of_front P (x ∷ xs) ys all = (all.0, all_of_front P xs ys all.1)
 
 -- ---- a run with one event more
-
-run_push : (w : World) (es : List Event) (e : Event)
-    → world_run w (es ++ e ∷ []) ≡ (world_step (world_run w es) e).after
-run_push w [] e = refl
-run_push w (x ∷ xs) e = run_push (world_step w x).after xs e
 
 keeps_push : (w : World) (es : List Event) (e : Event) → KeepsSession w es → BeginsNoSession (world_run w es) e
     → KeepsSession w (es ++ e ∷ [])
@@ -251,7 +242,7 @@ module _ (c : Config) (wanted : List PacketOn) (w : World) (done : ℕ) (l : Lea
     single_now =
         rw (config_now c wanted w done l)
         (all_of_front (IsOneGroup c.part) w.session.submissions l.submits.0
-        (subst (AllByRecursion (IsOneGroup c.part)) l.submits.1 (all_of_drop (IsOneGroup c.part) done wanted single)))
+        (subst (AllByRecursion (IsOneGroup c.part)) l.submits.1 (behind-each (IsOneGroup c.part) done wanted single)))
 
     -- what is delivered is of the submissions that are wanted next
     delivered_is : (m : ℕ) → delivered w m ≡ packets_on_map (take (on_board w) (drop done wanted)) m

@@ -1,11 +1,8 @@
 -- While silence is kept the receiver's report stays, so the frames down that follow the first ones carry it.
 use Rattle.tc_link.proofs.Common.{◌≡◌, ℕ, zero, suc, ◌-◌, ◌≤◌, true, false, List, [], ◌∷◌, ◌++◌, length, refl, arith}
-use Rattle.tc_link.proofs.Common.{◌∙◌, subst, AllByRecursion, list_all, Clcw, flags_number, ◌≢◌}
-use Rattle.tc_link.proofs.Common.{FarmState, FarmMode, Open, Wait, after_release, report_of}
-use Rattle.tc_link.proofs.Common.{Config, GroundState, Heard, Event, World}
-use Rattle.tc_link.proofs.Common.{WorldOutcome, world_step, spacecraft_report}
-use Rattle.tc_link.proofs.Common.{reports_as, report_now}
-use Rattle.tc_link.proofs.Common.{eq-eqb, ◌==◌}
+use Rattle.tc_link.proofs.Common.{◌∙◌, subst, AllByRecursion, list_all, Clcw, flags_number, ◌≢◌, FarmState, FarmMode}
+use Rattle.tc_link.proofs.Common.{Open, Wait, after_release, report_of, Config, GroundState, Heard, Event, World}
+use Rattle.tc_link.proofs.Common.{WorldOutcome, world_step, spacecraft_report, reports_as, report_now, eq-eqb, ◌==◌}
 use Rattle.nodes.specs.Ground as ground_calls
 use Rattle.nodes.specs.Ground.{ground_step}
 use Rattle.nodes.specs.declared.heard.Heard.TheVariants as heard_cases

@@ -2,33 +2,28 @@
 use Rattle.tc_link.proofs.Common.{◌≡◌, ◌/◌, ◌<◌, ◌≤◌, true, [], length, AllByRecursion, SegmentView, Control, Idle}
 use Rattle.tc_link.proofs.Common.{FopMode, FarmState, FlagsAgree, FopState, Config, FitsFrame, GroundState, is_closed}
 use Rattle.tc_link.proofs.Common.{SpacecraftState, IsBuilderOf, IsConfig, World, S5, None, ℕ, false, ◌∷◌, Some, refl}
-use Rattle.tc_link.proofs.Common.{◌∙◌, arith, ◌+◌, ◌%◌, Clcw, FarmMode, Open, Wait, Verdict, Accepted, Sent}
-use Rattle.tc_link.proofs.Common.{FarmEvent, AdArrives, BdArrives, BufferReleased, farm_step, after_verdict, goes_on}
-use Rattle.tc_link.proofs.Common.{after_unlock, after_set_vr, after_release, verdict_of}
-use Rattle.tc_link.proofs.Common.{FopOutcome, pull_step, clcw_step, report_while_active, retransmits}
-use Rattle.tc_link.proofs.Common.{after_new_value, IsActive, tick_step, after_count, due_again}
-use Rattle.tc_link.proofs.Common.{after_alert, after_stop, refill_step, ticked, pulled_out}
-use Rattle.tc_link.proofs.Common.{heard_active, Bool, cond, List, ◌++◌, take, drop, map, Option, option_to_list, ap}
-use Rattle.tc_link.proofs.Common.{sym, subst, append_assoc, length-append, inr, ◌==◌, and_parts, not-false}
-use Rattle.tc_link.proofs.Common.{take-append-le, drop-append-le, append-nil, segment_octets, segments_of, Directive}
-use Rattle.tc_link.proofs.Common.{LinkFault, PacketOn, packet_on, segments_on, submit_fault, after_submission}
-use Rattle.tc_link.proofs.Common.{bypass_fault, after_bypass, segments_fit, submitting, ◌-◌, Result, Ok}
-use Rattle.tc_link.proofs.Common.{Err, cond_both, eqb-false, TcFault, On, BodyView, Ad, Bd, Bc, CopFault, Alert}
-use Rattle.tc_link.proofs.Common.{InitWithoutCheck, InitWithCheck, InitUnlock, InitSetVr, S6, directive_step}
-use Rattle.tc_link.proofs.Common.{BuilderState, after_queue, data_size, is_at_rest, room_left}
-use Rattle.tc_link.proofs.Common.{Event, is_kept, limits_of, spacecraft_report}
-use Rattle.tc_link.proofs.Common.{frame_outcome, body_outcome, sequence_outcome, bypass_outcome, is_free, is_own_frame}
-use Rattle.tc_link.proofs.Common.{with_fop}
-use Rattle.tc_link.proofs.Common.{directive_outcome, new_world}
-use Rattle.tc_link.proofs.Common.{world_step, is_initiation}
-use Rattle.tc_link.proofs.Common.{session_after_directive, IsDirective, IsEvent, obeyed, begun, SetVs, obeying}
+use Rattle.tc_link.proofs.Common.{◌∙◌, arith, ◌+◌, ◌%◌, Clcw, FarmMode, Open, Verdict, Accepted, Sent, FarmEvent}
+use Rattle.tc_link.proofs.Common.{AdArrives, BdArrives, BufferReleased, farm_step, after_verdict, goes_on, after_unlock}
+use Rattle.tc_link.proofs.Common.{after_set_vr, after_release, verdict_of, FopOutcome, pull_step, clcw_step}
+use Rattle.tc_link.proofs.Common.{report_while_active, retransmits, after_new_value, IsActive, tick_step, after_count}
+use Rattle.tc_link.proofs.Common.{due_again, after_alert, after_stop, refill_step, ticked, pulled_out, heard_active}
+use Rattle.tc_link.proofs.Common.{Bool, cond, List, ◌++◌, take, drop, map, Option, option_to_list, ap, sym, subst}
+use Rattle.tc_link.proofs.Common.{append_assoc, length-append, inr, ◌==◌, and_parts, not-false, take-append-le}
+use Rattle.tc_link.proofs.Common.{drop-append-le, append-nil, segment_octets, segments_of, Directive, LinkFault}
+use Rattle.tc_link.proofs.Common.{PacketOn, packet_on, segments_on, submit_fault, after_submission, bypass_fault}
+use Rattle.tc_link.proofs.Common.{after_bypass, segments_fit, submitting, ◌-◌, Result, Ok, Err, cond_both, eqb-false}
+use Rattle.tc_link.proofs.Common.{TcFault, On, BodyView, Ad, Bd, Bc, CopFault, Alert, InitWithoutCheck, InitWithCheck}
+use Rattle.tc_link.proofs.Common.{InitUnlock, InitSetVr, S6, directive_step, BuilderState, after_queue, data_size}
+use Rattle.tc_link.proofs.Common.{is_at_rest, room_left, Event, is_kept, limits_of, spacecraft_report, frame_outcome}
+use Rattle.tc_link.proofs.Common.{body_outcome, sequence_outcome, bypass_outcome, is_free, is_own_frame, with_fop}
+use Rattle.tc_link.proofs.Common.{directive_outcome, new_world, world_step, is_initiation, session_after_directive}
+use Rattle.tc_link.proofs.Common.{IsDirective, IsEvent, obeyed, begun, SetVs, obeying}
 use Rattle.tc_frame.specs.declared.frame.SegmentFlags.TheVariants.{Alone}
 use Rattle.tc_frame.specs.Layout.{FrameView}
 use Rattle.tc_frame.specs.Decoding.{frame_at}
 use Rattle.map_service.specs.Packets.{packets_in, are_taken, is_some_over}
 use Rattle.map_service.specs.Cutting.{segment_with}
 use Rattle.tm_link.specs.Builder.{after_send, idle_after, with_next_count}
-use Rattle.cop1.specs.declared.farm.FarmMode.TheVariants.{Lockout}
 use Rattle.cop1.specs.Farm.{UnlockArrives, SetVrArrives, InvalidArrives}
 use Rattle.cop1.proofs.FarmFlags.{FlagsAgree-step}
 use Rattle.nodes.specs.Spacecraft.{command_event, spacecraft_receive}
@@ -37,8 +32,7 @@ use Rattle.nodes.specs.Ground.{can_resume}
 use Rattle.nodes.proofs.Submissions.{submit_map, bypass_fits}
 use Rattle.simulated_link.specs.World.{directed, resumed}
 use Rattle.simulated_link.proofs.Counted.{reported}
-use Rattle.simulated_link.proofs.Unchanged.{board_after, ground_after}
-use Rattle.simulated_link.proofs.Unchanged.{stepped}
+use Rattle.simulated_link.proofs.Unchanged.{board_after, ground_after, stepped}
 use Rattle.tc_link.specs.PlainLink.{adds}
 use Rattle.tc_link.proofs.Refilled.{refilled_keeps, session_refilled}
 use Rattle.tc_link.proofs.Linked.{Fits, fits_longer, In, IsGiven, units_of_all, Held, Next, holds_on}
@@ -186,20 +180,17 @@ verdict_so s _ = (refl, refl)
 
 unlock_so : (s : FarmState) (m : FarmMode) → ((after_unlock s m).width ≡ s.width) × ((after_unlock s m).farm_b < 4)
 unlock_so s Open = (refl, omega arith)
-unlock_so s Wait = (refl, omega arith)
-unlock_so s Lockout = (refl, omega arith)
+unlock_so s _ = (refl, omega arith)
 
 set_so : (s : FarmState) (x : ℕ) (m : FarmMode)
     → ((after_set_vr s x m).width ≡ s.width) × ((after_set_vr s x m).farm_b < 4)
 set_so s x Open = (refl, omega arith)
-set_so s x Wait = (refl, omega arith)
-set_so s x Lockout = (refl, omega arith)
+set_so s x _ = (refl, omega arith)
 
 release_so : (s : FarmState) (m : FarmMode)
     → ((after_release s m).width ≡ s.width) × ((after_release s m).farm_b ≡ s.farm_b)
 release_so s Open = (refl, refl)
-release_so s Wait = (refl, refl)
-release_so s Lockout = (refl, refl)
+release_so s _ = (refl, refl)
 
 farm_fields : (s : FarmState) (e : FarmEvent) → s.farm_b < 4
     → ((farm_step s e).width ≡ s.width) × ((farm_step s e).farm_b < 4)
@@ -468,16 +459,16 @@ module _ (c : Config) (w : World) (k : Sound c w) (e : Event) (fits : IsEvent e)
   s = w.ground_node
 
   ground_so : GroundNodeSteady c (world_step w e).after.ground_node
-  ground_so = ground_after w (GroundNodeSteady c) e (record {
+  ground_so = ground_after w (λ t session. GroundNodeSteady c t) e (record {
     same = k.ground_node;
     submits = λ m octets none. refilled_so c (submitting s m octets) k.ground_node.config k.ground_node.fop;
     bypasses = λ m octets is none. bypassed_so c s k.ground_node k.ranges m octets.now none;
     directs = λ d is. directive_so c s k.ground_node d (subst IsEvent is fits);
     restarts = λ value is can. (resumed_sound c w k value (subst IsEvent is fits)).ground_node;
     ticks = λ is. with_so c s k.ground_node (tick_step s.fop).after (tick_so c s.fop k.ground_node.fop);
-    sends = λ is. with_so c s k.ground_node (pull_step s.fop).after (pull_so c s.fop k.ground_node.fop);
-    hears_none = λ down x packets. assumption k.ground_node;
-    hears = λ down x packets r. refilled_so c _ k.ground_node.config (report_so c s.fop k.ground_node.fop r);
+    sends = λ is sent. with_so c s k.ground_node (pull_step s.fop).after (pull_so c s.fop k.ground_node.fop);
+    hears_none = λ told x packets. assumption k.ground_node;
+    hears = λ told x packets r. refilled_so c _ k.ground_node.config (report_so c s.fop k.ground_node.fop r);
   })
 
   abbrev Board : SpacecraftState → Type 0

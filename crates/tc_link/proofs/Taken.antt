@@ -6,11 +6,9 @@ use Rattle.tc_link.proofs.Common.{SegmentView, BodyView, Ad, Bd, Bc, On, Limits,
 use Rattle.tc_link.proofs.Common.{TcFault, Verdict, Accepted, verdict_of, Config, PacketOn, packet_on, limits_of}
 use Rattle.tc_link.proofs.Common.{SpacecraftState, frame_outcome, body_outcome, sequence_outcome, bypass_outcome}
 use Rattle.tc_link.proofs.Common.{is_free, is_own_frame, is_kept, segment_to_accept, spacecraft_step, length, map}
-use Rattle.tc_link.proofs.Common.{filter, eqb, option_map, filter-append, assembled-other}
-use Rattle.tc_link.proofs.Common.{spacecraft_take}
-use Rattle.tc_link.proofs.Common.{Event, Opening, KeepsSession, World, WorldOutcome, IsIdle}
-use Rattle.tc_link.proofs.Common.{delivered, world_step, world_run, run_answers, world_after_take, inl, inr, S1}
-use Rattle.tc_link.proofs.Common.{take_all, Directive, PlainLink}
+use Rattle.tc_link.proofs.Common.{filter, eqb, option_map, filter-append, assembled-other, spacecraft_take, Event}
+use Rattle.tc_link.proofs.Common.{Opening, KeepsSession, World, WorldOutcome, IsIdle, delivered, world_step, world_run}
+use Rattle.tc_link.proofs.Common.{run_answers, world_after_take, inl, inr, S1, take_all, Directive, PlainLink}
 use Rattle.std.specs.List.{flat_map}
 use Rattle.std.proofs.lemmas.List.{append_cancel_left}
 use Rattle.std.proofs.Math.Seq.{take-append_seam, drop-append_seam}

@@ -2,21 +2,18 @@
 use Rattle.tc_link.proofs.Common.{◌≡◌, ℕ, Bool, true, false, if◌then◌else◌, not, List, [], ◌∷◌, ◌++◌, length, drop}
 use Rattle.tc_link.proofs.Common.{refl, sym, ap, subst, ◌∙◌, arith, append_assoc, AllByRecursion, append-nil, ◌≢◌}
 use Rattle.tc_link.proofs.Common.{all_extracted, state_after, ExtractorState, without_idle, extract_step, choice}
-use Rattle.tc_link.proofs.Common.{AreSomeOf, Option, Result, Ok, Err, ◌+◌, ◌==◌, cond_both, and_parts}
-use Rattle.tc_link.proofs.Common.{eqb-true, Clcw, ClcwFault, TcFault, SegmentView, BodyView, Ad, Bd, Bc, CopFault}
-use Rattle.tc_link.proofs.Common.{Verdict, Accepted, Alert, clcw_step, FopState, BuilderState, is_to_send, after_queue}
-use Rattle.tc_link.proofs.Common.{idle_tail, Extracted, held_by, IsLaidOutBy, is_kept, limits_of}
-use Rattle.tc_link.proofs.Common.{SpacecraftState, frame_outcome, body_outcome, sequence_outcome, bypass_outcome}
-use Rattle.tc_link.proofs.Common.{is_own_frame, GroundState, GroundOutcome}
-use Rattle.tc_link.proofs.Common.{with_fop, refill_step}
-use Rattle.tc_link.proofs.Common.{after_extraction, own_frame_outcome, Directive, obeying, submitting, acknowledging}
-use Rattle.tc_link.proofs.Common.{◌<◌, ◌≤◌, map, length-append, eq-eqb, map-append, On, directive_step, pull_step}
-use Rattle.tc_link.proofs.Common.{tick_step, TmFault, data_size, Config, telemetry_outcome, ground_telemetry, Heard}
-use Rattle.tc_link.proofs.Common.{SpacecraftOutcome, report_octets, IsConfig, Event}
-use Rattle.tc_link.proofs.Common.{NotDetectable, Down, World, WorldOutcome, world_step, world_run, new_world}
-use Rattle.tc_link.proofs.Common.{down_deliver_step, down_lose_step, down_damage_step, down_damage_outcome}
-use Rattle.tc_link.proofs.Common.{world_refusal}
-use Rattle.tc_link.proofs.Common.{world_reply, world_after_queueing, SetVs, InitUnlock}
+use Rattle.tc_link.proofs.Common.{AreSomeOf, Option, Result, Ok, Err, ◌+◌, ◌==◌, cond_both, and_parts, eqb-true, Clcw}
+use Rattle.tc_link.proofs.Common.{ClcwFault, TcFault, SegmentView, BodyView, Ad, Bd, Bc, CopFault, Verdict, Accepted}
+use Rattle.tc_link.proofs.Common.{Alert, clcw_step, FopState, BuilderState, is_to_send, after_queue, idle_tail}
+use Rattle.tc_link.proofs.Common.{Extracted, held_by, IsLaidOutBy, is_kept, limits_of, SpacecraftState, frame_outcome}
+use Rattle.tc_link.proofs.Common.{body_outcome, sequence_outcome, bypass_outcome, is_own_frame, GroundState}
+use Rattle.tc_link.proofs.Common.{GroundOutcome, with_fop, refill_step, after_extraction, own_frame_outcome, Directive}
+use Rattle.tc_link.proofs.Common.{obeying, submitting, acknowledging, ◌<◌, ◌≤◌, map, length-append, eq-eqb, map-append}
+use Rattle.tc_link.proofs.Common.{On, directive_step, pull_step, tick_step, TmFault, data_size, Config}
+use Rattle.tc_link.proofs.Common.{telemetry_outcome, ground_telemetry, Heard, SpacecraftOutcome, report_octets}
+use Rattle.tc_link.proofs.Common.{IsConfig, Event, NotDetectable, Down, World, WorldOutcome, world_step, world_run}
+use Rattle.tc_link.proofs.Common.{new_world, down_deliver_step, down_lose_step, down_damage_step, down_damage_outcome}
+use Rattle.tc_link.proofs.Common.{world_refusal, world_reply, world_after_queueing, SetVs, InitUnlock}
 use Rattle.std.specs.List.{concat}
 use Rattle.std.proofs.lemmas.List.{drop_at}
 use Rattle.octets.specs.Records.{IsRecord}
@@ -549,7 +546,7 @@ module _ (c : Config) (d : Downlink) (g : Laid c d) where
         queues = λ octets is. absurd (not_queued octets is);
       }))
       (down_after w (λ way. way ≡ w.down) e not_made refl (λ gone. absurd (not_gone gone)))
-      (ground_after w (Extracts s) e (record {
+      (ground_after w (λ t session. Extracts s t) e (record {
         same = (refl, refl);
         submits = λ m octets none. with_extracts (submitting s m octets) s.fop;
         bypasses = λ m octets is none. (refl, refl);
@@ -561,7 +558,7 @@ module _ (c : Config) (d : Downlink) (g : Laid c d) where
             (directive_step t.fop InitUnlock).after in
             (begun.0 ∙ set.0, begun.1 ∙ set.1);
         ticks = λ is. with_extracts s (tick_step s.fop).after;
-        sends = λ is. with_extracts s (pull_step s.fop).after;
+        sends = λ is sent. with_extracts s (pull_step s.fop).after;
         hears_none = λ told. absurd (not_told told);
         hears = λ told. absurd (not_told told);
       }))

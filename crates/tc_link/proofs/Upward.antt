@@ -8,16 +8,14 @@ use Rattle.tc_link.proofs.Common.{Accepted, Ahead, NoBuffer, Outside, ◌*◌, m
 use Rattle.tc_link.proofs.Common.{Result, Ok, ap, sym, subst, slice_get, eq-eqb, drop-append-le, TcFault, On, BodyView}
 use Rattle.tc_link.proofs.Common.{Ad, Bd, after_verdict, Config, limits_of, is_kept, frame_outcome, sequence_outcome}
 use Rattle.tc_link.proofs.Common.{is_free, frame_of, World, up_deliver_step, Rises, length, farm_step, BufferReleased}
-use Rattle.tc_link.proofs.Common.{PacketOn}
-use Rattle.tc_link.proofs.Common.{map, option_to_list}
-use Rattle.tc_link.proofs.Common.{AllByRecursion, ne_eqb, append-nil, map-append, length-take-le, segment_octets}
-use Rattle.tc_link.proofs.Common.{Control, Idle, Due, Sent, FopMode, S5, units_of, PulledUnit, pull_step, oldest_marked}
-use Rattle.tc_link.proofs.Common.{without_oldest_mark, unmarked_unit, FopState, FopOutcome, IsActive, after_restart}
-use Rattle.tc_link.proofs.Common.{FitsFrame, is_closed, unsent_segments, with_fop, frame_to_send, world_after_pull}
-use Rattle.tc_link.proofs.Common.{IsChecked, pulled_out, active_on, Option, after_count, tick_step, due_again}
-use Rattle.tc_link.proofs.Common.{after_alert, after_repeat, after_stop, directive_outcome, is_initiation}
-use Rattle.tc_link.proofs.Common.{world_after_directive, IsDirective, obeyed, ticked, Alert, CopFault, directive_step}
-use Rattle.tc_link.proofs.Common.{closed_not}
+use Rattle.tc_link.proofs.Common.{PacketOn, map, option_to_list, AllByRecursion, ne_eqb, append-nil, map-append}
+use Rattle.tc_link.proofs.Common.{length-take-le, segment_octets, Control, Idle, Due, Sent, FopMode, S5, units_of}
+use Rattle.tc_link.proofs.Common.{PulledUnit, pull_step, oldest_marked, without_oldest_mark, unmarked_unit, FopState}
+use Rattle.tc_link.proofs.Common.{FopOutcome, IsActive, after_restart, FitsFrame, is_closed, unsent_segments, with_fop}
+use Rattle.tc_link.proofs.Common.{frame_to_send, world_after_pull, IsChecked, pulled_out, active_on, Option}
+use Rattle.tc_link.proofs.Common.{after_count, tick_step, due_again, after_alert, after_repeat, after_stop}
+use Rattle.tc_link.proofs.Common.{directive_outcome, is_initiation, world_after_directive, IsDirective, obeyed, ticked}
+use Rattle.tc_link.proofs.Common.{Alert, CopFault, directive_step, closed_not}
 use Rattle.std.specs.Prelude.{nat_le}
 use Rattle.std.proofs.lemmas.Bool.{leb-true, leb-false}
 use Rattle.std.proofs.lemmas.Option.{slice_get_within}
@@ -703,8 +701,7 @@ module _ (early : Bool) (c : Config) (d : Directive) (base : ℕ) (w : World) (k
 due_fits : (d : Directive) (base : ℕ) (control : Control) → ControlFits d base control
     → ControlFits d base (due_again control)
 due_fits d base Idle fits = fits
-due_fits d base (Due command) fits = fits
-due_fits d base (Sent command) fits = fits
+due_fits d base _ fits = fits
 
 module _ (early : Bool) (c : Config) (d : Directive) (base : ℕ) (w : World) (g : In early c d base w) where
   abbrev SenderLeaves : {A : Type 0} → FopOutcome SegmentView A → Type 0
