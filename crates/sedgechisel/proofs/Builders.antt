@@ -1,8 +1,8 @@
 -- A builder of telemetry frames, with its packets in the caller's memory.
 use Rattle.std.proofs.Common.{◌≡◌, ◌≤◌, ◌<◌, ℕ, ◌+◌, ◌-◌, min, Bool, true, false, List, [], ◌∷◌, ◌++◌, length}
-use Rattle.std.proofs.Common.{take, drop, map, Option, Some, None, Ok, Err, refl, sym, ap, subst, ◌∙◌, arith, inl, inr}
+use Rattle.std.proofs.Common.{take, drop, map, Option, Some, None, Ok, refl, sym, ap, subst, ◌∙◌, arith, inl, inr}
 use Rattle.std.proofs.Common.{◌⊎◌, length-take, length-drop, length-append}
-use Rattle.std.specs.Prelude.{◌==◌, ◌%◌, ◌||◌, nat_le, if◌then◌else◌, IfOk}
+use Rattle.std.specs.Prelude.{◌==◌, ◌%◌, ◌||◌, nat_le, IfOk}
 use Rattle.std.specs.List.{concat}
 use Rattle.std.proofs.Math.Bool.{or-false, or-true}
 use Rattle.std.proofs.lemmas.Bool.Decides.{nat_tests}
@@ -20,7 +20,6 @@ use Rattle.tm_link.specs.Builder.{BuilderState, builder_fits, new_builder, is_to
 use Rattle.tm_link.specs.Builder.{idle_after, after_send, with_next_count, build_step}
 use Rattle.tm_link.proofs.Spelled.{passed_within, passed_beyond}
 use Rattle.sedgechisel.specs.declared.telemetry_builder.KeptBuilder.{KeptBuilder}
-use Rattle.sedgechisel.specs.Answers.{damaged}
 use Rattle.sedgechisel.specs.Builders.{queued_at, built_at, pending_of, whole_of, has_numbers, is_builder, state_of}
 use Rattle.sedgechisel.specs.Builders.{builder_described, are_whole, can_send}
 
@@ -51,9 +50,7 @@ pub record IsBuilder (b : KeptBuilder) (memory : List ℕ) : Type 0 where
   pub none : rest_in (whole_of b memory) ≡ []
 
 pub builder_is : (b : KeptBuilder) (memory : List ℕ) → is_builder b memory ≡ true → IsBuilder b memory
-builder_is b memory h =
-    let both = and_parts (has_numbers b (length memory)) (length (rest_in (whole_of b memory)) == 0) h in
-    record { numbers = numbers_are b (length memory) both.0; none = none_left (rest_in (whole_of b memory)) both.1 }
+builder_is b memory h = grind (arith, common_steps, nil_from_length, h)
 
 -- ---- a new builder
 
@@ -375,17 +372,9 @@ whole_all rest left room le =
 
 -- ---- the next frame's count
 
-counted_by : (b : KeptBuilder) (memory : List ℕ) (s : BuilderState) (is : Bool)
-    → (if is then Ok (state_of b memory) else Err damaged) ≡ Ok s
-    → (if is then Ok (with_next_count (state_of b memory)) else Err damaged)
-    ≡ Ok (with_next_count s)
-counted_by b memory s true h =
-    let same : state_of b memory ≡ s = cc in ap (λ (t : BuilderState). Ok (with_next_count t)) same
-counted_by b memory s false h = absurd cc
-
 pub counted : (b : KeptBuilder) (memory : List ℕ) (s : BuilderState) → builder_described b memory ≡ Ok s
     → builder_described (record b { next_count = (b.next_count + 1) % 256 }) memory ≡ Ok (with_next_count s)
-counted b memory s h = counted_by b memory s (is_builder b memory) h
+counted b memory s h = grind (arith, h)
 
 -- ---- what a call answers
 

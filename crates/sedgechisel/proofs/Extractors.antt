@@ -3,7 +3,6 @@ use Rattle.std.proofs.Common.{◌≡◌, ◌≤◌, ℕ, ◌+◌, ◌-◌, Bool,
 use Rattle.std.proofs.Common.{None, Ok, Err, refl, sym, ap, ◌∙◌, arith, not, ◌<◌, suc, Result, length-take}
 use Rattle.std.proofs.Common.{length-drop, length-append}
 use Rattle.std.specs.Prelude.{nat_lt, if◌then◌else◌, ◌==◌, ◌||◌}
-use Rattle.std.proofs.lemmas.Bool.{eqb-true, ne_eqb}
 use Rattle.std.proofs.lemmas.List.{append-nil, take_rest, append_assoc}
 use Rattle.std.specs.List.{concat}
 use Rattle.std.proofs.lemmas.Grind.{common_steps}
@@ -17,7 +16,6 @@ use Rattle.tm_link.specs.Extractor.{ExtractorState, Extracted, extract_step, com
 use Rattle.tm_link.specs.Extractor.{part_after, part_over_gap, without_idle, is_idle, is_any_lost, gap_of}
 use Rattle.tm_link.specs.Layout.{pointer_fits, FrameView}
 use Rattle.tm_link.specs.Decoding.{pointer_at}
-use Rattle.tm_link.specs.declared.gap.Gap.TheVariants.{First, Lost}
 use Rattle.tm_link.proofs.Records.{without_idle-append}
 use Rattle.sedgechisel.specs.declared.part.Part.{Part}
 use Rattle.sedgechisel.specs.declared.telemetry_frame.ReportFrame.{ReportFrame}
@@ -147,16 +145,12 @@ frame_taken x f payload memory after part pointer gap k t is points fits gap-is 
 
 -- ---- the packets of a frame
 
-few_by : (idle : Bool) (p : List ℕ) (rest all : List (List ℕ)) → length (concat rest) ≤ length (concat all)
-    → length (concat (if not idle then p ∷ rest else rest)) ≤ length (p ++ concat all)
-few_by true p rest all le = omega (arith, le, length-append p (concat all))
-few_by false p rest all le =
-    omega (arith, le, length-append p (concat all), length-append p (concat rest))
-
 -- packets without the idle ones have no more octets
 few_without : (ps : List (List ℕ)) → length (concat (without_idle ps)) ≤ length (concat ps)
 few_without [] = omega arith
-few_without (p ∷ ps) = few_by (is_idle p) p (without_idle ps) ps (few_without ps)
+few_without (p ∷ ps) =
+    let le = few_without ps in
+    grind (arith, le, length-append p (concat ps), length-append p (concat (without_idle ps)))
 
 pub few_handed : (place : ℕ) (payload : List ℕ) → length (handed_from place payload) ≤ length payload - place
 few_handed place payload =
@@ -182,15 +176,10 @@ extracted_is t room size h = grind (arith, common_steps, h)
 
 -- ---- the packet that was begun
 
-begun_by : (x : KeptExtractor) (room : ℕ) → is_extractor x room ≡ true → x.from + x.count ≤ room
-begun_by x room h = grind (arith, common_steps, h)
-
 pub is_begun : (x : KeptExtractor) (memory : List ℕ) → is_extractor x (length memory) ≡ true → (x.count ≡ 0 → ⊥)
     → (length (take x.count (drop x.from memory)) == 0) ≡ false
 is_begun x memory is some =
-    ne_eqb (length (take x.count (drop x.from memory))) 0 (λ e. some (
-    omega (arith, e, begun_by x (length memory) is, length-take x.count (drop x.from memory), length-drop x.from memory)
-    ))
+    grind (arith, common_steps, is, some, length-take x.count (drop x.from memory), length-drop x.from memory)
 
 pub dropped_by : (s : ExtractorState) (f : FrameView) (pointer : Pointer) (part front : List ℕ)
     → (length s.part == 0) ≡ false → is_any_lost (gap_of s.last f.vc_count) ≡ false → pointer ≡ f.pointer
@@ -264,17 +253,9 @@ taken_is x f payload memory d is h =
     }
 
 -- the first frame, and how many are missing
-gap_by : (b : Bool) (t : TakenFrame) → (t.first == 1) ≡ b → t.first < 2 → ((t.first == 0) || (t.lost == 0)) ≡ true
-    → (t.first ≡ first_by (if b then First else Lost t.lost)) × (t.lost ≡ lost_by (if b then First else Lost t.lost))
-gap_by true t is lt none =
-    (eqb-true t.first 1 is, grind (arith, common_steps, is, none))
-gap_by false t is lt none =
-    let other : t.first ≡ 1 → ⊥ = λ e. absurd (let h : (t.first == 1) ≡ true = rw e refl in cc) in
-    (omega (arith, other), refl)
-
 pub gap_is : (t : TakenFrame) (room size : ℕ) → IsExtracted t room size
     → (t.first ≡ first_by (gap_at t)) × (t.lost ≡ lost_by (gap_at t))
-gap_is t room size is = gap_by (t.first == 1) t refl is.first is.lost
+gap_is t room size is = grind (arith, common_steps, is)
 
 -- ---- frames one after another
 

@@ -1,19 +1,18 @@
 -- Packets and frames that follow one another, and the parts of a packet.
 use Rattle.std.proofs.Common.{◌≡◌, ◌≤◌, ℕ, ◌+◌, List, [], ◌∷◌, length, take, drop, Some, None, ap, ◌∙◌, ◌<◌, suc, ◌-◌}
-use Rattle.std.proofs.Common.{◌%◌, Bool, true, false, ◌++◌, Ok, Err, refl, sym, arith, length-take, zero, ◌*◌, ◌/◌, min}
+use Rattle.std.proofs.Common.{Bool, true, false, ◌++◌, refl, sym, arith, length-take, zero, ◌*◌, ◌/◌, min}
 use Rattle.std.proofs.Common.{length-append, length-drop, inl, inr}
 use Rattle.std.proofs.lemmas.List.{drop_all, drop-drop, append-nil, take-append-drop, take_rest, drop-take, map-append}
 use Rattle.std.proofs.lemmas.List.{take_all, take_min, take-append-le, take-take}
-use Rattle.std.specs.Prelude.{nat_lt, if◌then◌else◌, ◌&&◌, ◌==◌, nat_le, slice_get}
+use Rattle.std.specs.Prelude.{◌&&◌, ◌==◌, nat_le, slice_get}
 use Rattle.std.proofs.lemmas.Bool.{ne_eqb, and_right, cases_lt, le-leb, lt-leb}
 use Rattle.std.proofs.lemmas.List.Folds.{concat-append}
+use Rattle.std.proofs.lemmas.Grind.{common_steps}
 use Rattle.std.proofs.Math.Bool.{and-true}
 use Rattle.std.proofs.Math.Nat.{le-div_iff_mul-le}
 use Rattle.std.proofs.Math.Seq.{take-append-add}
 use Rattle.std.specs.List.{concat}
 use Rattle.space_packet.proofs.WholePackets.{one_more-by_len, no_more}
-use Rattle.tc_frame.specs.declared.fault.TcFault.{TcFault}
-use Rattle.tc_frame.specs.Faults.{fault_row}
 use Rattle.tc_frame.specs.Layout.{SegmentView}
 use Rattle.map_service.specs.Packets.{first_packet, packets_in, rest_in}
 use Rattle.map_service.specs.Cutting.{pieces_of, segment_with, later_segments, parts_of, first_group, segments_of}
@@ -21,8 +20,7 @@ use Rattle.map_service.specs.Cutting.{payloads}
 use Rattle.map_service.proofs.Parts.{parts-count, parts-joined, later_segments-last, later_segments-more, parts-fit}
 use Rattle.map_service.proofs.Parts.{parts-more}
 use Rattle.map_service.proofs.Groups.{groups-cut}
-use Rattle.sedgechisel.specs.Answers.{numbered}
-use Rattle.sedgechisel.specs.CommandFrames.{len_within, whole_len, record_of, records_from, end_from}
+use Rattle.sedgechisel.specs.CommandFrames.{whole_len, record_of, records_from, end_from}
 use Rattle.sedgechisel.specs.declared.cutting.Place.{Place}
 use Rattle.sedgechisel.specs.Cuttings.{flags_for, octets_before, part_at, part_in, segment_in}
 
@@ -46,20 +44,9 @@ none_past octets place past = none_at octets place (ap first_packet (drop_all pl
 
 -- ---- the octets of a frame
 
-low : (b : Bool) (n : ℕ) → n ≤ 1024 → (if b then 0 else n) ≤ 1024
-low true n le = omega arith
-low false n le = le
-
-few : (short refused : Bool) (n count : ℕ) (e : TcFault)
-    → len_within (if short then Err 1 else numbered fault_row (if refused then Err e else Ok (n % 1024 + 1))) count
-    ≤ 1024
-few true refused n count e = omega arith
-few false true n count e = omega arith
-few false false n count e = low (nat_lt count (n % 1024 + 1)) (n % 1024 + 1) (omega arith)
-
 -- a frame has at most 1,024
 pub few_octets : (checked : Bool) (octets : List ℕ) → whole_len checked octets ≤ 1024
-few_octets checked octets = few _ _ _ (length octets) _
+few_octets checked octets = grind (arith, common_steps)
 
 len_is : (checked : Bool) (octets : List ℕ) (from count : ℕ)
     → count ≡ whole_len checked (take (length octets - from) (drop from octets))
