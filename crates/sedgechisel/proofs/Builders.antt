@@ -168,14 +168,7 @@ left_within : (begun room : ℕ) (pending behind : List ℕ) (sizes : List ℕ) 
     → map length (packets_in (drop begun pending)) ≡ sizes → rest_in (drop begun pending) ≡ behind
     → IsLeft (begun - room, sizes) (drop room pending) behind
 left_within begun room pending behind sizes le few is rest =
-    let back : room + (begun - room) ≡ begun = omega arith in
-    let same : drop (begun - room) (drop room pending) ≡ drop begun pending =
-    drop-drop (begun - room) room pending ∙ ap (λ (n : ℕ). drop n pending) back in
-    record {
-      within = omega (arith, length-drop room pending);
-      rest = ap rest_in same ∙ rest;
-      sizes = ap (λ (xs : List ℕ). map length (packets_in xs)) same ∙ is;
-    }
+    grind (arith, drop-drop (begun - room) room pending, length-drop room pending, le, few, is, rest)
 
 -- the packets have as many octets as are sent, or nothing stands after them
 abbrev Reach : List ℕ → List (List ℕ) → ℕ → ℕ → Type 0
@@ -249,16 +242,14 @@ passed_all rest left room le =
 passed_octets : (count room from : ℕ) (memory : List ℕ)
     → take (count - min room count) (drop (from + min room count) memory) ≡ drop room (take count (drop from memory))
 passed_octets count room from memory =
-    elim (cases_lt room count) [
-      | inl lt ↦
-          let passed : min room count ≡ room = omega arith in
-          let all : room + (count - room) ≡ count = omega arith in
-          rw (passed, ← drop-drop room from memory, ← drop-take room (count - room) (drop from memory), all) refl
-      | inr le ↦
-          let none : count - min room count ≡ 0 = omega arith in
-          let past = drop_all room (take count (drop from memory)) (omega (arith, length-take count (drop from memory))) in
-          rw (none, past) refl
-    ]
+    let past = drop_all room (take count (drop from memory)) in
+    grind (
+      arith,
+      past,
+      length-take count (drop from memory),
+      drop-drop room from memory,
+      drop-take room (count - room) (drop from memory),
+    )
 
 -- a builder after a data field
 abbrev sent_by : KeptBuilder → ℕ → ℕ → ℕ → ℕ → KeptBuilder

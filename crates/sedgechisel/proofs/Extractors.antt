@@ -22,13 +22,13 @@ use Rattle.sedgechisel.specs.declared.telemetry_frame.ReportFrame.{ReportFrame}
 use Rattle.sedgechisel.specs.declared.telemetry_extractor.KeptExtractor.{KeptExtractor}
 use Rattle.sedgechisel.specs.declared.telemetry_extractor.TakenFrame.{TakenFrame}
 use Rattle.sedgechisel.specs.declared.telemetry_extractor.Kept.{Kept}
-use Rattle.sedgechisel.specs.Answers.{damaged, and_then, status_of}
+use Rattle.sedgechisel.specs.Answers.{damaged, status_of}
 use Rattle.sedgechisel.specs.TelemetryFrames.{frame_described}
 use Rattle.sedgechisel.specs.Extractors.{is_extractor, state_of, last_of, place_over_gap, octets_at, joined_at}
 use Rattle.sedgechisel.specs.Extractors.{joined_by, need_of, packets_from, gap_at, extracted_at, extracted_described}
 use Rattle.sedgechisel.specs.Extractors.{DescribesExtracted, IsKept, extractor_described, is_extracted, is_dropped}
 use Rattle.sedgechisel.specs.Extractors.{is_cut_off, front_of, came_from, first_by, lost_by, handed_from}
-use Rattle.sedgechisel.specs.Extractors.{extracted_with, came_of, record_of, Run}
+use Rattle.sedgechisel.specs.Extractors.{came_of, record_of, Run}
 use Rattle.sedgechisel.specs.Extractors.{is_end, nothing, before, run_from, packets_by, state_by}
 use Rattle.sedgechisel.specs.declared.extracted_frames.Came.{Came}
 use Rattle.sedgechisel.proofs.Following.{stands_at, none_at, none_past}
@@ -93,16 +93,10 @@ finished_split part NoStart payload =
 finished_split part (At p) payload =
     sym (without_idle-append (completed_packet part (take p payload)) (packets_in (drop p payload)))
 
-place_by : (b : Bool) (x : KeptExtractor) (memory : List ℕ)
-    → octets_at (if b then record { from = 0; count = 0 } else record { from = x.from; count = x.count }) memory
-    ≡ (if b then [] else take x.count (drop x.from memory))
-place_by true x memory = refl
-place_by false x memory = refl
-
 -- the part, which is dropped where a frame is missing
 pub place_is : (gap : Gap) (x : KeptExtractor) (memory : List ℕ)
     → octets_at (place_over_gap gap x) memory ≡ part_over_gap gap (state_of x memory).part
-place_is gap x memory = place_by (is_any_lost gap) x memory
+place_is gap x memory = grind arith
 
 describes_by : (is fits short : Bool) (e d : Extracted) → is ≡ true → fits ≡ true → short ≡ false → d ≡ e
     → DescribesExtracted (if not is then Err damaged else if not fits then Err 10 else if short then Err 7 else Ok e) d
@@ -193,18 +187,10 @@ dropped_by s f pointer part front some lost at is before =
 abbrev pub paired : ExtractorState → FrameView → Extracted → Extracted × Bool
 paired s f e = (e, is_dropped s f)
 
-came_by : (a : Bool) (s : ExtractorState) (f : FrameView) (next : ExtractorState → Result Extracted ℕ)
-    → and_then {B = Extracted × Bool} (if a then Ok s else Err damaged) (λ t. map_ok (paired t f) (next t))
-    ≡ map_ok (paired s f) (if not a then Err damaged else next s)
-came_by true s f next = refl
-came_by false s f next = refl
-
 pub came_is : (x : KeptExtractor) (f : ReportFrame) (payload memory : List ℕ)
     → came_from (extractor_described x memory) (length memory) (frame_described f payload)
     ≡ map_ok (paired (state_of x memory) (frame_described f payload)) (extracted_at x f payload memory)
-came_is x f payload memory =
-    came_by (is_extractor x (length memory)) (state_of x memory) (frame_described f payload)
-    (λ t. extracted_with t (frame_described f payload) (length memory))
+came_is x f payload memory = grind arith
 
 abbrev pub came_with : ℕ → ℕ → ℕ → ℕ → Came
 came_with first lost dropped count =
@@ -218,16 +204,6 @@ pub refused_is : (r : Result Extracted ℕ) (number : ℕ) → number ≡ status
 refused_is (Ok e) number is some = absurd (some is)
 refused_is (Err n) number is some = ap (λ (k : ℕ). Err k) (sym is)
 
-taken_by : (a b c : Bool) (e d : Extracted)
-    → 0 ≡ status_of (if not a then Err damaged else if not b then Err 10 else if c then Err 7 else Ok e)
-    → DescribesExtracted (if not a then Err damaged else if not b then Err 10 else if c then Err 7 else Ok e) d
-    → (a ≡ true) × (b ≡ true)
-    × ((if not a then Err damaged else if not b then Err 10 else if c then Err 7 else Ok e) ≡ Ok d)
-taken_by true true false e d is h = (refl, refl, ap (λ (x : Extracted). Ok x) (sym h))
-taken_by true true true e d is h = absurd cc
-taken_by true false c e d is h = absurd cc
-taken_by false b c e d is h = absurd cc
-
 -- a frame that is taken
 pub record IsTaken (x : KeptExtractor) (f : ReportFrame) (payload memory : List ℕ) (d : Extracted) : Type 0 where
   pub extractor : is_extractor x (length memory) ≡ true
@@ -239,18 +215,7 @@ pub record IsTaken (x : KeptExtractor) (f : ReportFrame) (payload memory : List 
 pub taken_is : (x : KeptExtractor) (f : ReportFrame) (payload memory : List ℕ) (d : Extracted)
     → 0 ≡ status_of (extracted_at x f payload memory) → DescribesExtracted (extracted_at x f payload memory) d
     → IsTaken x f payload memory d
-taken_is x f payload memory d is h =
-    let s : ExtractorState = state_of x memory in
-    let part : List ℕ = part_over_gap (gap_of s.last f.vc_count) s.part in
-    let all = taken_by (is_extractor x (length memory)) (pointer_fits (pointer_at f.pointer) (length payload))
-    (nat_lt (length memory) (need_of part (pointer_at f.pointer) payload)) (extract_step s (frame_described f payload))
-    d is h in
-    record {
-      extractor = all.0;
-      fits = all.1;
-      answer = all.2;
-      came = came_is x f payload memory ∙ ap (map_ok (paired s (frame_described f payload))) all.2;
-    }
+taken_is x f payload memory d is h = grind (arith, common_steps, is, h, came_is x f payload memory)
 
 -- the first frame, and how many are missing
 pub gap_is : (t : TakenFrame) (room size : ℕ) → IsExtracted t room size
