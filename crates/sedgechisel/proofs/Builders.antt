@@ -4,9 +4,8 @@ use Rattle.std.proofs.Common.{take, drop, map, Option, Some, None, Ok, refl, sym
 use Rattle.std.proofs.Common.{◌⊎◌, length-take, length-drop, length-append}
 use Rattle.std.specs.Prelude.{◌==◌, ◌%◌, ◌||◌, nat_le, IfOk}
 use Rattle.std.specs.List.{concat}
-use Rattle.std.proofs.Math.Bool.{or-false, or-true}
 use Rattle.std.proofs.lemmas.Bool.Decides.{nat_tests}
-use Rattle.std.proofs.lemmas.Bool.{and_parts, le-leb, lt-leb, le-ltb, leb-true, eqb-true, cases_lt}
+use Rattle.std.proofs.lemmas.Bool.{and_parts, le-leb, le-ltb, leb-true, eqb-true, cases_lt}
 use Rattle.std.proofs.lemmas.Grind.{common_steps}
 use Rattle.std.proofs.lemmas.List.{drop_all, drop-drop, drop-append-le, map-append, drop-take, nil_from_length}
 use Rattle.octets.proofs.Streams.{records_of-append, rest_of-append}
@@ -154,14 +153,8 @@ left_none : (begun room : ℕ) (pending : List ℕ) → begun ≤ length pending
     → IsLeft (begun - room, []) (drop room pending) []
 left_none begun room pending le is none =
     let nothing : drop begun pending ≡ [] = all_of (drop begun pending) none ∙ ap concat is in
-    let long : length pending ≡ begun = omega (arith, ap length nothing, length-drop begun pending) in
-    let gone : drop (begun - room) (drop room pending) ≡ [] =
-    drop_all (begun - room) (drop room pending) (omega (arith, length-drop room pending)) in
-    record {
-      within = omega (arith, length-drop room pending);
-      rest = ap rest_in gone ∙ (no_more [] refl).1;
-      sizes = ap (λ (xs : List ℕ). map length (packets_in xs)) gone ∙ ap (map length) (no_more [] refl).0;
-    }
+    let gone = drop_all (begun - room) (drop room pending) in
+    grind (arith, gone, no_more [] refl, ap length nothing, length-drop begun pending, length-drop room pending)
 
 -- no more was sent than was begun
 left_within : (begun room : ℕ) (pending behind : List ℕ) (sizes : List ℕ) → begun ≤ length pending → room ≤ begun
@@ -182,10 +175,8 @@ reach_further behind p ps begun room lt (inr le) = inr (omega (arith, le, length
 left_end : (begun room : ℕ) (pending behind : List ℕ) → begun < room → begun ≤ length pending
     → packets_in (drop begun pending) ≡ [] → rest_in (drop begun pending) ≡ behind → Reach behind [] begun room
     → IsLeft (begun - room, []) (drop room pending) behind
-left_end begun room pending behind lt le is rest (inl none) =
-    subst (IsLeft (begun - room, []) (drop room pending)) (sym none)
-    (left_none begun room pending le is (rest ∙ none))
-left_end begun room pending behind lt le is rest (inr reach) = absurd (omega (arith, reach, lt))
+left_end begun room pending behind lt le is rest reach =
+    grind (arith, left_none begun room pending le is, lt, rest, reach)
 
 left_of : (packets : List (List ℕ)) (begun room : ℕ) (pending behind : List ℕ) → begun ≤ length pending
     → packets_in (drop begun pending) ≡ packets → rest_in (drop begun pending) ≡ behind
@@ -332,9 +323,6 @@ send_described b memory room begun passed idle size is room-is passed-is begun-i
 
 -- ---- whole packets as far as a frame reaches
 
-further : (room left all : ℕ) → left < room → nat_le (room - left) all ≡ nat_le room (left + all)
-further room left all lt = grind (arith, nat_tests)
-
 -- the packet that was begun is passed, and the next one is whole
 pub whole_one : (rest : List ℕ) (left room n : ℕ) → left < room → Some (take n rest) ≡ first_packet rest
     → n ≤ length rest
@@ -349,17 +337,14 @@ whole_one rest left room n lt first within =
       length-append (take n rest) behind,
       length-take n rest,
     ) in
-    rw (further room left (n + length behind) lt, count, one.1) refl
+    rw (count, one.1) (grind (arith, nat_tests, lt))
 
 pub whole_none : (rest : List ℕ) (left room : ℕ) → left < room → first_packet rest ≡ None
     → are_whole rest left room ≡ (length rest == 0)
-whole_none rest left room lt none =
-    let no = no_more rest none in
-    rw (no.1, no.0, lt-leb room (left + 0) (omega arith)) (or-false (length rest == 0))
+whole_none rest left room lt none = let no = no_more rest none in rw (no.1, no.0) (grind (arith, nat_tests, lt))
 
 pub whole_all : (rest : List ℕ) (left room : ℕ) → room ≤ left → are_whole rest left room ≡ true
-whole_all rest left room le =
-    rw (le-leb room (left + length (concat (packets_in rest))) (omega arith)) (or-true (length (rest_in rest) == 0))
+whole_all rest left room le = grind (arith, nat_tests, le)
 
 -- ---- the next frame's count
 

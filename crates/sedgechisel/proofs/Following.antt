@@ -206,14 +206,11 @@ placed octets segments k p place within =
 
 get_front : {X : Type 0} (xs ys : List X) (k : ℕ) → k < length xs → slice_get (xs ++ ys) k ≡ slice_get xs k
 get_front [] ys k lt = absurd (omega arith)
-get_front (x ∷ xs) ys zero lt = refl
-get_front (x ∷ xs) ys (suc k) lt = get_front xs ys k (omega arith)
+get_front (x ∷ xs) ys k lt = grind (arith, lt, get_front xs ys (k - 1))
 
 get_behind : {X : Type 0} (xs ys : List X) (k : ℕ) → slice_get (xs ++ ys) (length xs + k) ≡ slice_get ys k
 get_behind [] ys k = ap (slice_get ys) (omega arith)
-get_behind (x ∷ xs) ys k =
-    let next : length (x ∷ xs) + k ≡ suc (length xs + k) = omega arith in
-    rw next (get_behind xs ys k)
+get_behind (x ∷ xs) ys k = grind (arith, get_behind xs ys k)
 
 module _ (part n : ℕ) (rest : List ℕ) (none : rest_in rest ≡ []) (one : 1 ≤ part) (some : 1 ≤ n)
     (within : n ≤ length rest)
