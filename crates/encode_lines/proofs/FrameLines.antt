@@ -1,6 +1,6 @@
 -- A line that says a frame is the line of that frame, and the line of a frame says it.
 use Rattle.hex.specs.Hex.{encode_upper, IsBytes}
-use Rattle.std.proofs.Common.{◌≡◌, ◌∙◌, ◌≤◌, ◌&&◌, ◌++◌, ℕ, zero, suc, List, [], ◌∷◌, Option, Some, refl, sym, ap}
+use Rattle.std.proofs.Common.{◌≡◌, ◌∙◌, ◌≤◌, ◌&&◌, ◌++◌, ℕ, List, [], ◌∷◌, Option, Some, refl, sym, ap}
 use Rattle.std.proofs.Common.{arith, append_assoc, ◌<◌, true, length, None, Ok}
 use Rattle.std.specs.Prelude.{codes, decimal, option_map, option_and_then}
 use Rattle.std.specs.Str.{bytes_eq}
@@ -28,11 +28,7 @@ use Rattle.encode_lines.proofs.Words.{number_spelled, data_spelled, digits_word,
 -- A line that says a frame is the line of that frame.
 
 pub flags_again : (code : ℕ) → code ≤ 3 → flags_code (flags_at code) ≡ code
-flags_again zero le = refl
-flags_again (suc zero) le = refl
-flags_again (suc (suc zero)) le = refl
-flags_again (suc (suc (suc zero))) le = refl
-flags_again (suc (suc (suc (suc n)))) le = absurd (omega arith)
+flags_again code le = grind (arith, le)
 
 -- ---- the parts of a frame, and the words that say them
 

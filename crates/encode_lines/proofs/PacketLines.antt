@@ -1,6 +1,6 @@
 -- A line that says a packet is the line of that packet, and the line of a packet says it.
 use Rattle.hex.specs.Hex.{encode_upper, IsBytes}
-use Rattle.std.proofs.Common.{◌≡◌, ◌∙◌, ◌≤◌, ◌==◌, ◌||◌, ◌++◌, ℕ, zero, suc, Bool, true, false, cond, List, [], ◌∷◌}
+use Rattle.std.proofs.Common.{◌≡◌, ◌∙◌, ◌≤◌, ◌==◌, ◌||◌, ◌++◌, ℕ, Bool, true, false, cond, List, [], ◌∷◌}
 use Rattle.std.proofs.Common.{Option, Some, None, refl, sym, ap, arith, append_assoc, ◌<◌, length, Ok}
 use Rattle.std.specs.Prelude.{codes, decimal, option_map, option_and_then, is_some}
 use Rattle.std.specs.Str.{bytes_eq}
@@ -8,6 +8,7 @@ use Rattle.std.proofs.lemmas.Option.{same_Some}
 use Rattle.std.specs.List.{list_all}
 use Rattle.std.proofs.lemmas.Grind.{common_steps}
 use Rattle.std.proofs.lemmas.List.{append-nil}
+use Rattle.std.proofs.Math.Bool.{or-false, or-true}
 use Rattle.space_packet.specs.declared.packet.PacketKind.{PacketKind}
 use Rattle.space_packet.specs.declared.packet.PacketKind.TheVariants.{Telemetry, Telecommand}
 use Rattle.space_packet.specs.Layout.{PacketView, secondary_bit, IsFirstPacket}
@@ -66,19 +67,13 @@ packet_words_joined gap p =
 
 -- ---- what is read of words
 
-or_none : (a : Bool) → a || false ≡ true → a ≡ true
-or_none true e = refl
-or_none false e = cc e
-
 gap_case : (word : List ℕ) (gap : Option ℕ) → number_after (codes "gap=") 16383 word ≡ gap
     → bytes_eq word (codes "gap=-") || is_some gap ≡ true → (word ≡ gap_word gap) × IsGap gap
-gap_case word None is e = (same_word word (codes "gap=-") (or_none _ e), tt)
+gap_case word None is e = (same_word word (codes "gap=-") (sym (or-false (bytes_eq word (codes "gap=-"))) ∙ e), tt)
 gap_case word (Some n) is e = number_read (codes "gap=") 16383 word n (omega arith) is
 
 secondary_again : (n : ℕ) → n ≤ 1 → secondary_bit (n == 1) ≡ n
-secondary_again zero le = refl
-secondary_again (suc zero) le = refl
-secondary_again (suc (suc n)) le = absurd (omega arith)
+secondary_again n le = grind (arith, le)
 
 kind_case : (word : List ℕ) (k : PacketKind) (a b : Bool) → bytes_eq word (codes "TC") ≡ a
     → bytes_eq word (codes "TM") ≡ b → cond a (Some Telecommand) (cond b (Some Telemetry) None) ≡ Some k
@@ -189,10 +184,6 @@ kind_said Telecommand = refl
 secondary_said : (flag : Bool) → (secondary_bit flag ≤ 1) × ((secondary_bit flag == 1) ≡ flag)
 secondary_said true = (omega arith, refl)
 secondary_said false = (omega arith, refl)
-
-or-true : (a : Bool) → a || true ≡ true
-or-true true = refl
-or-true false = refl
 
 gap_said : (gap : Option ℕ) → IsGap gap → is_gap (gap_word gap) ≡ true
 gap_said None fits = refl
