@@ -4,7 +4,7 @@ use Rattle.hex.specs.Hex.{IsBytes, decode_of, encode_upper, encode_with, decode_
 use Rattle.std.proofs.Common.{◌≡◌, ℕ, Bool, true, false, cond, List, Option, Some, None, refl, ◌∙◌, ◌<◌, ◌≤◌, ◌^◌}
 use Rattle.std.proofs.Common.{◌++◌, suc, [], ◌∷◌, length, ap, inr, arith, inl, sym, subst, append_assoc}
 use Rattle.hex.proofs.HexLemmas.{decode_of-encode_upper}
-use Rattle.std.specs.Prelude.{decimal, codes, is_some}
+use Rattle.std.specs.Prelude.{decimal, codes, is_some, IfSome}
 use Rattle.std.specs.Str.{bytes_eq}
 use Rattle.std.proofs.lemmas.Slice.Eq.{bytes_eq-Decides}
 use Rattle.std.proofs.lemmas.Option.{same_Some}
@@ -55,6 +55,15 @@ number_read key most word n small h =
     let it = chained (number_in_word most) (after_key key word) n h in
     let number = read most n it.value small it.gives in
     (key_read key word it.value it.is ∙ ap (λ (w : List ℕ). key ++ w) number.0, number.1)
+
+number_within_as : (key : List ℕ) (most : ℕ) (word : List ℕ) (o : Option ℕ) → most < 2 ^ 64
+    → number_after key most word ≡ o → IfSome o (λ n. n ≤ most)
+number_within_as key most word None small is = tt
+number_within_as key most word (Some n) small is = (number_read key most word n small is).1
+
+pub number_within : (key : List ℕ) (most : ℕ) (word : List ℕ) → most < 2 ^ 64
+    → IfSome (number_after key most word) (λ n. n ≤ most)
+number_within key most word small = number_within_as key most word (number_after key most word) small refl
 
 pub number_spelled : (key : List ℕ) (most n : ℕ) → most < 2 ^ 64 → n ≤ most
     → number_after key most (key ++ decimal n) ≡ Some n
