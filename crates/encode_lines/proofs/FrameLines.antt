@@ -1,8 +1,8 @@
 -- A line that says a frame is the line of that frame, and the line of a frame says it.
 use Rattle.hex.specs.Hex.{encode_upper, IsBytes}
-use Rattle.std.proofs.Common.{◌≡◌, ◌∙◌, ◌≤◌, ◌&&◌, ◌++◌, ℕ, zero, suc, List, [], ◌∷◌, Option, Some, refl, sym, ap}
+use Rattle.std.proofs.Common.{◌≡◌, ◌∙◌, ◌≤◌, ◌&&◌, ◌++◌, ℕ, List, [], ◌∷◌, Option, Some, refl, sym, ap}
 use Rattle.std.proofs.Common.{arith, append_assoc, ◌<◌, true, length, None, Ok}
-use Rattle.std.specs.Prelude.{codes, decimal, option_map, option_and_then}
+use Rattle.std.specs.Prelude.{codes, decimal, option_map, option_and_then, IfSome}
 use Rattle.std.specs.Str.{bytes_eq}
 use Rattle.std.proofs.lemmas.Bool.{and_parts}
 use Rattle.std.proofs.lemmas.Option.{same_Some}
@@ -22,17 +22,13 @@ use Rattle.encode_lines.specs.Fields.{number_after, octets_after, without_number
 use Rattle.encode_lines.specs.Frames.{frame_of, segment_of, segment_with, frame_in, sequence_line, bypass_line}
 use Rattle.encode_lines.specs.Frames.{unlock_line, set_line, frame_octets}
 use Rattle.encode_lines.specs.Listed.{IsLineOf, frame_text, HasOctets}
-use Rattle.encode_lines.proofs.Words.{passed, same_word, number_read, data_read, ended, line_read}
+use Rattle.encode_lines.proofs.Words.{passed, same_word, number_within, number_read, data_read, ended, line_read}
 use Rattle.encode_lines.proofs.Words.{number_spelled, data_spelled, digits_word, line_words}
 
 -- A line that says a frame is the line of that frame.
 
 pub flags_again : (code : ℕ) → code ≤ 3 → flags_code (flags_at code) ≡ code
-flags_again zero le = refl
-flags_again (suc zero) le = refl
-flags_again (suc (suc zero)) le = refl
-flags_again (suc (suc (suc zero))) le = refl
-flags_again (suc (suc (suc (suc n)))) le = absurd (omega arith)
+flags_again code le = grind (arith, le)
 
 -- ---- the parts of a frame, and the words that say them
 
@@ -41,20 +37,19 @@ pub record SaysChannel (scid vcid : List ℕ) (body : Option BodyView) (f : Fram
   pub vcid_is : vcid ≡ codes "vcid=" ++ decimal f.vcid
   pub body_is : body ≡ Some f.body
 
+channel_fields : (s v : Option ℕ) (body : Option BodyView) (f : FrameView)
+    → option_and_then (λ (x : ℕ). option_and_then (λ (y : ℕ). option_map (frame_with x y) body) v) s ≡ Some f
+    → (s ≡ Some f.scid) × (v ≡ Some f.vcid) × (body ≡ Some f.body)
+channel_fields s v body f e = grind (arith, e)
+
 says_channel : (scid vcid : List ℕ) (body : Option BodyView) (f : FrameView) → frame_of scid vcid body ≡ Some f
     → SaysChannel scid vcid body f
 says_channel scid vcid body f e =
-    let s = chained (λ (x : ℕ). option_and_then (λ (v : ℕ). option_map (frame_with x v) body)
-    (number_after (codes "vcid=") 63 vcid)) (number_after (codes "scid=") 1023 scid) f e in
-    let v = chained (λ (x : ℕ). option_map (frame_with s.value x) body) (number_after (codes "vcid=") 63 vcid) f
-    s.gives in
-    let b = mapped (frame_with s.value v.value) body f v.gives in
+    let is = channel_fields (number_after (codes "scid=") 1023 scid) (number_after (codes "vcid=") 63 vcid) body f e in
     record {
-      scid_is = (number_read (codes "scid=") 1023 scid s.value (omega arith) s.is).0
-          ∙ ap (λ (x : FrameView). codes "scid=" ++ decimal x.scid) b.gives;
-      vcid_is = (number_read (codes "vcid=") 63 vcid v.value (omega arith) v.is).0
-          ∙ ap (λ (x : FrameView). codes "vcid=" ++ decimal x.vcid) b.gives;
-      body_is = b.is ∙ ap (λ (x : FrameView). Some x.body) b.gives;
+      scid_is = (number_read (codes "scid=") 1023 scid f.scid (omega arith) is.0).0;
+      vcid_is = (number_read (codes "vcid=") 63 vcid f.vcid (omega arith) is.1).0;
+      body_is = is.2;
     }
 
 pub record SaysSegment (flags map payload : List ℕ) (s : SegmentView) : Type 0 where
@@ -62,23 +57,21 @@ pub record SaysSegment (flags map payload : List ℕ) (s : SegmentView) : Type 0
   pub map_is : map ≡ codes "map=" ++ decimal s.header.map
   pub payload_is : payload ≡ codes "data=" ++ encode_upper s.payload
 
+segment_fields : (q m : Option ℕ) (o : Option (List ℕ)) (s : SegmentView)
+    → option_and_then (λ (x : ℕ). option_and_then (λ (y : ℕ). option_map (segment_with x y) o) m) q ≡ Some s
+    → IfSome q (λ n. n ≤ 3)
+    → (q ≡ Some (flags_code s.header.flags)) × (m ≡ Some s.header.map) × (o ≡ Some s.payload)
+segment_fields q m o s e small = grind (arith, flags_again, e, small)
+
 says_segment : (flags map payload : List ℕ) (s : SegmentView) → segment_of flags map payload ≡ Some s
     → SaysSegment flags map payload s
 says_segment flags map payload s e =
-    let q = chained (λ (x : ℕ). option_and_then (λ (m : ℕ). option_map (segment_with x m)
-    (octets_after (codes "data=") payload)) (number_after (codes "map=") 63 map))
-    (number_after (codes "seg=") 3 flags) s e in
-    let m = chained (λ (x : ℕ). option_map (segment_with q.value x) (octets_after (codes "data=") payload))
-    (number_after (codes "map=") 63 map) s q.gives in
-    let o = mapped (segment_with q.value m.value) (octets_after (codes "data=") payload) s m.gives in
-    let flags_so = number_read (codes "seg=") 3 flags q.value (omega arith) q.is in
+    let is = segment_fields (number_after (codes "seg=") 3 flags) (number_after (codes "map=") 63 map)
+    (octets_after (codes "data=") payload) s e (number_within (codes "seg=") 3 flags (omega arith)) in
     record {
-      flags_is = flags_so.0 ∙ ap (λ (x : ℕ). codes "seg=" ++ decimal x) (sym (flags_again q.value flags_so.1))
-          ∙ ap (λ (x : SegmentView). codes "seg=" ++ decimal (flags_code x.header.flags)) o.gives;
-      map_is = (number_read (codes "map=") 63 map m.value (omega arith) m.is).0
-          ∙ ap (λ (x : SegmentView). codes "map=" ++ decimal x.header.map) o.gives;
-      payload_is = data_read (codes "data=") payload o.value o.is
-          ∙ ap (λ (x : SegmentView). codes "data=" ++ encode_upper x.payload) o.gives;
+      flags_is = (number_read (codes "seg=") 3 flags (flags_code s.header.flags) (omega arith) is.0).0;
+      map_is = (number_read (codes "map=") 63 map s.header.map (omega arith) is.1).0;
+      payload_is = data_read (codes "data=") payload s.payload is.2;
     }
 
 -- ---- the words of the line of a frame

@@ -1,13 +1,14 @@
 -- A line that says a packet is the line of that packet, and the line of a packet says it.
 use Rattle.hex.specs.Hex.{encode_upper, IsBytes}
-use Rattle.std.proofs.Common.{◌≡◌, ◌∙◌, ◌≤◌, ◌==◌, ◌||◌, ◌++◌, ℕ, zero, suc, Bool, true, false, cond, List, [], ◌∷◌}
+use Rattle.std.proofs.Common.{◌≡◌, ◌∙◌, ◌≤◌, ◌==◌, ◌||◌, ◌++◌, ℕ, Bool, true, false, cond, List, [], ◌∷◌}
 use Rattle.std.proofs.Common.{Option, Some, None, refl, sym, ap, arith, append_assoc, ◌<◌, length, Ok}
-use Rattle.std.specs.Prelude.{codes, decimal, option_map, option_and_then, is_some}
+use Rattle.std.specs.Prelude.{codes, decimal, option_map, is_some, IfSome}
 use Rattle.std.specs.Str.{bytes_eq}
 use Rattle.std.proofs.lemmas.Option.{same_Some}
 use Rattle.std.specs.List.{list_all}
 use Rattle.std.proofs.lemmas.Grind.{common_steps}
 use Rattle.std.proofs.lemmas.List.{append-nil}
+use Rattle.std.proofs.Math.Bool.{or-false, or-true}
 use Rattle.space_packet.specs.declared.packet.PacketKind.{PacketKind}
 use Rattle.space_packet.specs.declared.packet.PacketKind.TheVariants.{Telemetry, Telecommand}
 use Rattle.space_packet.specs.Layout.{PacketView, secondary_bit, IsFirstPacket}
@@ -16,12 +17,12 @@ use Rattle.space_packet.specs.Encoding.{packet_fits, spelling}
 use Rattle.space_packet.proofs.Encoded.{spelling_is, first_is}
 use Rattle.space_packet.proofs.Decoded.{packet_again}
 use Rattle.script_lines.specs.Words.{words_in, number_in_word}
-use Rattle.script_lines.proofs.Spelled.{is_word, number_word, mapped, chained}
+use Rattle.script_lines.proofs.Spelled.{is_word, number_word, mapped}
 use Rattle.listings.specs.PacketLines.{kind_word, gap_text}
 use Rattle.encode_lines.specs.Fields.{number_after, octets_after, without_number}
-use Rattle.encode_lines.specs.Packets.{kind_in, is_gap, packet_with, packet_of, packet_line, packet_in, packet_octets}
+use Rattle.encode_lines.specs.Packets.{kind_in, is_gap, packet_of, packet_line, packet_in, packet_octets}
 use Rattle.encode_lines.specs.Listed.{IsLineOf, IsGap, packet_text}
-use Rattle.encode_lines.proofs.Words.{passed, same_word, number_read, data_read, ended, line_read}
+use Rattle.encode_lines.proofs.Words.{passed, same_word, number_within, number_read, data_read, ended, line_read}
 use Rattle.encode_lines.proofs.Words.{number_spelled, data_spelled, digits_word, line_words}
 
 -- A line that says a packet is the line of that packet.
@@ -66,19 +67,10 @@ packet_words_joined gap p =
 
 -- ---- what is read of words
 
-or_none : (a : Bool) → a || false ≡ true → a ≡ true
-or_none true e = refl
-or_none false e = cc e
-
 gap_case : (word : List ℕ) (gap : Option ℕ) → number_after (codes "gap=") 16383 word ≡ gap
     → bytes_eq word (codes "gap=-") || is_some gap ≡ true → (word ≡ gap_word gap) × IsGap gap
-gap_case word None is e = (same_word word (codes "gap=-") (or_none _ e), tt)
+gap_case word None is e = (same_word word (codes "gap=-") (sym (or-false (bytes_eq word (codes "gap=-"))) ∙ e), tt)
 gap_case word (Some n) is e = number_read (codes "gap=") 16383 word n (omega arith) is
-
-secondary_again : (n : ℕ) → n ≤ 1 → secondary_bit (n == 1) ≡ n
-secondary_again zero le = refl
-secondary_again (suc zero) le = refl
-secondary_again (suc (suc n)) le = absurd (omega arith)
 
 kind_case : (word : List ℕ) (k : PacketKind) (a b : Bool) → bytes_eq word (codes "TC") ≡ a
     → bytes_eq word (codes "TM") ≡ b → cond a (Some Telecommand) (cond b (Some Telemetry) None) ≡ Some k
@@ -93,13 +85,16 @@ kind_case word k false false first second e = cc e
 kind_read : (word : List ℕ) (k : PacketKind) → kind_in word ≡ Some k → word ≡ kind_word k
 kind_read word k e = kind_case word k (bytes_eq word (codes "TC")) (bytes_eq word (codes "TM")) refl refl e
 
-seven : {a b c d e f g k l m n o p q : List ℕ} → a ≡ k → b ≡ l → c ≡ m → d ≡ n → e ≡ o → f ≡ p → g ≡ q
-    → a ∷ b ∷ c ∷ d ∷ e ∷ f ∷ g ∷ [] ≡ k ∷ l ∷ m ∷ n ∷ o ∷ p ∷ q ∷ []
-seven h i j r s t u = cc
-
 abbrev pub gap_in : List (List ℕ) → Option ℕ
 gap_in (kind ∷ secondary ∷ apid ∷ flags ∷ count ∷ gap ∷ payload ∷ []) = number_after (codes "gap=") 16383 gap
 gap_in words = None
+
+-- the fields that make a packet
+packet_fields : (k : Option PacketKind) (s a f c : Option ℕ) (d : Option (List ℕ)) (p : PacketView)
+    → packet_of k s a f c d ≡ Some p → IfSome s (λ n. n ≤ 1)
+    → (k ≡ Some p.kind) × (s ≡ Some (secondary_bit p.secondary)) × (a ≡ Some p.apid) × (f ≡ Some p.flags)
+    × (c ≡ Some p.count) × (d ≡ Some p.payload)
+packet_fields k s a f c d p e small = grind (arith, e, small)
 
 packet_row : (kind secondary apid flags count gap payload : List ℕ) (p : PacketView)
     → packet_line kind secondary apid flags count gap payload ≡ Some p
@@ -112,32 +107,16 @@ packet_row kind secondary apid flags count gap payload p e =
     let apid_of = number_after (codes "apid=") 2047 apid in
     let secondary_of = number_after (codes "secondary=") 1 secondary in
     let test = passed (is_gap gap) (packet_of (kind_in kind) secondary_of apid_of flags_of count_of data_of) p e in
-    let k = chained (λ (x : PacketKind). option_and_then (λ (s : ℕ). option_and_then (λ (a : ℕ). option_and_then
-    (λ (f : ℕ). option_and_then (λ (c : ℕ). option_map (packet_with x s a f c) data_of) count_of) flags_of)
-    apid_of) secondary_of) (kind_in kind) p test.1 in
-    let s = chained (λ (x : ℕ). option_and_then (λ (a : ℕ). option_and_then (λ (f : ℕ). option_and_then
-    (λ (c : ℕ). option_map (packet_with k.value x a f c) data_of) count_of) flags_of) apid_of) secondary_of p k.gives in
-    let a = chained (λ (x : ℕ). option_and_then (λ (f : ℕ). option_and_then
-    (λ (c : ℕ). option_map (packet_with k.value s.value x f c) data_of) count_of) flags_of) apid_of p s.gives in
-    let f = chained (λ (x : ℕ). option_and_then
-    (λ (c : ℕ). option_map (packet_with k.value s.value a.value x c) data_of) count_of) flags_of p a.gives in
-    let c = chained (λ (x : ℕ). option_map (packet_with k.value s.value a.value f.value x) data_of) count_of p
-    f.gives in
-    let d = mapped (packet_with k.value s.value a.value f.value c.value) data_of p c.gives in
-    let kind_is = kind_read kind k.value k.is in
-    let secondary_so = number_read (codes "secondary=") 1 secondary s.value (omega arith) s.is in
-    let secondary_is = secondary_so.0
-    ∙ ap (λ (x : ℕ). codes "secondary=" ++ decimal x) (sym (secondary_again s.value secondary_so.1)) in
-    let apid_is = (number_read (codes "apid=") 2047 apid a.value (omega arith) a.is).0 in
-    let flags_is = (number_read (codes "flags=") 3 flags f.value (omega arith) f.is).0 in
-    let count_is = (number_read (codes "count=") 16383 count c.value (omega arith) c.is).0 in
+    let is = packet_fields (kind_in kind) secondary_of apid_of flags_of count_of data_of p test.1
+    (number_within (codes "secondary=") 1 secondary (omega arith)) in
     let gap_is = gap_case gap (number_after (codes "gap=") 16383 gap) refl test.0 in
-    let payload_is = data_read (codes "data=") payload d.value d.is in
-    let same : kind ∷ secondary ∷ apid ∷ flags ∷ count ∷ gap ∷ payload ∷ []
-    ≡ words_with (number_after (codes "gap=") 16383 gap)
-    (packet_with k.value s.value a.value f.value c.value d.value) =
-    seven kind_is secondary_is apid_is flags_is count_is gap_is.0 payload_is in
-    (same ∙ ap (words_with (number_after (codes "gap=") 16383 gap)) d.gives, gap_is.1)
+    let kind_is = kind_read kind p.kind is.0 in
+    let secondary_is = (number_read (codes "secondary=") 1 secondary _ (omega arith) is.1).0 in
+    let apid_is = (number_read (codes "apid=") 2047 apid _ (omega arith) is.2).0 in
+    let flags_is = (number_read (codes "flags=") 3 flags _ (omega arith) is.3).0 in
+    let count_is = (number_read (codes "count=") 16383 count _ (omega arith) is.4).0 in
+    let payload_is = data_read (codes "data=") payload _ is.5 in
+    (cc (kind_is, secondary_is, apid_is, flags_is, count_is, gap_is.0, payload_is), gap_is.1)
 
 packet_in_read : (words : List (List ℕ)) (p : PacketView) → packet_in words ≡ Some p
     → (words ≡ words_with (gap_in words) p) × IsGap (gap_in words)
@@ -189,10 +168,6 @@ kind_said Telecommand = refl
 secondary_said : (flag : Bool) → (secondary_bit flag ≤ 1) × ((secondary_bit flag == 1) ≡ flag)
 secondary_said true = (omega arith, refl)
 secondary_said false = (omega arith, refl)
-
-or-true : (a : Bool) → a || true ≡ true
-or-true true = refl
-or-true false = refl
 
 gap_said : (gap : Option ℕ) → IsGap gap → is_gap (gap_word gap) ≡ true
 gap_said None fits = refl

@@ -1,20 +1,19 @@
 -- Lines that are words, fields as words, words that say a frame, and what is found where a test or a chain of fields
 -- answers.
 use Rattle.hex.specs.Hex.{IsBytes, decode_of, encode_upper, encode_with, decode_pairs}
-use Rattle.std.proofs.Common.{◌≡◌, ℕ, Bool, true, false, cond, List, Option, Some, None, refl, ◌∙◌, ◌<◌, ◌≤◌, ◌^◌, ◌==◌}
+use Rattle.std.proofs.Common.{◌≡◌, ℕ, Bool, true, false, cond, List, Option, Some, None, refl, ◌∙◌, ◌<◌, ◌≤◌, ◌^◌}
 use Rattle.std.proofs.Common.{◌++◌, suc, [], ◌∷◌, length, ap, inr, arith, inl, sym, subst, append_assoc}
 use Rattle.hex.proofs.HexLemmas.{decode_of-encode_upper}
-use Rattle.std.specs.Prelude.{option_map, option_and_then, decimal, codes, is_some}
+use Rattle.std.specs.Prelude.{decimal, codes, is_some, IfSome}
 use Rattle.std.specs.Str.{bytes_eq}
 use Rattle.std.proofs.lemmas.Slice.Eq.{bytes_eq-Decides}
 use Rattle.std.proofs.lemmas.Option.{same_Some}
 use Rattle.std.specs.Result.{result_ok}
-use Rattle.std.proofs.lemmas.Bool.{eqb-true, eqb-false, and_parts}
+use Rattle.std.proofs.lemmas.Bool.{and_parts}
 use Rattle.std.specs.List.{join_with_byte, list_all}
 use Rattle.std.proofs.lemmas.List.{append_cancel_right}
 use Rattle.std.proofs.lemmas.List.Splits.{join_with_byte-slice_split}
 use Rattle.tc_frame.specs.Layout.{FrameView, BodyView, Ad, Bd, Bc}
-use Rattle.tc_frame.specs.Decoding.{frame_with}
 use Rattle.script_lines.specs.Words.{number_in_word, words_in}
 use Rattle.script_lines.specs.Spelling.{IsPairs, no_pair, pair, some_octets}
 use Rattle.script_lines.proofs.Spelled.{read, printed, is_word, hex_word, one_word, more_words, number_word, chained}
@@ -39,28 +38,14 @@ same_word word name e = (bytes_eq-Decides word name).0 e
 
 -- ---- keys
 
-key_case : (letter octet : ℕ) (key word rest : List ℕ) (b : Bool) → (octet == letter) ≡ b
-    → (after_key key word ≡ Some rest → word ≡ key ++ rest) → cond b (after_key key word) None ≡ Some rest
-    → octet ∷ word ≡ letter ∷ (key ++ rest)
-key_case letter octet key word rest true e more h =
-    ap (λ (x : ℕ). x ∷ word) (eqb-true octet letter e) ∙ ap (λ (w : List ℕ). letter ∷ w) (more h)
-key_case letter octet key word rest false e more h = cc h
-
 pub key_read : (key word rest : List ℕ) → after_key key word ≡ Some rest → word ≡ key ++ rest
 key_read [] word rest h = same_Some word rest h
 key_read (letter ∷ key) [] rest h = cc h
-key_read (letter ∷ key) (octet ∷ word) rest h =
-    key_case letter octet key word rest (octet == letter) refl (key_read key word rest) h
-
-key_again : (letter : ℕ) (key rest : List ℕ) (b : Bool) → (letter == letter) ≡ b
-    → after_key key (key ++ rest) ≡ Some rest
-    → cond b (after_key key (key ++ rest)) None ≡ Some rest
-key_again letter key rest true e more = more
-key_again letter key rest false e more = absurd (eqb-false letter letter e refl)
+key_read (letter ∷ key) (octet ∷ word) rest h = grind (arith, key_read key word rest, h)
 
 pub key_spelled : (key rest : List ℕ) → after_key key (key ++ rest) ≡ Some rest
 key_spelled [] rest = refl
-key_spelled (letter ∷ key) rest = key_again letter key rest (letter == letter) refl (key_spelled key rest)
+key_spelled (letter ∷ key) rest = grind (arith, key_spelled key rest)
 
 -- ---- numbers
 
@@ -70,6 +55,15 @@ number_read key most word n small h =
     let it = chained (number_in_word most) (after_key key word) n h in
     let number = read most n it.value small it.gives in
     (key_read key word it.value it.is ∙ ap (λ (w : List ℕ). key ++ w) number.0, number.1)
+
+number_within_as : (key : List ℕ) (most : ℕ) (word : List ℕ) (o : Option ℕ) → most < 2 ^ 64
+    → number_after key most word ≡ o → IfSome o (λ n. n ≤ most)
+number_within_as key most word None small is = tt
+number_within_as key most word (Some n) small is = (number_read key most word n small is).1
+
+pub number_within : (key : List ℕ) (most : ℕ) (word : List ℕ) → most < 2 ^ 64
+    → IfSome (number_after key most word) (λ n. n ≤ most)
+number_within key most word small = number_within_as key most word (number_after key most word) small refl
 
 pub number_spelled : (key : List ℕ) (most n : ℕ) → most < 2 ^ 64 → n ≤ most
     → number_after key most (key ++ decimal n) ≡ Some n
@@ -187,15 +181,9 @@ module _ (first : List ℕ) (rest : List (List ℕ)) (text : List ℕ) (all : li
 
 -- Words that say a frame, and words that say none.
 
-no_frame : (s v : Option ℕ)
-    → option_and_then (λ (x : ℕ). option_and_then (λ (y : ℕ). option_map (frame_with x y) None) v) s ≡ None
-no_frame None v = refl
-no_frame (Some x) None = refl
-no_frame (Some x) (Some y) = refl
-
 -- where there is no body, there is no frame
 pub frame_of_none : (scid vcid : List ℕ) → frame_of scid vcid None ≡ None
-frame_of_none scid vcid = no_frame (number_after (codes "scid=") 1023 scid) (number_after (codes "vcid=") 63 vcid)
+frame_of_none scid vcid = grind arith
 
 -- no line has fewer words than four
 pub frame_in-few : (words : List (List ℕ)) → length words < 4 → frame_in words ≡ None

@@ -1,6 +1,6 @@
 // Fields of a line: a key and, after it, a number or octets.
 
-ghost use Rattle.std.specs.Prelude.{◌≡◌, ◌++◌, ◌≤◌, map, option_copied, option_map, option_and_then, IfOk, IfSome};
+ghost use Rattle.std.specs.Prelude.{◌≡◌, ◌≤◌, map, option_copied, option_map, IfOk, IfSome};
 ghost use Rattle.script_lines.specs.Words.{words_in};
 ghost use Rattle.encode_lines.specs.Fields.{after_key, number_after, octets_of_digits, without_number};
 

@@ -1,13 +1,12 @@
 // The telecommand frame that a line says.
 
-ghost use Rattle.std.specs.Prelude.{◌≡◌, ◌++◌, ◌+◌, map, length, codes, option_map, option_and_then, IfOk, Some};
+ghost use Rattle.std.specs.Prelude.{◌≡◌, map, option_map, option_and_then, Some};
 ghost use Rattle.tc_frame.specs.Layout.{frame_view, body_view, segment_view};
-ghost use Rattle.encode_lines.specs.Frames.{frame_of, segment_of, sequence_line, bypass_line, unlock_line, set_line, frame_in, frame_octets, segment_decoded, body_decoded, frame_decoded};
+ghost use Rattle.encode_lines.specs.Frames.{frame_of, segment_of, sequence_line, bypass_line, unlock_line, set_line, frame_in, segment_decoded, body_decoded, frame_decoded};
 
-use crate::fields::{after_key, number_after, octets_of_digits};
+use crate::fields::{after_key, number_after};
 use script_lines::{is, number_in_word};
-use std::alloc::{AllocError, Global};
-use tc_frame::{Body, Check, Command, Segment, SegmentFlags, SegmentHeader, TcFrame, encode};
+use tc_frame::{Body, Command, Segment, SegmentFlags, SegmentHeader, TcFrame};
 
 // The segment that these words say, with the digits of its data in place of octets.
 fn segment_of<'a>(flags: &[u8], map: &[u8], payload: &'a [u8]) -> Option<Segment<'a>>

@@ -1,9 +1,8 @@
 -- Where a text is cut at its line feeds, and how far it is played by lines and pieces.
 use Rattle.std.proofs.Common.{◌≡◌, ◌+◌, ◌≤◌, ◌++◌, ℕ, Bool, true, false, List, [], ◌∷◌, length, refl, ap, ◌∙◌, take}
 use Rattle.std.proofs.Common.{drop, arith, cond, ◌<◌, ltb, Some, None, Option, ◌==◌, sym, append_assoc, subst}
-use Rattle.std.specs.Option.{unwrap_or}
 use Rattle.std.specs.List.{slice_split, position_or_len, onto_first}
-use Rattle.std.proofs.lemmas.Bool.{ltb-false, ltb-true}
+use Rattle.std.proofs.lemmas.Bool.Decides.{nat_tests}
 use Rattle.std.proofs.lemmas.List.Splits.{slice_split_first, slice_split_none, length-slice_split}
 use Rattle.std.proofs.lemmas.List.Splits.{slice_split-cons_yes, slice_split-cons_no}
 use Rattle.std.proofs.lemmas.List.Sums.{fails_before_first}
@@ -21,21 +20,16 @@ use Rattle.line_stream.specs.Playing.{answers_of, answers_so_far, after_text, is
 -- Where a text is cut at its line feeds.
 
 module _ (p : ℕ → Bool) (xs : List ℕ) where
-  abbrev pub place : Bool → Option ℕ
-  place b = cond b (Some (position_or_len p xs)) None
+  -- where the first mark is
+  abbrev pub place : Option ℕ
+  place = cond (ltb (position_or_len p xs) (length xs)) (Some (position_or_len p xs)) None
 
-  pub cut_at : (at : ℕ) (b : Bool) → ltb (position_or_len p xs) (length xs) ≡ b → place b ≡ Some at
-      → slice_split p xs ≡ take at xs ∷ slice_split p (drop (at + 1) xs)
-  cut_at at true e h =
-      let is : position_or_len p xs ≡ at = ap (λ (o : Option ℕ). unwrap_or o 0) h in
-      slice_split_first p xs 0 (ltb-true _ _ e) ∙ ap (λ (i : ℕ). take i xs ∷ slice_split p (drop (i + 1) xs)) is
-  cut_at at false e h = cc h
+  pub cut_at : (at : ℕ) → place ≡ Some at → slice_split p xs ≡ take at xs ∷ slice_split p (drop (at + 1) xs)
+  cut_at at h = grind (arith, nat_tests, h, slice_split_first p xs 0)
 
-  pub cut_nowhere : (b : Bool) → ltb (position_or_len p xs) (length xs) ≡ b → place b ≡ None
-      → slice_split p xs ≡ xs ∷ []
-  cut_nowhere true e h = cc h
-  cut_nowhere false e h =
-      let none : length xs ≤ position_or_len p xs = ltb-false _ _ e in
+  pub cut_nowhere : place ≡ None → slice_split p xs ≡ xs ∷ []
+  cut_nowhere h =
+      let none : length xs ≤ position_or_len p xs = grind (arith, nat_tests, h) in
       slice_split_none p xs (λ k d less. fails_before_first p xs k d (omega arith))
 
 -- There is a first part.
@@ -166,11 +160,7 @@ module _ {S : Type 0} (playing : Playing S) where
 -- What reads leave of the octets that are known to remain.
 
 consumes_both : (a b c : Option (List ℕ)) (t u : List ℕ) → Consumes a b t → Consumes b c u → Consumes a c (t ++ u)
-consumes_both None b c t u first second = tt
-consumes_both (Some xs) None c t u first second = absurd first
-consumes_both (Some xs) (Some ys) None t u first second = absurd second
-consumes_both (Some xs) (Some ys) (Some zs) t u first second =
-    first ∙ ap (λ (l : List ℕ). t ++ l) second ∙ sym (append_assoc t u zs)
+consumes_both a b c t u first second = grind (arith, append_assoc, first, second)
 
 -- after a read that gave this piece
 pub consumes_piece : (a b c : Option (List ℕ)) (old given new piece : List ℕ)

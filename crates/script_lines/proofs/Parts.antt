@@ -1,9 +1,8 @@
 -- Where a list is cut at its first mark.
-use Rattle.std.proofs.Common.{◌≡◌, ◌+◌, ◌≤◌, ℕ, Bool, true, false, List, [], ◌∷◌, length, take, drop, refl, ap, ◌∙◌}
+use Rattle.std.proofs.Common.{◌≡◌, ◌+◌, ◌≤◌, ℕ, Bool, false, List, [], ◌∷◌, length, take, drop, refl}
 use Rattle.std.proofs.Common.{arith, cond, ltb, Some, None, Option, ◌==◌, map, ◌||◌, ◌<◌}
-use Rattle.std.specs.Option.{unwrap_or}
 use Rattle.std.specs.List.{slice_split, position_or_len}
-use Rattle.std.proofs.lemmas.Bool.{ltb-false, ltb-true}
+use Rattle.std.proofs.lemmas.Bool.Decides.{nat_tests}
 use Rattle.std.proofs.lemmas.List.Splits.{slice_split_first, slice_split_none, length-slice_split}
 use Rattle.std.proofs.lemmas.List.Sums.{fails_before_first}
 use Rattle.script_lines.specs.Words.{words_in, lines_in}
@@ -11,21 +10,16 @@ use Rattle.script_lines.specs.Lines.{line_of_words, ScriptLine, line_in}
 use Rattle.script_lines.specs.Scripts.{script_in, is_action, is_refused, first_refused}
 
 module _ (p : ℕ → Bool) (xs : List ℕ) where
-  abbrev pub place : Bool → Option ℕ
-  place b = cond b (Some (position_or_len p xs)) None
+  -- where the first mark is
+  abbrev pub place : Option ℕ
+  place = cond (ltb (position_or_len p xs) (length xs)) (Some (position_or_len p xs)) None
 
-  pub cut_at : (at : ℕ) (b : Bool) → ltb (position_or_len p xs) (length xs) ≡ b → place b ≡ Some at
-      → slice_split p xs ≡ take at xs ∷ slice_split p (drop (at + 1) xs)
-  cut_at at true e h =
-      let is : position_or_len p xs ≡ at = ap (λ (o : Option ℕ). unwrap_or o 0) h in
-      slice_split_first p xs 0 (ltb-true _ _ e) ∙ ap (λ (i : ℕ). take i xs ∷ slice_split p (drop (i + 1) xs)) is
-  cut_at at false e h = cc h
+  pub cut_at : (at : ℕ) → place ≡ Some at → slice_split p xs ≡ take at xs ∷ slice_split p (drop (at + 1) xs)
+  cut_at at h = grind (arith, nat_tests, h, slice_split_first p xs 0)
 
-  pub cut_nowhere : (b : Bool) → ltb (position_or_len p xs) (length xs) ≡ b → place b ≡ None
-      → slice_split p xs ≡ xs ∷ []
-  cut_nowhere true e h = cc h
-  cut_nowhere false e h =
-      let none : length xs ≤ position_or_len p xs = ltb-false _ _ e in
+  pub cut_nowhere : place ≡ None → slice_split p xs ≡ xs ∷ []
+  cut_nowhere h =
+      let none : length xs ≤ position_or_len p xs = grind (arith, nat_tests, h) in
       slice_split_none p xs (λ k d less. fails_before_first p xs k d (omega arith))
 
 -- there is a first part

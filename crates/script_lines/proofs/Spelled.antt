@@ -10,7 +10,7 @@ use Rattle.hex.proofs.Pairs.{cons_byte, decode_pairs-ok_pair}
 use Rattle.std.specs.Prelude.{decimal, ◌↔◌, codes, option_map, option_and_then}
 use Rattle.std.proofs.lemmas.Option.{same_Some}
 use Rattle.std.specs.Option.{unwrap_or, SomeIff}
-use Rattle.std.proofs.lemmas.Bool.{leb-true, le-leb, and_parts, cases_lt, eqb-true, not-true}
+use Rattle.std.proofs.lemmas.Bool.{leb-true, le-leb, and_parts, cases_lt, not-true}
 use Rattle.std.proofs.lemmas.Fmt.{decimal-digits_value, digits_value-decimal, digits_decimal, first_decimal}
 use Rattle.std.proofs.lemmas.Fmt.{decimal_nonempty, decimal_digit}
 use Rattle.std.specs.Char.{is_ascii_digit}
@@ -71,17 +71,12 @@ pub numeral_utf8 : (word : List ℕ) → is_numeral word ≡ true → IsUtf8 wor
 numeral_utf8 word h =
     IsUtf8-from_ascii word (digits_ascii word (and_parts (starts_well word) (list_all is_ascii_digit word) h).1)
 
-drop_some : {E : Type 0} (r : Result ℕ E) (P Q : Type 0) (v : ℕ) → P → OkIff r (P × Q) v → OkIff r Q v
-drop_some (Ok x) P Q v p h = (h.0.1, h.1)
-drop_some (Err e) P Q v p h = λ q. h (p, q)
-
 -- a numeral is parsed, unless its number is too great
 pub numeral_parsed : {E : Type 0} (word : List ℕ) (r : Result ℕ E) → is_numeral word ≡ true
     → ParsesUnsigned 64 10 word r → OkIff r (digits_value 10 word < 2 ^ 64) (digits_value 10 word)
 numeral_parsed word r h p =
     let parts = and_parts (starts_well word) (list_all is_ascii_digit word) h in
-    drop_some r (0 < length word) (digits_value 10 word < 2 ^ 64) (digits_value 10 word) (some word parts.0)
-    (parse_digits own 64 word r p parts.1)
+    grind (arith, some word parts.0, parse_digits own 64 word r p parts.1)
 
 pub ok_some : {E : Type 0} (r : Result ℕ E) (Q : Type 0) (v : ℕ) → OkIff r Q v → SomeIff (result_ok r) Q v
 ok_some (Ok x) Q v h = h
@@ -90,7 +85,7 @@ ok_some (Err e) Q v h = h
 -- ---- a number is read where it is spelled as it is printed
 
 chosen : (b : Bool) (v n : ℕ) → cond b (Some v) None ≡ Some n → (b ≡ true) × (v ≡ n)
-chosen true v n e = (refl, ap (λ (o : Option ℕ). unwrap_or o 0) e)
+chosen true v n e = (refl, cc e)
 chosen false v n e = cc e
 
 leads : (word : List ℕ) → starts_well word ≡ true → get_or word 0 0 ≡ 48 → length word ≡ 1
@@ -165,17 +160,11 @@ stand (suc n) digit all small =
       | inr top ↦ (let e : digit ≡ n = omega arith in rw e parts.0)
     ]
 
-either : (value digit : ℕ) (a b : Bool) → (slice_index lower_digits value == digit) ≡ a
-    → (slice_index upper_digits value == digit) ≡ b → a || b ≡ true → IsHexDigit value digit
-either value digit true b ea eb h = inl (eqb-true _ _ ea)
-either value digit false true ea eb h = inr (eqb-true _ _ eb)
-either value digit false false ea eb h = cc h
-
 read_digit : (value digit : ℕ) → hex_digit_value digit ≡ Some value → IsHexDigit value digit
 read_digit value digit e =
     let small : digit < 128 = grind (arith) in
     let there = stand 128 digit refl small in
-    either value digit _ _ refl refl (sym (ap (stands digit) e) ∙ there)
+    grind (arith, common_steps, rw e at there)
 
 -- ---- pairs
 
@@ -235,13 +224,6 @@ read_pairs i (a ∷ b ∷ digits) octets h =
 
 -- ---- words
 
-not_dash : (a b : ℕ) (more : List ℕ) (t : Bool) → bytes_eq (a ∷ b ∷ more) (codes "-") ≡ t → t ≡ false
-not_dash a b more false e = refl
-not_dash a b more true e =
-    let same : a ∷ b ∷ more ≡ codes "-" = (bytes_eq-Decides (a ∷ b ∷ more) (codes "-")).0 e in
-    let len : length (a ∷ b ∷ more) ≡ 1 = ap (λ (l : List ℕ). length l) same in
-    absurd (omega (arith, len))
-
 spelled_some : (octet : ℕ) (octets digits : List ℕ) → IsPairs (octet ∷ octets) digits
     → octets_in_word digits ≡ Some (octet ∷ octets)
 unfolding octets_in_word
@@ -249,7 +231,7 @@ spelled_some octet octets digits (pair {high = high} {low = low} {digits = rest}
     let even = even_pairs more in
     let decoded : decode_of (high ∷ low ∷ rest) ≡ Ok (octet ∷ octets) =
     decode_of-even (high ∷ low ∷ rest) (omega (arith, even)) ∙ spelled_pairs 0 (pair fits is_high is_low more) in
-    let other : bytes_eq (high ∷ low ∷ rest) (codes "-") ≡ false = not_dash high low rest _ refl in
+    let other : bytes_eq (high ∷ low ∷ rest) (codes "-") ≡ false = grind arith in
     let long : (length (high ∷ low ∷ rest) == 0) ≡ false = grind (arith) in
     rw (other, decoded, long) refl
 
@@ -279,8 +261,8 @@ read_word : (digits octets : List ℕ) (dash : Bool) → bytes_eq digits (codes 
     → IsHex octets digits
 read_word digits octets true is e =
     let same : digits ≡ codes "-" = (bytes_eq-Decides digits (codes "-")).0 is in
-    let none : [] ≡ octets = ap (λ (o : Option (List ℕ)). unwrap_or o []) e in
-    subst (λ (ds : List ℕ). IsHex octets ds) (sym same) (subst (λ (os : List ℕ). IsHex os (codes "-")) none no_octets)
+    let none : [] ≡ octets = cc e in
+    rw (same, ← none) no_octets
 read_word digits octets false is e = read_behind digits octets (length digits == 0) refl e
 
 pub read_octets : (octets digits : List ℕ) → octets_in_word digits ≡ Some octets → IsHex octets digits

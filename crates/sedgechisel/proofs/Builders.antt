@@ -1,12 +1,11 @@
 -- A builder of telemetry frames, with its packets in the caller's memory.
 use Rattle.std.proofs.Common.{◌≡◌, ◌≤◌, ◌<◌, ℕ, ◌+◌, ◌-◌, min, Bool, true, false, List, [], ◌∷◌, ◌++◌, length}
-use Rattle.std.proofs.Common.{take, drop, map, Option, Some, None, Ok, Err, refl, sym, ap, subst, ◌∙◌, arith, inl, inr}
+use Rattle.std.proofs.Common.{take, drop, map, Option, Some, None, Ok, refl, sym, ap, subst, ◌∙◌, arith, inl, inr}
 use Rattle.std.proofs.Common.{◌⊎◌, length-take, length-drop, length-append}
-use Rattle.std.specs.Prelude.{◌==◌, ◌%◌, ◌||◌, nat_le, if◌then◌else◌, IfOk}
+use Rattle.std.specs.Prelude.{◌==◌, ◌%◌, ◌||◌, nat_le, IfOk}
 use Rattle.std.specs.List.{concat}
-use Rattle.std.proofs.Math.Bool.{or-false, or-true}
 use Rattle.std.proofs.lemmas.Bool.Decides.{nat_tests}
-use Rattle.std.proofs.lemmas.Bool.{and_parts, le-leb, lt-leb, le-ltb, leb-true, eqb-true, cases_lt}
+use Rattle.std.proofs.lemmas.Bool.{and_parts, le-leb, le-ltb, leb-true, eqb-true, cases_lt}
 use Rattle.std.proofs.lemmas.Grind.{common_steps}
 use Rattle.std.proofs.lemmas.List.{drop_all, drop-drop, drop-append-le, map-append, drop-take, nil_from_length}
 use Rattle.octets.proofs.Streams.{records_of-append, rest_of-append}
@@ -20,7 +19,6 @@ use Rattle.tm_link.specs.Builder.{BuilderState, builder_fits, new_builder, is_to
 use Rattle.tm_link.specs.Builder.{idle_after, after_send, with_next_count, build_step}
 use Rattle.tm_link.proofs.Spelled.{passed_within, passed_beyond}
 use Rattle.sedgechisel.specs.declared.telemetry_builder.KeptBuilder.{KeptBuilder}
-use Rattle.sedgechisel.specs.Answers.{damaged}
 use Rattle.sedgechisel.specs.Builders.{queued_at, built_at, pending_of, whole_of, has_numbers, is_builder, state_of}
 use Rattle.sedgechisel.specs.Builders.{builder_described, are_whole, can_send}
 
@@ -51,9 +49,7 @@ pub record IsBuilder (b : KeptBuilder) (memory : List ℕ) : Type 0 where
   pub none : rest_in (whole_of b memory) ≡ []
 
 pub builder_is : (b : KeptBuilder) (memory : List ℕ) → is_builder b memory ≡ true → IsBuilder b memory
-builder_is b memory h =
-    let both = and_parts (has_numbers b (length memory)) (length (rest_in (whole_of b memory)) == 0) h in
-    record { numbers = numbers_are b (length memory) both.0; none = none_left (rest_in (whole_of b memory)) both.1 }
+builder_is b memory h = grind (arith, common_steps, nil_from_length, h)
 
 -- ---- a new builder
 
@@ -157,28 +153,15 @@ left_none : (begun room : ℕ) (pending : List ℕ) → begun ≤ length pending
     → IsLeft (begun - room, []) (drop room pending) []
 left_none begun room pending le is none =
     let nothing : drop begun pending ≡ [] = all_of (drop begun pending) none ∙ ap concat is in
-    let long : length pending ≡ begun = omega (arith, ap length nothing, length-drop begun pending) in
-    let gone : drop (begun - room) (drop room pending) ≡ [] =
-    drop_all (begun - room) (drop room pending) (omega (arith, length-drop room pending)) in
-    record {
-      within = omega (arith, length-drop room pending);
-      rest = ap rest_in gone ∙ (no_more [] refl).1;
-      sizes = ap (λ (xs : List ℕ). map length (packets_in xs)) gone ∙ ap (map length) (no_more [] refl).0;
-    }
+    let gone = drop_all (begun - room) (drop room pending) in
+    grind (arith, gone, no_more [] refl, ap length nothing, length-drop begun pending, length-drop room pending)
 
 -- no more was sent than was begun
 left_within : (begun room : ℕ) (pending behind : List ℕ) (sizes : List ℕ) → begun ≤ length pending → room ≤ begun
     → map length (packets_in (drop begun pending)) ≡ sizes → rest_in (drop begun pending) ≡ behind
     → IsLeft (begun - room, sizes) (drop room pending) behind
 left_within begun room pending behind sizes le few is rest =
-    let back : room + (begun - room) ≡ begun = omega arith in
-    let same : drop (begun - room) (drop room pending) ≡ drop begun pending =
-    drop-drop (begun - room) room pending ∙ ap (λ (n : ℕ). drop n pending) back in
-    record {
-      within = omega (arith, length-drop room pending);
-      rest = ap rest_in same ∙ rest;
-      sizes = ap (λ (xs : List ℕ). map length (packets_in xs)) same ∙ is;
-    }
+    grind (arith, drop-drop (begun - room) room pending, length-drop room pending, le, few, is, rest)
 
 -- the packets have as many octets as are sent, or nothing stands after them
 abbrev Reach : List ℕ → List (List ℕ) → ℕ → ℕ → Type 0
@@ -192,10 +175,8 @@ reach_further behind p ps begun room lt (inr le) = inr (omega (arith, le, length
 left_end : (begun room : ℕ) (pending behind : List ℕ) → begun < room → begun ≤ length pending
     → packets_in (drop begun pending) ≡ [] → rest_in (drop begun pending) ≡ behind → Reach behind [] begun room
     → IsLeft (begun - room, []) (drop room pending) behind
-left_end begun room pending behind lt le is rest (inl none) =
-    subst (IsLeft (begun - room, []) (drop room pending)) (sym none)
-    (left_none begun room pending le is (rest ∙ none))
-left_end begun room pending behind lt le is rest (inr reach) = absurd (omega (arith, reach, lt))
+left_end begun room pending behind lt le is rest reach =
+    grind (arith, left_none begun room pending le is, lt, rest, reach)
 
 left_of : (packets : List (List ℕ)) (begun room : ℕ) (pending behind : List ℕ) → begun ≤ length pending
     → packets_in (drop begun pending) ≡ packets → rest_in (drop begun pending) ≡ behind
@@ -252,16 +233,14 @@ passed_all rest left room le =
 passed_octets : (count room from : ℕ) (memory : List ℕ)
     → take (count - min room count) (drop (from + min room count) memory) ≡ drop room (take count (drop from memory))
 passed_octets count room from memory =
-    elim (cases_lt room count) [
-      | inl lt ↦
-          let passed : min room count ≡ room = omega arith in
-          let all : room + (count - room) ≡ count = omega arith in
-          rw (passed, ← drop-drop room from memory, ← drop-take room (count - room) (drop from memory), all) refl
-      | inr le ↦
-          let none : count - min room count ≡ 0 = omega arith in
-          let past = drop_all room (take count (drop from memory)) (omega (arith, length-take count (drop from memory))) in
-          rw (none, past) refl
-    ]
+    let past = drop_all room (take count (drop from memory)) in
+    grind (
+      arith,
+      past,
+      length-take count (drop from memory),
+      drop-drop room from memory,
+      drop-take room (count - room) (drop from memory),
+    )
 
 -- a builder after a data field
 abbrev sent_by : KeptBuilder → ℕ → ℕ → ℕ → ℕ → KeptBuilder
@@ -344,9 +323,6 @@ send_described b memory room begun passed idle size is room-is passed-is begun-i
 
 -- ---- whole packets as far as a frame reaches
 
-further : (room left all : ℕ) → left < room → nat_le (room - left) all ≡ nat_le room (left + all)
-further room left all lt = grind (arith, nat_tests)
-
 -- the packet that was begun is passed, and the next one is whole
 pub whole_one : (rest : List ℕ) (left room n : ℕ) → left < room → Some (take n rest) ≡ first_packet rest
     → n ≤ length rest
@@ -361,31 +337,20 @@ whole_one rest left room n lt first within =
       length-append (take n rest) behind,
       length-take n rest,
     ) in
-    rw (further room left (n + length behind) lt, count, one.1) refl
+    rw (count, one.1) (grind (arith, nat_tests, lt))
 
 pub whole_none : (rest : List ℕ) (left room : ℕ) → left < room → first_packet rest ≡ None
     → are_whole rest left room ≡ (length rest == 0)
-whole_none rest left room lt none =
-    let no = no_more rest none in
-    rw (no.1, no.0, lt-leb room (left + 0) (omega arith)) (or-false (length rest == 0))
+whole_none rest left room lt none = let no = no_more rest none in rw (no.1, no.0) (grind (arith, nat_tests, lt))
 
 pub whole_all : (rest : List ℕ) (left room : ℕ) → room ≤ left → are_whole rest left room ≡ true
-whole_all rest left room le =
-    rw (le-leb room (left + length (concat (packets_in rest))) (omega arith)) (or-true (length (rest_in rest) == 0))
+whole_all rest left room le = grind (arith, nat_tests, le)
 
 -- ---- the next frame's count
 
-counted_by : (b : KeptBuilder) (memory : List ℕ) (s : BuilderState) (is : Bool)
-    → (if is then Ok (state_of b memory) else Err damaged) ≡ Ok s
-    → (if is then Ok (with_next_count (state_of b memory)) else Err damaged)
-    ≡ Ok (with_next_count s)
-counted_by b memory s true h =
-    let same : state_of b memory ≡ s = cc in ap (λ (t : BuilderState). Ok (with_next_count t)) same
-counted_by b memory s false h = absurd cc
-
 pub counted : (b : KeptBuilder) (memory : List ℕ) (s : BuilderState) → builder_described b memory ≡ Ok s
     → builder_described (record b { next_count = (b.next_count + 1) % 256 }) memory ≡ Ok (with_next_count s)
-counted b memory s h = counted_by b memory s (is_builder b memory) h
+counted b memory s h = grind (arith, h)
 
 -- ---- what a call answers
 

@@ -1,7 +1,7 @@
 -- What was read is written again as its fields and by its data, where they stand.
 use Rattle.std.proofs.Common.{◌≡◌, ℕ, zero, suc, ◌-◌, Bool, List, [], ◌∷◌, ◌++◌, length, take, drop, Result, Ok, Err}
-use Rattle.std.proofs.Common.{refl, sym, ap, subst, ◌∙◌, arith}
-use Rattle.std.proofs.lemmas.List.{take-append-drop, append-nil, append_assoc}
+use Rattle.std.proofs.Common.{refl, sym, ap, ◌∙◌, arith}
+use Rattle.std.proofs.lemmas.List.{take-append-drop, append-nil, append_assoc, drop-drop}
 use Rattle.std.proofs.Math.Seq.{take-append_seam}
 use Rattle.octets.specs.Number.{IsOctets}
 use Rattle.octets.specs.Outcome.{map_ok}
@@ -54,16 +54,9 @@ front_again (suc k) (suc n) (x ∷ b) p r h = front_again k n b p r h
 
 -- ---- telecommand frames
 
-drop_two : (b : List ℕ) → drop 2 (drop 4 b) ≡ drop 6 b
-drop_two [] = refl
-drop_two (p ∷ []) = refl
-drop_two (p ∷ q ∷ []) = refl
-drop_two (p ∷ q ∷ r ∷ []) = refl
-drop_two (p ∷ q ∷ r ∷ s ∷ b) = refl
-
 -- the data of a Type-D frame
 payload_again : (n : ℕ) (b p : List ℕ) (x y : ℕ) → drop 4 (take n b) ≡ x ∷ y ∷ p → take (length p) (drop 6 b) ≡ p
-payload_again n b p x y h = front_again 6 n b p [] (sym (drop_two (take n b)) ∙ ap (drop 2) h ∙ sym (append-nil p))
+payload_again n b p x y h = front_again 6 n b p [] (sym (drop-drop 2 4 (take n b)) ∙ ap (drop 2) h ∙ sym (append-nil p))
 
 ad_again : (scid vcid n map : ℕ) (flags : SegmentFlags) (p : List ℕ)
     → commands.frame_described (fields_with scid vcid
@@ -103,10 +96,7 @@ found_describes : (checked : Bool) (b : List ℕ) (found : tc.FrameView) → IsO
     → commands.frame_read checked b ≡ Ok found
     → commands.DescribesFrame checked b (commands.fields_of found) (commands.part_of found)
 found_describes checked b found octets h view k =
-    let same : found ≡ view = cc in
-    subst (λ (v : tc.FrameView). commands.frame_described (commands.fields_of found)
-    (take (commands.part_of found).count (drop (commands.part_of found).from b)) ≡ Ok v) same
-    (command_again checked b found octets h)
+    let same : found ≡ view = cc in rw (← same) (command_again checked b found octets h)
 
 pub command_describes : (checked : Bool) (check : Check) (b : List ℕ) (r : Result TcFrame TcFault) (f : TcFrame)
     (fields : CommandFrame) (part : Part)
@@ -115,8 +105,7 @@ pub command_describes : (checked : Bool) (check : Check) (b : List ℕ) (r : Res
     → commands.DescribesFrame checked b fields part
 command_describes checked check b r f fields part octets on answer is same there =
     let read : commands.frame_read checked b ≡ Ok (tc.frame_view f) =
-    ap (λ (c : Check). numbered tc_faults.fault_row (tc_reading.frame_at c b)) (sym on)
-    ∙ ap (numbered tc_faults.fault_row) (sym answer ∙ ap (map_ok tc.frame_view) is) in
+    rw (← on, ← answer, is) refl in
     rw (same, there) (found_describes checked b (tc.frame_view f) octets read)
 
 -- ---- telemetry frames

@@ -3,7 +3,6 @@ use Rattle.std.proofs.Common.{◌≡◌, ◌≤◌, ℕ, ◌+◌, ◌-◌, Bool,
 use Rattle.std.proofs.Common.{None, Ok, Err, refl, sym, ap, ◌∙◌, arith, not, ◌<◌, suc, Result, length-take}
 use Rattle.std.proofs.Common.{length-drop, length-append}
 use Rattle.std.specs.Prelude.{nat_lt, if◌then◌else◌, ◌==◌, ◌||◌}
-use Rattle.std.proofs.lemmas.Bool.{eqb-true, ne_eqb}
 use Rattle.std.proofs.lemmas.List.{append-nil, take_rest, append_assoc}
 use Rattle.std.specs.List.{concat}
 use Rattle.std.proofs.lemmas.Grind.{common_steps}
@@ -17,20 +16,19 @@ use Rattle.tm_link.specs.Extractor.{ExtractorState, Extracted, extract_step, com
 use Rattle.tm_link.specs.Extractor.{part_after, part_over_gap, without_idle, is_idle, is_any_lost, gap_of}
 use Rattle.tm_link.specs.Layout.{pointer_fits, FrameView}
 use Rattle.tm_link.specs.Decoding.{pointer_at}
-use Rattle.tm_link.specs.declared.gap.Gap.TheVariants.{First, Lost}
 use Rattle.tm_link.proofs.Records.{without_idle-append}
 use Rattle.sedgechisel.specs.declared.part.Part.{Part}
 use Rattle.sedgechisel.specs.declared.telemetry_frame.ReportFrame.{ReportFrame}
 use Rattle.sedgechisel.specs.declared.telemetry_extractor.KeptExtractor.{KeptExtractor}
 use Rattle.sedgechisel.specs.declared.telemetry_extractor.TakenFrame.{TakenFrame}
 use Rattle.sedgechisel.specs.declared.telemetry_extractor.Kept.{Kept}
-use Rattle.sedgechisel.specs.Answers.{damaged, and_then, status_of}
+use Rattle.sedgechisel.specs.Answers.{damaged, status_of}
 use Rattle.sedgechisel.specs.TelemetryFrames.{frame_described}
 use Rattle.sedgechisel.specs.Extractors.{is_extractor, state_of, last_of, place_over_gap, octets_at, joined_at}
 use Rattle.sedgechisel.specs.Extractors.{joined_by, need_of, packets_from, gap_at, extracted_at, extracted_described}
 use Rattle.sedgechisel.specs.Extractors.{DescribesExtracted, IsKept, extractor_described, is_extracted, is_dropped}
 use Rattle.sedgechisel.specs.Extractors.{is_cut_off, front_of, came_from, first_by, lost_by, handed_from}
-use Rattle.sedgechisel.specs.Extractors.{extracted_with, came_of, record_of, Run}
+use Rattle.sedgechisel.specs.Extractors.{came_of, record_of, Run}
 use Rattle.sedgechisel.specs.Extractors.{is_end, nothing, before, run_from, packets_by, state_by}
 use Rattle.sedgechisel.specs.declared.extracted_frames.Came.{Came}
 use Rattle.sedgechisel.proofs.Following.{stands_at, none_at, none_past}
@@ -95,16 +93,10 @@ finished_split part NoStart payload =
 finished_split part (At p) payload =
     sym (without_idle-append (completed_packet part (take p payload)) (packets_in (drop p payload)))
 
-place_by : (b : Bool) (x : KeptExtractor) (memory : List ℕ)
-    → octets_at (if b then record { from = 0; count = 0 } else record { from = x.from; count = x.count }) memory
-    ≡ (if b then [] else take x.count (drop x.from memory))
-place_by true x memory = refl
-place_by false x memory = refl
-
 -- the part, which is dropped where a frame is missing
 pub place_is : (gap : Gap) (x : KeptExtractor) (memory : List ℕ)
     → octets_at (place_over_gap gap x) memory ≡ part_over_gap gap (state_of x memory).part
-place_is gap x memory = place_by (is_any_lost gap) x memory
+place_is gap x memory = grind arith
 
 describes_by : (is fits short : Bool) (e d : Extracted) → is ≡ true → fits ≡ true → short ≡ false → d ≡ e
     → DescribesExtracted (if not is then Err damaged else if not fits then Err 10 else if short then Err 7 else Ok e) d
@@ -147,16 +139,12 @@ frame_taken x f payload memory after part pointer gap k t is points fits gap-is 
 
 -- ---- the packets of a frame
 
-few_by : (idle : Bool) (p : List ℕ) (rest all : List (List ℕ)) → length (concat rest) ≤ length (concat all)
-    → length (concat (if not idle then p ∷ rest else rest)) ≤ length (p ++ concat all)
-few_by true p rest all le = omega (arith, le, length-append p (concat all))
-few_by false p rest all le =
-    omega (arith, le, length-append p (concat all), length-append p (concat rest))
-
 -- packets without the idle ones have no more octets
 few_without : (ps : List (List ℕ)) → length (concat (without_idle ps)) ≤ length (concat ps)
 few_without [] = omega arith
-few_without (p ∷ ps) = few_by (is_idle p) p (without_idle ps) ps (few_without ps)
+few_without (p ∷ ps) =
+    let le = few_without ps in
+    grind (arith, le, length-append p (concat ps), length-append p (concat (without_idle ps)))
 
 pub few_handed : (place : ℕ) (payload : List ℕ) → length (handed_from place payload) ≤ length payload - place
 few_handed place payload =
@@ -182,15 +170,10 @@ extracted_is t room size h = grind (arith, common_steps, h)
 
 -- ---- the packet that was begun
 
-begun_by : (x : KeptExtractor) (room : ℕ) → is_extractor x room ≡ true → x.from + x.count ≤ room
-begun_by x room h = grind (arith, common_steps, h)
-
 pub is_begun : (x : KeptExtractor) (memory : List ℕ) → is_extractor x (length memory) ≡ true → (x.count ≡ 0 → ⊥)
     → (length (take x.count (drop x.from memory)) == 0) ≡ false
 is_begun x memory is some =
-    ne_eqb (length (take x.count (drop x.from memory))) 0 (λ e. some (
-    omega (arith, e, begun_by x (length memory) is, length-take x.count (drop x.from memory), length-drop x.from memory)
-    ))
+    grind (arith, common_steps, is, some, length-take x.count (drop x.from memory), length-drop x.from memory)
 
 pub dropped_by : (s : ExtractorState) (f : FrameView) (pointer : Pointer) (part front : List ℕ)
     → (length s.part == 0) ≡ false → is_any_lost (gap_of s.last f.vc_count) ≡ false → pointer ≡ f.pointer
@@ -204,18 +187,10 @@ dropped_by s f pointer part front some lost at is before =
 abbrev pub paired : ExtractorState → FrameView → Extracted → Extracted × Bool
 paired s f e = (e, is_dropped s f)
 
-came_by : (a : Bool) (s : ExtractorState) (f : FrameView) (next : ExtractorState → Result Extracted ℕ)
-    → and_then {B = Extracted × Bool} (if a then Ok s else Err damaged) (λ t. map_ok (paired t f) (next t))
-    ≡ map_ok (paired s f) (if not a then Err damaged else next s)
-came_by true s f next = refl
-came_by false s f next = refl
-
 pub came_is : (x : KeptExtractor) (f : ReportFrame) (payload memory : List ℕ)
     → came_from (extractor_described x memory) (length memory) (frame_described f payload)
     ≡ map_ok (paired (state_of x memory) (frame_described f payload)) (extracted_at x f payload memory)
-came_is x f payload memory =
-    came_by (is_extractor x (length memory)) (state_of x memory) (frame_described f payload)
-    (λ t. extracted_with t (frame_described f payload) (length memory))
+came_is x f payload memory = grind arith
 
 abbrev pub came_with : ℕ → ℕ → ℕ → ℕ → Came
 came_with first lost dropped count =
@@ -229,16 +204,6 @@ pub refused_is : (r : Result Extracted ℕ) (number : ℕ) → number ≡ status
 refused_is (Ok e) number is some = absurd (some is)
 refused_is (Err n) number is some = ap (λ (k : ℕ). Err k) (sym is)
 
-taken_by : (a b c : Bool) (e d : Extracted)
-    → 0 ≡ status_of (if not a then Err damaged else if not b then Err 10 else if c then Err 7 else Ok e)
-    → DescribesExtracted (if not a then Err damaged else if not b then Err 10 else if c then Err 7 else Ok e) d
-    → (a ≡ true) × (b ≡ true)
-    × ((if not a then Err damaged else if not b then Err 10 else if c then Err 7 else Ok e) ≡ Ok d)
-taken_by true true false e d is h = (refl, refl, ap (λ (x : Extracted). Ok x) (sym h))
-taken_by true true true e d is h = absurd cc
-taken_by true false c e d is h = absurd cc
-taken_by false b c e d is h = absurd cc
-
 -- a frame that is taken
 pub record IsTaken (x : KeptExtractor) (f : ReportFrame) (payload memory : List ℕ) (d : Extracted) : Type 0 where
   pub extractor : is_extractor x (length memory) ≡ true
@@ -250,31 +215,12 @@ pub record IsTaken (x : KeptExtractor) (f : ReportFrame) (payload memory : List 
 pub taken_is : (x : KeptExtractor) (f : ReportFrame) (payload memory : List ℕ) (d : Extracted)
     → 0 ≡ status_of (extracted_at x f payload memory) → DescribesExtracted (extracted_at x f payload memory) d
     → IsTaken x f payload memory d
-taken_is x f payload memory d is h =
-    let s : ExtractorState = state_of x memory in
-    let part : List ℕ = part_over_gap (gap_of s.last f.vc_count) s.part in
-    let all = taken_by (is_extractor x (length memory)) (pointer_fits (pointer_at f.pointer) (length payload))
-    (nat_lt (length memory) (need_of part (pointer_at f.pointer) payload)) (extract_step s (frame_described f payload))
-    d is h in
-    record {
-      extractor = all.0;
-      fits = all.1;
-      answer = all.2;
-      came = came_is x f payload memory ∙ ap (map_ok (paired s (frame_described f payload))) all.2;
-    }
+taken_is x f payload memory d is h = grind (arith, common_steps, is, h, came_is x f payload memory)
 
 -- the first frame, and how many are missing
-gap_by : (b : Bool) (t : TakenFrame) → (t.first == 1) ≡ b → t.first < 2 → ((t.first == 0) || (t.lost == 0)) ≡ true
-    → (t.first ≡ first_by (if b then First else Lost t.lost)) × (t.lost ≡ lost_by (if b then First else Lost t.lost))
-gap_by true t is lt none =
-    (eqb-true t.first 1 is, grind (arith, common_steps, is, none))
-gap_by false t is lt none =
-    let other : t.first ≡ 1 → ⊥ = λ e. absurd (let h : (t.first == 1) ≡ true = rw e refl in cc) in
-    (omega (arith, other), refl)
-
 pub gap_is : (t : TakenFrame) (room size : ℕ) → IsExtracted t room size
     → (t.first ≡ first_by (gap_at t)) × (t.lost ≡ lost_by (gap_at t))
-gap_is t room size is = gap_by (t.first == 1) t refl is.first is.lost
+gap_is t room size is = grind (arith, common_steps, is)
 
 -- ---- frames one after another
 

@@ -1,19 +1,18 @@
 -- Packets and frames that follow one another, and the parts of a packet.
 use Rattle.std.proofs.Common.{◌≡◌, ◌≤◌, ℕ, ◌+◌, List, [], ◌∷◌, length, take, drop, Some, None, ap, ◌∙◌, ◌<◌, suc, ◌-◌}
-use Rattle.std.proofs.Common.{◌%◌, Bool, true, false, ◌++◌, Ok, Err, refl, sym, arith, length-take, zero, ◌*◌, ◌/◌, min}
+use Rattle.std.proofs.Common.{Bool, true, false, ◌++◌, refl, sym, arith, length-take, zero, ◌*◌, ◌/◌, min}
 use Rattle.std.proofs.Common.{length-append, length-drop, inl, inr}
 use Rattle.std.proofs.lemmas.List.{drop_all, drop-drop, append-nil, take-append-drop, take_rest, drop-take, map-append}
 use Rattle.std.proofs.lemmas.List.{take_all, take_min, take-append-le, take-take}
-use Rattle.std.specs.Prelude.{nat_lt, if◌then◌else◌, ◌&&◌, ◌==◌, nat_le, slice_get}
+use Rattle.std.specs.Prelude.{◌&&◌, ◌==◌, nat_le, slice_get}
 use Rattle.std.proofs.lemmas.Bool.{ne_eqb, and_right, cases_lt, le-leb, lt-leb}
 use Rattle.std.proofs.lemmas.List.Folds.{concat-append}
+use Rattle.std.proofs.lemmas.Grind.{common_steps}
 use Rattle.std.proofs.Math.Bool.{and-true}
 use Rattle.std.proofs.Math.Nat.{le-div_iff_mul-le}
 use Rattle.std.proofs.Math.Seq.{take-append-add}
 use Rattle.std.specs.List.{concat}
 use Rattle.space_packet.proofs.WholePackets.{one_more-by_len, no_more}
-use Rattle.tc_frame.specs.declared.fault.TcFault.{TcFault}
-use Rattle.tc_frame.specs.Faults.{fault_row}
 use Rattle.tc_frame.specs.Layout.{SegmentView}
 use Rattle.map_service.specs.Packets.{first_packet, packets_in, rest_in}
 use Rattle.map_service.specs.Cutting.{pieces_of, segment_with, later_segments, parts_of, first_group, segments_of}
@@ -21,10 +20,8 @@ use Rattle.map_service.specs.Cutting.{payloads}
 use Rattle.map_service.proofs.Parts.{parts-count, parts-joined, later_segments-last, later_segments-more, parts-fit}
 use Rattle.map_service.proofs.Parts.{parts-more}
 use Rattle.map_service.proofs.Groups.{groups-cut}
-use Rattle.sedgechisel.specs.Answers.{numbered}
-use Rattle.sedgechisel.specs.CommandFrames.{len_within, whole_len, record_of, records_from, end_from}
+use Rattle.sedgechisel.specs.CommandFrames.{whole_len, record_of, records_from, end_from}
 use Rattle.sedgechisel.specs.declared.cutting.Place.{Place}
-use Rattle.sedgechisel.specs.declared.part.Part.{Part}
 use Rattle.sedgechisel.specs.Cuttings.{flags_for, octets_before, part_at, part_in, segment_in}
 
 -- Packets one after another.
@@ -47,20 +44,9 @@ none_past octets place past = none_at octets place (ap first_packet (drop_all pl
 
 -- ---- the octets of a frame
 
-low : (b : Bool) (n : ℕ) → n ≤ 1024 → (if b then 0 else n) ≤ 1024
-low true n le = omega arith
-low false n le = le
-
-few : (short refused : Bool) (n count : ℕ) (e : TcFault)
-    → len_within (if short then Err 1 else numbered fault_row (if refused then Err e else Ok (n % 1024 + 1))) count
-    ≤ 1024
-few true refused n count e = omega arith
-few false true n count e = omega arith
-few false false n count e = low (nat_lt count (n % 1024 + 1)) (n % 1024 + 1) (omega arith)
-
 -- a frame has at most 1,024
 pub few_octets : (checked : Bool) (octets : List ℕ) → whole_len checked octets ≤ 1024
-few_octets checked octets = few _ _ _ (length octets) _
+few_octets checked octets = grind (arith, common_steps)
 
 len_is : (checked : Bool) (octets : List ℕ) (from count : ℕ)
     → count ≡ whole_len checked (take (length octets - from) (drop from octets))
@@ -104,19 +90,15 @@ frames_none checked octets from k n lt is =
 pub later : (xs ys : List ℕ) (m n : ℕ) → m ≤ n → drop m xs ≡ drop m ys → drop n xs ≡ drop n ys
 later xs ys m n le is =
     let more : m + (n - m) ≡ n = omega arith in
-    ap (λ (k : ℕ). drop k xs) (sym more) ∙ sym (drop-drop (n - m) m xs) ∙ ap (drop (n - m)) is ∙ drop-drop (n - m) m ys
-    ∙ ap (λ (k : ℕ). drop k ys) more
+    rw (← more, ← drop-drop (n - m) m xs, ← drop-drop (n - m) m ys, is) refl
 
 -- what is done, and what was there after it
 pub all_done : (xs ys done : List ℕ) (k : ℕ) → k ≤ length xs → take k xs ++ [] ≡ done
     → drop k xs ≡ drop k ys → (k ≡ length done) × (xs ≡ done ++ drop (length done) ys)
 all_done xs ys done k le is rest =
     let front : take k xs ≡ done = sym (append-nil (take k xs)) ∙ is in
-    let long : k ≡ length done = omega (arith, length-take k xs, ap length front) in (
-      long,
-      sym (take-append-drop k xs) ∙ ap (λ zs. zs ++ drop k xs) front ∙ ap (λ zs. done ++ zs) rest
-          ∙ ap (λ n. done ++ drop n ys) long,
-    )
+    let long : k ≡ length done = omega (arith, length-take k xs, ap length front) in
+    (long, rw (← long, ← rest, ← front) (sym (take-append-drop k xs)))
 
 -- Part k of a packet stands at place k times the size of a part.
 
@@ -172,9 +154,8 @@ packet-length octets from len fits = omega (arith, length-take len (drop from oc
 behind_place : (octets : List ℕ) (from len start : ℕ) → start ≤ len
     → drop start (packet_at octets from len) ≡ take (len - start) (drop (from + start) octets)
 behind_place octets from len start within =
-    let whole : len ≡ start + (len - start) = omega arith in
-    ap (λ (n : ℕ). drop start (take n (drop from octets))) whole ∙ drop-take start (len - start) (drop from octets)
-    ∙ ap (take (len - start)) (drop-drop start from octets)
+    let whole : start + (len - start) ≡ len = omega arith in
+    rw (← drop-drop start from octets, ← drop-take start (len - start) (drop from octets), whole) refl
 
 pub part_stands : (octets : List ℕ) (from len part m k count : ℕ) → from + len ≤ length octets → 1 ≤ part
     → k * part < len → count ≡ min (len - k * part) part
@@ -190,13 +171,10 @@ part_stands octets from len part m k count fits one there is =
     omega (arith, length-take (len - start) ys, length-drop (from + start) octets) in
     let few : min part (length (take (len - start) ys)) ≡ count = omega (arith, all, is) in
     let held : take part (drop start xs) ≡ take count ys =
-    ap (take part) (behind_place octets from len start (omega arith))
-    ∙ sym (take_min part (take (len - start) ys)) ∙ ap (λ (n : ℕ). take n (take (len - start) ys)) few
-    ∙ take-take count (len - start) ys (omega (arith, is)) in
+    rw (behind_place octets from len start (omega arith), ← take_min part (take (len - start) ys), few)
+    (take-take count (len - start) ys (omega (arith, is))) in
     part_at_place true k part m xs one (omega arith)
-    ∙ ap (λ (n : ℕ). Some (segment_with (flags_for (k == 0) (nat_le (n - start) part)) m (take part (drop start xs))))
-    size
-    ∙ ap (λ (p : List ℕ). Some (segment_with (flags_for (k == 0) (nat_le (len - start) part)) m p)) held
+    ∙ rw (size, held) refl
 
 -- ---- the octets before a part
 
@@ -217,29 +195,22 @@ before_part first (suc k) part m xs one there =
     rw (from-more first m part xs one (omega arith), step)
     (length-append (take part xs) (concat (payloads (take k rest))) ∙ omega (arith, behind, length-take part xs))
 
-abbrev part_with : ℕ → ℕ → Part
-part_with from count = record { from = from; count = count }
-
 -- a place that is within the octets, after the segments before it
 pub placed : (octets : List ℕ) (segments : List SegmentView) (k : ℕ) (p : Place) → p.from ≡ octets_before segments k
     → p.from + p.count ≤ length octets
     → part_in p ≡ part_at segments k (segment_in octets p)
 placed octets segments k p place within =
-    ap (λ (from : ℕ). part_with from p.count) place
-    ∙ ap (part_with (octets_before segments k)) (sym (packet-length octets p.from p.count within))
+    rw (packet-length octets p.from p.count within, place) refl
 
 -- ---- one group of packets after another
 
 get_front : {X : Type 0} (xs ys : List X) (k : ℕ) → k < length xs → slice_get (xs ++ ys) k ≡ slice_get xs k
 get_front [] ys k lt = absurd (omega arith)
-get_front (x ∷ xs) ys zero lt = refl
-get_front (x ∷ xs) ys (suc k) lt = get_front xs ys k (omega arith)
+get_front (x ∷ xs) ys k lt = grind (arith, lt, get_front xs ys (k - 1))
 
 get_behind : {X : Type 0} (xs ys : List X) (k : ℕ) → slice_get (xs ++ ys) (length xs + k) ≡ slice_get ys k
 get_behind [] ys k = ap (slice_get ys) (omega arith)
-get_behind (x ∷ xs) ys k =
-    let next : length (x ∷ xs) + k ≡ suc (length xs + k) = omega arith in
-    rw next (get_behind xs ys k)
+get_behind (x ∷ xs) ys k = grind (arith, get_behind xs ys k)
 
 module _ (part n : ℕ) (rest : List ℕ) (none : rest_in rest ≡ []) (one : 1 ≤ part) (some : 1 ≤ n)
     (within : n ≤ length rest)
@@ -256,8 +227,7 @@ module _ (part n : ℕ) (rest : List ℕ) (none : rest_in rest ≡ []) (one : 1 
       → slice_get (segments_of part 0 rest) k ≡ slice_get (parts_of part 0 (take n rest)) k
   found_here k lt =
       let size = parts_here in
-      ap (λ (l : List SegmentView). slice_get l k) cut_here
-      ∙ get_front (parts_of part 0 (take n rest)) (segments_of part 0 (drop n rest)) k (omega arith)
+      rw cut_here (get_front (parts_of part 0 (take n rest)) (segments_of part 0 (drop n rest)) k (omega arith))
 
   pub found_later : (k : ℕ) → (n - 1) / part + 1 ≤ k
       → slice_get (segments_of part 0 rest) k ≡ slice_get (segments_of part 0 (drop n rest)) (k - ((n - 1) / part + 1))
@@ -274,9 +244,8 @@ module _ (part n : ℕ) (rest : List ℕ) (none : rest_in rest ≡ []) (one : 1 
       let parts : List SegmentView = parts_of part 0 (take n rest) in
       let later : List SegmentView = segments_of part 0 (drop n rest) in
       let least : k * part ≤ n - 1 = (le-div_iff_mul-le one).0 (omega arith) in
-      ap (λ (l : List SegmentView). octets_before l k) cut_here
-      ∙ ap (λ (l : List SegmentView). length (concat (payloads l))) (take-append-le k parts later (omega arith))
-      ∙ before_part true k part 0 (take n rest) one (omega (arith, length-take n rest))
+      rw (cut_here, take-append-le k parts later (omega arith))
+      (before_part true k part 0 (take n rest) one (omega (arith, length-take n rest)))
 
   pub before_behind : (k : ℕ) → (n - 1) / part + 1 ≤ k
       → octets_before (segments_of part 0 rest) k

@@ -1,11 +1,10 @@
 -- The number of what a submission answers.
-use Rattle.std.proofs.Common.{◌≡◌, ℕ, Option, Some, None, Result, Ok, Err, IfSome, IsOkUnless, refl, sym, ap, subst}
-use Rattle.std.proofs.Common.{◌∙◌, inl, inr, List, MatchOption}
+use Rattle.std.proofs.Common.{◌≡◌, ℕ, Option, Some, None, Result, Ok, Err, IfSome, IsOkUnless, refl, ap}
+use Rattle.std.proofs.Common.{◌∙◌, inl, inr, List}
 use Rattle.nodes.specs.declared.fault.LinkFault.{LinkFault}
 use Rattle.nodes.specs.declared.fault.LinkFault.TheVariants.{Memory}
 use Rattle.sedgechisel_nodes.specs.Ground.{number_of, IsAnswer}
 use Rattle.std.specs.Prelude.{option_map}
-use Rattle.std.specs.Option.{unwrap_or}
 use Rattle.nodes.specs.declared.config.Config.{Config}
 use Rattle.nodes.specs.declared.parameter.Parameter.{Parameter}
 use Rattle.nodes.specs.Parameters.{row_of, parameter_named, out_of_range, config_fault}
@@ -18,19 +17,18 @@ taken (Err fault) memory = inr (ap (λ (e : LinkFault). number_of (Err e)) memor
 pub answered : (f : Option LinkFault) (r : Result (Unit {0}) LinkFault) (n : ℕ) → n ≡ number_of r
     → IfSome f (λ fault. r ≡ Err fault) → (f ≡ None → IsOkUnless r Memory) → IsAnswer f n
 answered (Some fault) r n is refused memory = is ∙ ap number_of refused
-answered None r n is refused memory = subst (λ (m : ℕ). IsAnswer None m) (sym is) (taken r (memory refl))
+answered None r n is refused memory = rw is (taken r (memory refl))
 
 -- The parameter whose name a fault is.
 
 again : (f : Option Parameter) (name : List ℕ) → option_map (λ p. (row_of p).name) f ≡ Some name
     → parameter_named name ≡ f
-again None name e = absurd (subst (λ (o : Option (List ℕ)). MatchOption o (Unit {0}) (λ x. ⊥)) e tt)
-again (Some p) name e =
-    subst (λ (n : List ℕ). parameter_named n ≡ Some p) (ap (λ (o : Option (List ℕ)). unwrap_or o name) e) (named p)
+again None name e = cc e
+again (Some p) name e = let same : (row_of p).name ≡ name = cc e in rw (← same) (named p)
 
 none : (f : Option Parameter) → option_map (λ p. (row_of p).name) f ≡ None → f ≡ None
 none None e = refl
-none (Some p) e = absurd (subst (λ (o : Option (List ℕ)). MatchOption o ⊥ (λ x. Unit {0})) e tt)
+none (Some p) e = cc e
 
 pub named_again : (c : Config) (name : List ℕ) → config_fault c ≡ Some name → parameter_named name ≡ out_of_range c
 named_again c name e = again (out_of_range c) name e

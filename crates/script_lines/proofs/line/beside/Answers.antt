@@ -1,5 +1,5 @@
-use Rattle.std.proofs.Common.{rules, ◌≡◌, ◌∙◌, [], ◌∷◌, cond, true, false, map, option_map, Some, List, ℕ, Bor, refl}
-use Rattle.std.proofs.Common.{sym, ap}
+use Rattle.std.proofs.Common.{rules, ◌≡◌, ◌∙◌, [], ◌∷◌, map, option_map, List, ℕ, Bor, refl}
+use Rattle.std.proofs.Common.{sym, ap, arith}
 use borrow.Author.Tests.{tests}
 use Rattle.std.specs.List.{find}
 use Rattle.std.specs.Map.{lookup}
@@ -19,11 +19,7 @@ first : (text : List ℕ) (rows : List (Bor (List ℕ) × Event))
     → lookup (bytes_eq text) (map (λ row. (row.0.now, said row)) rows)
     ≡ option_map said (find (λ row. bytes_eq text row.0.now) rows)
 first text [] = refl
-first text (a ∷ rows) =
-    elim (bytes_eq text a.0.now)
-    as (λ is. cond is (Some (said a)) (lookup (bytes_eq text) (map (λ row. (row.0.now, said row)) rows))
-    ≡ option_map said (cond is (Some a) (find (λ row. bytes_eq text row.0.now) rows)))
-    [ true ↦ refl | false ↦ first text rows ]
+first text (a ∷ rows) = grind (arith, first text rows)
 
 found : (c : After-copied) → lookup (bytes_eq c.args.text.now) (map (λ row. (row.0.now, said row)) c.args.events.now)
     ≡ option_map said c.copied.result
