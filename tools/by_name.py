@@ -201,3 +201,16 @@ def python_config(text):
     for before, lines, after in made:
         config = with_list(config, before, lines, after)
     return begun + mark + config
+
+
+def parameter_numbers(text):
+    """The header with the numbers of the parameters anew."""
+    names = [f"PARAMETER_{name.upper()}" for name, *_ in parameter_rows()]
+    lines = ",\n".join(f"    SEDGE_{it} = {at}" for at, it in enumerate(["NO_PARAMETER", *names]))
+    return with_list(text, r"\nenum sedge_parameter \{\n", f"{lines}\n", r"\};")
+
+
+def tested_defaults(text):
+    """The header of the tests with the defaults anew."""
+    values = ", ".join("~(uint64_t)0" if default >> 63 else str(default) for *_, default in parameter_rows())
+    return with_list(text, "#define DEFAULTS ", f"{{{values}}}", "\n\n")
