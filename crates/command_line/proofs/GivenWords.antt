@@ -9,6 +9,7 @@ use Rattle.std.specs.Borrow.{Bor}
 use Rattle.std.proofs.lemmas.List.Elements.{All-get_or, All-nil, All-tail}
 use Rattle.std.proofs.lemmas.List.{append-nil, append_assoc}
 use Rattle.std.proofs.lemmas.Bool.{OnTrue_at, OnTrue_from, and_parts}
+use Rattle.std.proofs.lemmas.Grind.{common_steps}
 use Rattle.std.proofs.lemmas.Slice.Eq.{bytes_eq-Decides}
 use Rattle.clap.specs.Facts.{args_of, Entry, EntryPasses, PassesArg, HasReading, parser_of, parser_of_value}
 use Rattle.clap.specs.Built.{AddsArg, AddsInTurn, HasDistinctIds, FitsChain, TakesValue, IsPlain, IsPlainArg}
@@ -237,8 +238,7 @@ have_own_names [] = true
 have_own_names (w ∷ ws) = is_own w.name && (is_none_of w.name ws && have_own_names ws)
 
 apart : (a b : List ℕ) → not (bytes_eq a b) ≡ true → a ≡ b → ⊥
-apart a b h e =
-    let bad : not true ≡ true = rw ((bytes_eq-Decides a b).1 e) at h in absurd cc
+apart a b h e = grind (arith, (bytes_eq-Decides a b).1 e, h)
 
 fits : (a : Arg) (w : Wanted) → IsArgument a w → is_own w.name ≡ true → FitsChain a
 fits a w is own =
@@ -255,10 +255,7 @@ fits a w is own =
 
 parted : (w : Wanted) (ws : List Wanted) → have_own_names (w ∷ ws) ≡ true
     → (is_own w.name ≡ true) × (is_none_of w.name ws ≡ true) × (have_own_names ws ≡ true)
-parted w ws h =
-    let own = and_parts (is_own w.name) (is_none_of w.name ws && have_own_names ws) h in
-    let others = and_parts (is_none_of w.name ws) (have_own_names ws) own.1 in
-    (own.0, others.0, others.1)
+parted w ws h = grind (arith, common_steps, h)
 
 fit_all : (xs : List Arg) (ws : List Wanted) → AreArguments xs ws → have_own_names ws ≡ true → All FitsChain xs
 fit_all [] ws are own k d lt = absurd (omega arith)

@@ -86,9 +86,7 @@ goes_on parts more = all_but_last parts ++ joined (last_part parts) more
 
 goes_on-onto : (x : ℕ) (part : List ℕ) (parts more : List (List ℕ))
     → onto_first x (goes_on (part ∷ parts) more) ≡ goes_on (onto_first x (part ∷ parts)) more
-goes_on-onto x part [] [] = refl
-goes_on-onto x part [] (next ∷ more) = refl
-goes_on-onto x part (next ∷ parts) more = refl
+goes_on-onto x part parts more = grind arith
 
 goes_on_case : (x : ℕ) (xs ys : List ℕ) (b : Bool) → (x == 10) ≡ b
     → parts_of (xs ++ ys) ≡ goes_on (parts_of xs) (parts_of ys)

@@ -1,5 +1,5 @@
 -- What comes of what a node may be asked: octets that are sent, numbers, and refusals.
-use Rattle.std.proofs.Common.{◌≡◌, Option, Some, None, is_some, true, refl, ◌≤◌, ◌-◌, ℕ, List, ◌++◌, length, take, drop}
+use Rattle.std.proofs.Common.{refl, ◌≡◌, Option, Some, None, is_some, true, ◌≤◌, ◌-◌, ℕ, List, ◌++◌, length, take, drop}
 use Rattle.std.proofs.Common.{sym, ap, ◌∙◌, arith, length-append, length-drop, length-take, ◌≢◌, Result, Ok, Err}
 use Rattle.std.proofs.Common.{IfSome, OnOk, OnErr, IsOkUnless, String, codes}
 use Rattle.std.proofs.lemmas.List.{take_at}
@@ -78,8 +78,7 @@ submitting fault s next = record {
 -- a refusal that is not for want of memory is the one that the ground has for it
 reason : (fault : Option LinkFault) (r : Result (Unit {0}) LinkFault) (e : LinkFault) → r ≡ Err e
     → IfSome fault (λ f. r ≡ Err f) → (fault ≡ None → IsOkUnless r Memory) → e ≢ Memory → fault ≡ Some e
-reason None r e is why lacks known = let lacking : e ≡ Memory = rw is at lacks refl in absurd (known lacking)
-reason (Some f) r e is why lacks known = let same : f ≡ e = cc (is, why) in ap Some same
+reason fault r e is why lacks known = grind (arith, is, why, lacks, known)
 
 pub refused : {Z : Type 0} (push : Result (Unit {0}) AllocError) (before now : String Z) (s next new : GroundState)
     (fault : Option LinkFault) (r : Result (Unit {0}) LinkFault) (e : LinkFault) → r ≡ Err e

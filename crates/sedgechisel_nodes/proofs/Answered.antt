@@ -1,6 +1,6 @@
 -- The number of what a submission answers.
-use Rattle.std.proofs.Common.{◌≡◌, ℕ, Option, Some, None, Result, Ok, Err, IfSome, IsOkUnless, refl, ap}
-use Rattle.std.proofs.Common.{◌∙◌, inl, inr, List}
+use Rattle.std.proofs.Common.{◌≡◌, ℕ, Option, Some, None, Result, Err, IfSome, IsOkUnless, refl, arith}
+use Rattle.std.proofs.Common.{List}
 use Rattle.nodes.specs.declared.fault.LinkFault.{LinkFault}
 use Rattle.nodes.specs.declared.fault.LinkFault.TheVariants.{Memory}
 use Rattle.sedgechisel_nodes.specs.Ground.{number_of, IsAnswer}
@@ -10,14 +10,9 @@ use Rattle.nodes.specs.declared.parameter.Parameter.{Parameter}
 use Rattle.nodes.specs.Parameters.{row_of, parameter_named, out_of_range, config_fault}
 use Rattle.nodes.proofs.InRange.{named}
 
-taken : (r : Result (Unit {0}) LinkFault) → IsOkUnless r Memory → IsAnswer None (number_of r)
-taken (Ok x) memory = inl refl
-taken (Err fault) memory = inr (ap (λ (e : LinkFault). number_of (Err e)) memory)
-
 pub answered : (f : Option LinkFault) (r : Result (Unit {0}) LinkFault) (n : ℕ) → n ≡ number_of r
     → IfSome f (λ fault. r ≡ Err fault) → (f ≡ None → IsOkUnless r Memory) → IsAnswer f n
-answered (Some fault) r n is refused memory = is ∙ ap number_of refused
-answered None r n is refused memory = rw is (taken r (memory refl))
+answered f r n is refused memory = grind (arith, is, refused, memory)
 
 -- The parameter whose name a fault is.
 

@@ -1,5 +1,5 @@
-use Rattle.std.proofs.Common.{◌≡◌, ℕ, ◌+◌, ◌-◌, List, ◌++◌, length, take, drop, sym, ap, ◌∙◌, arith}
-use Rattle.std.proofs.Common.{length-take, length-append}
+use Rattle.std.proofs.Common.{◌≡◌, ℕ, ◌+◌, ◌-◌, List, ◌++◌, length, take, drop, arith}
+use Rattle.std.proofs.Common.{length-take, length-append, refl}
 use Rattle.std.proofs.lemmas.List.{append_assoc, drop_at, drop-drop}
 use Rattle.sedgechisel.proofs.assembly.add.Goals as goal
 
@@ -18,6 +18,9 @@ returns-clause-rest c =
       c.requires.room,
     ) in
     let all : count + some ≡ n = omega arith in
-    ap (drop n) (sym (append_assoc (take count memory) put (drop some (drop count memory))))
-    ∙ drop_at (take count memory ++ put) (drop some (drop count memory)) n long
-    ∙ drop-drop some count memory ∙ ap (λ (k : ℕ). drop k memory) all
+    rw (
+      ← append_assoc (take count memory) put (drop some (drop count memory)),
+      drop_at (take count memory ++ put) (drop some (drop count memory)) n long,
+      drop-drop some count memory,
+      all,
+    ) refl

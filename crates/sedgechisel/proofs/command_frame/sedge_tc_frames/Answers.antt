@@ -42,11 +42,7 @@ frames-preserved c =
       within = omega (arith, c.whole_len-count.ensures.within, c.frames.invariant.within);
       long = c.add-at.ensures.room ∙ c.frames.invariant.long;
       at = omega (arith, c.add-at.ensures.count, long, c.frames.invariant.at);
-      records =
-          ap (λ (xs : List ℕ). xs ++ more) c.add-at.ensures.joined ∙ append_assoc done one more
-          ∙ ap (λ (xs : List ℕ). done ++ (xs ++ more)) is
-          ∙ ap (λ (xs : List ℕ). done ++ xs) (sym next.0)
-          ∙ c.frames.invariant.records;
+      records = rw (c.add-at.ensures.joined, append_assoc done one more, is, ← next.0) c.frames.invariant.records;
       end = sym next.1 ∙ c.frames.invariant.end;
       rest =
           c.add-at.ensures.rest

@@ -1,4 +1,4 @@
-use Rattle.std.proofs.Common.{◌≡◌, ℕ, ◌+◌, ◌-◌, List, ◌++◌, length, take, drop, sym, ap, ◌∙◌, arith, length-append}
+use Rattle.std.proofs.Common.{◌≡◌, ℕ, ◌+◌, ◌-◌, List, ◌++◌, length, take, drop, ap, ◌∙◌, arith, length-append}
 use Rattle.std.specs.List.{concat}
 use Rattle.std.proofs.lemmas.List.{append_assoc}
 use Rattle.sedgechisel.specs.Extractors.{octets_at, handed_from}
@@ -15,18 +15,14 @@ each-preserved c =
     let more : List ℕ = handed_from next payload in
     let split : handed_from c.each.place payload ≡ one ++ more = ap concat c.in-Some.ensures.0 in
     let end : c.add-end.result ≡ c.each.end + length one =
-    c.add-end.ensures.count ∙ ap (λ (xs : List ℕ). c.each.end + length xs) same in
+    rw same at c.add-end.ensures.count in
     record {
       within = c.in-Some.ensures.1;
       after = omega (arith, c.each.invariant.after, end);
       long = c.add-end.ensures.room ∙ c.each.invariant.long;
       end = omega (arith, end, ap length split, length-append one more, c.each.invariant.end);
-      packets =
-          ap (λ (xs : List ℕ). xs ++ more) c.add-end.ensures.joined
-          ∙ append_assoc (take c.each.end c.each.packets) piece more
-          ∙ ap (λ (xs : List ℕ). take c.each.end c.each.packets ++ (xs ++ more)) same
-          ∙ ap (λ (xs : List ℕ). take c.each.end c.each.packets ++ xs) (sym split)
-          ∙ c.each.invariant.packets;
+      packets = rw (c.add-end.ensures.joined, append_assoc (take c.each.end c.each.packets) piece more, same, ← split)
+          c.each.invariant.packets;
       rest =
           c.add-end.ensures.rest
           ∙ later c.each.packets c.args.packets.now c.each.end c.add-end.result (omega (arith, end))

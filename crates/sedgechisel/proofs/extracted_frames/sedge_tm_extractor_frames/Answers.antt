@@ -1,4 +1,4 @@
-use Rattle.std.proofs.Common.{◌≡◌, ◌<◌, ℕ, ◌+◌, ◌-◌, ◌/◌, ◌++◌, List, length, take, drop, Bool, true, false}
+use Rattle.std.proofs.Common.{◌≡◌, ◌<◌, ℕ, ◌+◌, ◌-◌, ◌/◌, List, length, take, drop, Bool, true, false}
 use Rattle.std.proofs.Common.{Result, sym, ap, ◌∙◌, arith, length-drop}
 use Rattle.std.proofs.lemmas.List.{drop-drop}
 use Rattle.tm_link.specs.Extractor.{ExtractorState, Extracted}
@@ -68,11 +68,9 @@ frames-preserved c =
     let comes : came_of state (length c.frames.memory) (take (from + total - from) (drop from octets)) ≡ came =
     came_equal state _ room _ one c.frames.invariant.memory piece in
     let packets : List ℕ = packets_by came in
-    let end : c.take_one-taken.result.1 ≡ c.frames.end + length packets =
-    c.take_one-taken.ensures.end
-    ∙ ap (λ (r : Result (Extracted × Bool) ℕ). c.frames.end + length (packets_by r)) comes in
+    let end : c.take_one-taken.result.1 ≡ c.frames.end + length packets = rw comes at c.take_one-taken.ensures.end in
     let after : extractor_described c.take_one-taken.new.extractor c.take_one-taken.new.memory ≡ state_by came state =
-    c.take_one-taken.ensures.state ∙ ap (λ (r : Result (Extracted × Bool) ℕ). state_by r state) comes in
+    rw comes at c.take_one-taken.ensures.state in
     let more : Run = run_from total room (length c.args.packets.now - c.take_one-taken.result.1)
     (drop (from + total) octets)
     (extractor_described c.take_one-taken.new.extractor c.take_one-taken.new.memory) (most - (k + 1)) in
@@ -92,15 +90,8 @@ frames-preserved c =
       place = c.take_one-taken.ensures.long ∙ c.frames.invariant.place;
       memory = c.take_one-taken.ensures.memory ∙ c.frames.invariant.memory;
       runs = record {
-        records =
-            ap (λ (xs : List ℕ). xs ++ more.records)
-            (c.add-at.ensures.joined ∙ ap (λ (xs : List ℕ). take c.frames.at c.frames.out ++ xs) is)
-            ∙ runs.records;
-        packets =
-            ap (λ (xs : List ℕ). xs ++ more.packets)
-            (c.take_one-taken.ensures.packets
-            ∙ ap (λ (r : Result (Extracted × Bool) ℕ). take c.frames.end c.frames.packets ++ packets_by r) comes)
-            ∙ runs.packets;
+        records = rw (c.add-at.ensures.joined, is) runs.records;
+        packets = rw (c.take_one-taken.ensures.packets, comes) runs.packets;
         after = runs.after;
       };
       after_records =
