@@ -130,7 +130,11 @@ module _ {A : Type 0} (in_words : List (List ℕ) → Option A) (text_of : A →
       inr (
         i,
         omega (arith, number.1),
-        rw (append_assoc word (32 ∷ join_with_byte 32 (next ∷ words)) (10 ∷ []), reads (next ∷ words) a e, number.0) refl,
+        rw (
+          append_assoc word (32 ∷ join_with_byte 32 (next ∷ words)) (10 ∷ []),
+          reads (next ∷ words) a e,
+          number.0,
+        ) refl,
       )
 
   numbered_or_not : (word : List ℕ) (words : List (List ℕ)) (a : A) (found : Option ℕ)
