@@ -7,11 +7,12 @@ use crate::parts::{put_all, put_front, put_number, put_word};
 use std::marker::Model;
 
 /// The number of a record, with its decimal digits: those of the next number differ in the last one, and only
-/// each tenth number has others before it. The last digit stands by itself, so that the others are read as they
-/// were put long before.
+/// each tenth number is put anew.
 #[derive(Drop)]
 pub struct RecordNumber {
     tens: u64,
+    // The last digit stands by itself. A processor would wait if it read eight octets of which one was stored
+    // just before.
     last: u8,
     digits: [u8; 24],
     upper: usize,
