@@ -122,8 +122,8 @@ pub fn give(farm: &mut Farm, body: &Body)
     }
 }
 
-/// Gives a frame to the receiver, whose buffer is free, and puts the record's number and what it made of it. Each
-/// kind of frame puts the number itself, so that none is asked for twice.
+/// Gives a frame to the receiver, whose buffer is free, and puts the record's number and what it made of it.
+/// Each kind of frame puts the number itself, so that none is asked for twice.
 #[inline(always)]
 fn put_body(room: &mut [u8], at: usize, farm: &mut Farm, index: &RecordNumber, body: &Body) -> usize
     requires { at + 64 ≤ length room.old }
