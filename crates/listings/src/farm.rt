@@ -10,7 +10,7 @@ ghost use Rattle.listings.specs.FarmLines.{state_word, flags_text, state_text, b
 
 use crate::lines::{push_invalid, push_refused};
 use crate::listing::Listing;
-use crate::parts::{put_field, put_flag, put_word};
+use crate::parts::{put_field, put_short_field, put_short_flag, put_word};
 use crate::record_number::RecordNumber;
 use crate::text::Text;
 use cop1::{Farm, FarmMode, Verdict};
@@ -68,10 +68,10 @@ fn put_flags(room: &mut [u8], at: usize, farm: &Farm) -> usize
     ensures put { take result room.new ≡ take at room.old ++ flags_text farm.now }
     ensures next { result ≤ at + 32 }
 {
-    let next = put_flag::<2>(room, at, b" l=", farm.lockout());
-    let next = put_flag::<2>(room, next, b" w=", farm.wait());
-    let next = put_flag::<2>(room, next, b" t=", farm.retransmit());
-    let next = put_field::<2>(room, next, b" b=", farm.farm_b());
+    let next = put_short_flag(room, at, b" l=0", farm.lockout());
+    let next = put_short_flag(room, next, b" w=0", farm.wait());
+    let next = put_short_flag(room, next, b" t=0", farm.retransmit());
+    let next = put_short_field(room, next, b" b=0", farm.farm_b());
     put_word::<1>(room, next, b"\n")
 }
 

@@ -10,7 +10,7 @@ ghost use Rattle.listings.specs.FrameLines.{segment_text, body_line, frame_line,
 
 use crate::lines::{push_invalid, push_octets, push_refused};
 use crate::listing::Listing;
-use crate::parts::{put_field, put_long_field, put_word};
+use crate::parts::{put_field, put_long_field, put_short_field, put_word};
 use crate::record_number::RecordNumber;
 use crate::text::Text;
 use octets::Splitter;
@@ -156,7 +156,7 @@ fn push_line(text: &mut Text, index: &RecordNumber, frame: &TcFrame) -> Result<(
         Body::Ad { n, segment } => {
             let room = text.octets.as_mut_slice();
             let next = put_channel(room, text.len, index, b" AD ", frame.scid, frame.vcid);
-            text.len = put_field::<2>(room, next, b" n=", *n);
+            text.len = put_short_field(room, next, b" n=0", *n);
             push_segment(text, segment.header, segment.payload)
         }
         Body::Bd { segment } => push_bypass(

@@ -3,7 +3,7 @@
 ghost use Rattle.std.specs.Prelude.{◌≡◌, ◌+◌, ◌-◌, ◌*◌, ◌<◌, ◌≤◌, ◌^◌, ◌++◌, ℕ, decimal, length, take};
 ghost use Rattle.listings.specs.Text.{leading_digits};
 
-use crate::parts::{put_all, put_front, put_number, put_word};
+use crate::parts::{put_all, put_first, put_number, put_word};
 use std::marker::Model;
 
 /// The number of a record, with its decimal digits: those of the next number differ in the last one, and only
@@ -98,8 +98,7 @@ fn put_upper(room: &mut [u8], at: usize, digits: &[u8; 24], count: usize) -> usi
     ensures next { result ≡ at + count }
 {
     if count <= 8 {
-        put_front::<8>(room, at, digits);
-        return at + count;
+        return put_first::<8>(room, at, digits, count);
     }
     put_all(room, at, &digits[..count])
 }
