@@ -7,7 +7,7 @@ use Rattle.std.proofs.Common.{length-take-le, length-drop, take-add, take-take, 
 use Rattle.std.proofs.Common.{take-append-drop, subst, inl, inr, ◌*◌, ◌/◌, ◌%◌, ◌^◌, map, replicate, bit_and, w8, Fits}
 use Rattle.std.specs.Prelude.{◌-◌, ◌&&◌, nat_lt, if◌then◌else◌, slice_index}
 use Rattle.std.proofs.lemmas.Bool.{and_parts, eqb-true, ltb-true, cases_lt, lt-ltb, le-ltb}
-use Rattle.std.proofs.lemmas.List.{drop-drop, drop-take, take_more, take_rest, get_or-map, length-map, ext_get_or}
+use Rattle.std.proofs.lemmas.List.{drop-drop, drop-take, take_rest, get_or-map, length-map, ext_get_or}
 use Rattle.std.proofs.lemmas.Fmt.{decimal_digit, decimal_step, length-decimal-le}
 use Rattle.std.proofs.lemmas.List.FromFn.{get_or-map-range_with_len, length-map-range_with_len}
 use Rattle.std.proofs.lemmas.Nat.{and_le_r, and_mask}
@@ -15,7 +15,7 @@ use Rattle.std.proofs.lemmas.Simd.{Each1-all, Each1-weaker, Each1-zip2, Each2-sp
 use Rattle.std.proofs.lemmas.Simd.{swz_l, SwzOk, SwzOk-from_below, length-swz_l, get_or-swz_l_below}
 use Rattle.std.specs.List.{range_with_len}
 use Rattle.listings.specs.declared.parts.TheConstants.{OCTETS}
-use Rattle.listings.specs.Text.{four_digits}
+use Rattle.listings.specs.Text.{four_digits, leading_digits}
 
 -- Decimal digits of small numbers.
 
@@ -86,6 +86,9 @@ at_most_twenty n small = length-decimal-le 20 n (omega arith) (omega arith) smal
 -- one part after another
 pub joined : (t x y : List ℕ) {u v z : List ℕ} → u ≡ t ++ x → v ≡ u ++ y → z ≡ x ++ y → v ≡ t ++ z
 joined t x y first second both = second ∙ ap (λ s. s ++ y) first ∙ append_assoc t x y ∙ ap (λ s. t ++ s) (sym both)
+
+pub at_most_nineteen : (t : ℕ) → 10 * t < 2 ^ 64 → length (decimal t) ≤ 19
+at_most_nineteen t small = length-decimal-le 19 t (omega arith) (omega arith) (omega arith)
 
 pub at_most_five : (n : ℕ) → n < 2 ^ 16 → length (decimal n) ≤ 5
 at_most_five n small = length-decimal-le 5 n (omega arith) (omega arith) (omega arith)
@@ -232,48 +235,25 @@ last_two entry x lt digits count =
     sym (drop-take 1 2 entry) ∙ ap (λ n. drop 1 (take n entry)) (sym (count ∙ ap length three))
     ∙ ap (drop 1) (digits ∙ three) ∙ ap two_digits rest
 
--- ---- the next number
+-- ---- the digits before the last one, and the last one
 
-pub some_digit : (n : ℕ) → n < 2 ^ 64 → 1 ≤ length (decimal n)
-some_digit n small =
-    elim (cases_lt n 10) [
-      | inl few ↦ omega (arith, ap length (decimal_digit n few))
-      | inr more ↦ omega (arith, one_more n more small)
-    ]
+pub last_after : (t d : ℕ) → 48 ≤ d → d ≤ 57 → 10 * t + (d - 48) < 2 ^ 64
+    → leading_digits t ++ (d ∷ []) ≡ decimal (10 * t + (d - 48))
+last_after zero d low high small =
+    let digit : 48 + (d - 48) ≡ d = omega arith in
+    let all : d - 48 ≡ 10 * 0 + (d - 48) = omega arith in
+    ap (λ k. k ∷ []) (sym digit) ∙ sym (decimal_digit (d - 48) (omega arith)) ∙ ap decimal all
+last_after (suc t) d low high small =
+    let n = 10 * suc t + (d - 48) in
+    let front : n / 10 ≡ suc t = omega arith in
+    let digit : 48 + n % 10 ≡ d = omega arith in
+    sym (decimal_step n (omega arith) small ∙ ap (λ k. decimal k ++ ((48 + n % 10) ∷ [])) front
+    ∙ ap (λ k. decimal (suc t) ++ (k ∷ [])) digit)
 
-last_digit : (xs ys : List ℕ) (x y : ℕ) → xs ++ (x ∷ []) ≡ ys ++ (y ∷ []) → (xs ≡ ys) × (x ≡ y)
-last_digit xs ys x y same =
-    let long : length xs ≡ length ys =
-    omega (arith, ap length same, length-append xs (x ∷ []), length-append ys (y ∷ [])) in
-    let front : xs ≡ ys =
-    sym (take_at xs (x ∷ []) (length ys) long) ∙ ap (take (length ys)) same ∙ take_at ys (y ∷ []) (length ys) refl in
-    let back : (x ∷ []) ≡ (y ∷ []) =
-    sym (drop_at xs (x ∷ []) (length ys) long) ∙ ap (drop (length ys)) same ∙ drop_at ys (y ∷ []) (length ys) refl in
-    (front, ap (λ l. get_or l 0 0) back)
-
--- the next number has another last digit, unless that is 9
-pub next_digit : (n : ℕ) (ds : List ℕ) (len : ℕ) → n + 1 < 2 ^ 64 → 1 ≤ len → len ≤ length ds
-    → take len ds ≡ decimal n → get_or ds (len - 1) 0 < 57
-    → take (len - 1) ds ++ ((get_or ds (len - 1) 0 + 1) ∷ []) ≡ decimal (n + 1)
-next_digit n ds len small some within is below =
-    let d = get_or ds (len - 1) 0 in
-    let all : (len - 1) + 1 ≡ len = omega arith in
-    let whole : take (len - 1) ds ++ (d ∷ []) ≡ decimal n =
-    sym (take_more ds (len - 1) 0 (omega arith)) ∙ ap (λ k. take k ds) all ∙ is in
-    elim (cases_lt n 10) [
-      | inl few ↦
-          let same = last_digit (take (len - 1) ds) [] d (48 + n) (whole ∙ decimal_digit n few) in
-          let digit : d + 1 ≡ 48 + (n + 1) = omega (arith, same.1) in
-          ap (λ l. l ++ ((d + 1) ∷ [])) same.0 ∙ ap (λ k. k ∷ []) digit
-          ∙ sym (decimal_digit (n + 1) (omega (arith, same.1, below)))
-      | inr more ↦
-          let same = last_digit (take (len - 1) ds) (decimal (n / 10)) d (48 + n % 10)
-          (whole ∙ decimal_step n more (omega arith)) in
-          let digit : d + 1 ≡ 48 + (n + 1) % 10 = omega (arith, same.1, below) in
-          let front : n / 10 ≡ (n + 1) / 10 = omega (arith, same.1, below) in
-          ap (λ l. l ++ ((d + 1) ∷ [])) same.0 ∙ ap (λ k. decimal k ++ ((d + 1) ∷ [])) front
-          ∙ ap (λ k. decimal ((n + 1) / 10) ++ (k ∷ [])) digit ∙ sym (decimal_step (n + 1) (omega arith) small)
-    ]
+pub leading_of_more : (t : ℕ) → leading_digits (t + 1) ≡ decimal (t + 1)
+leading_of_more t =
+    let more : t + 1 ≡ suc t = omega arith in
+    ap leading_digits more ∙ ap decimal (sym more)
 
 -- The hexadecimal digits of sixteen octets at a time: lanes that are looked up in a table of sixteen, and pieces
 -- of what is written.

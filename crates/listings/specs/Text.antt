@@ -1,6 +1,6 @@
 -- Pieces of the tool's lines.
 use Rattle.std.specs.Prelude.{ℕ, List, [], ◌∷◌, ◌++◌, codes, decimal, ◌≡◌, take, Result, OnOk, ◌+◌}
-use Rattle.std.specs.Prelude.{◌/◌, ◌%◌, Bool, true, false}
+use Rattle.std.specs.Prelude.{◌/◌, ◌%◌, Bool, true, false, zero, suc}
 use Rattle.hex.specs.Hex.{encode_upper}
 use Rattle.listings.specs.declared.text.Text.{Text}
 
@@ -36,3 +36,8 @@ Appends result old new octets = OnOk result (written new ≡ written old ++ octe
 
 abbrev pub four_digits : ℕ → List ℕ
 four_digits n = (48 + n / 1000) ∷ (48 + n / 100 % 10) ∷ (48 + n / 10 % 10) ∷ (48 + n % 10) ∷ []
+
+-- the decimal digits of a number before the last one, of its tens
+abbrev pub leading_digits : ℕ → List ℕ
+leading_digits zero = []
+leading_digits (suc t) = decimal (suc t)

@@ -10,7 +10,7 @@ ghost use Rattle.listings.specs.FarmLines.{state_word, flags_text, state_text, b
 
 use crate::lines::{push_invalid, push_refused};
 use crate::listing::Listing;
-use crate::parts::{put_field, put_flag, put_word};
+use crate::parts::{put_field, put_short_field, put_short_flag, put_word};
 use crate::record_number::RecordNumber;
 use crate::text::Text;
 use cop1::{Farm, FarmMode, Verdict};
@@ -31,19 +31,34 @@ fn put_state(room: &mut [u8], at: usize, state: FarmMode) -> usize
     }
 }
 
-#[inline(never)]
+// Puts a verdict between spaces.
+#[inline(always)]
 fn put_verdict(room: &mut [u8], at: usize, verdict: Verdict) -> usize
-    requires { at + 9 ≤ length room.old }
-    ensures put { take result room.new ≡ take at room.old ++ (verdict_row verdict).1 }
-    ensures next { result ≤ at + 9 }
+    requires { at + 16 ≤ length room.old }
+    ensures put { take result room.new ≡ take at room.old
+        ++ (codes " " ++ ((verdict_row verdict).1 ++ codes " ")) }
+    ensures next { result ≤ at + 11 }
+{
+    if verdict == Verdict::Accepted {
+        return put_word::<8>(room, at, b" accepted ");
+    }
+    put_refusal(room, at, verdict)
+}
+
+#[inline(never)]
+fn put_refusal(room: &mut [u8], at: usize, verdict: Verdict) -> usize
+    requires { at + 16 ≤ length room.old }
+    ensures put { take result room.new ≡ take at room.old
+        ++ (codes " " ++ ((verdict_row verdict).1 ++ codes " ")) }
+    ensures next { result ≤ at + 11 }
 {
     match verdict {
-        Verdict::Accepted => put_word::<8>(room, at, b"accepted"),
-        Verdict::Ahead => put_word::<4>(room, at, b"ahead"),
-        Verdict::NoBuffer => put_word::<8>(room, at, b"nobuffer"),
-        Verdict::Behind => put_word::<4>(room, at, b"behind"),
-        Verdict::Outside => put_word::<4>(room, at, b"outside"),
-        Verdict::Discarded => put_word::<8>(room, at, b"discarded"),
+        Verdict::Accepted => put_word::<8>(room, at, b" accepted "),
+        Verdict::Ahead => put_word::<4>(room, at, b" ahead "),
+        Verdict::NoBuffer => put_word::<8>(room, at, b" nobuffer "),
+        Verdict::Behind => put_word::<8>(room, at, b" behind "),
+        Verdict::Outside => put_word::<8>(room, at, b" outside "),
+        Verdict::Discarded => put_word::<8>(room, at, b" discarded "),
     }
 }
 
@@ -53,10 +68,10 @@ fn put_flags(room: &mut [u8], at: usize, farm: &Farm) -> usize
     ensures put { take result room.new ≡ take at room.old ++ flags_text farm.now }
     ensures next { result ≤ at + 32 }
 {
-    let next = put_flag::<2>(room, at, b" l=", farm.lockout());
-    let next = put_flag::<2>(room, next, b" w=", farm.wait());
-    let next = put_flag::<2>(room, next, b" t=", farm.retransmit());
-    let next = put_field::<2>(room, next, b" b=", farm.farm_b());
+    let next = put_short_flag(room, at, b" l=0", farm.lockout());
+    let next = put_short_flag(room, next, b" w=0", farm.wait());
+    let next = put_short_flag(room, next, b" t=0", farm.retransmit());
+    let next = put_short_field(room, next, b" b=0", farm.farm_b());
     put_word::<1>(room, next, b"\n")
 }
 
@@ -75,23 +90,21 @@ fn put_receiver(room: &mut [u8], at: usize, farm: &Farm) -> usize
 fn put_ad(room: &mut [u8], at: usize, n: u8, verdict: Verdict) -> usize
     requires { at + 32 ≤ length room.old }
     ensures put { take result room.new ≡ take at room.old
-        ++ (codes "AD " ++ (decimal n ++ (codes " " ++ ((verdict_row verdict).1 ++ codes " ")))) }
+        ++ (codes " AD " ++ (decimal n ++ (codes " " ++ ((verdict_row verdict).1 ++ codes " ")))) }
     ensures next { result ≤ at + 32 }
 {
-    let next = put_field::<2>(room, at, b"AD ", n);
-    let next = put_word::<1>(room, next, b" ");
-    let next = put_verdict(room, next, verdict);
-    put_word::<1>(room, next, b" ")
+    let next = put_field::<4>(room, at, b" AD ", n);
+    put_verdict(room, next, verdict)
 }
 
 #[inline(never)]
 fn put_set_vr(room: &mut [u8], at: usize, vr: u8) -> usize
     requires { at + 32 ≤ length room.old }
     ensures put { take result room.new ≡ take at room.old
-        ++ (codes "BC set " ++ (decimal vr ++ codes " ")) }
+        ++ (codes " BC set " ++ (decimal vr ++ codes " ")) }
     ensures next { result ≤ at + 32 }
 {
-    let next = put_field::<4>(room, at, b"BC set ", vr);
+    let next = put_field::<8>(room, at, b" BC set ", vr);
     put_word::<1>(room, next, b" ")
 }
 
@@ -109,31 +122,36 @@ pub fn give(farm: &mut Farm, body: &Body)
     }
 }
 
-/// Gives a frame to the receiver, whose buffer is free, and puts what it made of it.
+/// Gives a frame to the receiver, whose buffer is free, and puts the record's number and what it made of it.
+/// Each kind of frame puts the number itself, so that none is asked for twice.
 #[inline(always)]
-fn put_body(room: &mut [u8], at: usize, farm: &mut Farm, body: &Body) -> usize
-    requires { at + 32 ≤ length room.old }
+fn put_body(room: &mut [u8], at: usize, farm: &mut Farm, index: &RecordNumber, body: &Body) -> usize
+    requires { at + 64 ≤ length room.old }
     ensures put { take result room.new ≡ take at room.old
-        ++ body_text farm.old (body_view body.now) }
+        ++ (decimal index.now ++ (codes " " ++ body_text farm.old (body_view body.now))) }
     ensures farm { farm.new ≡ after_body farm.old (body_view body.now) }
-    ensures next { result ≤ at + 32 }
+    ensures next { result ≤ at + 64 }
 {
     match body {
         Body::Ad { n, .. } => {
             let verdict = farm.ad(*n, true);
-            put_ad(room, at, *n, verdict)
+            let next = index.put(room, at);
+            put_ad(room, next, *n, verdict)
         }
         Body::Bd { .. } => {
             farm.bd();
-            put_word::<2>(room, at, b"BD ")
+            let next = index.put(room, at);
+            put_word::<4>(room, next, b" BD ")
         }
         Body::Bc(Command::Unlock) => {
             farm.unlock();
-            put_word::<8>(room, at, b"BC unlock ")
+            let next = index.put(room, at);
+            put_word::<8>(room, next, b" BC unlock ")
         }
         Body::Bc(Command::SetVr(vr)) => {
             farm.set_vr(*vr);
-            put_set_vr(room, at, *vr)
+            let next = index.put(room, at);
+            put_set_vr(room, next, *vr)
         }
     }
 }
@@ -153,9 +171,7 @@ fn put_frame(
     ensures farm { farm.new ≡ after_body farm.old (body_view body.now) }
     ensures next { result ≤ at + 128 }
 {
-    let next = index.put(room, at);
-    let next = put_word::<1>(room, next, b" ");
-    let next = put_body(room, next, farm, body);
+    let next = put_body(room, at, farm, index, body);
     put_receiver(room, next, farm)
 }
 
@@ -171,9 +187,9 @@ fn push_frame<const CHECKED: bool>(
     ensures farm { OnOk result (farm.new ≡ after_record (check_if CHECKED) farm.old octets.now) }
     ensures good { IfOk result (λ good. good ≡ is_ok (frame_at (check_if CHECKED) octets.now)) }
 {
+    text.make_room(128)?;
     match decode(octets, check_if(CHECKED)) {
         Ok(frame) => {
-            text.make_room(128)?;
             text.len = put_frame(
                 text.octets.as_mut_slice(),
                 text.len,

@@ -28,6 +28,18 @@ pub fn put_front<const N: usize>(room: &mut [u8], at: usize, octets: &[u8])
     Simd::<u8, N>::from_slice(octets).copy_to_slice(&mut room[at..]);
 }
 
+/// Puts the first of these octets, at most N, by one load and one store of N. The rest is written over.
+#[inline(always)]
+pub fn put_first<const N: usize>(room: &mut [u8], at: usize, octets: &[u8], count: usize) -> usize
+    requires room { at + N ≤ length room.old }
+    requires most { (count ≤ N) × (N ≤ length octets.now) }
+    ensures put { take result room.new ≡ take at room.old ++ take count octets.now }
+    ensures next { result ≡ at + count }
+{
+    put_front::<N>(room, at, octets);
+    at + count
+}
+
 /// Puts a word of N octets to twice as many: the first N, and the last N over them.
 #[inline(always)]
 pub fn put_word<const N: usize>(room: &mut [u8], at: usize, word: &[u8]) -> usize
@@ -159,6 +171,29 @@ pub fn put_flag<const N: usize>(room: &mut [u8], at: usize, word: &[u8], flag: b
 {
     let next = put_word::<N>(room, at, word);
     put_word::<1>(room, next, &[digit_of_flag(flag)])
+}
+
+/// Puts a word of three octets, which stand before a fourth, and a flag as 0 or 1 after it.
+#[inline(always)]
+pub fn put_short_flag(room: &mut [u8], at: usize, word: &[u8; 4], flag: bool) -> usize
+    requires { at + 4 ≤ length room.old }
+    ensures put { take result room.new ≡ take at room.old
+        ++ (take 3 word.now ++ decimal (flag_number flag)) }
+    ensures next { result ≡ at + 4 }
+{
+    let next = put_first::<4>(room, at, word, 3);
+    put_word::<1>(room, next, &[digit_of_flag(flag)])
+}
+
+/// Puts a word of three octets, which stand before a fourth, and the decimal digits of an octet after it.
+#[inline(always)]
+pub fn put_short_field(room: &mut [u8], at: usize, word: &[u8; 4], octet: u8) -> usize
+    requires { at + 7 ≤ length room.old }
+    ensures put { take result room.new ≡ take at room.old ++ (take 3 word.now ++ decimal octet) }
+    ensures next { result ≤ at + 6 }
+{
+    let next = put_first::<4>(room, at, word, 3);
+    put_octet(room, next, octet)
 }
 
 /// Puts the decimal digits of the number of a record, which are at most twenty.

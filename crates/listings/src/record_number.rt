@@ -1,25 +1,30 @@
 // The number of a record, with the digits that are written of it.
 
-ghost use Rattle.std.specs.Prelude.{◌≡◌, ◌+◌, ◌<◌, ◌≤◌, ◌^◌, ◌++◌, ℕ, decimal, length, take};
+ghost use Rattle.std.specs.Prelude.{◌≡◌, ◌+◌, ◌-◌, ◌*◌, ◌<◌, ◌≤◌, ◌^◌, ◌++◌, ℕ, decimal, length, take};
+ghost use Rattle.listings.specs.Text.{leading_digits};
 
-use crate::parts::{put_all, put_front, put_number, put_word};
+use crate::parts::{put_all, put_first, put_number, put_word};
 use std::marker::Model;
 
 /// The number of a record, with its decimal digits: those of the next number differ in the last one, and only
 /// each tenth number is put anew.
 #[derive(Drop)]
 pub struct RecordNumber {
-    number: u64,
+    tens: u64,
+    // The last digit stands by itself. A processor would wait if it read eight octets of which one was stored
+    // just before.
+    last: u8,
     digits: [u8; 24],
-    len: usize,
+    upper: usize,
 }
 
 impl Model for RecordNumber {
     ghost Value = { ℕ };
 
-    ghost view = { λ n. n.number };
+    ghost view = { λ n. 10 * n.tens + (n.last - 48) };
 
-    ghost invariant = { λ n. (take n.len n.digits ≡ decimal n.number) × (1 ≤ n.len) × (n.len ≤ 20) };
+    ghost invariant = { λ n. (take n.upper n.digits ≡ leading_digits n.tens) × (n.upper ≤ 19)
+        × (48 ≤ n.last) × (n.last ≤ 57) × (10 * n.tens + (n.last - 48) < 2 ^ 64) };
 }
 
 impl RecordNumber {
@@ -28,9 +33,10 @@ impl RecordNumber {
         ensures { result ≡ 0 }
     {
         RecordNumber {
-            number: 0,
+            tens: 0,
+            last: b'0',
             digits: [b'0'; 24],
-            len: 1,
+            upper: 0,
         }
     }
 
@@ -40,13 +46,12 @@ impl RecordNumber {
         requires { self.old + 1 < 2 ^ 64 }
         ensures { self.new ≡ self.old + 1 }
     {
-        self.number += 1;
-        let last = self.len - 1;
-        let digit = self.digits[last];
-        if digit < b'9' {
-            self.len = put_word::<1>(&mut self.digits, last, &[digit + 1]);
+        if self.last < b'9' {
+            self.last += 1;
         } else {
-            self.len = put_number(&mut self.digits, 0, self.number);
+            self.tens += 1;
+            self.last = b'0';
+            self.upper = put_number(&mut self.digits, 0, self.tens);
         }
     }
 
@@ -56,9 +61,10 @@ impl RecordNumber {
         ensures { result ≡ self.now + 1 }
     {
         let mut next = RecordNumber {
-            number: self.number,
+            tens: self.tens,
+            last: self.last,
             digits: self.digits,
-            len: self.len,
+            upper: self.upper,
         };
         next.step();
         next
@@ -68,7 +74,7 @@ impl RecordNumber {
     pub fn get(&self) -> u64
         ensures { result ≡ self.now }
     {
-        self.number
+        10 * self.tens + u64::from(self.last - b'0')
     }
 
     /// Puts the decimal digits, which are at most twenty.
@@ -78,10 +84,21 @@ impl RecordNumber {
         ensures put { take result room.new ≡ take at room.old ++ decimal self.now }
         ensures next { result ≤ at + 20 }
     {
-        if self.len <= 8 {
-            put_front::<8>(room, at, &self.digits);
-            return at + self.len;
-        }
-        put_all(room, at, &self.digits[..self.len])
+        let next = put_upper(room, at, &self.digits, self.upper);
+        put_word::<1>(room, next, &[self.last])
     }
+}
+
+// Puts the first octets, at most nineteen.
+#[inline(always)]
+fn put_upper(room: &mut [u8], at: usize, digits: &[u8; 24], count: usize) -> usize
+    requires room { at + 19 ≤ length room.old }
+    requires count { count ≤ 19 }
+    ensures put { take result room.new ≡ take at room.old ++ take count digits.now }
+    ensures next { result ≡ at + count }
+{
+    if count <= 8 {
+        return put_first::<8>(room, at, digits, count);
+    }
+    put_all(room, at, &digits[..count])
 }

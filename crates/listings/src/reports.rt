@@ -9,7 +9,7 @@ ghost use Rattle.listings.specs.ReportLines.{field_line, receiver_text, report_l
 use crate::control_words::{ControlWords, WordFault, word_in};
 use crate::lines::{push_invalid, push_name, push_refused};
 use crate::listing::Listing;
-use crate::parts::{put_field, put_flag, put_word};
+use crate::parts::{put_field, put_flag, put_short_field, put_short_flag, put_word};
 use crate::record_number::RecordNumber;
 use crate::text::Text;
 use bitflags::Flags;
@@ -57,15 +57,15 @@ fn put_receiver(room: &mut [u8], at: usize, word: &Clcw) -> usize
     ensures next { result ≤ at + 64 }
 {
     let next = put_field::<4>(room, at, b" vr=", word.value);
-    let next = put_flag::<2>(room, next, b" l=", word.flags.contains(ClcwFlags::LOCKOUT));
-    let next = put_flag::<2>(room, next, b" w=", word.flags.contains(ClcwFlags::WAIT));
-    let next = put_flag::<2>(
+    let next = put_short_flag(room, next, b" l=0", word.flags.contains(ClcwFlags::LOCKOUT));
+    let next = put_short_flag(room, next, b" w=0", word.flags.contains(ClcwFlags::WAIT));
+    let next = put_short_flag(
         room,
         next,
-        b" t=",
+        b" t=0",
         word.flags.contains(ClcwFlags::RETRANSMIT),
     );
-    let next = put_field::<2>(room, next, b" b=", word.farm_b);
+    let next = put_short_field(room, next, b" b=0", word.farm_b);
     put_status(room, next, word)
 }
 

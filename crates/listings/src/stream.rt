@@ -32,7 +32,9 @@ impl Progress {
     fn and(&mut self, good: bool)
         ensures { self.new ≡ record { count = self.old.count; all_good = self.old.all_good && good } }
     {
-        self.all_good = self.all_good && good;
+        if !good {
+            self.all_good = false;
+        }
     }
 
     fn of_all(&self, octets: u64, all_good: bool) -> Summary
