@@ -60,6 +60,8 @@ def decodes_of_own_kinds(it):
         own = type("Own", (kind,), {})
         found = own.decode(bytes.fromhex(octets))
         assert type(found if kind is it.Clcw else found[0]) is own
+        if kind is it.TcFrame:
+            assert {type(frame) for frame, _ in own.decode_all(bytes.fromhex(octets) * 2)} == {own}
 
 
 # ---- Many frames. ----
@@ -83,6 +85,22 @@ def frames_one_after_another(it):
         for wanted, one in zip(frames, found):
             assert one == decoded(it.TcFrame, it.TcFault, wanted, checked)
         assert next(found, None) is None
+
+
+def frames_that_are_changed(it):
+    """A frame of many is changed by itself."""
+    (one, _), (other, _) = it.TcFrame.decode_all(bytes.fromhex("3001080700008b9e") * 2)
+    one.scid = 2
+    assert (one.scid, other.scid) == (2, 1)
+
+
+def numbers_of_either_order(it):
+    """Where the octets of a record go into a struct, on processors of either order."""
+    for kind, numbers in ((it.TcFrame, 1), (it.TmFrame, 2)):
+        kinds = [one for _, one in kind._fields_]
+        little, big = (it._calls._places_of(kinds, 3, order) for order in ("little", "big"))
+        assert little == [*range(3, 3 + len(little))] and big[2 * numbers:] == little[2 * numbers:]
+        assert big[:2 * numbers] == [4, 3, 6, 5][:2 * numbers]
 
 
 def any_command(it, chance, checked):
@@ -231,5 +249,6 @@ def threads_that_take_turns(it):
     assert not wrong, wrong
 
 
-TESTS = (each_fault_of_each_decode, decodes_of_own_kinds, frames_one_after_another, telemetry_one_after_another,
+TESTS = (each_fault_of_each_decode, decodes_of_own_kinds, frames_one_after_another, frames_that_are_changed,
+         numbers_of_either_order, telemetry_one_after_another,
          results_that_stay, frames_and_packets_that_stay, calls_at_once, threads_that_take_turns)
