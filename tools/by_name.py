@@ -122,7 +122,7 @@ def rust_directives(text, headers):
             + "".join(f"{indent}{line}\n" for line in ("///", "/// # Errors", "///"))
             + comment_lines(f"Refused with {it.refused.replace('NAME', fault)}.", indent, mark)
             + f"{indent}pub fn {it.name}(&mut self{taken}) -> Result<(), CopFault> {{\n"
-            + f"{indent}    self.direct($crate::ffi::SEDGE_{it.name.upper()}, {given})\n{indent}}}\n")
+            + f"{indent}    self.direct($crate::directives::SEDGE_{it.name.upper()}, {given})\n{indent}}}\n")
     listed = r"(?<=^    \(\) => \{\n)        /// The directive to .*?(?=^    \};$)"
     return re.sub(listed, lambda _: "\n".join(made), text, flags=re.M | re.S)
 
@@ -172,9 +172,10 @@ def rust_config(text):
     made = (
         (r"    Parameter \{\n", numbers, r"    \}\n\}"),
         (r"const NAMES: ", f"[&str; {len(rows)}] = [\n{names}", r"        \];"),
-        (r"pub struct Config \{\n", fields, r"\}\n\nimpl"),
+        (r"pub struct Config \{\n", fields, r"\}"),
         (r"fn default\(\) -> Self \{\n        Self \{\n", defaults, r"        \}\n    \}"),
-        (r"        raw::Config \{\n", handed, r"        \}\n    \}"),
+        (r"pub struct Raw \{\n", raw, r"\}"),
+        (r"        Raw \{\n", handed, r"        \}\n    \}"),
     )
     for before, lines, after in made:
         text = with_list(text, before, lines, after)
