@@ -93,6 +93,13 @@ def fields_of_enumerations(headers, structs):
                 yield struct.own, field.name, none | {int(number, 0) for number in known[it[1]].values()}
 
 
+def on_board(headers):
+    """The events of the simulated link on board, as their notes say: of each its name and its number."""
+    notes = meanings(headers)["event_kind"]
+    return {name.removeprefix("SEDGE_EVENT_"): int(it) for name, it in enumerations(headers)["event_kind"].items()
+            if re.search("on board|spacecraft", notes[int(it)])}
+
+
 def meanings(headers):
     """Of each enumeration its numbers with their notes, without those that name a call or an enumeration of C."""
     found = {}
