@@ -6,9 +6,9 @@
  * that may not be touched. One allocation in some is refused, and only a call during which one was answers that there
  * was no memory. Ends with 0 where all is as wanted and all memory is given back, and says what is not. */
 #define _DEFAULT_SOURCE
-#include "config.h"
 #include "memory.h"
 #include "none.h"
+#include <sedgechisel_nodes.h>
 #include <stdio.h>
 #include <stdlib.h>
 #include <string.h>
@@ -179,7 +179,7 @@ static uint64_t any_maps(void) {
 }
 
 static void any_config(void) {
-    config = (struct sedge_config)DEFAULTS;
+    sedge_config_default(&config);
     config.width = 20, config.window = 8, config.timer = 5, config.max_packet = 2000;
     config.ready_slots = 5, config.bypass_slots = 2, config.queue_slots = 30;
     config.blocking = below(2);
