@@ -43,6 +43,16 @@ def rows():
     return found
 
 
+def numbers_astray(headers):
+    """What is wrong with the numbers of directives and events in the headers, beside what the sources make of them."""
+    known = enumerations(headers)
+    for enum, mark, file in (("directive", "SEDGE_", "c_words/src/directives.rt"),
+                             ("event_kind", "SEDGE_EVENT_", "sedgechisel_nodes/src/sim/events.rt")):
+        arms = re.findall(r"^        (\d+)(?: if \w+)? => Some\(\w+::(\w+)", text_of(f"crates/{file}"), re.M)
+        if known[enum] != {mark + snake(name).upper(): number for number, name in arms}:
+            yield f"sedge_{enum} has other names and numbers than crates/{file}"
+
+
 def signature(text, name):
     """What a call of a header answers, and its parameters; or nothing, where it has none of this name."""
     found = re.search(rf"^(?:static inline )?([\w ]+?) sedge_{name}\(([^)]*)\)", text, re.M)
@@ -122,7 +132,7 @@ def rust_directives(text, headers):
             + "".join(f"{indent}{line}\n" for line in ("///", "/// # Errors", "///"))
             + comment_lines(f"Refused with {it.refused.replace('NAME', fault)}.", indent, mark)
             + f"{indent}pub fn {it.name}(&mut self{taken}) -> Result<(), CopFault> {{\n"
-            + f"{indent}    self.direct($crate::ffi::SEDGE_{it.name.upper()}, {given})\n{indent}}}\n")
+            + f"{indent}    self.direct($crate::directives::SEDGE_{it.name.upper()}, {given})\n{indent}}}\n")
     listed = r"(?<=^    \(\) => \{\n)        /// The directive to .*?(?=^    \};$)"
     return re.sub(listed, lambda _: "\n".join(made), text, flags=re.M | re.S)
 
@@ -168,13 +178,15 @@ def rust_config(text):
     numbers = "".join(f"        /// `{it}`.\n        {camel(it)} = {at},\n" for at, it in enumerate(bits, 1))
     names = "".join(f'            "{it}",\n' for it in bits)
     defaults = "".join(f"            {it}: {values[it]},\n" for it in values)
+    raw = "".join(f"    pub {it}: {'u64' if bits[it] == 'u64' else 'u32'},\n" for it in bits)
     handed = "".join(f"            {it}: self.{wide[it]},\n" for it in wide)
     made = (
         (r"    Parameter \{\n", numbers, r"    \}\n\}"),
         (r"const NAMES: ", f"[&str; {len(rows)}] = [\n{names}", r"        \];"),
-        (r"pub struct Config \{\n", fields, r"\}\n\nimpl"),
+        (r"pub struct Config \{\n", fields, r"\}"),
         (r"fn default\(\) -> Self \{\n        Self \{\n", defaults, r"        \}\n    \}"),
-        (r"        raw::Config \{\n", handed, r"        \}\n    \}"),
+        (r"pub struct Raw \{\n", raw, r"\}"),
+        (r"        Raw \{\n", handed, r"        \}\n    \}"),
     )
     for before, lines, after in made:
         text = with_list(text, before, lines, after)
@@ -209,8 +221,3 @@ def parameter_numbers(text):
     lines = ",\n".join(f"    SEDGE_{it} = {at}" for at, it in enumerate(["NO_PARAMETER", *names]))
     return with_list(text, r"\nenum sedge_parameter \{\n", f"{lines}\n", r"\};")
 
-
-def tested_defaults(text):
-    """The header of the tests with the defaults anew."""
-    values = ", ".join("~(uint64_t)0" if default >> 63 else str(default) for *_, default in parameter_rows())
-    return with_list(text, "#define DEFAULTS ", f"{{{values}}}", "\n\n")

@@ -21,16 +21,6 @@ def enumerations(headers):
     return {name: dict(re.findall(r"(SEDGE_\w+) = (\w+)", body)) for name, body in ENUMERATION.findall(text)}
 
 
-def with_last_ones(text, headers):
-    """A header of the tests with the last number of each enumeration anew that it names, as LAST_DIRECTIVE."""
-    known = enumerations(headers)
-
-    def last(it):
-        return f"{it[1]} {[*next(known[own] for own in known if own.split('_')[0] == it[2].lower())][-1]}"
-
-    return re.sub(r"^(#define LAST_(\w+)) \w+$", last, text, flags=re.M)
-
-
 def with_constants(header):
     """A header with each number of its enumerations as a constant anew, of the least type that has them all."""
     lines = ""
@@ -101,6 +91,13 @@ def meanings(headers):
         said = {int(number, 0): " ".join(re.sub(r"\n\s*\*", " ", note).split()) for number, note in notes}
         found[name] = {number: note for number, note in said.items() if "sedge_" not in note}
     return found
+
+
+def on_board(headers):
+    """The events of the simulated link on board, as their notes say: of each its name and its number."""
+    notes = meanings(headers)["event_kind"]
+    return {name.removeprefix("SEDGE_EVENT_"): int(it) for name, it in enumerations(headers)["event_kind"].items()
+            if re.search("on board|spacecraft", notes[int(it)])}
 
 
 def meaning(known, name, number):

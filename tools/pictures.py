@@ -6,7 +6,13 @@ import os
 import subprocess
 import sys
 
+sys.dont_write_bytecode = True
+from items import text_of  # noqa: E402
+from meanings import on_board  # noqa: E402
+
 PACKETS = [f"1005C0{k:02X}0000{0xAA + k:02X}" for k in range(4)]
+# The lines that happen on board.
+ON_BOARD = {name.lower().replace("_", "") for name in on_board(text_of("c/include/sedgechisel_nodes.h"))}
 # Where the ends stand in a ladder.
 GROUND, CRAFT = 300, 600
 
@@ -110,7 +116,7 @@ def rung(picture, ways, asked, answer, y):
         picture.text(CRAFT + 10, y + 4, answer, "start")
     elif words[0] in ways and not answer.startswith("refused"):
         arrives(picture, ways, words, answer, y)
-    elif words[0] in ("take", "takebypass", "telemetry"):
+    elif words[0] in ON_BOARD:
         picture.text(CRAFT + 10, y + 4, f"{words[0]}: {answer}", "start")
     elif words[0] == "show":
         picture.text(picture.width / 2, y + 8, answer)

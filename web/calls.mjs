@@ -353,3 +353,4 @@ export const defaults = {
     "frame_length": 64,
     "blocking": 0,
 };
+export const onBoard = [8, 13, 14, 15];

@@ -4,11 +4,6 @@
 #include <stdio.h>
 #include <string.h>
 
-/* MAPs 4 and 5 are open; what concerns the ground alone has any value in its range. */
-static const struct sedge_config config = {
-    .scid = 1, .vcid = 2, .width = 10, .window = 5, .limit = 1, .timer = 1, .part = 1016, .max_packet = 4096,
-    .maps = 3 << 4, .ready_slots = 2, .bypass_slots = 4, .queue_slots = 1, .frame_length = 64};
-
 typedef uint8_t take(struct sedge_spacecraft *, uint8_t *, uint8_t *, size_t, size_t *);
 
 static void hand_on(struct sedge_spacecraft *spacecraft, take *take, const char *how) {
@@ -43,6 +38,10 @@ int main(void) {
     uint8_t octets[1024];
     size_t held = 0, more, total;
     struct sedge_spacecraft spacecraft = {0};
+    struct sedge_config config;
+    /* MAPs 4 and 5 are open. The window is the ground's, and yet no more than half of the width. */
+    sedge_config_default(&config);
+    config.width = 10, config.window = 5, config.max_packet = 4096, config.maps = 3 << 4, config.ready_slots = 2;
     if (sedge_spacecraft_open(&config, &spacecraft) != SEDGE_NODE_OK) return 1;
     while ((more = fread(octets + held, 1, sizeof octets - held, stdin)) > 0) {
         size_t from = 0;

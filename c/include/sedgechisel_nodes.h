@@ -431,7 +431,7 @@ struct sedge_reply {
     uint8_t map;              /* of the packet */
 };
 
-/* What may happen. */
+/* What may happen: on the ground, to a frame on its way, or on board, which the notes say then. */
 enum sedge_event_kind {
     SEDGE_EVENT_SUBMIT = 1,       /* packets are submitted: map, octets */
     SEDGE_EVENT_BYPASS = 2,       /* a packet is submitted past the sequence control: map, octets */

@@ -3,8 +3,8 @@
  * board, its last one, and the first packet of telemetry. A simulated link asks for those of both nodes and for a
  * number that is the same for all configurations. When all is closed no memory is held. Ends with 0 where all is so,
  * and writes the rows that docs/C.md has to have of it. */
-#include "config.h"
 #include "memory.h"
+#include <sedgechisel_nodes.h>
 #include <stdint.h>
 #include <stdio.h>
 #include <stdlib.h>
@@ -45,7 +45,7 @@ static uint8_t packet[65542], octets[1024];
 
 /* Every parameter is anywhere in its range. */
 static void any_config(void) {
-    config = (struct sedge_config)DEFAULTS;
+    sedge_config_default(&config);
     config.width = 2 + 2 * below(127);
     config.window = 1 + below(config.width / 2);
     config.part = 1 + below(1016);

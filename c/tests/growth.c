@@ -3,14 +3,14 @@
  * with 0 where the longer takes at most four times as long, the least of some tries each; a call that goes over all
  * that waits takes ten times as long. The time is that of the processor, since other programs run beside this one. */
 #define _POSIX_C_SOURCE 199309L
-#include "config.h"
+#include <sedgechisel_nodes.h>
 #include <stdio.h>
 #include <stdlib.h>
 #include <time.h>
 
 enum { PAIRS = 300, TRIES = 7, MOST_TIMES = 4 };
 
-static struct sedge_config config = DEFAULTS;
+static struct sedge_config config;
 static struct sedge_ground ground;
 static struct sedge_spacecraft spacecraft;
 static uint8_t octets[2048], packet[600] = {0x00, 5, 0xc0, 0, 593 >> 8, 593 & 0xff};
@@ -133,6 +133,7 @@ int main(void) {
                   {"packets past the sequence control, 6,500 and 65,000", is_past, pull_and_bypass, 6500}};
     int failures = 0;
     size_t k;
+    sedge_config_default(&config);
     config.queue_slots = 65535, config.frame_length = 2048;
     for (k = 0; k < sizeof queues / sizeof *queues; k++) {
         double one = least_time(queues[k].fill, queues[k].pair, queues[k].length);

@@ -14,7 +14,6 @@
     PLACES(368, 1) PLACES(384, 1) PLACES(400, 1) PLACES(416, 1) PLACES(432, 1) PLACES(448, 1) PLACES(464, 1)           \
     PLACES(480, 1) PLACES(496, 1) PLACES(512, 1) PLACES(528, 1) PLACES(544, 1) PLACES(560, 1) PLACES(576, 1)
 #include "../memory/static.c"
-#include "config.h"
 
 static struct sedge_config config;
 static struct traffic traffic;
@@ -40,7 +39,7 @@ static uint32_t below(uint32_t limit) {
 }
 
 static void any_config(void) {
-    config = (struct sedge_config)DEFAULTS;
+    sedge_config_default(&config);
     config.width = 2 + 2 * below(20);
     config.window = config.width / 2;
     config.part = 1 + below(below(2) ? 1016 : 100);

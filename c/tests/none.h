@@ -1,11 +1,8 @@
-/* Which numbers name no directive, and no event of the simulated link: those above the last one. */
+/* Which numbers name no directive: those above the last one, which c/tests/last finds in the header. */
 #ifndef NONE_H
 #define NONE_H
 
 #include <sedgechisel.h>
-
-#define LAST_DIRECTIVE SEDGE_SET_TIMER
-#define LAST_EVENT SEDGE_EVENT_RESUME
 
 /* Some directives carry an octet, and a value that is none names no directive of that number either. */
 static inline int is_no_directive(uint8_t number, uint16_t value) {

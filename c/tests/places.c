@@ -6,7 +6,7 @@
 #endif
 #define BUT(octets, count) PLACES(octets, (count) - (LESS == octets))
 #include "../memory/static.c"
-#include "config.h"
+#include <sedgechisel_nodes.h>
 #include <stdio.h>
 #include <stdlib.h>
 
@@ -17,7 +17,7 @@ enum { LONG = 200, BLOCKING = 0 };
 #endif
 enum { WIDTH = 8, PART = 100, READY = 2, BYPASS = 2, QUEUE = 8, SHORT = 7, MOST = 1016 / SHORT };
 
-static struct sedge_config config = DEFAULTS;
+static struct sedge_config config;
 static uint8_t packet[LONG] = {0x10, 0x05, 0xc0, 0x00, 0x00, LONG - 7}, octets[1024];
 
 /* The answer is this one, or the program ends: by 2 where there was no memory. */
@@ -88,6 +88,7 @@ static void fill(void) {
 
 /* Two MAPs are open. */
 static void set(void) {
+    sedge_config_default(&config);
     config.width = WIDTH, config.window = WIDTH / 2, config.part = PART, config.max_packet = LONG, config.maps = 3;
     config.ready_slots = READY, config.bypass_slots = BYPASS, config.queue_slots = QUEUE, config.blocking = BLOCKING;
 }

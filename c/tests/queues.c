@@ -1,8 +1,8 @@
 /* Queues of both nodes and records of the link that grow past 100 kB each: what is put in comes out, octet for octet
  * and in order, and no call answers that there was no memory. It runs over each file of c/memory. Ends with 0 where all
  * is so, and says what is not. */
-#include "config.h"
 #include "memory.h"
+#include <sedgechisel_nodes.h>
 #include <stdint.h>
 #include <stdio.h>
 #include <string.h>
@@ -20,7 +20,7 @@ static bool is_refused(void) {
     return false;
 }
 
-static struct sedge_config config = DEFAULTS;
+static struct sedge_config config;
 static struct sedge_ground ground;
 static struct sedge_spacecraft spacecraft;
 static uint8_t up[1024], down[2048], wanted[LONG], taken[LONG], packets[BLOCKED * GROUPS * 7];
@@ -200,6 +200,7 @@ static void records(void) {
 }
 
 int main(void) {
+    sedge_config_default(&config);
     config.queue_slots = 60000, config.frame_length = 2048;
     telemetry();
     segments();

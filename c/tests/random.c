@@ -190,21 +190,13 @@ static void senders(void) {
     const uint8_t vcid = value % 2 ? word.vcid : value;
     switch (which) {
     case 0: answer = sedge_fop_open(fop, value, (uint8_t)below(256), value, value); break;
-    case 1: answer = sedge_fop_init_without_check(fop); break;
-    case 2: answer = sedge_fop_init_with_check(fop); break;
-    case 3: answer = sedge_fop_init_unlock(fop); break;
-    case 4: answer = sedge_fop_init_set_vr(fop, value); break;
-    case 5: answer = sedge_fop_terminate(fop); break;
-    case 6: answer = sedge_fop_set_vs(fop, value); break;
-    case 7: answer = sedge_fop_set_window(fop, value); break;
-    case 8: answer = sedge_fop_set_limit(fop, value); break;
-    case 9: answer = sedge_fop_set_timer(fop, value); break;
     case 10: answer = sedge_fop_submit(fop); break;
     case 11: answer = sedge_fop_next(fop, number); break;
     case 12: answer = sedge_fop_clcw(fop, vcid, &word, number); break;
     case 13: answer = sedge_fop_accepted_beyond(fop, value, number); break;
     case 14: answer = sedge_fop_directive(fop, named = (uint8_t)below(LAST_DIRECTIVE + 3), wide); break;
-    default: answer = sedge_fop_tick(fop); break;
+    case 15: answer = sedge_fop_tick(fop); break;
+    default: answer = sedge_fop_directive(fop, (uint8_t)(1 + below(LAST_DIRECTIVE)), value); break;
     }
     if (which == 14 && is_no_directive(named, wide)) {
         WANT(answer == SEDGE_DAMAGED && memcmp(fop, &kept, sizeof kept) == 0);

@@ -6,9 +6,9 @@
  * that may not be touched. One allocation in some is refused, and only a call during which one was answers that there
  * was no memory. Ends with 0 where all is as wanted and all memory is given back, and says what is not. */
 #define _DEFAULT_SOURCE
-#include "config.h"
 #include "memory.h"
 #include "none.h"
+#include <sedgechisel_nodes.h>
 #include <stdio.h>
 #include <stdlib.h>
 #include <string.h>
@@ -179,7 +179,7 @@ static uint64_t any_maps(void) {
 }
 
 static void any_config(void) {
-    config = (struct sedge_config)DEFAULTS;
+    sedge_config_default(&config);
     config.width = 20, config.window = 8, config.timer = 5, config.max_packet = 2000;
     config.ready_slots = 5, config.bypass_slots = 2, config.queue_slots = 30;
     config.blocking = below(2);
@@ -202,28 +202,13 @@ static int is_answer(uint8_t answer, uint8_t most, const void *node) {
     return node == NULL ? answer == SEDGE_NODE_NONE : answer <= most;
 }
 
-static uint8_t directs_by(uint32_t kind, struct sedge_reply *reply) {
-    uint8_t number = (uint8_t)(below(4) == 0 ? below(256) : below(12));
-    switch (kind) {
-    case 0: return reply ? sedge_sim_init_without_check(&sim, reply) : sedge_ground_init_without_check(&ground);
-    case 1: return reply ? sedge_sim_init_with_check(&sim, reply) : sedge_ground_init_with_check(&ground);
-    case 2: return reply ? sedge_sim_init_unlock(&sim, reply) : sedge_ground_init_unlock(&ground);
-    case 3: return reply ? sedge_sim_init_set_vr(&sim, number, reply) : sedge_ground_init_set_vr(&ground, number);
-    case 4:
-        if (below(16) != 0) return SEDGE_NODE_OK;
-        return reply ? sedge_sim_terminate(&sim, reply) : sedge_ground_terminate(&ground);
-    case 5: return reply ? sedge_sim_set_vs(&sim, number, reply) : sedge_ground_set_vs(&ground, number);
-    case 6: return reply ? sedge_sim_set_window(&sim, number, reply) : sedge_ground_set_window(&ground, number);
-    case 7: return reply ? sedge_sim_set_limit(&sim, number, reply) : sedge_ground_set_limit(&ground, number);
-    default: return reply ? sedge_sim_set_timer(&sim, number, reply) : sedge_ground_set_timer(&ground, number);
-    }
-}
-
 /* A directive; submissions are counted anew where a session of the ground begins, or its V(S) is set. */
 static uint8_t directs(struct sedge_reply *reply) {
-    uint32_t kind = below(9);
-    uint8_t answer = directs_by(kind, reply);
-    if (reply == NULL && answer == SEDGE_NODE_OK && (kind < 4 || kind == 5)) fates_begin(kind < 4);
+    uint8_t own = (uint8_t)(1 + below(LAST_DIRECTIVE)), value = (uint8_t)(below(4) == 0 ? below(256) : below(12)), answer;
+    const bool begins = own <= SEDGE_INIT_SET_VR;
+    if (own == SEDGE_TERMINATE && below(16) != 0) return SEDGE_NODE_OK;
+    answer = reply ? sedge_sim_directive(&sim, own, value, reply) : sedge_ground_directive(&ground, own, value);
+    if (reply == NULL && answer == SEDGE_NODE_OK && (begins || own == SEDGE_SET_VS)) fates_begin(begins);
     return answer;
 }
 

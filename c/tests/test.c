@@ -473,13 +473,10 @@ static void refusals_of_a_sender(void) {
 static void is_damaged_sender(struct sedge_fop fop) {
     static const struct sedge_clcw word = {0, 0, 0, 0, 0};
     const struct sedge_fop kept = fop;
-    uint8_t number = 99;
-    WANT(sedge_fop_init_without_check(&fop) == SEDGE_DAMAGED && sedge_fop_init_with_check(&fop) == SEDGE_DAMAGED);
-    WANT(sedge_fop_init_unlock(&fop) == SEDGE_DAMAGED && sedge_fop_init_set_vr(&fop, 1) == SEDGE_DAMAGED);
-    WANT(sedge_fop_terminate(&fop) == SEDGE_DAMAGED && sedge_fop_set_vs(&fop, 1) == SEDGE_DAMAGED);
-    WANT(sedge_fop_set_window(&fop, 1) == SEDGE_DAMAGED && sedge_fop_set_limit(&fop, 1) == SEDGE_DAMAGED);
-    WANT(sedge_fop_set_timer(&fop, 1) == SEDGE_DAMAGED && sedge_fop_submit(&fop) == SEDGE_DAMAGED);
-    WANT(sedge_fop_next(&fop, &number) == SEDGE_DAMAGED && sedge_fop_tick(&fop) == SEDGE_DAMAGED);
+    uint8_t own, number = 99;
+    for (own = 1; own <= LAST_DIRECTIVE; own++) WANT(sedge_fop_directive(&fop, own, 1) == SEDGE_DAMAGED);
+    WANT(sedge_fop_submit(&fop) == SEDGE_DAMAGED && sedge_fop_tick(&fop) == SEDGE_DAMAGED);
+    WANT(sedge_fop_next(&fop, &number) == SEDGE_DAMAGED);
     WANT(sedge_fop_clcw(&fop, word.vcid, &word, &number) == SEDGE_DAMAGED && number == 99);
     WANT(sedge_fop_accepted_beyond(&fop, 0, &number) == SEDGE_DAMAGED && number == 99);
     WANT(memcmp(&fop, &kept, sizeof fop) == 0);

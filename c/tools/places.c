@@ -146,29 +146,33 @@ static void print_board(const struct sedge_config *config, const struct traffic 
     print_place(config->frame_length, 1, 1, "a telemetry frame");
 }
 
+/* The field of a parameter. They stand in the order of the numbers, and all but the maps have 32 bits. */
+static uint32_t *field(struct sedge_config *config, size_t number) {
+    size_t after = offsetof(struct sedge_config, ready_slots) / 4;
+    size_t at = number < SEDGE_PARAMETER_MAPS ? number - 1 : after + number - SEDGE_PARAMETER_READY_SLOTS;
+    return (uint32_t *)(void *)config + at;
+}
+
 /* Sets what a word names. */
 static bool set(struct sedge_config *config, struct traffic *traffic, const char *word) {
-    uint32_t *fields[] = {&config->scid, &config->vcid, &config->tm_vcid, &config->width, &config->window,
-                          &config->limit, &config->timer, &config->part, &config->max_packet, NULL,
-                          &config->ready_slots, &config->bypass_slots, &config->queue_slots, &config->frame_length,
-                          &config->blocking};
     uint32_t *others[] = {&traffic->packets, &traffic->segments, &traffic->bypass, &traffic->telemetry,
                           &traffic->telemetry_octets, &traffic->spare};
     static const char *const names[] = {"packets", "segments", "bypass", "telemetry", "telemetry_octets", "spare"};
     const char *at = strchr(word, '=');
     size_t count = at == NULL ? 0 : (size_t)(at - word), k;
+    struct sedge_text name;
+    uint8_t number;
     char *end;
     unsigned long long value;
     if (at == NULL || at[1] < '0' || at[1] > '9') return false;
     errno = 0;
     value = strtoull(at + 1, &end, 0);
     if (errno != 0 || *end != 0) return false;
-    for (k = 0; k < sizeof fields / sizeof *fields; k++) {
-        struct sedge_text name = sedge_parameter_name((uint8_t)(k + 1));
+    for (number = 1; *(name = sedge_parameter_name(number)).text != '?'; number++) {
         if (strlen(name.text) != count || strncmp(name.text, word, count) != 0) continue;
-        if (fields[k] == NULL) config->maps = value;
+        if (number == SEDGE_PARAMETER_MAPS) config->maps = value;
         else if (value > UINT32_MAX) return false;
-        else *fields[k] = (uint32_t)value;
+        else *field(config, number) = (uint32_t)value;
         return true;
     }
     for (k = 0; k < sizeof names / sizeof *names; k++)

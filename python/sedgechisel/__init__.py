@@ -17,11 +17,10 @@ from ._calls import (
     PacketKind, Segment, SequenceFlags, State, TcFrame, TmBuilder, TmExtractor, TmFrame, Verdict, accepted_beyond, check,
     check_append, check_holds, segments, version)
 from ._faults import (
-    CheckFault, ClcwFault, ConfigFault, CopFault, Fault, LinkFault, MapFault, PacketFault, SimFault, TcFault,
-    TelemetryFault, TmFault)
+    CheckFault, ClcwFault, CopFault, Fault, LinkFault, MapFault, PacketFault, SimFault, TcFault, TelemetryFault, TmFault)
 from ._files import read_frames
 from ._link import Begun, Link
-from ._nodes import Arrived, Config, Ground, Heard, KeptNumbers, Received, Report, Spacecraft
+from ._nodes import Arrived, Config, ConfigFault, Ground, Heard, KeptNumbers, Received, Report, Spacecraft
 
 __version__ = version
 __all__ = [

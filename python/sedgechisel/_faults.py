@@ -1,5 +1,5 @@
 """What the libraries refuse: the kinds of faults, and what each number means. `tools/bindings` writes what they
-mean, as the headers for C have it, and `python/check` compares the ranges of parameters with docs/PROFILE.md."""
+mean, as the headers for C have it."""
 from __future__ import annotations
 
 import ctypes
@@ -192,12 +192,3 @@ class SimFault(Fault):
         7: "no frame is on its way in this direction",
         8: "the receiver's decoder would accept the octets of the damaged frame",
     }
-
-
-class ConfigFault(Fault):
-    """The first managed parameter that is out of its range: its number, its name, and the range."""
-
-    _word = staticmethod(word_of("parameter", NODES))
-    _meanings = {number: f"its range is {its}" for number, its in enumerate((
-        "0 to 1,023", "0 to 63", "0 to 7", "even, 2 to 254", "1 to width/2", "1 to 255", "1 to 65,535", "1 to 1,016",
-        "7 to 65,542", "any 64 bits", "1 to 64", "1 to 64", "1 to 65,535", "16 to 2,048", "0 to 1"), 1)}

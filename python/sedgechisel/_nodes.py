@@ -10,7 +10,7 @@ from types import TracebackType
 from typing import Any, Callable, Dict, Iterator, Optional, Tuple, Type, TypeVar
 
 from ._calls import Alert, Clcw, Command, Directives, Mode, State, Verdict, _directive, _dropped_word, _Struct
-from ._faults import ClcwFault, ConfigFault, CopFault, Fault, LinkFault, TcFault, TelemetryFault, TmFault
+from ._faults import ClcwFault, CopFault, Fault, LinkFault, TcFault, TelemetryFault, TmFault, word_of as _word_of
 from ._library import (
     LONGEST, NODES, Numbers, Single, call_of, frame_length_of as _frame_length_of, octets_of as _octets_of, renamed,
     struct_of as _struct_of, warn_of as _warn_of, within as _within, written as _written)
@@ -78,6 +78,15 @@ class Config(_Struct):
 
 
 _config_fault = _call("config_fault", c_uint8, POINTER(Config))
+
+
+class ConfigFault(Fault):
+    """The first managed parameter that is out of its range: its number, its name, and the range."""
+
+    _word = staticmethod(_word_of("parameter", NODES))
+    _meanings = {number: f"its range is {its}" for number, its in enumerate((
+        "0 to 1,023", "0 to 63", "0 to 7", "even, 2 to 254", "1 to width/2", "1 to 255", "1 to 65,535", "1 to 1,016",
+        "7 to 65,542", "any 64 bits", "1 to 64", "1 to 64", "1 to 65,535", "16 to 2,048", "0 to 1"), 1)}
 
 
 class _Raw(ctypes.Structure):

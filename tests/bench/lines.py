@@ -1,14 +1,26 @@
 """The lines of a node, read and answered one by one (docs/PROFILE.md, "One node, line by line")."""
+import os
+import re
 import sys
 
 from frames import Fault
 
-#: The managed parameters: least, most, default.
-FIELDS = {"scid": (0, 1023, 1), "vcid": (0, 63, 2), "tm_vcid": (0, 7, 0), "width": (2, 254, 254),
-          "window": (1, 127, 127), "limit": (1, 255, 3), "timer": (1, 65535, 10), "part": (1, 1016, 1016),
-          "max_packet": (7, 65542, 65542), "maps": (0, 2**64 - 1, 2**64 - 1), "ready_slots": (1, 64, 64),
-          "bypass_slots": (1, 64, 4), "queue_slots": (1, 65535, 1000), "frame_length": (16, 2048, 64),
-          "blocking": (0, 1, 0)}
+PROFILE = os.path.join(os.path.dirname(os.path.realpath(__file__)), "..", "..", "docs", "PROFILE.md")
+#: What the table of the managed parameters has in place of a number.
+WORDS = {",": "", "even ": "", "width/2": "127", "any 64 bits": f"0 to {2**64 - 1}", "all ones": f"{2**64 - 1}"}
+
+
+def fields():
+    """The managed parameters as docs/PROFILE.md has them, in their order: least, most, default."""
+    with open(PROFILE, encoding="utf-8") as it:
+        table = it.read().partition("\n## The managed parameters\n")[2]
+    for word, number in WORDS.items():
+        table = table.replace(word, number)
+    rows = re.findall(r"^\| `(\w+)`.* \| (\d+) to (\d+) \| (\d+) \|$", table, re.M)
+    return {name: tuple(map(int, bounds)) for name, *bounds in rows}
+
+
+FIELDS = fields()
 
 
 def number(word, most):

@@ -3,15 +3,14 @@
 #ifndef LINES_H
 #define LINES_H
 
-#include "../../c/tests/config.h"
-#include "sedgechisel.h"
+#include "sedgechisel_nodes.h"
 #include <stdio.h>
 #include <stdlib.h>
 #include <string.h>
 
 enum { LONGEST_LINE = 4096 };
 
-static struct sedge_config config = DEFAULTS;
+static struct sedge_config config;
 static uint8_t octets[LONGEST_LINE], packet[65542];
 
 static void give_up(const char *why) {
@@ -82,34 +81,20 @@ static size_t octets_of(const char *digits) {
     return count;
 }
 
+/* The fields stand in the order of the numbers, and all but the maps have 32 bits. */
 static void configures(const char *name, const char *value) {
-    static const struct {
-        const char *name;
-        uint32_t *at;
-    } fields[] = {{"scid", &config.scid},
-                  {"vcid", &config.vcid},
-                  {"tm_vcid", &config.tm_vcid},
-                  {"width", &config.width},
-                  {"window", &config.window},
-                  {"limit", &config.limit},
-                  {"timer", &config.timer},
-                  {"part", &config.part},
-                  {"max_packet", &config.max_packet},
-                  {"ready_slots", &config.ready_slots},
-                  {"bypass_slots", &config.bypass_slots},
-                  {"queue_slots", &config.queue_slots},
-                  {"frame_length", &config.frame_length},
-                  {"blocking", &config.blocking}};
-    size_t at;
-    if (strcmp(name, "maps") == 0) config.maps = strtoull(value, NULL, 10);
-    for (at = 0; at < sizeof fields / sizeof *fields; at++) {
-        if (strcmp(name, fields[at].name) == 0) *fields[at].at = (uint32_t)strtoul(value, NULL, 10);
-    }
+    size_t number = 1, after = offsetof(struct sedge_config, ready_slots) / 4, at;
+    while (number < 255 && strcmp(sedge_parameter_name((uint8_t)number).text, name) != 0) number++;
+    if (number == 255) give_up("there is no such parameter");
+    at = number < SEDGE_PARAMETER_MAPS ? number - 1 : after + number - SEDGE_PARAMETER_READY_SLOTS;
+    if (number == SEDGE_PARAMETER_MAPS) config.maps = strtoull(value, NULL, 10);
+    else ((uint32_t *)(void *)&config)[at] = (uint32_t)strtoul(value, NULL, 10);
 }
 
 /* Reads the script: each event's words, of which those that it lacks are "". */
 static void read_script(void (*plays)(const char *word, const char *one, const char *two)) {
     static char line[LONGEST_LINE], word[16], one[LONGEST_LINE], two[LONGEST_LINE];
+    sedge_config_default(&config);
     while (fgets(line, sizeof line, stdin) != NULL) {
         *word = *one = *two = 0;
         if (sscanf(line, "%15s %4095s %4095s", word, one, two) < 1) continue;

@@ -3,8 +3,7 @@
  * on its MAP: none twice, and none left out that was said to be on board. recipe.py and recipe.rs do the same, and
  * write the same lines. With a second word, `early`, it believes the first report after an alert, whenever that was
  * made, and begins a session by it even where the ground refuses. */
-#include "../../c/tests/config.h"
-#include "sedgechisel.h"
+#include "sedgechisel_nodes.h"
 #include <stdio.h>
 #include <stdlib.h>
 #include <string.h>
@@ -114,7 +113,7 @@ static void begin_packets(void) {
 /* Two new nodes over a link, and packets that are wanted on board. */
 static void begin_run(void) {
     uint32_t delay;
-    config = (struct sedge_config)DEFAULTS;
+    sedge_config_default(&config);
     config.queue_slots = 500, config.frame_length = 32;
     config.window = 1 + draw(8);
     config.width = 2 * config.window + 2 * draw(4);

@@ -1,5 +1,6 @@
 // The ladder of what was played, as tools/pictures.py draws it: the ground at the left, the spacecraft at the right, a
 // row for each line, an arrow for each frame, a cross where one is lost, and the beginning of one that is on its way.
+import { onBoard } from '../calls.mjs';
 import { numbers as n } from '../sedgechisel.mjs';
 import { frameName, reportName } from './words.mjs';
 
@@ -123,8 +124,7 @@ export class Ladder {
             return this.beside(isUp, y, [isLost ? `${label} is lost` : answer]);
         }
         if (word === 'send' && sent) return this.beside(false, y, [`send ${frameName(sent.frame)}`]);
-        const isOnBoard = ['report', 'take', 'takebypass', 'telemetry'].includes(word);
-        return this.beside(isOnBoard, y, word === 'report' ? [answer] : [line, answer]);
+        return this.beside(onBoard.includes(event.kind), y, word === 'report' ? [answer] : [line, answer]);
     }
 
     beside(isOnBoard, y, parts) {

@@ -33,17 +33,6 @@ pub const SEDGE_CONTROL_SET_VR_SENT: u8 = 4;
 
 pub const SEDGE_NO_ALERT: u8 = 0;
 
-// enum sedge_directive
-pub const SEDGE_INIT_WITHOUT_CHECK: u8 = 1;
-pub const SEDGE_INIT_WITH_CHECK: u8 = 2;
-pub const SEDGE_INIT_UNLOCK: u8 = 3;
-pub const SEDGE_INIT_SET_VR: u8 = 4;
-pub const SEDGE_TERMINATE: u8 = 5;
-pub const SEDGE_SET_VS: u8 = 6;
-pub const SEDGE_SET_WINDOW: u8 = 7;
-pub const SEDGE_SET_LIMIT: u8 = 8;
-pub const SEDGE_SET_TIMER: u8 = 9;
-
 // enum sedge_next
 pub const SEDGE_NEXT_NOTHING: u8 = 0;
 pub const SEDGE_NEXT_UNLOCK: u8 = 1;

@@ -1,6 +1,7 @@
 //! The sender FOP-1 of one virtual channel (CCSDS 232.1-B-2, section 5, in the profile of docs/PROFILE.md).
 
 use crate::clcw::Clcw;
+use crate::directives::SEDGE_SET_LIMIT;
 use crate::farm::CopFault;
 use crate::ffi;
 use crate::numbers::never;
@@ -171,7 +172,7 @@ impl Fop {
             vr,
         };
         // To set the limit that it has changes nothing of a sender, and is refused of fields that are none.
-        CopFault::judge(ffi::sedge_fop_directive(&mut fop, ffi::SEDGE_SET_LIMIT, fields.limit.into()))?;
+        CopFault::judge(ffi::sedge_fop_directive(&mut fop, SEDGE_SET_LIMIT, fields.limit.into()))?;
         Ok(Self(fop))
     }
 

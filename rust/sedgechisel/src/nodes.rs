@@ -5,6 +5,7 @@ mod ground;
 mod link;
 mod spacecraft;
 
+pub(crate) use config::Raw;
 pub use config::{Config, OpenFault, Parameter};
 pub use ground::{Ground, Heard, HeardClcw, HeardReport};
 pub use link::{Begun, Link, Record, SimFault};
@@ -92,7 +93,7 @@ mod tests {
 
     #[test]
     fn defaults_are_those_of_the_library_of_nodes() {
-        let mut written = ffi::nodes::Config { tm_vcid: 1, blocking: 1, ..ffi::nodes::Config::default() };
+        let mut written = Raw { tm_vcid: 1, blocking: 1, ..Raw::default() };
         ffi::nodes::sedge_config_default(&mut written);
         assert_eq!(written, Config::default().raw());
     }

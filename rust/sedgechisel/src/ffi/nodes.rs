@@ -4,6 +4,7 @@
 //! has it by a `&mut`, or by an [`Own`], which two threads cannot share.
 
 use super::{Clcw, Text};
+use crate::nodes::Raw as Config;
 use alloc::alloc::{alloc, dealloc, realloc, Layout};
 use core::cell::UnsafeCell;
 use core::ffi::c_void;
@@ -34,25 +35,6 @@ pub const SEDGE_RECEIVED_FOREIGN: u8 = 2;
 pub const SEDGE_RECEIVED_AD: u8 = 3;
 pub const SEDGE_RECEIVED_BD: u8 = 4;
 pub const SEDGE_RECEIVED_BC: u8 = 5;
-
-// enum sedge_event_kind
-pub const SEDGE_EVENT_SUBMIT: u8 = 1;
-pub const SEDGE_EVENT_BYPASS: u8 = 2;
-pub const SEDGE_EVENT_DIRECTIVE: u8 = 3;
-pub const SEDGE_EVENT_SEND: u8 = 4;
-pub const SEDGE_EVENT_UP_DELIVER: u8 = 5;
-pub const SEDGE_EVENT_UP_LOSE: u8 = 6;
-pub const SEDGE_EVENT_UP_DAMAGE: u8 = 7;
-pub const SEDGE_EVENT_REPORT: u8 = 8;
-pub const SEDGE_EVENT_DOWN_DELIVER: u8 = 9;
-pub const SEDGE_EVENT_DOWN_LOSE: u8 = 10;
-pub const SEDGE_EVENT_DOWN_DAMAGE: u8 = 11;
-pub const SEDGE_EVENT_TICK: u8 = 12;
-pub const SEDGE_EVENT_TAKE: u8 = 13;
-pub const SEDGE_EVENT_TAKE_BYPASS: u8 = 14;
-pub const SEDGE_EVENT_TELEMETRY: u8 = 15;
-pub const SEDGE_EVENT_DOWN_CLCW: u8 = 16;
-pub const SEDGE_EVENT_RESUME: u8 = 17;
 
 // enum sedge_reply_kind
 pub const SEDGE_REPLY_DONE: u8 = 0;
@@ -85,26 +67,6 @@ pub const SEDGE_SUBMITTED: u8 = 1;
 pub const SEDGE_DELIVERED: u8 = 2;
 pub const SEDGE_SENT: u8 = 3;
 pub const SEDGE_RECEIVED: u8 = 4;
-
-#[repr(C)]
-#[derive(Clone, Copy, Debug, Default, PartialEq, Eq)]
-pub struct Config {
-    pub scid: u32,
-    pub vcid: u32,
-    pub tm_vcid: u32,
-    pub width: u32,
-    pub window: u32,
-    pub limit: u32,
-    pub timer: u32,
-    pub part: u32,
-    pub max_packet: u32,
-    pub maps: u64,
-    pub ready_slots: u32,
-    pub bypass_slots: u32,
-    pub queue_slots: u32,
-    pub frame_length: u32,
-    pub blocking: u32,
-}
 
 #[repr(C)]
 #[derive(Clone, Copy, Debug, Default)]
@@ -355,25 +317,12 @@ unsafe extern "C" fn rattle_dealloc(at: *mut c_void) {
 
 // ---- Events. ----
 
-// SAFETY, of both calls below: the address of octets and their number are those of one slice.
-
-/// An event with octets, or with none.
-pub fn sim_event(sim: &mut Sim, kind: u8, map: u8, octets: &[u8], reply: &mut Reply) -> u8 {
-    let event = Event { kind, map, directive: 0, value: 0, octets: octets.as_ptr(), count: octets.len() };
-    unsafe { sedge_sim_step(sim, &event, reply) }
-}
-
-/// The event of a directive.
-pub fn sim_directive(sim: &mut Sim, directive: u8, value: u16, reply: &mut Reply) -> u8 {
-    let kind = SEDGE_EVENT_DIRECTIVE;
-    let event = Event { kind, map: 0, directive, value, octets: [].as_ptr(), count: 0 };
-    unsafe { sedge_sim_step(sim, &event, reply) }
-}
-
-/// The ground resumes by a report's value.
-pub fn sim_resume(sim: &mut Sim, value: u8, reply: &mut Reply) -> u8 {
-    let (kind, value) = (SEDGE_EVENT_RESUME, u16::from(value));
-    let event = Event { kind, map: 0, directive: 0, value, octets: [].as_ptr(), count: 0 };
+/// An event happens: its kind, and what it has of a MAP, a directive or a report's value, and octets.
+pub fn sim_step(
+    sim: &mut Sim, kind: u8, map: u8, (directive, value): (u8, u16), octets: &[u8], reply: &mut Reply,
+) -> u8 {
+    let event = Event { kind, map, directive, value, octets: octets.as_ptr(), count: octets.len() };
+    // SAFETY: the address of octets and their number are those of one slice.
     unsafe { sedge_sim_step(sim, &event, reply) }
 }
 

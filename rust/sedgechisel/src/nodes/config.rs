@@ -110,6 +110,27 @@ pub struct Config {
     pub blocking: bool,
 }
 
+/// The same for the library: `struct sedge_config`.
+#[repr(C)]
+#[derive(Clone, Copy, Debug, Default, PartialEq, Eq)]
+pub struct Raw {
+    pub scid: u32,
+    pub vcid: u32,
+    pub tm_vcid: u32,
+    pub width: u32,
+    pub window: u32,
+    pub limit: u32,
+    pub timer: u32,
+    pub part: u32,
+    pub max_packet: u32,
+    pub maps: u64,
+    pub ready_slots: u32,
+    pub bypass_slots: u32,
+    pub queue_slots: u32,
+    pub frame_length: u32,
+    pub blocking: u32,
+}
+
 impl Default for Config {
     fn default() -> Self {
         Self {
@@ -142,8 +163,8 @@ impl Config {
         }
     }
 
-    pub(super) fn raw(&self) -> raw::Config {
-        raw::Config {
+    pub(super) fn raw(&self) -> Raw {
+        Raw {
             scid: self.scid.into(),
             vcid: self.vcid.into(),
             tm_vcid: self.tm_vcid.into(),

@@ -9,6 +9,25 @@ use crate::{Alert, Clcw, CopFault, FarmMode, FopState, Packet, TcFrame, TmFault}
 use alloc::vec::Vec;
 use core::fmt;
 
+// enum sedge_event_kind
+pub const SEDGE_EVENT_SUBMIT: u8 = 1;
+pub const SEDGE_EVENT_BYPASS: u8 = 2;
+pub const SEDGE_EVENT_DIRECTIVE: u8 = 3;
+pub const SEDGE_EVENT_SEND: u8 = 4;
+pub const SEDGE_EVENT_UP_DELIVER: u8 = 5;
+pub const SEDGE_EVENT_UP_LOSE: u8 = 6;
+pub const SEDGE_EVENT_UP_DAMAGE: u8 = 7;
+pub const SEDGE_EVENT_REPORT: u8 = 8;
+pub const SEDGE_EVENT_DOWN_DELIVER: u8 = 9;
+pub const SEDGE_EVENT_DOWN_LOSE: u8 = 10;
+pub const SEDGE_EVENT_DOWN_DAMAGE: u8 = 11;
+pub const SEDGE_EVENT_TICK: u8 = 12;
+pub const SEDGE_EVENT_TAKE: u8 = 13;
+pub const SEDGE_EVENT_TAKE_BYPASS: u8 = 14;
+pub const SEDGE_EVENT_TELEMETRY: u8 = 15;
+pub const SEDGE_EVENT_DOWN_CLCW: u8 = 16;
+pub const SEDGE_EVENT_RESUME: u8 = 17;
+
 faults! {
     /// Why an event does not happen on a simulated link; nothing has changed then.
     SimFault {
@@ -109,14 +128,15 @@ impl Link {
 
     fn event(&mut self, kind: u8, map: u8, octets: &[u8]) -> Result<raw::Reply, SimFault> {
         let mut reply = raw::Reply::default();
-        SimFault::judge(raw::sim_event(self.0.get(), kind, map, octets, &mut reply))?;
+        SimFault::judge(raw::sim_step(self.0.get(), kind, map, (0, 0), octets, &mut reply))?;
         Ok(reply)
     }
 
     /// The event of a directive, which always happens.
     fn direct(&mut self, directive: u8, value: u16) -> Result<(), CopFault> {
         let mut reply = raw::Reply::default();
-        done(raw::sim_directive(self.0.get(), directive, value, &mut reply));
+        let own = (directive, value);
+        done(raw::sim_step(self.0.get(), SEDGE_EVENT_DIRECTIVE, 0, own, &[], &mut reply));
         match reply.kind {
             raw::SEDGE_REPLY_REFUSED => Err(CopFault::of(reply.fault)),
             _ => Ok(()),
@@ -146,7 +166,7 @@ impl Link {
     ///
     /// Refused with the first [`LinkFault`] that applies.
     pub fn submit(&mut self, map: u8, packets: &[u8]) -> Result<(), LinkFault> {
-        let reply = self.event(raw::SEDGE_EVENT_SUBMIT, map, packets);
+        let reply = self.event(SEDGE_EVENT_SUBMIT, map, packets);
         refusal(reply, LinkFault::of, LinkFault::Memory)
     }
 
@@ -156,7 +176,7 @@ impl Link {
     ///
     /// Refused with the first [`LinkFault`] of 2 to 6 that applies.
     pub fn bypass(&mut self, map: u8, packet: &[u8]) -> Result<(), LinkFault> {
-        let reply = self.event(raw::SEDGE_EVENT_BYPASS, map, packet);
+        let reply = self.event(SEDGE_EVENT_BYPASS, map, packet);
         refusal(reply, LinkFault::of, LinkFault::Memory)
     }
 
@@ -166,7 +186,7 @@ impl Link {
     ///
     /// Refused with 8 [`NotAPacket`](TmFault::NotAPacket) or 7 [`Memory`](TmFault::Memory).
     pub fn telemetry(&mut self, packet: &[u8]) -> Result<(), TmFault> {
-        let reply = self.event(raw::SEDGE_EVENT_TELEMETRY, 0, packet);
+        let reply = self.event(SEDGE_EVENT_TELEMETRY, 0, packet);
         refusal(reply, TmFault::of, TmFault::Memory)
     }
 
@@ -176,7 +196,7 @@ impl Link {
     ///
     /// Refused with 6 [`Memory`](SimFault::Memory) alone.
     pub fn send(&mut self) -> Result<Option<Vec<u8>>, SimFault> {
-        let frame = self.given(TcFrame::LONGEST, raw::SEDGE_EVENT_SEND)?;
+        let frame = self.given(TcFrame::LONGEST, SEDGE_EVENT_SEND)?;
         Ok(frame.map(|(_, octets)| octets))
     }
 
@@ -187,7 +207,7 @@ impl Link {
     /// Refused with 7 [`NothingInTransit`](SimFault::NothingInTransit) if there is none, or with 6
     /// [`Memory`](SimFault::Memory).
     pub fn up_deliver(&mut self) -> Result<Received, SimFault> {
-        let reply = self.event(raw::SEDGE_EVENT_UP_DELIVER, 0, &[])?;
+        let reply = self.event(SEDGE_EVENT_UP_DELIVER, 0, &[])?;
         Ok(Received::from_raw(&reply.up))
     }
 
@@ -197,7 +217,7 @@ impl Link {
     ///
     /// Refused with 7 [`NothingInTransit`](SimFault::NothingInTransit) if there is none.
     pub fn up_lose(&mut self) -> Result<(), SimFault> {
-        self.event(raw::SEDGE_EVENT_UP_LOSE, 0, &[]).map(drop)
+        self.event(SEDGE_EVENT_UP_LOSE, 0, &[]).map(drop)
     }
 
     /// These octets arrive in its place, which are no frame.
@@ -207,7 +227,7 @@ impl Link {
     /// Refused with 7 [`NothingInTransit`](SimFault::NothingInTransit) if there is no frame, or with 8
     /// [`NotDetectable`](SimFault::NotDetectable) if the octets are one.
     pub fn up_damage(&mut self, octets: &[u8]) -> Result<Received, SimFault> {
-        let reply = self.event(raw::SEDGE_EVENT_UP_DAMAGE, 0, octets)?;
+        let reply = self.event(SEDGE_EVENT_UP_DAMAGE, 0, octets)?;
         Ok(Received::from_raw(&reply.up))
     }
 
@@ -217,7 +237,7 @@ impl Link {
     ///
     /// Refused with 6 [`Memory`](SimFault::Memory) alone.
     pub fn report(&mut self) -> Result<Clcw, SimFault> {
-        let reply = self.event(raw::SEDGE_EVENT_REPORT, 0, &[])?;
+        let reply = self.event(SEDGE_EVENT_REPORT, 0, &[])?;
         Ok(Clcw::from_raw(reply.report))
     }
 
@@ -228,7 +248,7 @@ impl Link {
     /// Refused with 7 [`NothingInTransit`](SimFault::NothingInTransit) if there is none, or with 6
     /// [`Memory`](SimFault::Memory).
     pub fn down_deliver(&mut self) -> Result<Heard, SimFault> {
-        let reply = self.event(raw::SEDGE_EVENT_DOWN_DELIVER, 0, &[])?;
+        let reply = self.event(SEDGE_EVENT_DOWN_DELIVER, 0, &[])?;
         Ok(Heard::from_raw(&reply.down))
     }
 
@@ -238,7 +258,7 @@ impl Link {
     ///
     /// Refused with 7 [`NothingInTransit`](SimFault::NothingInTransit) if there is none.
     pub fn down_lose(&mut self) -> Result<(), SimFault> {
-        self.event(raw::SEDGE_EVENT_DOWN_LOSE, 0, &[]).map(drop)
+        self.event(SEDGE_EVENT_DOWN_LOSE, 0, &[]).map(drop)
     }
 
     /// These octets arrive in its place, which are no frame.
@@ -248,7 +268,7 @@ impl Link {
     /// Refused with 7 [`NothingInTransit`](SimFault::NothingInTransit) if there is no frame, or with 8
     /// [`NotDetectable`](SimFault::NotDetectable) if the octets are one.
     pub fn down_damage(&mut self, octets: &[u8]) -> Result<Heard, SimFault> {
-        let reply = self.event(raw::SEDGE_EVENT_DOWN_DAMAGE, 0, octets)?;
+        let reply = self.event(SEDGE_EVENT_DOWN_DAMAGE, 0, octets)?;
         Ok(Heard::from_raw(&reply.down))
     }
 
@@ -259,7 +279,7 @@ impl Link {
     ///
     /// Refused with 7 [`NothingInTransit`](SimFault::NothingInTransit) if there is none.
     pub fn down_clcw(&mut self) -> Result<HeardClcw, SimFault> {
-        let reply = self.event(raw::SEDGE_EVENT_DOWN_CLCW, 0, &[])?;
+        let reply = self.event(SEDGE_EVENT_DOWN_CLCW, 0, &[])?;
         Ok(HeardClcw::from_raw(&reply.down))
     }
 
@@ -270,7 +290,7 @@ impl Link {
     /// Refused with 7 [`NotKnown`](LinkFault::NotKnown), as that call is.
     pub fn resume(&mut self, value: u8) -> Result<u64, LinkFault> {
         let mut reply = raw::Reply::default();
-        done(raw::sim_resume(self.0.get(), value, &mut reply));
+        done(raw::sim_step(self.0.get(), SEDGE_EVENT_RESUME, 0, (0, value.into()), &[], &mut reply));
         match reply.kind {
             raw::SEDGE_REPLY_REFUSED => Err(LinkFault::of(reply.fault)),
             _ => Ok(reply.whole),
@@ -280,7 +300,7 @@ impl Link {
     /// A tick of the ground's clock passes: the alert, if there is one.
     #[must_use]
     pub fn tick(&mut self) -> Option<Alert> {
-        match self.event(raw::SEDGE_EVENT_TICK, 0, &[]) {
+        match self.event(SEDGE_EVENT_TICK, 0, &[]) {
             Ok(reply) => alert_of(reply.alert),
             Err(_) => never(),
         }
@@ -292,7 +312,7 @@ impl Link {
     ///
     /// Refused with 6 [`Memory`](SimFault::Memory) alone.
     pub fn take(&mut self) -> Result<Option<(u8, Vec<u8>)>, SimFault> {
-        self.given(Packet::LONGEST, raw::SEDGE_EVENT_TAKE)
+        self.given(Packet::LONGEST, SEDGE_EVENT_TAKE)
     }
 
     /// The same of the packets that came past the sequence control.
@@ -301,7 +321,7 @@ impl Link {
     ///
     /// Refused with 6 [`Memory`](SimFault::Memory) alone.
     pub fn take_bypass(&mut self) -> Result<Option<(u8, Vec<u8>)>, SimFault> {
-        self.given(Packet::LONGEST, raw::SEDGE_EVENT_TAKE_BYPASS)
+        self.given(Packet::LONGEST, SEDGE_EVENT_TAKE_BYPASS)
     }
 
     fn read(&self) -> raw::SimReading {

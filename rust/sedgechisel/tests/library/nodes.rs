@@ -334,31 +334,35 @@ fn parameters_out_of_their_ranges() {
     assert_eq!(Config { limit: 1, ..config }.fault(), None);
 }
 
-/// A configuration of which no parameter has its default.
-const OTHER: Config = Config {
-    scid: 1023,
-    vcid: 61,
-    tm_vcid: 6,
-    width: 20,
-    window: 2,
-    limit: 2,
-    timer: 300,
-    part: 15,
-    max_packet: 8,
-    maps: 1 << 63,
-    ready_slots: 2,
-    bypass_slots: 3,
-    queue_slots: 5,
-    frame_length: 30,
-    blocking: true,
-};
+/// A configuration of which none of these parameters has its default.
+#[allow(clippy::needless_update)]
+fn other() -> Config {
+    Config {
+        scid: 1023,
+        vcid: 61,
+        tm_vcid: 6,
+        width: 20,
+        window: 2,
+        limit: 2,
+        timer: 300,
+        part: 15,
+        max_packet: 8,
+        maps: 1 << 63,
+        ready_slots: 2,
+        bypass_slots: 3,
+        queue_slots: 5,
+        frame_length: 30,
+        blocking: true,
+        ..Config::default()
+    }
+}
 
 const P3: &str = "1005C0030001AAAA";
 
 /// Each parameter of the ground does what it says: 7 and 8 octets go into one segment, and 8 and 8 into two.
 #[test]
 fn parameters_of_the_ground() {
-    let (mut ground, mut spacecraft) = pair(&OTHER);
+    let (mut ground, mut spacecraft) = pair(&other());
     ground.init_without_check().unwrap();
     let [seven, eight] = [P0, P3].map(octets_of);
     let (fifteen, sixteen) = ([&seven[..], &eight].concat(), eight.repeat(2));
@@ -384,7 +388,7 @@ fn parameters_of_the_ground() {
 /// Each parameter of the spacecraft does what it says: three packets wait where one frame brought two to one.
 #[test]
 fn parameters_of_the_spacecraft() {
-    let mut spacecraft = Spacecraft::new(&OTHER).unwrap();
+    let mut spacecraft = Spacecraft::new(&other()).unwrap();
     let [seven, eight] = [P0, P3].map(octets_of);
     let mut given = |map, data: &[u8], n: Option<u8>| {
         let (segment, mut room) = (Segment { flags: SegmentFlags::Alone, map, data }, [0; 64]);
@@ -422,7 +426,7 @@ fn the_width_of_a_board() {
     for (n, verdict) in
         [(9, Verdict::Ahead), (10, Verdict::Outside), (246, Verdict::Behind), (245, Verdict::Outside)]
     {
-        let mut spacecraft = Spacecraft::new(&OTHER).unwrap();
+        let mut spacecraft = Spacecraft::new(&other()).unwrap();
         let segment = Segment { flags: SegmentFlags::Alone, map: 63, data: &octets_of(P0) };
         let frame = TcFrame { scid: 1023, vcid: 61, body: Body::Ad { n, segment } };
         let mut room = [0; 64];
