@@ -128,7 +128,7 @@ def rust_directives(text, headers):
         taken = f", {it.value}: u{it.bits}" if it.value else ""
         given = {"8": f"{it.value}.into()", "16": it.value}.get(it.bits, "0")
         made.append(
-            comment_lines(f"The directive to {it.does}.", indent, mark)
+            comment_lines(f"The directive (232.1-B-2, 5.2.4) to {it.does}.", indent, mark)
             + "".join(f"{indent}{line}\n" for line in ("///", "/// # Errors", "///"))
             + comment_lines(f"Refused with {it.refused.replace('NAME', fault)}.", indent, mark)
             + f"{indent}pub fn {it.name}(&mut self{taken}) -> Result<(), CopFault> {{\n"

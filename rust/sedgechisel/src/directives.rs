@@ -1,4 +1,4 @@
-//! The directives to a sender, which `Fop`, `Ground` and `Link` have alike.
+//! The directives to a sender (CCSDS 232.1-B-2, 5.2.4), which `Fop`, `Ground` and `Link` have alike.
 
 // enum sedge_directive
 pub const SEDGE_INIT_WITHOUT_CHECK: u8 = 1;
@@ -14,7 +14,7 @@ pub const SEDGE_SET_TIMER: u8 = 9;
 /// The method of each directive, where `direct` gives the sender one by its number and its value.
 macro_rules! directives {
     () => {
-        /// The directive to initiate without CLCW check: S6 to S1.
+        /// The directive (232.1-B-2, 5.2.4) to initiate without CLCW check: S6 to S1.
         ///
         /// # Errors
         ///
@@ -23,7 +23,7 @@ macro_rules! directives {
             self.direct($crate::directives::SEDGE_INIT_WITHOUT_CHECK, 0)
         }
 
-        /// The directive to initiate with CLCW check: S6 to S4, until a report agrees.
+        /// The directive (232.1-B-2, 5.2.4) to initiate with CLCW check: S6 to S4, until a report agrees.
         ///
         /// # Errors
         ///
@@ -32,7 +32,7 @@ macro_rules! directives {
             self.direct($crate::directives::SEDGE_INIT_WITH_CHECK, 0)
         }
 
-        /// The directive to initiate with Unlock: S6 to S5, and Unlock is sent.
+        /// The directive (232.1-B-2, 5.2.4) to initiate with Unlock: S6 to S5, and Unlock is sent.
         ///
         /// # Errors
         ///
@@ -41,7 +41,8 @@ macro_rules! directives {
             self.direct($crate::directives::SEDGE_INIT_UNLOCK, 0)
         }
 
-        /// The directive to initiate with Set V(R): S6 to S5, V(S) and NN(R) to `vr`, and Set V(R) is sent.
+        /// The directive (232.1-B-2, 5.2.4) to initiate with Set V(R): S6 to S5, V(S) and NN(R) to `vr`, and Set V(R)
+        /// is sent.
         ///
         /// # Errors
         ///
@@ -50,7 +51,7 @@ macro_rules! directives {
             self.direct($crate::directives::SEDGE_INIT_SET_VR, vr.into())
         }
 
-        /// The directive to terminate: to S6 with the alert Terminated, which lets go of all units.
+        /// The directive (232.1-B-2, 5.2.4) to terminate: to S6 with the alert Terminated, which lets go of all units.
         ///
         /// # Errors
         ///
@@ -59,7 +60,7 @@ macro_rules! directives {
             self.direct($crate::directives::SEDGE_TERMINATE, 0)
         }
 
-        /// The directive to set V(S), and NN(R) too, to `vs`.
+        /// The directive (232.1-B-2, 5.2.4) to set V(S), and NN(R) too, to `vs`.
         ///
         /// # Errors
         ///
@@ -68,7 +69,7 @@ macro_rules! directives {
             self.direct($crate::directives::SEDGE_SET_VS, vs.into())
         }
 
-        /// The directive to set the window K to `window`.
+        /// The directive (232.1-B-2, 5.2.4) to set the window K to `window`.
         ///
         /// # Errors
         ///
@@ -77,7 +78,7 @@ macro_rules! directives {
             self.direct($crate::directives::SEDGE_SET_WINDOW, window.into())
         }
 
-        /// The directive to set the transmission limit to `limit`.
+        /// The directive (232.1-B-2, 5.2.4) to set the transmission limit to `limit`.
         ///
         /// # Errors
         ///
@@ -86,7 +87,7 @@ macro_rules! directives {
             self.direct($crate::directives::SEDGE_SET_LIMIT, limit.into())
         }
 
-        /// The directive to set the timer to `timer`, in ticks.
+        /// The directive (232.1-B-2, 5.2.4) to set the timer to `timer`, in ticks.
         ///
         /// # Errors
         ///
