@@ -23,7 +23,7 @@ use Rattle.simulated_link.proofs.Counted.{reported}
 use Rattle.tc_link.specs.Taken.{BeginsSession}
 use Rattle.tc_link.specs.Known.{SetsNoNumber, MovesWithRecords}
 use Rattle.tc_link.proofs.Upward.{up_delivers, up_lost, same_keeps, releases_keep, ticks, directs, pulls_keep, not_next}
-use Rattle.tc_link.proofs.IdleStart.{InSession, begins, clean_idle, HasReports, step_reports}
+use Rattle.tc_link.proofs.IdleStart.{InSession, in_session, begins, clean_idle, HasReports, step_reports}
 use Rattle.tc_link.proofs.Readable.{Carried, step_carried}
 use Rattle.tc_link.proofs.Downward.{early_down_deliver, reports_keep, down_lost, late_down_deliver, late_down_clcw}
 use Rattle.tc_link.proofs.Downward.{early_down_clcw}
@@ -166,12 +166,6 @@ module _ (c : Config) (w : World) (h : Holding c w) where
         ];
       }
 
-  clean_goes : (e : Event) → BeginsNoSession w e → IsClean (world_step w e).after → IsIdle (world_step w e).after
-  clean_goes e goes is =
-      let stays = opening_stays w e goes in
-      let was : IsClean w = sym (ap cleans stays) ∙ is in
-      ap idles stays ∙ h.clean was
-
   some_true : (b : Bool) → Some b ≡ Some true → b ≡ true
   some_true b e = cc
 
@@ -198,7 +192,7 @@ module _ (c : Config) (w : World) (h : Holding c w) where
     sound = step_sound c w h.sound e fits;
     reports = step_reports c w h.sound h.reports e;
     carried = step_carried c w h.sound h.carried e fits;
-    clean = clean_goes e goes;
+    clean = λ is. let stays = opening_stays w e goes in ap idles stays ∙ h.clean (sym (ap cleans stays) ∙ is);
     session = session_goes e goes fits;
   }
 
@@ -387,16 +381,13 @@ module _ (early : Bool) (c : Config) (d : Directive) (base : ℕ) (w : World) (k
 
 module _ (c : Config) (w : World) (k : Sound c w) (s : InSession c w) where
   sends : MovesWithRecords w (world_step w events.Send).after
-  sends = elim s.session [
-    | inl g ↦ send_so true c s.directive s.base w k g
-    | inr g ↦ send_so false c s.directive s.base w k g
-  ]
+  sends = in_session s (λ early g. send_so early c s.directive s.base w k g)
 
   abbrev pub IsOctet : World → Type 0
   IsOctet new = new.ground_node.fop.nn < 256
 
   pub octet : IsOctet w
-  octet = elim s.session [ inl g ↦ g.linked.nn_octet | inr g ↦ g.linked.nn_octet ]
+  octet = in_session s (λ early g. g.linked.nn_octet)
 
   -- the ground is this, and these are the records
   abbrev Moves : GroundState → Session → Type 0

@@ -7,16 +7,16 @@ use Rattle.tc_link.proofs.Common.{InitWithoutCheck, InitWithCheck, InitUnlock, I
 use Rattle.tc_link.proofs.Common.{directive_step, FopState, FopOutcome, S1, S3, S6, clcw_step, report_while_active}
 use Rattle.tc_link.proofs.Common.{after_move_on, after_acknowledge, after_new_value, retransmits, heard_active}
 use Rattle.tc_link.proofs.Common.{pull_step, pulled_out, PulledUnit, after_restart, without_oldest_mark, unmarked_unit}
-use Rattle.tc_link.proofs.Common.{units_of, tick_step, ticked, after_repeat, after_stop, due_again, after_alert}
-use Rattle.tc_link.proofs.Common.{FarmState, FarmMode, Open, Verdict, Accepted, verdict_of, after_verdict}
-use Rattle.tc_link.proofs.Common.{after_unlock, after_set_vr, after_release, report_of, Config, FitsFrame, frame_of}
-use Rattle.tc_link.proofs.Common.{frame_to_send, with_fop, is_closed, after_extraction, extract_step, IsDirective}
-use Rattle.tc_link.proofs.Common.{IsEvent, SpacecraftState, SpacecraftOutcome, body_outcome, sequence_outcome}
-use Rattle.tc_link.proofs.Common.{bypass_outcome, is_free, is_kept, limits_of, Event, World, WorldOutcome, new_world}
-use Rattle.tc_link.proofs.Common.{world_step, world_after_pull, up_deliver_step, down_deliver_step, closed_not}
-use Rattle.tc_link.proofs.Common.{active_on, spacecraft_report, FlagsAgree, acknowledging, SetVs, ◌≢◌, ◌⊎◌, inl, inr}
-use Rattle.tc_link.proofs.Common.{zero, suc, replicate, world_run, IsIdle, IsSettled, IsReached, BeginsNoSession}
-use Rattle.tc_link.proofs.Common.{option_map, Opening, directive_of}
+use Rattle.tc_link.proofs.Common.{tick_step, ticked, after_repeat, after_stop, due_again, after_alert, FarmState}
+use Rattle.tc_link.proofs.Common.{FarmMode, Open, Verdict, Accepted, verdict_of, after_verdict, after_unlock}
+use Rattle.tc_link.proofs.Common.{after_set_vr, after_release, report_of, Config, FitsFrame, frame_of, frame_to_send}
+use Rattle.tc_link.proofs.Common.{with_fop, is_closed, after_extraction, extract_step, IsDirective, IsEvent}
+use Rattle.tc_link.proofs.Common.{SpacecraftState, SpacecraftOutcome, body_outcome, sequence_outcome, bypass_outcome}
+use Rattle.tc_link.proofs.Common.{is_free, is_kept, limits_of, Event, World, WorldOutcome, new_world, world_step}
+use Rattle.tc_link.proofs.Common.{world_after_pull, up_deliver_step, down_deliver_step, closed_not, active_on}
+use Rattle.tc_link.proofs.Common.{spacecraft_report, FlagsAgree, acknowledging, SetVs, ◌≢◌, ◌⊎◌, inl, inr, zero, suc}
+use Rattle.tc_link.proofs.Common.{replicate, world_run, IsIdle, IsSettled, IsReached, BeginsNoSession, option_map}
+use Rattle.tc_link.proofs.Common.{Opening, directive_of}
 use Rattle.std.specs.Prelude.{IsSome}
 use Rattle.tc_frame.specs.Decoding.{frame_at}
 use Rattle.tc_frame.specs.Encoding.{spelling}
@@ -27,24 +27,23 @@ use Rattle.cop1.specs.FopWords.{is_outside}
 use Rattle.nodes.specs.declared.received.Received.{Received}
 use Rattle.nodes.specs.declared.event.Event.TheVariants as events
 use Rattle.simulated_link.specs.World.{world_after_telemetry, directed}
-use Rattle.simulated_link.proofs.Unchanged.{up_arrives, down_arrives, resumes, BringsReport}
-use Rattle.simulated_link.proofs.Unchanged.{board_after, down_after, up_after}
+use Rattle.simulated_link.proofs.Unchanged.{up_arrives, down_arrives, resumes, BringsReport, board_after, down_after}
+use Rattle.simulated_link.proofs.Unchanged.{up_after}
 use Rattle.simulated_link.proofs.Counted.{reported as report_cases}
 use Rattle.tc_link.specs.FalseAlarms.{alert_in}
 use Rattle.tc_link.specs.Progress.{Schedule, followed_by, times, AlertsIn, all_sent, all_arrived, all_taken, reported}
 use Rattle.tc_link.specs.Progress.{all_heard, round_trip, awaits, most_sent, next_arrived, are_marked, ticks_left}
 use Rattle.tc_link.specs.Progress.{timer_run_out, exchange}
 use Rattle.tc_link.proofs.Upward.{own_arrives}
-use Rattle.tc_link.proofs.Readable.{moved, Goes, reads_back, fits_at}
+use Rattle.tc_link.proofs.Readable.{moved, marked_fits, Goes, reads_back}
 use Rattle.tc_link.proofs.Downward.{used_is, words_apart}
 use Rattle.tc_link.proofs.Invariant.{Holding, step_holds, opening_stays, idle_goes, new_holds}
 use Rattle.tc_link.proofs.Linked.{Tells}
-use Rattle.tc_link.proofs.Lists.{oldest_stands}
 use Rattle.tc_link.proofs.IdleStart.{tells_now}
 use Rattle.tc_link.proofs.ProgressSender.{with_kept, step_kept, without_length, marked_length, WaitsFull, body_full}
 use Rattle.tc_link.proofs.ProgressSender.{released, directed_kept, Timed, timed_empty, timed_step}
 use Rattle.tc_link.proofs.Sound.{Commanded, all_append}
-use Rattle.tc_link.proofs.Promised.{settled_goes, reached_step}
+use Rattle.tc_link.proofs.Promised.{run_append, settled_goes, reached_step}
 
 -- The numbers of the sender, at every moment of a run, in any session: while it is on, those of the units that it sent
 -- are the ones from NN(R) to V(S) - 1; and all numbers are octets, those that are on their way too.
@@ -325,18 +324,13 @@ module _ (c : Config) (w : World) (h : Holding c w) (k : HasOctets c w) where
         let fit : AllByRecursion FitsFrame (u ∷ us) = rw is at h.sound.ground_node.fop.bypass_fits in
         sent_after (record s { bypass = us }) (Bd u) fit.0 tt numbers;
     again = λ active x is numbers.
-        let stands = oldest_stands 0 s.sent x is in
-        let fit : FitsFrame x.1 =
-        fits_at (units_of s.sent) stands.0 x.1 (h.carried.fits.sent (active_on s.state active)) stands.2 in
+        let fit : FitsFrame x.1 = marked_fits s w.ground_node.pending h.carried.fits x is (active_on s.state active) in
         sent_after (record (after_restart s) { sent = without_oldest_mark s.sent }) (Ad ((s.nn + x.0) % 256) x.1) fit tt
         numbers;
     first = λ active u is room numbers.
         let fit : FitsFrame u = (moved s w.ground_node.pending h.carried.fits u is (active_on s.state active)).0 in
         sent_after (after_send_first s u) (Ad s.vs u) fit tt numbers;
   })
-
-  small_window : s.window ≤ 127
-  small_window = omega (arith, h.sound.ground_node.fop.window, h.sound.ranges.width)
 
   -- ---- a frame arrives
 
@@ -413,7 +407,8 @@ module _ (c : Config) (w : World) (h : Holding c w) (k : HasOctets c w) where
   -- where it is known what resuming leads to
   event_octets : ((value : ℕ) → value < 256 → HasOctets c (world_step w (events.Resume value)).after)
       → (e : Event) → IsEvent e → After (world_step w e)
-  event_octets goes events.Send fits = sends (pull_numbers s k.sender small_window)
+  event_octets goes events.Send fits =
+      sends (pull_numbers s k.sender (omega (arith, h.sound.ground_node.fop.window, h.sound.ranges.width)))
   event_octets goes events.UpDeliver fits = up_arrives w After k arrives
   event_octets goes events.Report fits = record {
     sender = k.sender;
@@ -521,11 +516,12 @@ settled_step w g e calm idle settled =
     let h = (known w g).holds in
     settled_goes g.config w h.sound (h.session idle) e (calm_fits e calm) settled (calm_goes w e calm)
 
--- ---- where a list of events leads
+-- an alert comes first, or it goes on
+pub or_on : {A B C : Type 0} → A ⊎ B → (B → A ⊎ C) → A ⊎ C
+or_on (inl a) on = inl a
+or_on (inr b) on = on b
 
-pub run_append : (w : World) (es fs : List Event) → world_run w (es ++ fs) ≡ world_run (world_run w es) fs
-run_append w [] fs = refl
-run_append w (e ∷ es) fs = run_append (world_step w e).after es fs
+-- ---- where a list of events leads
 
 pub alerts_first : (w : World) (es fs : List Event) → AlertsIn w es → AlertsIn w (es ++ fs)
 alerts_first w [] fs a = absurd a
@@ -588,10 +584,7 @@ ends_once P w e calm g one = elim one [
 -- what holds then says more
 pub ends_so : (P Q : World → Type 0) (w : World) (es : List Event) → Ends P w es
     → ((v : World) → IsReached v → P v → Q v) → Ends Q w es
-ends_so P Q w es ends says = elim ends [
-  | inl a ↦ inl a
-  | inr t ↦ inr (t.0, says (world_run w es) t.0 t.1)
-]
+ends_so P Q w es ends says = or_on ends (λ t. inr (t.0, says (world_run w es) t.0 t.1))
 
 -- a round trip: all is sent, arrives and is taken, and a report is made and heard
 pub ends_trip : (A B C D Q : World → Type 0) (w : World) → Ends A w (all_sent w)
@@ -630,9 +623,6 @@ module _ (K : Event → Type 0) where
   all_times (suc n) schedule is w = all_then schedule (times n schedule) is (all_times n schedule is) w
 
   module _ (send : K events.Send) (deliver : K events.UpDeliver) (take : K events.Take) (report : K events.Report) where
-    sends_are : (w : World) → All (all_sent w)
-    sends_are w = all_same (most_sent w) events.Send send
-
     takes_are : (w : World) → All (all_taken w)
     takes_are w = all_same _ events.Take take
 
@@ -641,23 +631,18 @@ module _ (K : Event → Type 0) where
         all_times (length w.up) (followed_by all_taken next_arrived)
         (all_then all_taken next_arrived takes_are (λ w. (deliver, tt))) w
 
-    reports_are : (w : World) → All (reported w)
-    reports_are w = (report, tt)
-
     pub befores_are : (w : World) → All (all_sent w) × All (all_arrived w) × All (all_taken w) × All (reported w)
-    befores_are w = (sends_are w, arrives_are w, takes_are w, reports_are w)
+    befores_are w = (all_same (most_sent w) events.Send send, arrives_are w, takes_are w, (report, tt))
 
     module _ (hear : K events.DownDeliver) where
-      hears_are : (w : World) → All (all_heard w)
-      hears_are w = all_same _ events.DownDeliver hear
-
       pub trips_are : (w : World) → All (round_trip w)
       trips_are =
           let after_taking = followed_by reported all_heard in
           let after_arriving = followed_by all_taken after_taking in
           let after_sending = followed_by all_arrived after_arriving in
-          all_then all_sent after_sending sends_are (all_then all_arrived after_arriving arrives_are
-          (all_then all_taken after_taking takes_are (all_then reported all_heard reports_are hears_are)))
+          all_then all_sent after_sending (λ w. all_same (most_sent w) events.Send send)
+          (all_then all_arrived after_arriving arrives_are (all_then all_taken after_taking takes_are
+          (all_then reported all_heard (λ w. (report, tt)) (λ w. all_same _ events.DownDeliver hear))))
 
 -- the events of a round trip
 abbrev pub IsTalk : Event → Type 0

@@ -15,8 +15,8 @@ use Rattle.tc_link.proofs.Common.{submitting, ◌+◌, ◌%◌, if◌then◌else
 use Rattle.tc_link.proofs.Common.{not-false, PulledUnit, frame_to_send, Event, AllReadable, World, world_step}
 use Rattle.tc_link.proofs.Common.{world_after_pull, IsEvent, ◌<◌, map, cond_both, TcFault, segment_octets, FopMode}
 use Rattle.tc_link.proofs.Common.{report_in, IsActive, is_kept, limits_of, SpacecraftState, frame_outcome, body_outcome}
-use Rattle.tc_link.proofs.Common.{bypass_outcome, is_own_frame, number_in, in_frame, world_after_directive}
-use Rattle.tc_link.proofs.Common.{BeginsNoSession, accepted}
+use Rattle.tc_link.proofs.Common.{is_own_frame, number_in, in_frame, world_after_directive, BeginsNoSession, accepted}
+use Rattle.tc_link.proofs.Common.{oldest_marked}
 use Rattle.std.proofs.lemmas.Bool.{lt-ltb, le-leb}
 use Rattle.std.specs.Prelude.{flat_map}
 use Rattle.tc_frame.specs.Layout.{body_fits, FrameView}
@@ -40,6 +40,7 @@ use Rattle.tc_link.proofs.Refilled.{refilled_keeps}
 use Rattle.tc_link.proofs.Linked.{Carries, Reporting, carries_push}
 use Rattle.tc_link.proofs.IdleStart.{HasReports}
 use Rattle.nodes.specs.Spacecraft.{spacecraft_receive}
+use Rattle.nodes.proofs.Arrivals.{bypass_same}
 use Rattle.map_service.proofs.Groups.{behind-each}
 
 -- What is put on the link is read from it.
@@ -111,10 +112,7 @@ module _ (s : FopState SegmentView) (pending : List SegmentView) (k : Fit s pend
 
   same : (f : FopState SegmentView) → (is_closed f.state ≡ false → is_closed s.state ≡ false)
       → units_of f.sent ≡ units_of s.sent → f.waiting ≡ s.waiting → Fit f pending
-  same f on sent waiting = record {
-    sent = λ running. subst All (sym sent) (k.sent (on running));
-    unsent = λ running. rw waiting (k.unsent (on running));
-  }
+  same f on sent waiting = fewer f 0 on sent waiting
 
   -- ---- a report
 
@@ -162,6 +160,10 @@ module _ (s : FopState SegmentView) (pending : List SegmentView) (k : Fit s pend
 
   pub moved : (u : SegmentView) → s.waiting ≡ Some u → is_closed s.state ≡ false → FitsFrame u × All pending
   moved u is on = let all : All (option_to_list (Some u) ++ pending) = rw is at (k.unsent on) in (all.0, all.1)
+
+  pub marked_fits : (x : ℕ × SegmentView) → oldest_marked 0 s.sent ≡ Some x → is_closed s.state ≡ false → FitsFrame x.1
+  marked_fits x is on =
+      let stands = oldest_stands 0 s.sent x is in fits_at (units_of s.sent) stands.0 x.1 (k.sent on) stands.2
 
   pub pull_fits : Fits (pull_step s)
   pull_fits = pulled_out s (λ o. Fits o) (record {
@@ -272,9 +274,7 @@ module _ (c : Config) (w : World) (k : Sound c w) (g : Carried c w) where
             let fit : AllByRecursion FitsFrame (u ∷ us) = rw is at k.ground_node.fop.bypass_fits in
             record { frames = g.frames ++ Bd u ∷ []; carries = pushed (Bd u) fit.0; fits = fits };
         again = λ active x is fits.
-            let stands = oldest_stands 0 s.sent x is in
-            let fit : FitsFrame x.1 =
-            fits_at (units_of s.sent) stands.0 x.1 (g.fits.sent (active_on s.state active)) stands.2 in
+            let fit : FitsFrame x.1 = marked_fits s w.ground_node.pending g.fits x is (active_on s.state active) in
             record {
               frames = g.frames ++ Ad ((s.nn + x.0) % 256) x.1 ∷ [];
               carries = pushed (Ad ((s.nn + x.0) % 256) x.1) fit;
@@ -373,21 +373,16 @@ numbers_in r = in_frame number_in r
 abbrev numbers : List (List ℕ) → List ℕ
 numbers bs = flat_map (λ octets. in_frame number_in (reading.frame_at On octets)) bs
 
-first_none : (xs ys : List ℕ) → xs ++ ys ≡ [] → xs ≡ []
-first_none [] ys e = refl
-first_none (x ∷ xs) ys e = absurd cc
-
-rest_none : (xs ys : List ℕ) → xs ++ ys ≡ [] → ys ≡ []
-rest_none [] ys e = e
-rest_none (x ∷ xs) ys e = absurd cc
+both_none : (xs ys : List ℕ) → xs ++ ys ≡ [] → (xs ≡ []) × (ys ≡ [])
+both_none [] ys e = (refl, e)
+both_none (x ∷ xs) ys e = absurd cc
 
 push_none : (bs : List (List ℕ)) (b : List ℕ) → numbers bs ≡ [] → numbers_in (reading.frame_at On b) ≡ []
     → numbers (bs ++ b ∷ []) ≡ []
 push_none [] b none new = ap (λ (ns : List ℕ). ns ++ []) new
 push_none (x ∷ xs) b none new =
-    ap (λ (ns : List ℕ). ns ++ numbers (xs ++ b ∷ []))
-    (first_none (numbers_in (reading.frame_at On x)) (numbers xs) none)
-    ∙ push_none xs b (rest_none (numbers_in (reading.frame_at On x)) (numbers xs) none) new
+    let both = both_none (numbers_in (reading.frame_at On x)) (numbers xs) none in
+    ap (λ (ns : List ℕ). ns ++ numbers (xs ++ b ∷ [])) both.0 ∙ push_none xs b both.1 new
 
 -- ---- one event
 
@@ -402,13 +397,9 @@ heard_in f r _ is off = absurd cc
 
 -- on board a frame that is not of Type-AD adds no segment to those accepted
 module _ (s : SpacecraftState) where
-  bypass_same : (u : SegmentView) (kept : Bool) → (bypass_outcome s u kept).after.accepted ≡ s.accepted
-  bypass_same u true = refl
-  bypass_same u false = refl
-
   body_same : (f : BodyView) → number_in f ≡ [] → (body_outcome s f).after.accepted ≡ s.accepted
   body_same (Ad n u) none = absurd cc
-  body_same (Bd u) none = bypass_same u (is_kept (limits_of s.config) u)
+  body_same (Bd u) none = bypass_same s u (is_kept (limits_of s.config) u)
   body_same (Bc command) none = refl
 
   arrived_same : (r : Result FrameView TcFault) → numbers_in r ≡ [] → (frame_outcome s r).after.accepted ≡ s.accepted
@@ -488,26 +479,23 @@ module _ (c : Config) (w : World) (k : Sound c w) (off : IsOff w) (none_up : num
     first = λ active u is room. not_active active;
   })
 
-  -- a frame arrives on board
-  all_none : (bs : List (List ℕ)) → w.up ≡ bs → numbers bs ≡ []
-  all_none bs is = subst (λ (xs : List (List ℕ)). numbers xs ≡ []) is none_up
-
-  up_rest : (b : List ℕ) (bs : List (List ℕ)) → w.up ≡ b ∷ bs → numbers bs ≡ []
-  up_rest b bs is = rest_none (numbers_in (reading.frame_at On b)) (numbers bs) (all_none (b ∷ bs) is)
-
-  up_first : (b : List ℕ) (bs : List (List ℕ)) → w.up ≡ b ∷ bs → numbers_in (reading.frame_at On b) ≡ []
-  up_first b bs is = first_none (numbers_in (reading.frame_at On b)) (numbers bs) (all_none (b ∷ bs) is)
+  -- a frame arrives on board, and others are left
+  up_none : (b : List ℕ) (bs : List (List ℕ)) → w.up ≡ b ∷ bs
+      → (numbers_in (reading.frame_at On b) ≡ []) × (numbers bs ≡ [])
+  up_none b bs is =
+      both_none (numbers_in (reading.frame_at On b)) (numbers bs)
+      (subst (λ (xs : List (List ℕ)). numbers xs ≡ []) is none_up)
 
   none_so : (e : Event) → numbers_up (world_step w e).after ≡ []
   none_so events.Send = send_so
-  none_so e = up_after w (λ way. numbers way ≡ []) e (λ is. cc is) none_up up_rest
+  none_so e = up_after w (λ way. numbers way ≡ []) e (λ is. cc is) none_up (λ b bs is. (up_none b bs is).1)
 
   same_so : (e : Event) → BeginsNoSession w e → Same (world_step w e).after
   same_so e goes =
       let receives : e ≡ events.UpDeliver → (b : List ℕ) (bs : List (List ℕ)) → w.up ≡ b ∷ bs
       → Same (record w { up = bs; spacecraft = (spacecraft_receive w.spacecraft b).after }) = λ is b bs first.
       ap (λ (xs : List SegmentView). map segment_octets (drop w.session.before xs))
-      (arrived_same w.spacecraft (reading.frame_at On b) (up_first b bs first)) in
+      (arrived_same w.spacecraft (reading.frame_at On b) (up_none b bs first).0) in
       let directs : (d : Directive) → e ≡ events.Directive d → Same (directed w d) = λ d is.
       (directive_so d (subst (BeginsNoSession w) is goes)).1 in
       let restarts : (value : ℕ) → e ≡ events.Resume value → can_resume w.ground_node value ≡ true

@@ -8,20 +8,20 @@ use Rattle.nodes.specs.Ground.{ground_step}
 use Rattle.nodes.specs.declared.heard.Heard.TheVariants as heard_cases
 use Rattle.nodes.specs.declared.heard.HeardReport.{HeardReport}
 use Rattle.nodes.specs.declared.heard.HeardReport.TheVariants.{Used}
-use Rattle.simulated_link.proofs.Unchanged.{lost, down_arrives, TakesDown, board_after}
+use Rattle.simulated_link.proofs.Unchanged.{lost, down_arrives, TakesDown, board_after, word_arrives, down_after}
+use Rattle.simulated_link.proofs.Unchanged.{up_after}
 use Rattle.simulated_link.specs.World.{is_idle}
 use Rattle.tm_link.specs.Decoding.{frame_at}
 use Rattle.tm_link.specs.Encoding.{spelling}
 use Rattle.nodes.specs.declared.event.Event.TheVariants as events
-use Rattle.tc_link.specs.AnyPast.{LinkStep, Happens, TakeTelemetry, Hears, HearsReport, ForgetTelemetry}
-use Rattle.tc_link.specs.AnyPast.{NewGround, IsLinkStep, link_step, link_run, after_report, after_hearing}
+use Rattle.tc_link.specs.AnyPast.{LinkStep, Happens, TakeTelemetry, Hears, HearsReport, ForgetTelemetry, NewGround}
+use Rattle.tc_link.specs.AnyPast.{IsLinkStep, link_step, link_run, after_report, after_hearing}
 use Rattle.tc_link.specs.Silence.{IsSilent, KeepsSilence, gone_by, gone_down, SilenceIsIdle}
 use Rattle.tc_link.specs.Telemetry.{came_by}
 use Rattle.tc_link.proofs.Promised.{link_step_holds, past_holds}
 use Rattle.tc_link.proofs.Invariant.{Holding}
 use Rattle.tc_link.proofs.Linked.{Tells}
 use Rattle.tc_link.proofs.IdleStart.{tells_now}
-use Rattle.simulated_link.proofs.Unchanged.{word_arrives, down_after, up_after}
 
 -- ---- the frames on their way down
 
