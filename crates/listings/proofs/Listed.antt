@@ -3,6 +3,7 @@ use Rattle.std.proofs.Common.{◌≡◌, ℕ, ◌+◌, ◌≤◌, Bool, true, fa
 use Rattle.std.proofs.Common.{refl, sym, ap, ◌∙◌, append_assoc, arith, cond, ltb, take, subst}
 use Rattle.std.specs.Prelude.{◌&&◌, Some, None, IfOk, OnOk}
 use Rattle.std.specs.List.{list_all}
+use Rattle.std.proofs.Math.Bool.{and_assoc, and-true, and-false}
 use Rattle.std.proofs.lemmas.List.{append-nil, length-drop, length-append, drop_at, drop_all}
 use Rattle.std.proofs.lemmas.Bool.{lt-ltb}
 use Rattle.octets.specs.Records.{record_of}
@@ -22,14 +23,6 @@ abbrev pub bare : {S F : Type 0} → Lines S F → Layout F → S → List ℕ �
 bare lines layout s octets = record (listed lines layout (fresh s octets)) { text = [] }
 
 module _ {S F : Type 0} (lines : Lines S F) (layout : Layout F) (heads : HasHeads layout) where
-  and-assoc : (a b c : Bool) → (a && b) && c ≡ a && (b && c)
-  and-assoc true b c = refl
-  and-assoc false b c = refl
-
-  and-true : (a : Bool) → a && true ≡ a
-  and-true true = refl
-  and-true false = refl
-
   -- a listing with one record more
   abbrev pub one_more : Standing S → List ℕ → Standing S
   one_more st r = record {
@@ -59,7 +52,7 @@ module _ {S F : Type 0} (lines : Lines S F) (layout : Layout F) (heads : HasHead
       (sym (append_assoc st.text (lines.line_of st.kept (st.count + 1) r)
       (record_lines lines (lines.after st.kept r) (st.count + 1 + 1) rs)))
       (omega arith)
-      (sym (and-assoc st.all_good (lines.is_good r) (list_all lines.is_good rs)))
+      (sym (and_assoc st.all_good (lines.is_good r) (list_all lines.is_good rs)))
       refl
 
   -- where there is a record, the listing goes on after it
@@ -90,14 +83,7 @@ module _ {S F : Type 0} (lines : Lines S F) (layout : Layout F) (heads : HasHead
       → length (drop (length r) octets) + 1 ≤ length octets
   shorter octets r first =
       let is = record_is layout.head layout.extent heads.some_head heads.has_head octets r first in
-      omega (
-        arith,
-        length-drop (length r) octets,
-        is.0.has_head,
-        ap length is.1,
-        length-append r
-            (drop (length r) octets),
-      )
+      omega (arith, length-drop (length r) octets, is.0.has_head, ap length is.1, length-append {A = ℕ})
 
   -- where there is none, it is as it was
   pub listed-none : (st : Standing S) → IsNoRecord layout.head layout.extent (first_by layout st.octets)
@@ -261,10 +247,6 @@ same_summary a b records octets good =
     ∙ ap (λ (x : Bool). record b { all_good = x }) good
 
 -- What a piece of a stream adds to what is listed and written of it.
-
-and-false : (b : Bool) → b && false ≡ false
-and-false true = refl
-and-false false = refl
 
 -- a text after what is written
 behind_written : (before taken t u whole : List ℕ) → taken ≡ before ++ t → whole ≡ t ++ u → taken ++ u ≡ before ++ whole
