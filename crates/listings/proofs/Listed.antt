@@ -141,18 +141,14 @@ module _ {S F : Type 0} (lines : Lines S F) (layout : Layout F) (heads : HasHead
   fault_of octets e true h = absurd cc
   fault_of octets e false h = refused_fault octets (layout.extent (take layout.head octets)) e h
 
+  pub first_record-nothing : first_by layout [] ≡ None
+  first_record-nothing =
+      let short : ltb 0 layout.head ≡ true = lt-ltb 0 layout.head (omega (arith, heads.some_head)) in rw short refl
+
   -- octets that are refused have the line of their fault
   pub rest_line-refused : (i : ℕ) (octets : List ℕ) (e : F) → first_by layout octets ≡ Some (Err e)
       → rest_line lines layout i octets ≡ lines.fault_line i e
-  rest_line-refused i [] e h =
-      let short : ltb 0 layout.head ≡ true = lt-ltb 0 layout.head (omega (arith, heads.some_head)) in
-      absurd (none_is (ltb 0 layout.head) short h)
-    where
-      none_is : (b : Bool) → b ≡ true
-          → cond b None (record_of layout.head layout.extent [] (layout.extent (take layout.head []))) ≡ Some (Err e)
-          → ⊥
-      none_is true t k = cc
-      none_is false t k = cc
+  rest_line-refused i [] e h = let none = first_record-nothing in absurd cc
   rest_line-refused i (x ∷ xs) e h = ap (lines.fault_line i) (fault_of (x ∷ xs) e (ltb (length (x ∷ xs)) layout.head) h)
 
   -- ---- a stream in pieces
@@ -181,22 +177,7 @@ module _ {S F : Type 0} (lines : Lines S F) (layout : Layout F) (heads : HasHead
 
   -- nothing is listed of no octets
   pub listed-nothing : (s : S) → listed lines layout (fresh s []) ≡ fresh s []
-  listed-nothing s =
-      listed-none (fresh s []) (none_in (ltb 0 layout.head) (lt-ltb 0 layout.head (omega (arith, heads.some_head))))
-    where
-      none_in : (b : Bool) → b ≡ true
-          → IsNoRecord layout.head layout.extent
-          (cond b None (record_of layout.head layout.extent [] (layout.extent (take layout.head []))))
-      none_in true t = tt
-      none_in false t = absurd cc
-
-  pub first_record-nothing : first_by layout [] ≡ None
-  first_record-nothing = none_of (ltb 0 layout.head) (lt-ltb 0 layout.head (omega (arith, heads.some_head)))
-    where
-      none_of : (b : Bool) → b ≡ true
-          → cond b None (record_of layout.head layout.extent [] (layout.extent (take layout.head []))) ≡ None
-      none_of true t = refl
-      none_of false t = absurd cc
+  listed-nothing s = listed-none (fresh s []) (rw first_record-nothing tt)
 
   -- octets that are refused are some
   pub refused_some : (octets : List ℕ) (e : F) → first_by layout octets ≡ Some (Err e) → is_empty octets ≡ false
