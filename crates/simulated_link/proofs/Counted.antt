@@ -7,12 +7,11 @@ use Rattle.simulated_link.proofs.Common.{Heard, GroundState, GroundOutcome, with
 use Rattle.simulated_link.proofs.Common.{own_frame_outcome, telemetry_outcome, ◌≢◌, ◌≤◌, ◌<◌, ℕ, ◌+◌, List, [], ◌∷◌}
 use Rattle.simulated_link.proofs.Common.{◌++◌, length, map, drop, Some, option_map, ap, arith, length-append}
 use Rattle.simulated_link.proofs.Common.{length-drop, ltb-false, eq-eqb, length-map, On, ahead_by, CopFault, Directive}
-use Rattle.simulated_link.proofs.Common.{InitWithoutCheck, InitWithCheck, InitUnlock, InitSetVr, S2, S3, directive_step}
-use Rattle.simulated_link.proofs.Common.{PulledUnit, pull_step, SentUnit, unmarked_unit, marked_unit, after_move_on}
-use Rattle.simulated_link.proofs.Common.{after_new_value, retransmits, tick_step, after_acknowledge, after_repeat}
-use Rattle.simulated_link.proofs.Common.{after_alert, after_stop, Config, LinkFault, refill_step, unless_refused}
-use Rattle.simulated_link.proofs.Common.{after_submission, frame_to_send, is_initiation, first_in, is_closed, obeyed}
-use Rattle.simulated_link.proofs.Common.{begun, ticked, pulled_out, heard_active, Bool}
+use Rattle.simulated_link.proofs.Common.{S2, S3, directive_step, PulledUnit, pull_step, SentUnit, unmarked_unit}
+use Rattle.simulated_link.proofs.Common.{marked_unit, after_move_on, after_new_value, retransmits, tick_step}
+use Rattle.simulated_link.proofs.Common.{after_acknowledge, after_repeat, after_alert, after_stop, Config, LinkFault}
+use Rattle.simulated_link.proofs.Common.{refill_step, unless_refused, after_submission, frame_to_send, is_initiation}
+use Rattle.simulated_link.proofs.Common.{first_in, is_closed, obeyed, begun, ticked, pulled_out, heard_active, Bool}
 use Rattle.tc_frame.specs.Layout as command_layout
 use Rattle.tc_frame.specs.Encoding.{spelling}
 use Rattle.clcw.specs.Decoding.{clcw_at}
@@ -78,11 +77,7 @@ module _ (f : FopState SegmentView) where
 
   -- an initiation leaves the queue empty
   begun_sent : (d : Directive) → is_initiation d ≡ true → (begun f d).sent ≡ []
-  begun_sent InitWithoutCheck is = refl
-  begun_sent InitWithCheck is = refl
-  begun_sent InitUnlock is = refl
-  begun_sent (InitSetVr x) is = refl
-  begun_sent _ is = absurd cc
+  begun_sent d is = grind arith
 
   directed_shorter : (d : Directive) → IsShorter f (directive_step f d)
   directed_shorter = obeyed f (λ d o. IsShorter f o) (record {

@@ -1,13 +1,13 @@
 -- Packets that go past the sequence control.
-use Rattle.tc_link.proofs.Common.{◌≡◌, ℕ, Bool, true, false, refl, ◌∙◌, Clcw, SegmentView, Directive, CopFault, Alert}
-use Rattle.tc_link.proofs.Common.{InitWithoutCheck, InitUnlock, directive_step, FopState, FopOutcome, clcw_step}
-use Rattle.tc_link.proofs.Common.{retransmits, tick_step, heard_active, obeyed, begun, ticked, GroundState, refill_step}
-use Rattle.tc_link.proofs.Common.{with_fop, Result, Option, directive_outcome, TmFault, ◌≢◌, telemetry_outcome}
-use Rattle.tc_link.proofs.Common.{LinkFault, unless_refused, List, after_alert, Some, None, SetVs, obeying, submitting}
-use Rattle.tc_link.proofs.Common.{zero, suc, [], ◌∷◌, ◌++◌, drop, AreSomeOf, ◌+◌, ◌%◌, ◌-◌, length, map, Ok, Err, ap}
-use Rattle.tc_link.proofs.Common.{sym, subst, append_assoc, append-nil, map-append, cond_both, AllByRecursion, TcFault}
-use Rattle.tc_link.proofs.Common.{On, BodyView, Ad, Bd, Bc, PulledUnit, pull_step, pulled_out, Config, FitsFrame}
-use Rattle.tc_link.proofs.Common.{frame_of, frame_to_send, bypass_fault, after_bypass, PacketOn, SpacecraftState}
+use Rattle.tc_link.proofs.Common.{◌≡◌, ℕ, Bool, true, false, refl, arith, ◌∙◌, Clcw, SegmentView, Directive, CopFault}
+use Rattle.tc_link.proofs.Common.{Alert, InitUnlock, directive_step, FopState, FopOutcome, clcw_step, retransmits}
+use Rattle.tc_link.proofs.Common.{tick_step, heard_active, obeyed, begun, ticked, GroundState, refill_step, with_fop}
+use Rattle.tc_link.proofs.Common.{Result, Option, directive_outcome, TmFault, ◌≢◌, telemetry_outcome, LinkFault}
+use Rattle.tc_link.proofs.Common.{unless_refused, List, after_alert, Some, None, SetVs, obeying, submitting, zero, suc}
+use Rattle.tc_link.proofs.Common.{[], ◌∷◌, ◌++◌, drop, AreSomeOf, ◌+◌, ◌%◌, ◌-◌, length, map, Ok, Err, ap, sym, subst}
+use Rattle.tc_link.proofs.Common.{append_assoc, append-nil, map-append, cond_both, AllByRecursion, TcFault, On}
+use Rattle.tc_link.proofs.Common.{BodyView, Ad, Bd, Bc, PulledUnit, pull_step, pulled_out, Config, FitsFrame, frame_of}
+use Rattle.tc_link.proofs.Common.{frame_to_send, bypass_fault, after_bypass, PacketOn, SpacecraftState}
 use Rattle.tc_link.proofs.Common.{SpacecraftOutcome, frame_outcome, body_outcome, bypass_outcome, is_own_frame, is_kept}
 use Rattle.tc_link.proofs.Common.{verdict_of, is_free, limits_of, spacecraft_take_bypass, Heard, Event, World}
 use Rattle.tc_link.proofs.Common.{WorldOutcome, world_step, world_after_pull, world_after_take, active_on}
@@ -52,12 +52,10 @@ module _ (s : FopState SegmentView) where
   Same f = f.bypass ≡ s.bypass
 
   begun_same : (d : Directive) → Same (begun s d)
-  begun_same InitWithoutCheck = refl
-  begun_same _ = refl
+  begun_same d = grind arith
 
   again_same : (repeats : Bool) → Same (retransmits s repeats)
-  again_same true = refl
-  again_same false = refl
+  again_same repeats = grind arith
 
   pub report_same : (r : Clcw) → Same (clcw_step s r).after
   report_same r =
@@ -359,8 +357,7 @@ module _ (c : Config) (w : World) (h : Holding c w) where
 
   taken_same : (packets : List (List ℕ))
       → (ground_take_telemetry w.ground_node packets).after.fop.bypass ≡ w.ground_node.fop.bypass
-  taken_same [] = refl
-  taken_same (packet ∷ left) = refl
+  taken_same packets = grind arith
 
   step_passes : (s : LinkStep) → ReceivesNothingElse s
       → Passes w (by_step bypass_taken_by w s) (by_step bypass_accepted_by w s) (link_step w s)

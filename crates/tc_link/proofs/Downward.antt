@@ -6,21 +6,20 @@ use Rattle.tc_link.proofs.Common.{◌||◌, eq-eqb, Clcw, SegmentView, ahead_by,
 use Rattle.tc_link.proofs.Common.{FopState, report_of, Extracted, extract_step, Config, Heard, spacecraft_step, Report}
 use Rattle.tc_link.proofs.Common.{GroundState, GroundOutcome, is_closed, after_report, after_extraction}
 use Rattle.tc_link.proofs.Common.{telemetry_outcome, own_frame_outcome, IsChecked, World, is_confirmation}
-use Rattle.tc_link.proofs.Common.{AtMostOneStep, Rises, acknowledging, ground_telemetry, Option, Some, None}
-use Rattle.tc_link.proofs.Common.{if◌then◌else◌, Result, PlainLink, WorldOutcome, world_step, down_deliver_step}
-use Rattle.tc_link.proofs.Common.{with_fop, Alert, Idle, FopMode, S1, S4, S5, S6, FopOutcome, units_of, after_alert}
-use Rattle.tc_link.proofs.Common.{goes_on, is_initialising, ◌%◌, report_in, report_while_active}
+use Rattle.tc_link.proofs.Common.{AtMostOneStep, Rises, acknowledging, ground_telemetry, Option, None, if◌then◌else◌}
+use Rattle.tc_link.proofs.Common.{PlainLink, WorldOutcome, world_step, down_deliver_step, with_fop, Alert, Idle}
+use Rattle.tc_link.proofs.Common.{FopMode, S1, S4, S5, S6, FopOutcome, units_of, after_alert, goes_on, is_initialising}
+use Rattle.tc_link.proofs.Common.{◌%◌, report_in, report_while_active}
 use Rattle.std.proofs.lemmas.List.{drop-drop}
-use Rattle.clcw.specs.declared.fault.ClcwFault.{ClcwFault}
 use Rattle.tm_link.specs.Decoding.{frame_at}
 use Rattle.tm_link.specs.Decoding as telemetry_reading
 use Rattle.tm_link.specs.Extractor.{ExtractorState}
 use Rattle.nodes.specs.declared.heard.Heard.TheVariants.{Frame}
 use Rattle.nodes.specs.declared.heard.HeardReport.TheVariants.{Used}
-use Rattle.nodes.specs.Ground.{report_outcome, after_moving_up}
+use Rattle.nodes.specs.Ground.{after_moving_up}
 use Rattle.nodes.specs.declared.heard.HeardClcw.{HeardClcw}
 use Rattle.nodes.specs.declared.event.Event.TheVariants as events
-use Rattle.simulated_link.specs.World.{world_after_report, world_after_word, down_word_outcome, down_clcw_step}
+use Rattle.simulated_link.specs.World.{world_after_report, world_after_word, down_clcw_step}
 use Rattle.simulated_link.specs.Replies.{Down, replied_alert}
 use Rattle.simulated_link.proofs.Counted.{IsConfirming, reported}
 use Rattle.tc_link.specs.PlainLink.{reports as tells, loses_down, hears, ignores}
@@ -122,9 +121,7 @@ apart s extractor packets = record s { extractor = extractor; telemetry = packet
 moved_apart : (s : GroundState) (x : ExtractorState) (packets : List (List ℕ)) (waiting : Option SegmentView)
     (pending : List SegmentView)
     → after_moving_up (apart s x packets) waiting pending ≡ apart (after_moving_up s waiting pending) x packets
-moved_apart s x packets (Some u) pending = refl
-moved_apart s x packets None [] = refl
-moved_apart s x packets None (u ∷ us) = refl
+moved_apart s x packets waiting pending = grind arith
 
 settled_apart : (s : GroundState) (f : FopState SegmentView) (x : ExtractorState) (packets : List (List ℕ))
     → with_fop (apart s x packets) f ≡ apart (with_fop s f) x packets
@@ -149,9 +146,7 @@ module _ (c : Config) (w : World) (k : Sound c w) where
         let s : GroundState = w.ground_node in
         let is : s.config ≡ c = k.ground_node.config in
         let reads : frame_at s.config.frame_length b ≡ Ok t.frame = rw is t.reads in
-        ap (down_word_outcome w bs) reads
-        ∙ ap (λ (x : Result Clcw ClcwFault). world_after_word w bs (report_outcome s x)) t.word
-        ∙ rw (eq-eqb r.vcid s.config.vcid (rw is t.own)) refl
+        rw (reads, t.word, eq-eqb r.vcid s.config.vcid (rw is t.own)) refl
 
     word_apart : (down_clcw_step w (b ∷ bs)).after ≡ with_telemetry_of w (down_deliver_step w (b ∷ bs)).after
     word_apart =

@@ -41,14 +41,7 @@ flags_of l w t = value_if l 32 + value_if w 16 + value_if t 8
 
 flags_read : (l w t : Bool) → (flags_of l w t % 8 ≡ 0) × ((bit_and (flags_of l w t) 32 == 32) ≡ l)
     × ((bit_and (flags_of l w t) 16 == 16) ≡ w) × ((bit_and (flags_of l w t) 8 == 8) ≡ t)
-flags_read true true true = (refl, refl, refl, refl)
-flags_read true true false = (refl, refl, refl, refl)
-flags_read true false true = (refl, refl, refl, refl)
-flags_read true false false = (refl, refl, refl, refl)
-flags_read false true true = (refl, refl, refl, refl)
-flags_read false true false = (refl, refl, refl, refl)
-flags_read false false true = (refl, refl, refl, refl)
-flags_read false false false = (refl, refl, refl, refl)
+flags_read l w t = grind arith
 
 pub flags_are : (s : FarmState) (vcid : ℕ) → (locks (report_of s vcid) ≡ s.lockout)
     × (waits (report_of s vcid) ≡ s.wait) × (asks (report_of s vcid) ≡ s.retransmit)

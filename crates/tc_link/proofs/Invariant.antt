@@ -283,8 +283,7 @@ alert_same : (f : FopState SegmentView) → Same f (after_alert f)
 alert_same f = (refl, refl)
 
 again_same : (f : FopState SegmentView) (again : Bool) → (retransmits f again).vs ≡ f.vs
-again_same f true = refl
-again_same f false = refl
+again_same f again = grind arith
 
 -- a report leaves V(S)
 heard_same : (f : FopState SegmentView) (r : Clcw) → (clcw_step f r).after.vs ≡ f.vs

@@ -150,8 +150,7 @@ Taken P n m w = P n w × (length w.spacecraft.ready ≡ m)
 
 one_taken : (m : ℕ) (s : SpacecraftState) (ps : List PacketOn) → length ps ≡ suc m
     → length (spacecraft_take s ps).after.ready ≡ m
-one_taken m s [] is = absurd (omega (arith, is))
-one_taken m s (p ∷ ps) is = omega (arith, is)
+one_taken m s ps is = grind (arith, is)
 
 module _ (P : ℕ → World → Type 0) (taken : (n : ℕ) (w : World) → P n w → P n (world_step w events.Take).after) where
   pub takes : (n : ℕ) (w : World) → IsReached w → P n w → Ends (Taken P n zero) w (all_taken w)

@@ -1,19 +1,17 @@
 -- An exchange once the link is ready: what is sent is accepted and acknowledged, so that exchanges end with all
 -- delivered.
-use Rattle.tc_link.proofs.Common.{◌≡◌, ◌<◌, ◌≤◌, ◌⊎◌, inl, inr, ℕ, suc, ◌+◌, ◌/◌, ◌%◌, Bool, true, false, not, List, []}
-use Rattle.tc_link.proofs.Common.{◌∷◌, ◌++◌, length, Option, Some, None, Ok, refl, ap, sym, subst, ◌∙◌, arith, nat_lt}
-use Rattle.tc_link.proofs.Common.{◌==◌, cond_both, eqb-true, ltb-true, ltb-false, Clcw, On, SegmentView, Ad, Bd}
-use Rattle.tc_link.proofs.Common.{ahead_by, FopState, FopOutcome, S1, S2, Alert, Idle, oldest_marked}
-use Rattle.tc_link.proofs.Common.{without_oldest_mark, PulledUnit, pull_step, after_restart, report_while_active, locks}
-use Rattle.tc_link.proofs.Common.{waits, asks, goes_on, alerts, NnR, Synch, FarmState, Open, Accepted, verdict_of}
-use Rattle.tc_link.proofs.Common.{Config, frame_of, zero, ◌-◌, length-append, replicate, AllByRecursion, option_to_list}
-use Rattle.tc_link.proofs.Common.{unmarked_unit, IsActive, clcw_step, farm_step, AdArrives, BufferReleased}
-use Rattle.tc_link.proofs.Common.{after_verdict, Verdict, report_of, IsConfig, FitsFrame, frame_to_send, PacketOn}
-use Rattle.tc_link.proofs.Common.{GroundState, with_fop, unsent_segments, after_extraction, extract_step}
+use Rattle.tc_link.proofs.Common.{◌≡◌, ◌<◌, ◌≤◌, ◌⊎◌, inl, inr, ℕ, suc, ◌+◌, ◌%◌, Bool, true, false, not, List, [], ◌∷◌}
+use Rattle.tc_link.proofs.Common.{◌++◌, length, Option, Some, None, Ok, refl, ap, sym, subst, ◌∙◌, arith, nat_lt, ◌==◌}
+use Rattle.tc_link.proofs.Common.{cond_both, eqb-true, ltb-true, ltb-false, Clcw, On, SegmentView, Ad, Bd, ahead_by}
+use Rattle.tc_link.proofs.Common.{FopState, FopOutcome, S1, S2, Alert, Idle, oldest_marked, without_oldest_mark}
+use Rattle.tc_link.proofs.Common.{PulledUnit, pull_step, after_restart, report_while_active, locks, waits, asks}
+use Rattle.tc_link.proofs.Common.{goes_on, alerts, NnR, Synch, FarmState, Open, Accepted, verdict_of, Config, frame_of}
+use Rattle.tc_link.proofs.Common.{zero, ◌-◌, length-append, replicate, AllByRecursion, option_to_list, unmarked_unit}
+use Rattle.tc_link.proofs.Common.{IsActive, clcw_step, after_verdict, report_of, IsConfig, FitsFrame, frame_to_send}
+use Rattle.tc_link.proofs.Common.{PacketOn, GroundState, with_fop, unsent_segments, after_extraction, extract_step}
 use Rattle.tc_link.proofs.Common.{SpacecraftState, SpacecraftOutcome, spacecraft_take, spacecraft_report, body_outcome}
-use Rattle.tc_link.proofs.Common.{sequence_outcome, bypass_outcome, is_free, is_kept, limits_of, World, WorldOutcome}
-use Rattle.tc_link.proofs.Common.{world_step, world_after_pull, up_deliver_step, after_release, BodyView, IsReached}
-use Rattle.tc_link.proofs.Common.{active_on, acknowledging, ◌*◌, world_run}
+use Rattle.tc_link.proofs.Common.{is_free, World, WorldOutcome, world_step, world_after_pull, up_deliver_step, BodyView}
+use Rattle.tc_link.proofs.Common.{IsReached, active_on, acknowledging, ◌*◌, world_run}
 use Rattle.std.specs.Prelude.{◌&&◌}
 use Rattle.std.proofs.lemmas.List.{drop_all, nil_from_length}
 use Rattle.std.proofs.lemmas.Bool.{lt-ltb, false_from_ne_true}
@@ -21,7 +19,7 @@ use Rattle.tc_frame.specs.Decoding.{frame_at}
 use Rattle.tc_frame.specs.Encoding.{spelling}
 use Rattle.tm_link.specs.Encoding as telemetry_writing
 use Rattle.cop1.specs.declared.vocabulary.Alert.TheVariants.{Lockout, Clcw as ClcwAlert}
-use Rattle.cop1.specs.Farm.{ad_verdict, place_at, after_type_b}
+use Rattle.cop1.specs.Farm.{after_type_b}
 use Rattle.cop1.specs.FopPull.{NothingPulled, BypassPulled, SequencePulled, pulls, pull_control, pull_bypass, pull_in}
 use Rattle.cop1.specs.FopPull.{pull_marked, pull_waiting, after_send_first}
 use Rattle.cop1.specs.FopReport.{nothing_new, move_on}
@@ -127,10 +125,7 @@ next_bypass c v (x ∷ bs) e b u reads is = elim is [
 pub accepts_expected : (s : FarmState) (free : Bool) → s.vr < 256 → s.state ≡ Open → free ≡ true
     → verdict_of s s.vr free ≡ Accepted
 accepts_expected s free octet opened is =
-    let none : ahead_by s.vr s.vr ≡ 0 = omega (arith, octet) in
-    ap (λ d. ad_verdict (place_at (s.width / 2) d) free s.state) none
-    ∙ ap (λ m. ad_verdict (place_at (s.width / 2) 0) free m) opened
-    ∙ ap (λ b. ad_verdict (place_at (s.width / 2) 0) b Open) is
+    let none : ahead_by s.vr s.vr ≡ 0 = omega (arith, octet) in rw (none, opened, is) refl
 
 -- ---- a report that says that all was accepted
 
@@ -420,10 +415,7 @@ module _ (most k : ℕ) where
 
   taken_farm : (s : SpacecraftState) (ps : List PacketOn) → s.farm.state ≡ Open
       → (spacecraft_take s ps).after.farm ≡ s.farm
-  taken_farm s [] opened = refl
-  taken_farm s (p ∷ left) opened =
-      cond_both (nat_lt (length left) s.config.ready_slots) (farm_step s.farm BufferReleased) s.farm
-      (λ (farm : FarmState). farm ≡ s.farm) (λ t. ap (after_release s.farm) opened) (λ t. refl)
+  taken_farm s ps opened = grind (arith, opened)
 
   -- the spacecraft is another, with the same receiver
   coming_as : (n : ℕ) (w : World) (s : SpacecraftState) → s.farm ≡ w.spacecraft.farm → Coming n w
@@ -444,16 +436,6 @@ module _ (most k : ℕ) where
   one_taken n w p =
       coming_as n w (spacecraft_take w.spacecraft w.spacecraft.ready).after
       (taken_farm w.spacecraft w.spacecraft.ready p.opened) p
-
-  sequence_farm : (s : SpacecraftState) (n : ℕ) (u : SegmentView) (v : Verdict)
-      → (sequence_outcome s n u v).after.farm ≡ farm_step s.farm (AdArrives n (is_free s))
-  sequence_farm s n u Accepted = refl
-  sequence_farm s n u _ = refl
-
-  bypass_farm : (s : SpacecraftState) (u : SegmentView) (kept : Bool)
-      → (bypass_outcome s u kept).after.farm ≡ after_type_b s.farm
-  bypass_farm s u true = refl
-  bypass_farm s u false = refl
 
   module _ (n : ℕ) (w : World) (g : IsReached w) (p : Coming (suc n) w) (empty : length w.spacecraft.ready ≡ 0) where
     abbrev craft : SpacecraftState
@@ -485,8 +467,7 @@ module _ (most k : ℕ) where
         let numbers = has_numbers w g p.filled.bounds.active in
         let verdict = accepts_expected craft.farm (is_free craft) numbers.vr p.opened free in
         let farm : (body_outcome craft (Ad craft.farm.vr u)).after.farm ≡ after_verdict craft.farm Accepted =
-        sequence_farm craft craft.farm.vr u (verdict_of craft.farm craft.farm.vr (is_free craft))
-        ∙ ap (after_verdict craft.farm) verdict in
+        rw verdict refl in
         record {
           filled = p.filled;
           down = p.down;
@@ -500,8 +481,7 @@ module _ (most k : ℕ) where
         → Consecutive w.ground_node.config craft.farm.vr bs w.ground_node.fop.vs
         → Coming n (record w { up = bs; spacecraft = (body_outcome craft (Bd u)).after })
     bypass_next u bs count rest =
-        let farm : (body_outcome craft (Bd u)).after.farm ≡ after_type_b craft.farm =
-        bypass_farm craft u (is_kept (limits_of craft.config) u) in
+        let farm : (body_outcome craft (Bd u)).after.farm ≡ after_type_b craft.farm = grind arith in
         record {
           filled = p.filled;
           down = p.down;

@@ -7,21 +7,17 @@ use Rattle.tc_link.proofs.Common.{InitWithoutCheck, InitWithCheck, InitUnlock, I
 use Rattle.tc_link.proofs.Common.{directive_step, FopState, FopOutcome, S1, S3, S6, clcw_step, report_while_active}
 use Rattle.tc_link.proofs.Common.{after_move_on, after_acknowledge, after_new_value, retransmits, heard_active}
 use Rattle.tc_link.proofs.Common.{pull_step, pulled_out, PulledUnit, after_restart, without_oldest_mark, unmarked_unit}
-use Rattle.tc_link.proofs.Common.{tick_step, ticked, after_repeat, after_stop, due_again, after_alert, FarmState}
-use Rattle.tc_link.proofs.Common.{FarmMode, Open, Verdict, Accepted, verdict_of, after_verdict, after_unlock}
-use Rattle.tc_link.proofs.Common.{after_set_vr, after_release, report_of, Config, FitsFrame, frame_of, frame_to_send}
-use Rattle.tc_link.proofs.Common.{with_fop, is_closed, after_extraction, extract_step, IsDirective, IsEvent}
-use Rattle.tc_link.proofs.Common.{SpacecraftState, SpacecraftOutcome, body_outcome, sequence_outcome, bypass_outcome}
-use Rattle.tc_link.proofs.Common.{is_free, is_kept, limits_of, Event, World, WorldOutcome, new_world, world_step}
-use Rattle.tc_link.proofs.Common.{world_after_pull, up_deliver_step, down_deliver_step, closed_not, active_on}
-use Rattle.tc_link.proofs.Common.{spacecraft_report, FlagsAgree, acknowledging, SetVs, ◌≢◌, ◌⊎◌, inl, inr, zero, suc}
-use Rattle.tc_link.proofs.Common.{replicate, world_run, IsIdle, IsSettled, IsReached, BeginsNoSession, option_map}
-use Rattle.tc_link.proofs.Common.{Opening, directive_of}
+use Rattle.tc_link.proofs.Common.{tick_step, ticked, after_repeat, after_stop, due_again, after_alert, report_of}
+use Rattle.tc_link.proofs.Common.{Config, FitsFrame, frame_of, frame_to_send, with_fop, is_closed, after_extraction}
+use Rattle.tc_link.proofs.Common.{extract_step, IsDirective, IsEvent, SpacecraftState, SpacecraftOutcome, body_outcome}
+use Rattle.tc_link.proofs.Common.{Event, World, WorldOutcome, new_world, world_step, world_after_pull, up_deliver_step}
+use Rattle.tc_link.proofs.Common.{down_deliver_step, closed_not, active_on, spacecraft_report, FlagsAgree}
+use Rattle.tc_link.proofs.Common.{acknowledging, SetVs, ◌≢◌, ◌⊎◌, inl, inr, zero, suc, replicate, world_run, IsIdle}
+use Rattle.tc_link.proofs.Common.{IsSettled, IsReached, BeginsNoSession, option_map, Opening, directive_of}
 use Rattle.std.specs.Prelude.{IsSome}
 use Rattle.tc_frame.specs.Decoding.{frame_at}
 use Rattle.tc_frame.specs.Encoding.{spelling}
 use Rattle.tm_link.specs.Encoding as telemetry_writing
-use Rattle.cop1.specs.declared.farm.FarmMode.TheVariants.{Lockout}
 use Rattle.cop1.specs.FopPull.{after_send_first}
 use Rattle.cop1.specs.FopWords.{is_outside}
 use Rattle.nodes.specs.declared.received.Received.{Received}
@@ -219,41 +215,14 @@ queued_numbers f waiting bypass k = assumption k
 
 -- ---- the receiver
 
-module _ (s : FarmState) (octet : s.vr < 256) where
-  verdict_octet : (v : Verdict) → (after_verdict s v).vr < 256
-  verdict_octet Accepted = omega arith
-  verdict_octet _ = octet
-
-  unlock_octet : (m : FarmMode) → (after_unlock s m).vr < 256
-  unlock_octet Open = octet
-  unlock_octet _ = octet
-
-  set_octet : (x : ℕ) (m : FarmMode) → x < 256 → (after_set_vr s x m).vr < 256
-  set_octet x Lockout is = octet
-  set_octet x _ is = is
-
-  release_octet : (m : FarmMode) → (after_release s m).vr < 256
-  release_octet Open = octet
-  release_octet _ = octet
-
 abbrev pub IsOctetBody : BodyView → Type 0
 IsOctetBody (Bc command) = IsOctetIn command
 IsOctetBody _ = Unit {0}
 
 module _ (s : SpacecraftState) (octet : s.farm.vr < 256) where
-  sequence_octet : (n : ℕ) (u : SegmentView) (v : Verdict) → (sequence_outcome s n u v).after.farm.vr < 256
-  sequence_octet n u Accepted = verdict_octet s.farm octet (verdict_of s.farm n (is_free s))
-  sequence_octet n u _ = verdict_octet s.farm octet (verdict_of s.farm n (is_free s))
-
-  bypass_octet : (u : SegmentView) (kept : Bool) → (bypass_outcome s u kept).after.farm.vr < 256
-  bypass_octet u true = octet
-  bypass_octet u false = octet
-
   body_octet : (f : BodyView) → IsOctetBody f → (body_outcome s f).after.farm.vr < 256
-  body_octet (Ad n u) is = sequence_octet n u (verdict_of s.farm n (is_free s))
-  body_octet (Bd u) is = bypass_octet u (is_kept (limits_of s.config) u)
-  body_octet (Bc Unlock) is = unlock_octet s.farm octet s.farm.state
-  body_octet (Bc (SetVr x)) is = set_octet s.farm octet x s.farm.state is
+  body_octet (Bc (SetVr x)) is = grind (arith, is)
+  body_octet f is = grind arith
 
 -- ---- what is on its way
 
@@ -393,7 +362,7 @@ module _ (c : Config) (w : World) (h : Holding c w) (k : HasOctets c w) where
       reports = λ is. absurd (not_made is);
       takes = λ is left kept. record { vr = k.receiver.vr; full = λ waits. ltb-false _ _ kept };
       releases = λ is left free. record {
-        vr = release_octet w.spacecraft.farm k.receiver.vr w.spacecraft.farm.state;
+        vr = let octet = k.receiver.vr in grind (arith, octet);
         full = λ waits. absurd
             (let free = released w.spacecraft flags k.receiver.full w.spacecraft.farm.state refl in cc (waits, free));
       };

@@ -12,9 +12,9 @@ use Rattle.tc_link.proofs.Common.{sequence_outcome, bypass_outcome, verdict_of, 
 use Rattle.tc_link.proofs.Common.{is_own_frame, telemetry_outcome, FarmState, FarmEvent, AdArrives, farm_step}
 use Rattle.tc_link.proofs.Common.{after_verdict, after_report, acknowledging, length-take-le, length-map}
 use Rattle.tc_link.proofs.Common.{segment_octets, IsNear, number_of, numbered, PlainLink, PlainRun, AtMostOneStep}
-use Rattle.tc_link.proofs.Common.{new_link, more, KeepsSession, accepted, Option, CopFault, Alert, InitWithoutCheck}
-use Rattle.tc_link.proofs.Common.{InitWithCheck, InitUnlock, InitSetVr, directive_step, FopState, FopOutcome, begun}
-use Rattle.tc_link.proofs.Common.{obeyed, is_initiation, directive_outcome, closed_is, obeying}
+use Rattle.tc_link.proofs.Common.{new_link, more, KeepsSession, accepted, Option, CopFault, Alert, directive_step}
+use Rattle.tc_link.proofs.Common.{FopState, FopOutcome, begun, obeyed, is_initiation, directive_outcome, closed_is}
+use Rattle.tc_link.proofs.Common.{obeying}
 use Rattle.std.proofs.Common.{OnErr}
 use Rattle.std.proofs.lemmas.List.{take_more}
 use Rattle.tc_frame.specs.Layout.{FrameView}
@@ -506,10 +506,8 @@ up_is_one b c h p q base r n most small (x ∷ xs) (y ∷ ys) is near_x near_y =
     let number : (b + x.0) % 256 ≡ (c + y.0) % 256 = ap (λ (t : ℕ × SegmentView). t.0) first in
     let place : x.0 ≡ y.0 = omega (arith, number, base, r, n, most, small, near_x.0, near_y.0) in
     let unit : x.1 ≡ y.1 = ap (λ (t : ℕ × SegmentView). t.1) first in
-    ap (λ (i : ℕ). (i, x.1) ∷ xs) place
-    ∙ ap (λ (u : SegmentView). (y.0, u) ∷ xs) unit
-    ∙ ap (λ (zs : List (ℕ × SegmentView)). y ∷ zs)
-    (up_is_one b c h p q base r n most small xs ys rest near_x.1 near_y.1)
+    let others : xs ≡ ys = up_is_one b c h p q base r n most small xs ys rest near_x.1 near_y.1 in
+    grind (arith, place, unit, others)
 up_is_one b c h p q base r n most small _ _ is near_x near_y = absurd cc
 
 -- and so do the numbers on their way down
@@ -561,13 +559,7 @@ module _ (w : World) (b : ℕ) (p : PlainLink) (h : IsHistory w b p) where
 
 link_is : (p q : PlainLink) → p.units ≡ q.units → p.a ≡ q.a → p.r ≡ q.r → p.n ≡ q.n → p.up ≡ q.up → p.down ≡ q.down
     → p ≡ q
-link_is p q units a r n up down =
-    ap (λ (x : List SegmentView). record p { units = x }) units
-    ∙ ap (λ (x : ℕ). record p { units = q.units; a = x }) a
-    ∙ ap (λ (x : ℕ). record p { units = q.units; a = q.a; r = x }) r
-    ∙ ap (λ (x : ℕ). record p { units = q.units; a = q.a; r = q.r; n = x }) n
-    ∙ ap (λ (x : List (ℕ × SegmentView)). record q { up = x; down = p.down }) up
-    ∙ ap (λ (x : List ℕ). record q { down = x }) down
+link_is p q units a r n up down = grind (arith, units, a, r, n, up, down)
 
 one_link : (w : World) → IsConfig w.ground_node.config → HasOneLink w
 one_link w ranges settled b c p q h k =
@@ -662,11 +654,7 @@ each_goes_on_as_one w r idle settled =
 
 -- an initiation sets NN(R) to V(S)
 begun_equal : (f : FopState SegmentView) (d : Directive) → is_initiation d ≡ true → (begun f d).nn ≡ (begun f d).vs
-begun_equal f InitWithoutCheck is = refl
-begun_equal f InitWithCheck is = refl
-begun_equal f InitUnlock is = refl
-begun_equal f (InitSetVr x) is = refl
-begun_equal f _ is = absurd cc
+begun_equal f d is = grind arith
 
 module _ (w : World) where
   abbrev StartsEqual : Directive → FopOutcome SegmentView (Result (Option Alert) CopFault) → Type 0

@@ -1,22 +1,21 @@
 -- What the ground holds to be sent fits into frames, and each string on its way up is one of these and is read as
 -- such.
 use Rattle.tc_link.proofs.Common.{◌≡◌, ◌≤◌, ℕ, zero, suc, true, List, [], ◌∷◌, length, Some, Ok, refl, subst, arith}
-use Rattle.tc_link.proofs.Common.{slice_get, AllByRecursion, On, Unlock, SetVr, SegmentView, BodyView, Ad, Bd, Bc}
-use Rattle.tc_link.proofs.Common.{Config, IsConfig, FitsFrame, frame_of, Bool, false, ◌++◌, drop, Option, None, Result}
-use Rattle.tc_link.proofs.Common.{option_to_list, ap, sym, ◌∙◌, append_assoc, Clcw, segments_of, ahead_by, CopFault}
-use Rattle.tc_link.proofs.Common.{Alert, Idle, Directive, InitWithoutCheck, InitWithCheck, InitUnlock, InitSetVr, S1}
-use Rattle.tc_link.proofs.Common.{S2, S3, S6, is_initiation, directive_step, units_of, pull_step, without_oldest_mark}
-use Rattle.tc_link.proofs.Common.{FopState, FopOutcome, clcw_step, report_while_active, after_move_on, retransmits}
-use Rattle.tc_link.proofs.Common.{after_new_value, tick_step, after_acknowledge, after_repeat, after_alert, after_stop}
-use Rattle.tc_link.proofs.Common.{after_restart, heard_active, obeyed, begun, pulled_out, ticked, TmFault, GroundState}
-use Rattle.tc_link.proofs.Common.{is_closed, unsent_segments, refill_step, with_fop, directive_outcome, submit_fault}
-use Rattle.tc_link.proofs.Common.{after_submission, segments_on, segments_fit, closed_not, active_on, SetVs, obeying}
-use Rattle.tc_link.proofs.Common.{submitting, ◌+◌, ◌%◌, if◌then◌else◌, Err, ◌==◌, ◌||◌, nat_lt, not, eqb-true, or_parts}
-use Rattle.tc_link.proofs.Common.{not-false, PulledUnit, frame_to_send, Event, AllReadable, World, world_step}
-use Rattle.tc_link.proofs.Common.{world_after_pull, IsEvent, ◌<◌, map, cond_both, TcFault, segment_octets, FopMode}
-use Rattle.tc_link.proofs.Common.{report_in, IsActive, is_kept, limits_of, SpacecraftState, frame_outcome, body_outcome}
-use Rattle.tc_link.proofs.Common.{is_own_frame, number_in, in_frame, world_after_directive, BeginsNoSession, accepted}
-use Rattle.tc_link.proofs.Common.{oldest_marked}
+use Rattle.tc_link.proofs.Common.{slice_get, AllByRecursion, On, SegmentView, BodyView, Ad, Bd, Bc, Config, IsConfig}
+use Rattle.tc_link.proofs.Common.{FitsFrame, frame_of, Bool, false, ◌++◌, drop, Option, None, Result, option_to_list}
+use Rattle.tc_link.proofs.Common.{ap, sym, ◌∙◌, append_assoc, Clcw, segments_of, ahead_by, CopFault, Alert, Idle}
+use Rattle.tc_link.proofs.Common.{Directive, InitUnlock, S1, S2, S3, S6, is_initiation, directive_step, units_of}
+use Rattle.tc_link.proofs.Common.{pull_step, without_oldest_mark, FopState, FopOutcome, clcw_step, report_while_active}
+use Rattle.tc_link.proofs.Common.{after_move_on, retransmits, after_new_value, tick_step, after_acknowledge}
+use Rattle.tc_link.proofs.Common.{after_repeat, after_alert, after_stop, after_restart, heard_active, obeyed, begun}
+use Rattle.tc_link.proofs.Common.{pulled_out, ticked, TmFault, GroundState, is_closed, unsent_segments, refill_step}
+use Rattle.tc_link.proofs.Common.{with_fop, directive_outcome, submit_fault, after_submission, segments_on}
+use Rattle.tc_link.proofs.Common.{segments_fit, closed_not, active_on, SetVs, obeying, submitting, ◌+◌, ◌%◌}
+use Rattle.tc_link.proofs.Common.{if◌then◌else◌, Err, ◌==◌, ◌||◌, nat_lt, not, eqb-true, or_parts, not-false}
+use Rattle.tc_link.proofs.Common.{PulledUnit, frame_to_send, Event, AllReadable, World, world_step, world_after_pull}
+use Rattle.tc_link.proofs.Common.{IsEvent, ◌<◌, map, cond_both, TcFault, segment_octets, FopMode, report_in, IsActive}
+use Rattle.tc_link.proofs.Common.{is_kept, limits_of, SpacecraftState, frame_outcome, body_outcome, is_own_frame}
+use Rattle.tc_link.proofs.Common.{number_in, in_frame, world_after_directive, BeginsNoSession, accepted, oldest_marked}
 use Rattle.std.proofs.lemmas.Bool.{lt-ltb, le-leb}
 use Rattle.std.specs.Prelude.{flat_map}
 use Rattle.tc_frame.specs.Layout.{body_fits, FrameView}
@@ -54,14 +53,12 @@ Goes (Bc command) = Unit {0}
 body_goes : (f : BodyView) → Goes f → body_fits f ≡ true
 body_goes (Ad n s) h = rw (lt-ltb s.header.map 64 h.map, lt-ltb 0 (length s.payload) h.least) refl
 body_goes (Bd s) h = rw (lt-ltb s.header.map 64 h.map, lt-ltb 0 (length s.payload) h.least) refl
-body_goes (Bc Unlock) h = refl
-body_goes (Bc (SetVr x)) h = refl
+body_goes (Bc command) h = grind arith
 
 total_goes : (c : Config) (f : BodyView) → Goes f → total_of On (frame_of c f) ≤ 1024
 total_goes c (Ad n s) h = omega (arith, h.most)
 total_goes c (Bd s) h = omega (arith, h.most)
-total_goes c (Bc Unlock) h = omega arith
-total_goes c (Bc (SetVr x)) h = omega arith
+total_goes c (Bc command) h = grind arith
 
 goes_fits : (c : Config) (f : BodyView) → IsConfig c → Goes f → frame_fits On (frame_of c f) ≡ true
 goes_fits c f is h =
@@ -195,11 +192,10 @@ with_fits s f k = refilled_fits (record s { fop = f }) k
 
 module _ (c : Config) (s : GroundState) (g : GroundNodeSteady c s) (k : GroundFits s) where
   begun_fits : (d : Directive) → is_initiation d ≡ true → s.pending ≡ [] → Fit (begun s.fop d) s.pending
-  begun_fits InitWithoutCheck is none = record { sent = λ running. tt; unsent = λ running. rw none tt }
-  begun_fits InitWithCheck is none = record { sent = λ running. tt; unsent = λ running. rw none tt }
-  begun_fits InitUnlock is none = record { sent = λ running. tt; unsent = λ running. rw none tt }
-  begun_fits (InitSetVr x) is none = record { sent = λ running. tt; unsent = λ running. rw none tt }
-  begun_fits _ is none = absurd cc
+  begun_fits d is none =
+      let unsent : (begun s.fop d).waiting ≡ None = grind arith in
+      let sent : (begun s.fop d).sent ≡ [] = grind arith in
+      record { sent = λ running. rw sent tt; unsent = λ running. rw (unsent, none) tt }
 
   abbrev Directed : Directive → FopOutcome SegmentView (Result (Option Alert) CopFault) → Type 0
   Directed d o = GroundFits (directive_outcome s d o).after
@@ -318,8 +314,7 @@ module _ (c : Config) (w : World) (k : Sound c w) (g : Carried c w) where
 
 length_right : (b : Bool) (rest : Result telemetry.FrameView TmFault) (f : telemetry.FrameView)
     → (if b then Err faults.Length else rest) ≡ Ok f → b ≡ false
-length_right true rest f h = absurd cc
-length_right false rest f h = refl
+length_right b rest f h = grind (arith, h)
 
 size_of : (total : ℕ) (b : List ℕ) (f : telemetry.FrameView) → frame_at total b ≡ Ok f → length b ≡ total
 unfolding frame_at
@@ -392,8 +387,7 @@ closed_with s f off = refilled_keeps (λ t. t.fop.state ≡ S6) (record s { fop 
 
 heard_in : (f : FopState SegmentView) (r : Clcw) (m : FopMode) → m ≡ S6 → f.state ≡ S6
     → (report_in f r m).after.state ≡ S6
-heard_in f r S6 is off = off
-heard_in f r _ is off = absurd cc
+heard_in f r m is off = rw is off
 
 -- on board a frame that is not of Type-AD adds no segment to those accepted
 module _ (s : SpacecraftState) where

@@ -1,10 +1,10 @@
 -- A program that resumes after each alert has a prefix of what it wants delivered.
-use Rattle.tc_link.proofs.Common.{◌≡◌, ℕ, ◌+◌, ◌%◌, ◌<◌, ◌≤◌, Bool, true, false, List, [], ◌∷◌, ◌++◌, length, take}
-use Rattle.tc_link.proofs.Common.{drop, Some, Result, Ok, Err, refl, ap, sym, subst, ◌∙◌, arith, length-append}
-use Rattle.tc_link.proofs.Common.{length-map, take-append-drop, AllByRecursion, inl, inr, Opening, length-drop}
-use Rattle.tc_link.proofs.Common.{option_map, SetVs, InitUnlock, is_closed, Config, GroundState, PacketOn, Event, World}
-use Rattle.tc_link.proofs.Common.{world_step, world_run, KeepsSession, BeginsNoSession, IsIdle, IsEvent}
-use Rattle.tc_link.proofs.Common.{session_begun_by, delivered, ahead_by, cond}
+use Rattle.tc_link.proofs.Common.{◌≡◌, ℕ, ◌+◌, ◌%◌, ◌<◌, ◌≤◌, Bool, true, List, [], ◌∷◌, ◌++◌, length, take, drop, Some}
+use Rattle.tc_link.proofs.Common.{Result, Ok, Err, refl, ap, sym, subst, ◌∙◌, arith, length-append, length-map}
+use Rattle.tc_link.proofs.Common.{take-append-drop, AllByRecursion, inl, inr, Opening, length-drop, option_map, SetVs}
+use Rattle.tc_link.proofs.Common.{InitUnlock, is_closed, Config, GroundState, PacketOn, Event, World, world_step}
+use Rattle.tc_link.proofs.Common.{world_run, KeepsSession, BeginsNoSession, IsIdle, IsEvent, session_begun_by}
+use Rattle.tc_link.proofs.Common.{delivered, ahead_by, cond}
 use Rattle.std.specs.Prelude.{◌^◌, ◌==◌, ◌&&◌, nat_lt}
 use Rattle.std.specs.List.{flat_map, filter, list_all}
 use Rattle.std.proofs.lemmas.Bool.{cases_Bool, and_parts, not-true, ltb-false, eqb-true}
@@ -153,8 +153,7 @@ resumes_if : (can : Bool) (s next : GroundState) (whole more : ℕ)
     → (cond {A = GroundOutcome (Result ℕ LinkFault)} can (record { answer = Ok whole; after = next })
     (record { answer = Err NotKnown; after = s })).answer ≡ Ok more
     → (can ≡ true) × (more ≡ whole)
-resumes_if true s next whole more answered = (refl, cc answered)
-resumes_if false s next whole more answered = absurd (cc answered)
+resumes_if can s next whole more answered = grind (arith, answered)
 
 ground_resumes : (s : GroundState) (value more : ℕ) → (ground_resume s value).answer ≡ Ok more
     → (can_resume s value ≡ true) × (more ≡ whole_with (ahead_by value s.fop.nn) s.fates)
@@ -174,8 +173,7 @@ resumes_so w value more answered =
 -- what the link answers is what the ground answers
 answered_by : (w : World) (value more : ℕ) (r : Result ℕ LinkFault)
     → (world_after_resuming w value r).answer ≡ Ok (Resumed more) → r ≡ Ok more
-answered_by w value more (Ok whole) is = cc is
-answered_by w value more (Err fault) is = absurd (cc is)
+answered_by w value more r is = grind (arith, is)
 
 -- what a value says, by which the ground resumes, it says of what is on board
 known_by : (s : GroundState) (value : ℕ) → s.fop.nn < 256 → can_resume s value ≡ true

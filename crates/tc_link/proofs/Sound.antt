@@ -2,25 +2,23 @@
 use Rattle.tc_link.proofs.Common.{◌≡◌, ◌/◌, ◌<◌, ◌≤◌, true, [], length, AllByRecursion, SegmentView, Control, Idle}
 use Rattle.tc_link.proofs.Common.{FopMode, FarmState, FlagsAgree, FopState, Config, FitsFrame, GroundState, is_closed}
 use Rattle.tc_link.proofs.Common.{SpacecraftState, IsBuilderOf, IsConfig, World, S5, None, ℕ, false, ◌∷◌, refl, ◌∙◌}
-use Rattle.tc_link.proofs.Common.{arith, ◌+◌, ◌%◌, Clcw, FarmMode, Open, Verdict, Accepted, Sent, FarmEvent, AdArrives}
-use Rattle.tc_link.proofs.Common.{BdArrives, BufferReleased, farm_step, after_verdict, goes_on, after_unlock}
-use Rattle.tc_link.proofs.Common.{after_set_vr, after_release, verdict_of, FopOutcome, pull_step, clcw_step}
-use Rattle.tc_link.proofs.Common.{report_while_active, retransmits, after_new_value, IsActive, tick_step, after_count}
-use Rattle.tc_link.proofs.Common.{due_again, after_alert, after_stop, refill_step, ticked, pulled_out, heard_active}
-use Rattle.tc_link.proofs.Common.{Bool, List, ◌++◌, take, drop, map, Option, option_to_list, ap, sym, subst}
-use Rattle.tc_link.proofs.Common.{append_assoc, length-append, inr, ◌==◌, and_parts, not-false, take-append-le}
-use Rattle.tc_link.proofs.Common.{drop-append-le, append-nil, segment_octets, segments_of, Directive, PacketOn}
-use Rattle.tc_link.proofs.Common.{packet_on, segments_on, submit_fault, after_submission, bypass_fault, after_bypass}
-use Rattle.tc_link.proofs.Common.{segments_fit, submitting, ◌-◌, Result, Ok, Err, cond_both, eqb-false, CopFault, Alert}
-use Rattle.tc_link.proofs.Common.{InitWithoutCheck, InitWithCheck, InitUnlock, InitSetVr, S6, directive_step}
-use Rattle.tc_link.proofs.Common.{BuilderState, after_queue, data_size, is_at_rest, room_left, Event, spacecraft_report}
-use Rattle.tc_link.proofs.Common.{is_free, with_fop, directive_outcome, new_world, world_step, is_initiation}
-use Rattle.tc_link.proofs.Common.{session_after_directive, IsDirective, IsEvent, obeyed, begun, SetVs, obeying}
+use Rattle.tc_link.proofs.Common.{arith, ◌+◌, ◌%◌, Clcw, Sent, FarmEvent, AdArrives, BdArrives, BufferReleased}
+use Rattle.tc_link.proofs.Common.{farm_step, goes_on, FopOutcome, pull_step, clcw_step, report_while_active}
+use Rattle.tc_link.proofs.Common.{retransmits, after_new_value, IsActive, tick_step, after_count, due_again}
+use Rattle.tc_link.proofs.Common.{after_alert, after_stop, refill_step, ticked, pulled_out, heard_active, Bool, List}
+use Rattle.tc_link.proofs.Common.{◌++◌, take, drop, map, Option, option_to_list, ap, sym, subst, append_assoc}
+use Rattle.tc_link.proofs.Common.{length-append, inr, ◌==◌, and_parts, not-false, take-append-le, drop-append-le}
+use Rattle.tc_link.proofs.Common.{append-nil, segment_octets, segments_of, Directive, PacketOn, packet_on, segments_on}
+use Rattle.tc_link.proofs.Common.{submit_fault, after_submission, bypass_fault, after_bypass, segments_fit, submitting}
+use Rattle.tc_link.proofs.Common.{◌-◌, Result, Ok, Err, cond_both, eqb-false, CopFault, Alert, InitWithoutCheck}
+use Rattle.tc_link.proofs.Common.{InitWithCheck, InitUnlock, InitSetVr, S6, directive_step, BuilderState, after_queue}
+use Rattle.tc_link.proofs.Common.{data_size, is_at_rest, room_left, Event, spacecraft_report, is_free, with_fop}
+use Rattle.tc_link.proofs.Common.{directive_outcome, new_world, world_step, is_initiation, session_after_directive}
+use Rattle.tc_link.proofs.Common.{IsDirective, IsEvent, obeyed, begun, SetVs, obeying}
 use Rattle.tc_frame.specs.declared.frame.SegmentFlags.TheVariants.{Alone}
 use Rattle.map_service.specs.Packets.{packets_in, are_taken, is_some_over}
 use Rattle.map_service.specs.Cutting.{segment_with}
 use Rattle.tm_link.specs.Builder.{after_send, idle_after, with_next_count}
-use Rattle.cop1.specs.Farm.{UnlockArrives, SetVrArrives, InvalidArrives}
 use Rattle.cop1.proofs.FarmFlags.{FlagsAgree-step}
 use Rattle.nodes.specs.Spacecraft.{after_farm, spacecraft_receive}
 use Rattle.nodes.proofs.Arrivals.{AtEachArrival, octets_come}
@@ -171,33 +169,9 @@ refilled_so c s is k = refilled_keeps (GroundNodeSteady c) s (λ waiting pending
 
 -- ---- the receiver
 
-verdict_so : (s : FarmState) (v : Verdict)
-    → ((after_verdict s v).width ≡ s.width) × ((after_verdict s v).farm_b ≡ s.farm_b)
-verdict_so s Accepted = (refl, refl)
-verdict_so s _ = (refl, refl)
-
-unlock_so : (s : FarmState) (m : FarmMode) → ((after_unlock s m).width ≡ s.width) × ((after_unlock s m).farm_b < 4)
-unlock_so s Open = (refl, omega arith)
-unlock_so s _ = (refl, omega arith)
-
-set_so : (s : FarmState) (x : ℕ) (m : FarmMode)
-    → ((after_set_vr s x m).width ≡ s.width) × ((after_set_vr s x m).farm_b < 4)
-set_so s x Open = (refl, omega arith)
-set_so s x _ = (refl, omega arith)
-
-release_so : (s : FarmState) (m : FarmMode)
-    → ((after_release s m).width ≡ s.width) × ((after_release s m).farm_b ≡ s.farm_b)
-release_so s Open = (refl, refl)
-release_so s _ = (refl, refl)
-
 farm_fields : (s : FarmState) (e : FarmEvent) → s.farm_b < 4
     → ((farm_step s e).width ≡ s.width) × ((farm_step s e).farm_b < 4)
-farm_fields s (AdArrives n free) lt = let t = verdict_so s (verdict_of s n free) in (t.0, omega (arith, t.1, lt))
-farm_fields s BdArrives lt = (refl, omega arith)
-farm_fields s UnlockArrives lt = unlock_so s s.state
-farm_fields s (SetVrArrives x) lt = set_so s x s.state
-farm_fields s InvalidArrives lt = (refl, lt)
-farm_fields s BufferReleased lt = let t = release_so s s.state in (t.0, omega (arith, t.1, lt))
+farm_fields s e lt = grind arith
 
 pub farm_so : (c : Config) (s : FarmState) (e : FarmEvent) → FarmSteady c s → FarmSteady c (farm_step s e)
 farm_so c s e k =
@@ -242,10 +216,7 @@ all_push P xs x all is = all_append P xs (x ∷ []) all (is, tt)
 pub units-push : (c : Config) (ps : List PacketOn) (p : PacketOn)
     → units_of_all c (ps ++ p ∷ []) ≡ units_of_all c ps ++ segments_of c.part p.on_map p.octets
 units-push c [] p = append-nil (segments_of c.part p.on_map p.octets)
-units-push c (x ∷ xs) p =
-    ap (λ l. segments_of c.part x.on_map x.octets ++ l) (units-push c xs p)
-    ∙ sym (append_assoc (segments_of c.part x.on_map x.octets) (units_of_all c xs)
-    (segments_of c.part p.on_map p.octets))
+units-push c (x ∷ xs) p = rw (units-push c xs p, append_assoc) refl
 
 module _ (early : Bool) (c : Config) (d : Directive) (base : ℕ) (w : World) (k : Sound c w) (g : In early c d base w)
     (m : ℕ) (octets : List ℕ) where

@@ -150,8 +150,7 @@ verdict_in_window s base h r i n free half most vr number low high =
 -- A frame that arrives, or doesn't, keeps what holds in a session.
 
 bit_most : (b : Bool) → bit b ≤ 1
-bit_most true = omega arith
-bit_most false = omega arith
+bit_most b = grind arith
 
 pub own_arrives : (s : SpacecraftState) (c : Config) (f : BodyView) (r : Result FrameView TcFault) → s.config ≡ c
     → r ≡ Ok (frame_of c f) → frame_outcome s r ≡ body_outcome s f
@@ -169,8 +168,7 @@ after_judging s u v = record (accepted_by s u v) { farm = after_verdict s.farm v
 
 judged_is : (s : SpacecraftState) (n : ℕ) (u : SegmentView) (v : Verdict) → verdict_of s.farm n (is_free s) ≡ v
     → (sequence_outcome s n u v).after ≡ after_judging s u v
-judged_is s n u Accepted e = ap (λ v. record (after_segment s u) { farm = after_verdict s.farm v }) e
-judged_is s n u _ e = ap (λ v. record s { farm = after_verdict s.farm v }) e
+judged_is s n u v e = grind (arith, e)
 
 -- what a stage says of a receiver that is eased
 eased : (early : Bool) (c : Config) (d : Directive) (base : ℕ) (w : World) (g : In early c d base w) (farm : FarmState)
