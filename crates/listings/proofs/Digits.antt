@@ -158,10 +158,7 @@ entry_is (suc n) i xs zero e lt =
 entry_is (suc n) i xs (suc k) e lt =
     let place : i + suc k ≡ (i + 1) + k = omega arith in
     let four : 4 * suc k ≡ 4 + 4 * k = omega arith in
-    ap (λ j. is_entry (drop (4 * suc k) xs) j) place
-    ∙ ap (λ j. is_entry (drop j xs) ((i + 1) + k)) four
-    ∙ ap (λ l. is_entry l ((i + 1) + k)) (sym (drop-drop (4 * k) 4 xs))
-    ∙ entry_is n (i + 1) (drop 4 xs) k (and_parts _ _ e).1 (omega arith)
+    rw (place, four, ← drop-drop (4 * k) 4 xs) (entry_is n (i + 1) (drop 4 xs) k (and_parts _ _ e).1 (omega arith))
 
 -- what an entry is
 pub record IsEntry (xs : List ℕ) (i : ℕ) : Type 0 where

@@ -42,8 +42,7 @@ module _ {S F : Type 0} (lines : Lines S F) (layout : Layout F) (heads : HasHead
       → text ≡ text' → count ≡ count' → good ≡ good' → octets ≡ octets'
       → stands text kept count good octets ≡ stands text' kept count' good' octets'
   same_parts text text' kept count count' good good' octets octets' t n g o =
-      ap (λ (x : List ℕ). stands x kept count good octets) t ∙ ap (λ (x : ℕ). stands text' kept x good octets) n
-      ∙ ap (λ (x : Bool). stands text' kept count' x octets) g ∙ ap (stands text' kept count' good') o
+      rw (t, n, g, o) refl
 
   behind-cons : (st : Standing S) (r : List ℕ) (rs : List (List ℕ)) (rest : List ℕ)
       → behind lines st (r ∷ rs) rest ≡ behind lines (one_more st r) rs rest

@@ -6,14 +6,13 @@ use Rattle.tc_link.proofs.Common.{Directive, directive_step, Config, Event, Open
 use Rattle.tc_link.proofs.Common.{directive_outcome, is_initiation, World, new_world, world_step, world_run, IsClean}
 use Rattle.tc_link.proofs.Common.{IsIdle, BeginsNoSession, down_deliver_step, begins_clean, begins_idle}
 use Rattle.tc_link.proofs.Common.{session_begun_by, session_after_directive, IsDirective, IsEvent, IsReached, obeyed}
-use Rattle.tc_link.proofs.Common.{FopOutcome, closed_not, closed_is, SetVs, InitUnlock, GroundState, and_parts, S6, ◌+◌}
-use Rattle.tc_link.proofs.Common.{◌%◌, ◌<◌, ◌++◌, length, arith, length-append, eq-eqb, append-nil, Clcw, Ad}
-use Rattle.tc_link.proofs.Common.{segment_octets, Sent, PulledUnit, pull_step, clcw_step, FopState, tick_step}
-use Rattle.tc_link.proofs.Common.{after_alert, after_stop, retransmits, after_new_value, after_restart, pulled_out}
-use Rattle.tc_link.proofs.Common.{ticked, heard_active, without_oldest_mark, with_fop, frame_to_send, world_after_pull}
-use Rattle.tc_link.proofs.Common.{world_after_directive, Fates, submitting, report_while_active}
+use Rattle.tc_link.proofs.Common.{FopOutcome, closed_not, closed_is, SetVs, InitUnlock, GroundState, S6, ◌+◌, ◌%◌, ◌<◌}
+use Rattle.tc_link.proofs.Common.{◌++◌, length, arith, length-append, eq-eqb, append-nil, Clcw, Ad, segment_octets}
+use Rattle.tc_link.proofs.Common.{Sent, PulledUnit, pull_step, clcw_step, FopState, tick_step, after_alert, after_stop}
+use Rattle.tc_link.proofs.Common.{retransmits, after_new_value, after_restart, pulled_out, ticked, heard_active}
+use Rattle.tc_link.proofs.Common.{without_oldest_mark, with_fop, frame_to_send, world_after_pull, world_after_directive}
+use Rattle.tc_link.proofs.Common.{Fates, submitting, report_while_active}
 use Rattle.std.proofs.lemmas.Bool.{cases_Bool}
-use Rattle.std.specs.Prelude.{◌&&◌}
 use Rattle.cop1.specs.FopPull.{after_send_first}
 use Rattle.nodes.specs.declared.event.Event.TheVariants as events
 use Rattle.nodes.specs.Ground.{can_resume}
@@ -241,9 +240,7 @@ reached_holds w r =
 -- ---- a session begins with an event
 
 pub can_off : (s : GroundState) (value : ℕ) → can_resume s value ≡ true → s.fop.state ≡ S6
-can_off s value can =
-    let both = and_parts (is_closed s.fop.state && s.fates.kept) _ can in
-    closed_is s.fop.state (and_parts (is_closed s.fop.state) s.fates.kept both.0).0
+can_off s value can = grind (arith, can)
 
 -- it is an initiation, or ends with one
 pub record BeganAt (w : World) (e : Event) : Type 0 where

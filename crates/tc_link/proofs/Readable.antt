@@ -11,11 +11,11 @@ use Rattle.tc_link.proofs.Common.{after_repeat, after_alert, after_stop, after_r
 use Rattle.tc_link.proofs.Common.{pulled_out, ticked, TmFault, GroundState, is_closed, unsent_segments, refill_step}
 use Rattle.tc_link.proofs.Common.{with_fop, directive_outcome, submit_fault, after_submission, segments_on}
 use Rattle.tc_link.proofs.Common.{segments_fit, closed_not, active_on, SetVs, obeying, submitting, ◌+◌, ◌%◌}
-use Rattle.tc_link.proofs.Common.{if◌then◌else◌, Err, ◌==◌, ◌||◌, nat_lt, not, eqb-true, or_parts, not-false}
-use Rattle.tc_link.proofs.Common.{PulledUnit, frame_to_send, Event, AllReadable, World, world_step, world_after_pull}
-use Rattle.tc_link.proofs.Common.{IsEvent, ◌<◌, map, cond_both, TcFault, segment_octets, FopMode, report_in, IsActive}
-use Rattle.tc_link.proofs.Common.{is_kept, limits_of, SpacecraftState, frame_outcome, body_outcome, is_own_frame}
-use Rattle.tc_link.proofs.Common.{number_in, in_frame, world_after_directive, BeginsNoSession, accepted, oldest_marked}
+use Rattle.tc_link.proofs.Common.{if◌then◌else◌, Err, PulledUnit, frame_to_send, Event, AllReadable, World, world_step}
+use Rattle.tc_link.proofs.Common.{world_after_pull, IsEvent, ◌<◌, map, cond_both, TcFault, segment_octets, FopMode}
+use Rattle.tc_link.proofs.Common.{report_in, IsActive, is_kept, limits_of, SpacecraftState, frame_outcome, body_outcome}
+use Rattle.tc_link.proofs.Common.{is_own_frame, number_in, in_frame, world_after_directive, BeginsNoSession, accepted}
+use Rattle.tc_link.proofs.Common.{oldest_marked}
 use Rattle.std.proofs.lemmas.Bool.{lt-ltb, le-leb}
 use Rattle.std.specs.Prelude.{flat_map}
 use Rattle.tc_frame.specs.Layout.{body_fits, FrameView}
@@ -320,9 +320,7 @@ size_of : (total : ℕ) (b : List ℕ) (f : telemetry.FrameView) → frame_at to
 unfolding frame_at
 size_of total b f h =
     let right : is_length_wrong total (length b) ≡ false = length_right (is_length_wrong total (length b)) _ f h in
-    let both = or_parts (not (length b == total) || nat_lt total 16) (nat_lt 2048 total) right in
-    let first = or_parts (not (length b == total)) (nat_lt total 16) both.0 in
-    eqb-true (length b) total (not-false (length b == total) first.0)
+    grind (arith, right)
 
 up_readable : (c : Config) (bs : List (List ℕ)) (fs : List BodyView) → Carries c bs fs
     → AllByRecursion (IsCommandOf c) bs

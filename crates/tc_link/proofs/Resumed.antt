@@ -1,10 +1,10 @@
 -- A program that resumes after each alert has a prefix of what it wants delivered.
-use Rattle.tc_link.proofs.Common.{◌≡◌, ℕ, ◌+◌, ◌%◌, ◌<◌, ◌≤◌, Bool, true, List, [], ◌∷◌, ◌++◌, length, take, drop, Some}
-use Rattle.tc_link.proofs.Common.{Result, Ok, Err, refl, ap, sym, subst, ◌∙◌, arith, length-append, length-map}
+use Rattle.tc_link.proofs.Common.{◌≡◌, ℕ, ◌+◌, ◌%◌, ◌<◌, ◌≤◌, true, List, [], ◌∷◌, ◌++◌, length, take, drop, Some}
+use Rattle.tc_link.proofs.Common.{Result, Ok, refl, ap, sym, subst, ◌∙◌, arith, length-append, length-map}
 use Rattle.tc_link.proofs.Common.{take-append-drop, AllByRecursion, inl, inr, Opening, length-drop, option_map, SetVs}
 use Rattle.tc_link.proofs.Common.{InitUnlock, is_closed, Config, GroundState, PacketOn, Event, World, world_step}
 use Rattle.tc_link.proofs.Common.{world_run, KeepsSession, BeginsNoSession, IsIdle, IsEvent, session_begun_by}
-use Rattle.tc_link.proofs.Common.{delivered, ahead_by, cond}
+use Rattle.tc_link.proofs.Common.{delivered, ahead_by}
 use Rattle.std.specs.Prelude.{◌^◌, ◌==◌, ◌&&◌, nat_lt}
 use Rattle.std.specs.List.{flat_map, filter, list_all}
 use Rattle.std.proofs.lemmas.Bool.{cases_Bool, and_parts, not-true, ltb-false, eqb-true}
@@ -15,10 +15,8 @@ use Rattle.std.proofs.lemmas.List.Elements.{filter-append}
 use Rattle.octets.specs.Beginning.{IsBeginning}
 use Rattle.map_service.specs.Packets.{packets_in}
 use Rattle.nodes.specs.Fates.{whole_with}
-use Rattle.nodes.specs.Ground.{ground_step, Resume, can_resume, after_resuming, known_on_board, ground_resume}
-use Rattle.nodes.specs.Ground.{GroundOutcome}
+use Rattle.nodes.specs.Ground.{ground_step, Resume, can_resume, known_on_board, ground_resume}
 use Rattle.nodes.specs.declared.fault.LinkFault.{LinkFault}
-use Rattle.nodes.specs.declared.fault.LinkFault.TheVariants.{NotKnown}
 use Rattle.nodes.specs.declared.event.Event.TheVariants as events
 use Rattle.simulated_link.specs.World.{Session, is_idle, is_none, reports_as, report_now, world_after_resuming}
 use Rattle.tc_link.proofs.Promised.{past_holds, promised_so, run_append}
@@ -149,17 +147,9 @@ module _ (c : Config) (wanted : List PacketOn) (w : World) (done : ℕ) (l : Lea
 
 -- ---- the ground resumes
 
-resumes_if : (can : Bool) (s next : GroundState) (whole more : ℕ)
-    → (cond {A = GroundOutcome (Result ℕ LinkFault)} can (record { answer = Ok whole; after = next })
-    (record { answer = Err NotKnown; after = s })).answer ≡ Ok more
-    → (can ≡ true) × (more ≡ whole)
-resumes_if can s next whole more answered = grind (arith, answered)
-
 ground_resumes : (s : GroundState) (value more : ℕ) → (ground_resume s value).answer ≡ Ok more
     → (can_resume s value ≡ true) × (more ≡ whole_with (ahead_by value s.fop.nn) s.fates)
-ground_resumes s value more answered =
-    resumes_if (can_resume s value) s (after_resuming s value) (whole_with (ahead_by value s.fop.nn) s.fates) more
-    answered
+ground_resumes s value more answered = grind (arith, answered)
 
 pub resumes_so : ResumesSo
 resumes_so w value more answered =
