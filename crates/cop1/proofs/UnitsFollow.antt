@@ -49,9 +49,8 @@ module _ {U : Type 0} where
 
   -- the marks are counted from the end, so they stay where units leave the front
   pub drop-marked_last : (due n : ℕ) (us : List U) → drop n (marked_last due us) ≡ marked_last due (drop n us)
-  drop-marked_last due zero us = refl
-  drop-marked_last due (suc n) [] = refl
   drop-marked_last due (suc n) (u ∷ us) = drop-marked_last due n us
+  drop-marked_last due _ _ = refl
 
   -- no more are marked than there are
   pub marked_last-all : (due more : ℕ) (us : List U) → length us ≤ due → length us ≤ more
@@ -409,12 +408,11 @@ module _ {U : Type 0} where
 
     waiting_goes : (w : Option U) (b : Bool) → is_some w ≡ b → q.waiting ≡ w → s.sent.due ≡ 0
         → Goes s q (pulls.pull_waiting s (waiting_which b)) (pulls.pull_waiting (with_queues s q) w)
-    waiting_goes None true e same none = absurd cc
     waiting_goes None false e same none = nothing_goes s q fits
     waiting_goes (Some u) true e same none =
         when (λ o f. Goes s q o f) (nat_lt (ahead_by s.vs s.nn) s.window) (λ t. first_goes u same none)
         (λ t. nothing_goes s q fits)
-    waiting_goes (Some u) false e same none = absurd cc
+    waiting_goes _ _ e same none = absurd cc
 
     -- the oldest unit that is due goes again
     again_goes : 0 < s.sent.due

@@ -3,10 +3,11 @@ use Rattle.hex.specs.Hex.{encode_upper, encode_with, upper_digits}
 use lib.Lanes.{zip2, Each1}
 use Rattle.std.proofs.Common.{◌≡◌, ◌∙◌, ℕ, ◌+◌, ◌<◌, ◌≤◌, ◌++◌, List, [], ◌∷◌, ap, arith, decimal, refl, append_assoc}
 use Rattle.std.proofs.Common.{length, length-append, sym, zero, suc, eqb, Bool, true, false, take, drop, get_or}
-use Rattle.std.proofs.Common.{length-take-le, length-drop, take-add, take-take, take_at, drop_at, take_all}
-use Rattle.std.proofs.Common.{take-append-drop, subst, inl, inr, ◌*◌, ◌/◌, ◌%◌, ◌^◌, map, replicate, bit_and, w8, Fits}
+use Rattle.std.proofs.Common.{length-take-le, length-drop, take-add, take-take, take_all, take-append-drop, subst, inl}
+use Rattle.std.proofs.Common.{inr, ◌*◌, ◌/◌, ◌%◌, ◌^◌, map, replicate, bit_and, w8, Fits}
 use Rattle.std.specs.Prelude.{◌-◌, ◌&&◌, nat_lt, if◌then◌else◌, slice_index}
 use Rattle.std.proofs.lemmas.Bool.{and_parts, eqb-true, ltb-true, cases_lt, lt-ltb, le-ltb}
+use Rattle.std.proofs.Math.Seq.{take-append-add}
 use Rattle.std.proofs.lemmas.List.{drop-drop, drop-take, take_rest, get_or-map, length-map, ext_get_or}
 use Rattle.std.proofs.lemmas.Fmt.{decimal_digit, decimal_step, length-decimal-le}
 use Rattle.std.proofs.lemmas.List.FromFn.{get_or-map-range_with_len, length-map-range_with_len}
@@ -28,9 +29,7 @@ four_are n =
     let thousands : n / 1000 ≡ n / 100 / 10 = omega arith in
     let tens : n / 10 % 10 ≡ n % 100 / 10 = omega arith in
     let ones : n % 10 ≡ n % 100 % 10 = omega arith in
-    ap (λ k. (48 + k) ∷ (48 + n / 100 % 10) ∷ (48 + n / 10 % 10) ∷ (48 + n % 10) ∷ []) thousands
-    ∙ ap (λ k. (48 + n / 100 / 10) ∷ (48 + n / 100 % 10) ∷ (48 + k) ∷ (48 + n % 10) ∷ []) tens
-    ∙ ap (λ k. (48 + n / 100 / 10) ∷ (48 + n / 100 % 10) ∷ (48 + n % 100 / 10) ∷ (48 + k) ∷ []) ones
+    rw (thousands, tens, ones)
 
 are_two : (n : ℕ) → 10 ≤ n → n < 100 → decimal n ≡ two_digits n
 are_two n low high =
@@ -48,12 +47,8 @@ then_two n low high =
     let q : n / 10 / 10 ≡ n / 100 = omega arith in
     let tens : n / 10 % 10 ≡ n % 100 / 10 = omega arith in
     let ones : n % 10 ≡ n % 100 % 10 = omega arith in
-    decimal_step n (omega arith) high
-    ∙ ap (λ ds. ds ++ ((48 + n % 10) ∷ [])) (decimal_step (n / 10) (omega arith) (omega arith))
-    ∙ append_assoc (decimal (n / 10 / 10)) ((48 + n / 10 % 10) ∷ []) ((48 + n % 10) ∷ [])
-    ∙ ap (λ k. decimal k ++ ((48 + n / 10 % 10) ∷ (48 + n % 10) ∷ [])) q
-    ∙ ap (λ k. decimal (n / 100) ++ ((48 + k) ∷ (48 + n % 10) ∷ [])) tens
-    ∙ ap (λ k. decimal (n / 100) ++ ((48 + n % 100 / 10) ∷ (48 + k) ∷ [])) ones
+    let front = decimal_step (n / 10) (omega arith) (omega arith) in
+    rw (decimal_step n (omega arith) high, front, append_assoc, q, tens, ones)
 
 pub two_more : (n : ℕ) → 100 ≤ n → n < 2 ^ 64 → length (decimal n) ≡ length (decimal (n / 100)) + 2
 two_more n low high =
@@ -69,13 +64,8 @@ then_four n low high =
     let q : n / 100 / 100 ≡ n / 10000 = omega arith in
     let upper : n / 100 % 100 ≡ n % 10000 / 100 = omega arith in
     let lower : n % 100 ≡ n % 10000 % 100 = omega arith in
-    then_two n (omega arith) high
-    ∙ ap (λ ds. ds ++ two_digits (n % 100)) (then_two (n / 100) (omega arith) (omega arith))
-    ∙ append_assoc (decimal (n / 100 / 100)) (two_digits (n / 100 % 100)) (two_digits (n % 100))
-    ∙ ap (λ k. decimal k ++ (two_digits (n / 100 % 100) ++ two_digits (n % 100))) q
-    ∙ ap (λ k. decimal (n / 10000) ++ (two_digits k ++ two_digits (n % 100))) upper
-    ∙ ap (λ k. decimal (n / 10000) ++ (two_digits (n % 10000 / 100) ++ two_digits k)) lower
-    ∙ ap (λ ds. decimal (n / 10000) ++ ds) (sym (four_are (n % 10000)))
+    rw (then_two n (omega arith) high, then_two (n / 100) (omega arith) (omega arith), append_assoc, q, upper, lower)
+    (ap (λ ds. decimal (n / 10000) ++ ds) (sym (four_are (n % 10000))))
 
 pub four_more : (n : ℕ) → 10000 ≤ n → n < 2 ^ 64 → length (decimal n) ≡ length (decimal (n / 10000)) + 4
 four_more n low high = ap length (then_four n low high) ∙ length-append (decimal (n / 10000)) (four_digits (n % 10000))
@@ -96,9 +86,7 @@ at_most_five n small = length-decimal-le 5 n (omega arith) (omega arith) (omega 
 -- ---- octets that are put over others
 
 pub take_past : (i n : ℕ) (xs ys : List ℕ) → length xs ≡ i → take (i + n) (xs ++ ys) ≡ xs ++ take n ys
-take_past i n xs ys long =
-    take-add i n (xs ++ ys) ∙ ap (λ l. l ++ take n (drop i (xs ++ ys))) (take_at xs ys i long)
-    ∙ ap (λ l. xs ++ take n l) (drop_at xs ys i long)
+take_past i n xs ys long = rw (← long) (take-append-add xs ys n)
 
 -- the first `half` of these octets, and the last `half` over them, are all
 pub ends_put : (a b c word : List ℕ) (at half last : ℕ) → at ≤ length a → half ≤ length word → last ≤ half
@@ -132,8 +120,7 @@ same-is [] [] e = refl
 same-is (x ∷ xs) (y ∷ ys) e =
     let both = and_parts _ _ e in
     ap (λ k. k ∷ xs) (eqb-true x y both.0) ∙ ap (λ l. y ∷ l) (same-is xs ys both.1)
-same-is [] (y ∷ ys) e = absurd cc
-same-is (x ∷ xs) [] e = absurd cc
+same-is _ _ e = absurd cc
 
 -- the digits of a number of at most three
 abbrev places : ℕ → List ℕ
@@ -171,10 +158,7 @@ entry_is (suc n) i xs zero e lt =
 entry_is (suc n) i xs (suc k) e lt =
     let place : i + suc k ≡ (i + 1) + k = omega arith in
     let four : 4 * suc k ≡ 4 + 4 * k = omega arith in
-    ap (λ j. is_entry (drop (4 * suc k) xs) j) place
-    ∙ ap (λ j. is_entry (drop j xs) ((i + 1) + k)) four
-    ∙ ap (λ l. is_entry l ((i + 1) + k)) (sym (drop-drop (4 * k) 4 xs))
-    ∙ entry_is n (i + 1) (drop 4 xs) k (and_parts _ _ e).1 (omega arith)
+    rw (place, four, ← drop-drop (4 * k) 4 xs) (entry_is n (i + 1) (drop 4 xs) k (and_parts _ _ e).1 (omega arith))
 
 -- what an entry is
 pub record IsEntry (xs : List ℕ) (i : ℕ) : Type 0 where
@@ -193,19 +177,13 @@ is_entry-is (a ∷ b ∷ c ∷ n ∷ xs) i lt e =
       count = sym (length-take-le n (a ∷ b ∷ c ∷ []) (omega arith)) ∙ ap length digits;
       few = omega arith;
     }
-is_entry-is [] i lt e = absurd cc
-is_entry-is (a ∷ []) i lt e = absurd cc
-is_entry-is (a ∷ b ∷ []) i lt e = absurd cc
-is_entry-is (a ∷ b ∷ c ∷ []) i lt e = absurd cc
-
-octets_hold : entries_hold 256 0 OCTETS ≡ true
-octets_hold = refl
+is_entry-is _ i lt e = absurd cc
 
 pub octet_entry : (j k : ℕ) → j ≡ k → k < 256 → IsEntry (take (1024 - 4 * j) (drop (4 * j) OCTETS)) k
 octet_entry j k same lt =
     let place : 0 + j ≡ j = omega arith in
     let holds : is_entry (drop (4 * j) OCTETS) j ≡ true =
-    ap (is_entry (drop (4 * j) OCTETS)) (sym place) ∙ entry_is 256 0 OCTETS j octets_hold (omega arith) in
+    ap (is_entry (drop (4 * j) OCTETS)) (sym place) ∙ entry_is 256 0 OCTETS j refl (omega arith) in
     let all : take (1024 - 4 * j) (drop (4 * j) OCTETS) ≡ drop (4 * j) OCTETS = take_rest OCTETS (4 * j) in
     subst (λ l. IsEntry l k) (sym all) (subst (IsEntry (drop (4 * j) OCTETS)) same
     (is_entry-is (drop (4 * j) OCTETS) j (omega arith) holds))
@@ -241,8 +219,7 @@ pub last_after : (t d : ℕ) → 48 ≤ d → d ≤ 57 → 10 * t + (d - 48) < 2
     → leading_digits t ++ (d ∷ []) ≡ decimal (10 * t + (d - 48))
 last_after zero d low high small =
     let digit : 48 + (d - 48) ≡ d = omega arith in
-    let all : d - 48 ≡ 10 * 0 + (d - 48) = omega arith in
-    ap (λ k. k ∷ []) (sym digit) ∙ sym (decimal_digit (d - 48) (omega arith)) ∙ ap decimal all
+    ap (λ k. k ∷ []) (sym digit) ∙ sym (decimal_digit (d - 48) (omega arith)) ∙ ap decimal (omega arith)
 last_after (suc t) d low high small =
     let n = 10 * suc t + (d - 48) in
     let front : n / 10 ≡ suc t = omega arith in
@@ -362,12 +339,6 @@ encode_take t (suc n) [] = rw (twice n) refl
 encode_take t (suc n) (x ∷ xs) =
     rw (twice n) (ap (λ l. slice_index t (x / 16) ∷ slice_index t (x % 16) ∷ l) (encode_take t n xs))
 
-take_sum : (i n : ℕ) (xs : List ℕ) → take (i + n) xs ≡ take i xs ++ take n (drop i xs)
-take_sum i n xs =
-    sym (take-append-drop i (take (i + n) xs))
-    ∙ ap (λ l. l ++ drop i (take (i + n) xs)) (take-take i (i + n) xs (omega arith))
-    ∙ ap (λ l. take i xs ++ l) (drop-take i n xs)
-
 -- before the first sixteen
 pub none_yet : (t input digits : List ℕ) → take (2 * (16 * 0)) digits ≡ encode_with t (take (16 * 0) input)
 unfolding encode_with
@@ -380,7 +351,7 @@ pub sixteen_more : (t input before after : List ℕ) (i : ℕ)
     → take (2 * (i + 16)) after ≡ encode_with t (take (i + 16) input)
 sixteen_more t input before after i written inv =
     written ∙ ap (λ l. l ++ encode_with t (take 16 (drop i input))) inv
-    ∙ sym (encode_append t (take i input) (take 16 (drop i input))) ∙ ap (encode_with t) (sym (take_sum i 16 input))
+    ∙ sym (encode_append t (take i input) (take 16 (drop i input))) ∙ ap (encode_with t) (sym (take-add i 16 input))
 
 -- fewer than those that are written
 fewer_sixteen : (t input digits : List ℕ) (i j : ℕ) → j ≤ i → take (2 * i) digits ≡ encode_with t (take i input)

@@ -3,6 +3,7 @@ use Rattle.std.proofs.Common.{◌≡◌, ℕ, ◌+◌, ◌≤◌, Bool, true, fa
 use Rattle.std.proofs.Common.{refl, sym, ap, ◌∙◌, append_assoc, arith, cond, ltb, take, subst}
 use Rattle.std.specs.Prelude.{◌&&◌, Some, None, IfOk, OnOk}
 use Rattle.std.specs.List.{list_all}
+use Rattle.std.proofs.Math.Bool.{and_assoc, and-true, and-false}
 use Rattle.std.proofs.lemmas.List.{append-nil, length-drop, length-append, drop_at, drop_all}
 use Rattle.std.proofs.lemmas.Bool.{lt-ltb}
 use Rattle.octets.specs.Records.{record_of}
@@ -22,14 +23,6 @@ abbrev pub bare : {S F : Type 0} → Lines S F → Layout F → S → List ℕ �
 bare lines layout s octets = record (listed lines layout (fresh s octets)) { text = [] }
 
 module _ {S F : Type 0} (lines : Lines S F) (layout : Layout F) (heads : HasHeads layout) where
-  and-assoc : (a b c : Bool) → (a && b) && c ≡ a && (b && c)
-  and-assoc true b c = refl
-  and-assoc false b c = refl
-
-  and-true : (a : Bool) → a && true ≡ a
-  and-true true = refl
-  and-true false = refl
-
   -- a listing with one record more
   abbrev pub one_more : Standing S → List ℕ → Standing S
   one_more st r = record {
@@ -49,8 +42,7 @@ module _ {S F : Type 0} (lines : Lines S F) (layout : Layout F) (heads : HasHead
       → text ≡ text' → count ≡ count' → good ≡ good' → octets ≡ octets'
       → stands text kept count good octets ≡ stands text' kept count' good' octets'
   same_parts text text' kept count count' good good' octets octets' t n g o =
-      ap (λ (x : List ℕ). stands x kept count good octets) t ∙ ap (λ (x : ℕ). stands text' kept x good octets) n
-      ∙ ap (λ (x : Bool). stands text' kept count' x octets) g ∙ ap (stands text' kept count' good') o
+      rw (t, n, g, o) refl
 
   behind-cons : (st : Standing S) (r : List ℕ) (rs : List (List ℕ)) (rest : List ℕ)
       → behind lines st (r ∷ rs) rest ≡ behind lines (one_more st r) rs rest
@@ -59,7 +51,7 @@ module _ {S F : Type 0} (lines : Lines S F) (layout : Layout F) (heads : HasHead
       (sym (append_assoc st.text (lines.line_of st.kept (st.count + 1) r)
       (record_lines lines (lines.after st.kept r) (st.count + 1 + 1) rs)))
       (omega arith)
-      (sym (and-assoc st.all_good (lines.is_good r) (list_all lines.is_good rs)))
+      (sym (and_assoc st.all_good (lines.is_good r) (list_all lines.is_good rs)))
       refl
 
   -- where there is a record, the listing goes on after it
@@ -90,14 +82,7 @@ module _ {S F : Type 0} (lines : Lines S F) (layout : Layout F) (heads : HasHead
       → length (drop (length r) octets) + 1 ≤ length octets
   shorter octets r first =
       let is = record_is layout.head layout.extent heads.some_head heads.has_head octets r first in
-      omega (
-        arith,
-        length-drop (length r) octets,
-        is.0.has_head,
-        ap length is.1,
-        length-append r
-            (drop (length r) octets),
-      )
+      omega (arith, length-drop (length r) octets, is.0.has_head, ap length is.1, length-append {A = ℕ})
 
   -- where there is none, it is as it was
   pub listed-none : (st : Standing S) → IsNoRecord layout.head layout.extent (first_by layout st.octets)
@@ -155,18 +140,14 @@ module _ {S F : Type 0} (lines : Lines S F) (layout : Layout F) (heads : HasHead
   fault_of octets e true h = absurd cc
   fault_of octets e false h = refused_fault octets (layout.extent (take layout.head octets)) e h
 
+  pub first_record-nothing : first_by layout [] ≡ None
+  first_record-nothing =
+      let short : ltb 0 layout.head ≡ true = lt-ltb 0 layout.head (omega (arith, heads.some_head)) in rw short refl
+
   -- octets that are refused have the line of their fault
   pub rest_line-refused : (i : ℕ) (octets : List ℕ) (e : F) → first_by layout octets ≡ Some (Err e)
       → rest_line lines layout i octets ≡ lines.fault_line i e
-  rest_line-refused i [] e h =
-      let short : ltb 0 layout.head ≡ true = lt-ltb 0 layout.head (omega (arith, heads.some_head)) in
-      absurd (none_is (ltb 0 layout.head) short h)
-    where
-      none_is : (b : Bool) → b ≡ true
-          → cond b None (record_of layout.head layout.extent [] (layout.extent (take layout.head []))) ≡ Some (Err e)
-          → ⊥
-      none_is true t k = cc
-      none_is false t k = cc
+  rest_line-refused i [] e h = let none = first_record-nothing in absurd cc
   rest_line-refused i (x ∷ xs) e h = ap (lines.fault_line i) (fault_of (x ∷ xs) e (ltb (length (x ∷ xs)) layout.head) h)
 
   -- ---- a stream in pieces
@@ -195,22 +176,7 @@ module _ {S F : Type 0} (lines : Lines S F) (layout : Layout F) (heads : HasHead
 
   -- nothing is listed of no octets
   pub listed-nothing : (s : S) → listed lines layout (fresh s []) ≡ fresh s []
-  listed-nothing s =
-      listed-none (fresh s []) (none_in (ltb 0 layout.head) (lt-ltb 0 layout.head (omega (arith, heads.some_head))))
-    where
-      none_in : (b : Bool) → b ≡ true
-          → IsNoRecord layout.head layout.extent
-          (cond b None (record_of layout.head layout.extent [] (layout.extent (take layout.head []))))
-      none_in true t = tt
-      none_in false t = absurd cc
-
-  pub first_record-nothing : first_by layout [] ≡ None
-  first_record-nothing = none_of (ltb 0 layout.head) (lt-ltb 0 layout.head (omega (arith, heads.some_head)))
-    where
-      none_of : (b : Bool) → b ≡ true
-          → cond b None (record_of layout.head layout.extent [] (layout.extent (take layout.head []))) ≡ None
-      none_of true t = refl
-      none_of false t = absurd cc
+  listed-nothing s = listed-none (fresh s []) (rw first_record-nothing tt)
 
   -- octets that are refused are some
   pub refused_some : (octets : List ℕ) (e : F) → first_by layout octets ≡ Some (Err e) → is_empty octets ≡ false
@@ -261,10 +227,6 @@ same_summary a b records octets good =
     ∙ ap (λ (x : Bool). record b { all_good = x }) good
 
 -- What a piece of a stream adds to what is listed and written of it.
-
-and-false : (b : Bool) → b && false ≡ false
-and-false true = refl
-and-false false = refl
 
 -- a text after what is written
 behind_written : (before taken t u whole : List ℕ) → taken ≡ before ++ t → whole ≡ t ++ u → taken ++ u ≡ before ++ whole

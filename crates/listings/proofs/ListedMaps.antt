@@ -16,7 +16,7 @@ use Rattle.map_service.specs.AssemblerTable.{TakeOutcome, take_step}
 use Rattle.map_service.proofs.AssemblerSteps.{no_parts, taken_exactly}
 use Rattle.cop1.specs.Farm.{FarmState, new_farm, verdict_of}
 use Rattle.cop1.specs.declared.farm.Verdict.{Verdict}
-use Rattle.cop1.specs.declared.farm.Verdict.TheVariants.{Accepted, Ahead, NoBuffer, Behind, Outside, Discarded}
+use Rattle.cop1.specs.declared.farm.Verdict.TheVariants.{Accepted}
 use Rattle.listings.specs.FarmLines as farms
 use Rattle.listings.specs.MapLines.{MapState, map_limits, map_opened, segment_of, assembler_after, after_frame}
 use Rattle.listings.specs.MapLines.{none_open, if_accepted, after_body, outcome_text, segment_text, bypass_text}
@@ -144,11 +144,7 @@ module _ (asked : Option ℕ) where
         parts = λ m is. same_set a.parts b.parts s.header.map m (step_at a s).part alike.count (alike.parts m is)
             ∙ ap (λ (o : TakeOutcome). get_or (set b.parts s.header.map o.part) m None) step;
       }
-  both_after a b alike s on Ahead = alike
-  both_after a b alike s on NoBuffer = alike
-  both_after a b alike s on Behind = alike
-  both_after a b alike s on Outside = alike
-  both_after a b alike s on Discarded = alike
+  both_after a b alike s on _ = alike
 
   -- one alone takes a segment of another MAP
   one_after : (a b : AssemblerState) → IsAlike a b → (s : SegmentView) → is_asked asked s.header.map ≡ false
@@ -162,20 +158,12 @@ module _ (asked : Option ℕ) where
         parts = λ m is. alike.parts m is
             ∙ sym (get_or-set_other b.parts s.header.map m (step_at b s).part None (apart m is));
       }
-  one_after a b alike s off Ahead = alike
-  one_after a b alike s off NoBuffer = alike
-  one_after a b alike s off Behind = alike
-  one_after a b alike s off Outside = alike
-  one_after a b alike s off Discarded = alike
+  one_after a b alike s off _ = alike
 
   same_text : (i : ℕ) (a b : AssemblerState) → IsAlike a b → (s : SegmentView) → is_asked asked s.header.map ≡ true
       → (v : Verdict) → segment_text i a (if_accepted v s) ≡ segment_text i b (if_accepted v s)
   same_text i a b alike s on Accepted = ap (outcome_text i s.header.map) (same_step a b alike s on)
-  same_text i a b alike s on Ahead = refl
-  same_text i a b alike s on NoBuffer = refl
-  same_text i a b alike s on Behind = refl
-  same_text i a b alike s on Outside = refl
-  same_text i a b alike s on Discarded = refl
+  same_text i a b alike s on _ = refl
 
 module _ (check : Check) (asked : Option ℕ) where
   abbrev state : FarmState → AssemblerState → MapState

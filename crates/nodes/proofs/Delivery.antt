@@ -1,8 +1,8 @@
 -- What arrives is delivered as it is made ready: segments in order, and whole packets, no more of them than octets
 -- allow.
 use Rattle.std.proofs.Common.{◌≡◌, ◌++◌, ℕ, true, false, not, List, [], ◌∷◌, length, take, drop, Result, Ok, Err, refl}
-use Rattle.std.proofs.Common.{ap, ◌∙◌, ◌≤◌, ◌+◌, ◌*◌, ◌/◌, Option, Some, None, arith, length-append, lit≤, ◌≢◌, Bool}
-use Rattle.std.proofs.Common.{sym, append-nil, inl, inr}
+use Rattle.std.proofs.Common.{ap, ◌∙◌, ◌≤◌, ◌+◌, ◌*◌, ◌/◌, Option, Some, None, arith, length-append, lit≤, ◌≢◌, sym}
+use Rattle.std.proofs.Common.{append-nil, inl, inr}
 use Rattle.std.specs.Prelude.{nat_lt, ◌==◌}
 use Rattle.std.proofs.lemmas.Bool.{cond_both, ltb-false, eqb-true, cases_eq, eq-eqb, ne_eqb}
 use Rattle.std.specs.List.{AllByRecursion, concat}
@@ -13,10 +13,7 @@ use Rattle.space_packet.specs.Decoding.{extent_at}
 use Rattle.space_packet.specs.Laws.{extent_has_header}
 use Rattle.tc_frame.specs.declared.frame.SegmentFlags.{SegmentFlags}
 use Rattle.tc_frame.specs.declared.frame.SegmentFlags.TheVariants.{First, Continuing, Last, Alone}
-use Rattle.tc_frame.specs.Layout.{SegmentView, BodyView, Ad, Bd, Bc, FrameView}
-use Rattle.tc_frame.specs.declared.fault.TcFault.{TcFault}
-use Rattle.tc_frame.specs.declared.frame.Check.TheVariants.{On}
-use Rattle.tc_frame.specs.Decoding.{frame_at}
+use Rattle.tc_frame.specs.Layout.{SegmentView}
 use Rattle.map_service.specs.declared.limits.Limits.{Limits}
 use Rattle.map_service.specs.declared.dropped.Dropped.{Dropped}
 use Rattle.map_service.specs.declared.dropped.Dropped.TheVariants.{Interrupted, TooLong}
@@ -31,14 +28,10 @@ use Rattle.tm_link.specs.declared.frame.Pointer.TheVariants.{At, NoStart, OnlyId
 use Rattle.tm_link.specs.Extractor.{ExtractorState, ending_by, ending_of, finished_by, completed_packet, gap_of}
 use Rattle.tm_link.specs.Extractor.{part_over_gap, finished_packets, is_idle, without_idle, extract_step}
 use Rattle.tm_link.specs.Layout as telemetry
-use Rattle.cop1.specs.declared.farm.Verdict.{Verdict}
-use Rattle.cop1.specs.Farm.{verdict_of}
-use Rattle.nodes.specs.declared.received.Received.{Received}
 use Rattle.nodes.specs.Parameters.{limits_of}
-use Rattle.nodes.specs.BypassSegments.{is_kept}
 use Rattle.nodes.specs.Packets.{put_on_map}
-use Rattle.nodes.specs.Spacecraft.{SpacecraftState, SpacecraftOutcome, is_free, is_own_frame, is_accepted}
-use Rattle.nodes.specs.Spacecraft.{assemble_step, sequence_outcome, bypass_outcome, body_outcome, frame_outcome}
+use Rattle.nodes.specs.Spacecraft.{SpacecraftState, after_farm, assemble_step}
+use Rattle.nodes.proofs.Arrivals.{octets_come}
 use Rattle.nodes.specs.Delivery.{packets_of_map, delivered_on, HasDelivered, DeliversWhatItReceives}
 
 -- What a frame of telemetry finishes is packets, each exactly one.
@@ -100,13 +93,7 @@ packets_few : (octets : List ℕ) → 6 * length (packets_in octets) ≤ length 
 packets_few octets =
     let split : IsSplit 6 extent_at octets (records_of 6 extent_at octets) (rest_of 6 extent_at octets) =
     split_of 6 extent_at (lit≤ tt) extent_has_header octets in
-    omega (
-      arith,
-      ap length split.whole,
-      length-append (concat (records_of 6 extent_at octets))
-          (rest_of 6 extent_at octets),
-      sixes (records_of 6 extent_at octets) split.each,
-    )
+    omega (arith, ap length split.whole, length-append {A = ℕ}, sixes (records_of 6 extent_at octets) split.each)
 
 AreFew : List ℕ → List (List ℕ) → Type 0
 AreFew octets packets = length packets ≤ length octets / 6 + 1
@@ -145,11 +132,10 @@ cell_few limits Alone (Some part) octets =
     given_few octets (Some Interrupted) _ (alone_fault limits octets) (alone_few limits octets)
 cell_few limits First None octets = opened_few limits None octets octets
 cell_few limits First (Some part) octets = opened_few limits (Some Interrupted) octets octets
-cell_few limits Continuing None octets = none_few octets
 cell_few limits Continuing (Some part) octets = opened_few limits None octets (part ++ octets)
-cell_few limits Last None octets = none_few octets
 cell_few limits Last (Some part) octets =
     given_few octets None _ (one_fault limits (part ++ octets)) (one_few octets (part ++ octets))
+cell_few limits _ _ octets = none_few octets
 
 pub taken_few : (limits : Limits) (part : Option (List ℕ)) (s : SegmentView)
     → length (take_step limits part s).packets ≤ length s.payload / 6 + 1
@@ -196,34 +182,14 @@ module _
               (keeps (limits_of s.config) s.accepted segment m apart ∙ sym (append-nil (delivered_on m s)))
         ]
 
-    sequence_delivers : (s : SpacecraftState) (n : ℕ) (segment : SegmentView) (verdict : Verdict)
-        → HasDelivered s (sequence_outcome s n segment verdict).after
-    sequence_delivers s n segment verdict =
-        cond_both (is_accepted verdict) _ _ (λ (o : SpacecraftOutcome Received). HasDelivered s o.after)
-        (λ _. record {
-          more = put_on_map segment.header.map (assemble_step s segment).packets;
-          ready = refl;
-          delivered = adds_delivered s segment;
-        })
-        (λ _. same_delivered s _ refl refl refl)
-
-    bypass_delivers : (s : SpacecraftState) (segment : SegmentView) (kept : Bool)
-        → HasDelivered s (bypass_outcome s segment kept).after
-    bypass_delivers s segment true = same_delivered s _ refl refl refl
-    bypass_delivers s segment false = same_delivered s _ refl refl refl
-
-    body_delivers : (s : SpacecraftState) (body : BodyView) → HasDelivered s (body_outcome s body).after
-    body_delivers s (Ad n segment) = sequence_delivers s n segment (verdict_of s.farm n (is_free s))
-    body_delivers s (Bd segment) = bypass_delivers s segment (is_kept (limits_of s.config) segment)
-    body_delivers s (Bc command) = same_delivered s _ refl refl refl
-
-    frame_delivers : (s : SpacecraftState) (frame : Result FrameView TcFault)
-        → HasDelivered s (frame_outcome s frame).after
-    frame_delivers s (Err fault) = same_delivered s s refl refl refl
-    frame_delivers s (Ok frame) =
-        cond_both (is_own_frame s.config frame) (body_outcome s frame.body) _
-        (λ (o : SpacecraftOutcome Received). HasDelivered s o.after)
-        (λ _. body_delivers s frame.body) (λ _. same_delivered s s refl refl refl)
-
     pub delivers : DeliversWhatItReceives
-    delivers s octets = frame_delivers s (frame_at On octets)
+    delivers s octets = octets_come s (λ accepted new. HasDelivered s new) (record {
+      same = same_delivered s s refl refl refl;
+      steps = λ e. same_delivered s (after_farm s e) refl refl refl;
+      keeps = λ packet. same_delivered s _ refl refl refl;
+      accepts = λ n segment. record {
+        more = put_on_map segment.header.map (assemble_step s segment).packets;
+        ready = refl;
+        delivered = adds_delivered s segment;
+      };
+    }) octets

@@ -1,3 +1,4 @@
+pub mod Arrivals
 pub mod CommandPackets
 pub mod Delivery
 pub mod InRange

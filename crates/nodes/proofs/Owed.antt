@@ -18,7 +18,7 @@ use Rattle.cop1.specs.Units.{FopState, FopOutcome, SentUnit, marked_unit, unmark
 use Rattle.cop1.specs.Modulo.{ahead_by}
 use Rattle.cop1.specs.declared.fault.CopFault.{CopFault}
 use Rattle.cop1.specs.declared.vocabulary.Directive.{Directive}
-use Rattle.cop1.specs.FopDirective.{is_initiation, directive_step}
+use Rattle.cop1.specs.FopDirective.{directive_step}
 use Rattle.cop1.specs.FopPull.{pull_step}
 use Rattle.cop1.specs.FopTick.{tick_step}
 use Rattle.cop1.proofs.Cases.{obeyed, pulled_out, heard_active, ticked}
@@ -96,8 +96,7 @@ still_none j k left le none =
 one_fewer : (left : List ℕ) → (length (without_one left) ≤ length left) × (length left ≤ 1 + length (without_one left))
 one_fewer [] = (omega arith, omega arith)
 one_fewer (suc (suc n) ∷ ns) = (omega arith, omega arith)
-one_fewer (suc zero ∷ ns) = (omega arith, omega arith)
-one_fewer (zero ∷ ns) = (omega arith, omega arith)
+one_fewer (_ ∷ ns) = (omega arith, omega arith)
 
 -- submissions leave, at most one with each segment
 pub fewer_left : (k : ℕ) (left : List ℕ)
@@ -114,20 +113,17 @@ most_left k left none = omega (arith, (fewer_left k left).1, ap length none)
 
 pub one_less : (n : ℕ) (ns : List ℕ) → 1 < n → without_one (n ∷ ns) ≡ (n - 1) ∷ ns
 one_less (suc (suc n)) ns lt = ap (λ (m : ℕ). m ∷ ns) (omega arith)
-one_less (suc zero) ns lt = absurd (omega (arith, lt))
-one_less zero ns lt = absurd (omega (arith, lt))
+one_less _ ns lt = absurd (omega (arith, lt))
 
 pub last_one : (n : ℕ) (ns : List ℕ) → n ≤ 1 → without_one (n ∷ ns) ≡ ns
 last_one (suc (suc n)) ns le = absurd (omega (arith, le))
-last_one (suc zero) ns le = refl
-last_one zero ns le = refl
+last_one _ ns le = refl
 
 -- ---- one more is submitted
 
-with_one : (x : ℕ) (left more : List ℕ) → without_one ((x ∷ left) ++ more) ≡ without_one (x ∷ left) ++ more
+pub with_one : (x : ℕ) (left more : List ℕ) → without_one ((x ∷ left) ++ more) ≡ without_one (x ∷ left) ++ more
 with_one (suc (suc n)) ns more = refl
-with_one (suc zero) ns more = refl
-with_one zero ns more = refl
+with_one _ ns more = refl
 
 alone : (n : ℕ) → 1 ≤ n → left_after n (n ∷ []) ≡ []
 alone (suc (suc n)) one = alone (suc n) (omega arith)
@@ -155,8 +151,7 @@ short_left zero n needed ns is lt = refl
 short_left (suc k) (suc (suc n)) needed ns is lt =
     short_left k (suc n) (suc n) ns (omega arith, omega arith, λ h. omega arith, λ h. h)
     (omega (arith, lt, is.2 (omega arith)))
-short_left (suc k) (suc zero) needed ns is lt = absurd (omega (arith, lt, is.3 (omega arith)))
-short_left (suc k) zero needed ns is lt = absurd (omega (arith, lt, is.3 (omega arith)))
+short_left _ _ needed ns is lt = absurd (omega (arith, lt, is.3 (omega arith)))
 
 -- it is not whole with fewer
 pub none_whole : (k n needed : ℕ) (ns : List ℕ) → Needs n needed → k < needed → whole_within k (n ∷ ns) ≡ 0
@@ -169,10 +164,7 @@ left_behind (suc k) (suc (suc n)) needed ns is le =
     let same : k - suc n ≡ suc k - needed = omega (arith, is.1, is.2 (omega arith)) in
     left_behind k (suc n) (suc n) ns (omega arith, omega arith, λ h. omega arith, λ h. h) (omega (arith, le, is.1))
     ∙ ap (λ (j : ℕ). left_after j ns) same
-left_behind (suc k) (suc zero) needed ns is le =
-    let same : k ≡ suc k - needed = omega (arith, is.0, is.3 (omega arith)) in
-    ap (λ (j : ℕ). left_after j ns) same
-left_behind (suc k) zero needed ns is le =
+left_behind (suc k) _ needed ns is le =
     let same : k ≡ suc k - needed = omega (arith, is.0, is.3 (omega arith)) in
     ap (λ (j : ℕ). left_after j ns) same
 
@@ -181,9 +173,6 @@ pub one_whole : (k n needed : ℕ) (ns : List ℕ) → Needs n needed → needed
     → whole_within k (n ∷ ns) ≡ 1 + whole_within (k - needed) ns
 one_whole k n needed ns is le =
     omega (arith, ap length (left_behind k n needed ns is le), (fewer_left (k - needed) ns).0)
-
-pub none_to_count : (k : ℕ) → whole_within k [] ≡ 0
-none_to_count k = omega (arith, ap length (left_none k))
 
 -- Whatever the sender does, each submission that is not acknowledged whole has a segment that it holds.
 
@@ -204,12 +193,7 @@ Holds f k g = g.state ≢ S6 → (f.state ≢ S6) × (held f ≤ k + held g)
 all_held : (f : FopState SegmentView) (pending : List SegmentView)
     → length (map (λ u. u.unit) f.sent ++ (option_to_list f.waiting ++ pending)) ≡ held f + length pending
 all_held f pending =
-    omega (
-      arith,
-      length-append (map (λ u. u.unit) f.sent) (option_to_list f.waiting ++ pending),
-      length-map f.sent (λ u. u.unit),
-      length-append (option_to_list f.waiting) pending,
-    )
+    omega (arith, length-append {A = SegmentView}, length-map f.sent (λ u. u.unit))
 
 pub still_owed : (f g : FopState SegmentView) (pending : List SegmentView) (left : List ℕ) (k : ℕ) → Holds f k g
     → AreOwed f pending left → AreOwed g pending (left_after k left)
@@ -226,17 +210,17 @@ moved_is new old octet =
     cond_both (new == old) 0 (ahead_by new old) (λ (n : ℕ). ahead_by new old ≡ n)
     (λ t. omega (arith, eqb-true new old t, octet)) (λ t. refl)
 
+pub without_mark : (us : List (SentUnit SegmentView)) → length (without_oldest_mark us) ≡ length us
+without_mark [] = refl
+without_mark (u ∷ us) =
+    cond_both u.marked _ _ (λ (xs : List (SentUnit SegmentView)). length xs ≡ suc (length us)) (λ t. refl)
+    (λ t. ap suc (without_mark us))
+
 module _ (f : FopState SegmentView) where
   -- ---- a pull, and a tick
 
   abbrev HoldsAll : {A : Type 0} → FopOutcome SegmentView A → Type 0
   HoldsAll o = Holds f 0 o.after
-
-  without_mark : (us : List (SentUnit SegmentView)) → length (without_oldest_mark us) ≡ length us
-  without_mark [] = refl
-  without_mark (u ∷ us) =
-      cond_both u.marked _ _ (λ (xs : List (SentUnit SegmentView)). length xs ≡ suc (length us)) (λ t. refl)
-      (λ t. ap suc (without_mark us))
 
   pub pulled_holds : HoldsAll (pull_step f)
   pulled_holds = pulled_out f HoldsAll (record {
@@ -305,13 +289,10 @@ module _ (f : FopState SegmentView) where
   abbrev HoldsThen : Directive → FopOutcome SegmentView (Result (Option Alert) CopFault) → Type 0
   HoldsThen d o = kept_after d ≡ None → Holds f 0 o.after
 
-  begins_count : (d : Directive) → is_initiation d ≡ true → kept_after d ≡ Some true
-  begins_count d is = rw is refl
-
   pub directed_holds : (d : Directive) → HoldsThen d (directive_step f d)
   directed_holds = obeyed f HoldsThen (record {
     refused = λ d fault off none on. (on, omega arith);
-    begins = λ d begins is none. absurd (cc (begins_count d begins, none));
+    begins = λ d begins is none. absurd (let anew : kept_after d ≡ Some true = rw begins refl in cc (anew, none));
     terminated = λ none on. absurd (on refl);
     numbers = λ x is none. absurd cc;
     sets = λ d k n ticks plain most none on. (on, omega arith);

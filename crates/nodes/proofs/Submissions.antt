@@ -1,8 +1,8 @@
 -- Why packets that are to be submitted are refused, and what is known of those that are not.
 use Rattle.std.proofs.Common.{◌≡◌, ◌⊎◌, inl, inr, ℕ, List, Bool, true, false, not, if◌then◌else◌, refl, ◌∙◌, Option}
 use Rattle.std.proofs.Common.{Some, None, IfSome, Result, Ok, Err, IfErr, IsErrAnd, IsOkUnless, ◌≤◌, ◌<◌, ◌+◌, zero}
-use Rattle.std.proofs.Common.{suc, get_or, cond, [], ◌∷◌, length, sym, ap, subst, arith, length-append}
-use Rattle.std.specs.Prelude.{◌==◌, option_to_list}
+use Rattle.std.proofs.Common.{suc, get_or, cond, [], ◌∷◌, length, sym, ap, subst, arith}
+use Rattle.std.specs.Prelude.{◌==◌}
 use Rattle.std.specs.List.{AllByRecursion, concat}
 use Rattle.std.proofs.lemmas.Bool.{ltb-true, ltb-false, and_parts, not-false}
 use Rattle.space_packet.proofs.WholePackets.{no_more}
@@ -39,16 +39,14 @@ tested commands over rest = if not commands then Some NotCommand else if over th
 for_one : (commands over : Bool) (rest : Option LinkFault) (fault : LinkFault) → tested commands over None ≡ Some fault
     → tested commands over rest ≡ Some fault
 unfolding tested
-for_one false over rest fault is = is
-for_one true true rest fault is = is
 for_one true false rest fault is = absurd (cc is)
+for_one _ _ rest fault is = is
 
 for_none : (commands over : Bool) (rest : Option LinkFault) → tested commands over None ≡ None
     → tested commands over rest ≡ rest
 unfolding tested
-for_none false over rest is = absurd (cc is)
-for_none true true rest is = absurd (cc is)
 for_none true false rest is = refl
+for_none _ _ rest is = absurd (cc is)
 
 -- in a session
 module _ (s : GroundState) (m : ℕ) (octets : List ℕ) (active : is_closed s.fop.state ≡ false) where
@@ -109,7 +107,7 @@ for_places false reason fault is answer = record {
 -- What is known of packets that the ground does not refuse: their segments fit into frames.
 
 -- a test that refused nothing
-passed : (b : Bool) (fault : LinkFault) (rest : Option LinkFault) → cond b (Some fault) rest ≡ None
+pub passed : (b : Bool) (fault : LinkFault) (rest : Option LinkFault) → cond b (Some fault) rest ≡ None
     → (b ≡ false) × (rest ≡ None)
 passed true fault rest h = absurd cc
 passed false fault rest h = (refl, h)
@@ -143,11 +141,6 @@ is_accepted s m octets h =
       places = ltb-false _ _ over.0;
     }
 
-pub have_places : (s : GroundState) (m : ℕ) (octets : List ℕ) → submit_fault s m octets ≡ None
-    → length s.pending + length (segments_on s m octets) ≤ s.config.queue_slots
-have_places s m octets h =
-    omega (arith, length-append (option_to_list s.fop.waiting) s.pending, (is_accepted s m octets h).places)
-
 pub bypass_fits : (s : GroundState) (m : ℕ) (octets : List ℕ) → IsConfig s.config → bypass_fault s m octets ≡ None
     → FitsFrame (segment_with Alone m octets)
 bypass_fits s m octets c h =
@@ -166,11 +159,10 @@ bypass_fits s m octets c h =
 all_fit : (part m : ℕ) (segments : List SegmentView) → part ≤ 1016 → m < 64 → AllByRecursion (IsPart part m) segments
     → AllByRecursion FitsFrame segments
 all_fit part m [] le lt h = tt
-all_fit part m (s ∷ ss) le lt h = (
-  record { map = omega (arith, h.0.on_map); least = h.0.least; most = omega (arith, h.0.most) },
-  all_fit part m ss le
-      lt h.1,
-)
+all_fit part m (s ∷ ss) le lt h =
+    let fit : FitsFrame s =
+    record { map = omega (arith, h.0.on_map); least = h.0.least; most = omega (arith, h.0.most) } in
+    (fit, all_fit part m ss le lt h.1)
 
 pub segments_fit : (part m : ℕ) (octets : List ℕ) → 1 ≤ part → part ≤ 1016 → m < 64
     → AllByRecursion FitsFrame (segments_of part m octets)

@@ -1,20 +1,17 @@
 -- What telemetry that arrives may do at the ground, and that what is in the sent queue was sent and not
 -- acknowledged.
-use Rattle.simulated_link.proofs.Common.{◌≡◌, true, false, Option, None, Result, Ok, Err, refl, ◌==◌, cond_both}
-use Rattle.simulated_link.proofs.Common.{Clcw, ClcwFault, SegmentView, Alert}
-use Rattle.simulated_link.proofs.Common.{Idle, S1, S6, clcw_step}
-use Rattle.simulated_link.proofs.Common.{report_while_active, IsActive, goes_on, FopState}
-use Rattle.simulated_link.proofs.Common.{FopOutcome, TmFault, Extracted, extract_step, Heard, GroundState}
-use Rattle.simulated_link.proofs.Common.{GroundOutcome, with_fop, after_extraction, own_frame_outcome}
-use Rattle.simulated_link.proofs.Common.{telemetry_outcome, ◌≢◌, ◌≤◌, ◌<◌, ℕ, suc, ◌+◌, List, [], ◌∷◌, ◌++◌, length}
-use Rattle.simulated_link.proofs.Common.{map, drop, Some, option_map, ap, arith, length-append, length-drop, ltb-false}
-use Rattle.simulated_link.proofs.Common.{eq-eqb, length-map, On, ahead_by, CopFault, Directive, InitWithoutCheck}
-use Rattle.simulated_link.proofs.Common.{InitWithCheck, InitUnlock, InitSetVr, S2, S3, directive_step, PulledUnit}
-use Rattle.simulated_link.proofs.Common.{pull_step, without_oldest_mark, SentUnit, unmarked_unit, marked_unit}
-use Rattle.simulated_link.proofs.Common.{after_move_on, after_new_value, retransmits, tick_step, after_acknowledge}
-use Rattle.simulated_link.proofs.Common.{after_repeat, after_alert, after_stop, Config, LinkFault, refill_step}
-use Rattle.simulated_link.proofs.Common.{unless_refused, after_submission, frame_to_send, is_initiation, first_in}
-use Rattle.simulated_link.proofs.Common.{is_closed, obeyed, begun, ticked, pulled_out, heard_active, Bool}
+use Rattle.simulated_link.proofs.Common.{◌≡◌, true, false, Option, None, Result, Ok, Err, refl, ◌==◌, cond_both, Clcw}
+use Rattle.simulated_link.proofs.Common.{ClcwFault, SegmentView, Alert, Idle, S1, S6, clcw_step, report_while_active}
+use Rattle.simulated_link.proofs.Common.{IsActive, goes_on, FopState, FopOutcome, TmFault, Extracted, extract_step}
+use Rattle.simulated_link.proofs.Common.{Heard, GroundState, GroundOutcome, with_fop, after_extraction}
+use Rattle.simulated_link.proofs.Common.{own_frame_outcome, telemetry_outcome, ◌≢◌, ◌≤◌, ◌<◌, ℕ, ◌+◌, List, [], ◌∷◌}
+use Rattle.simulated_link.proofs.Common.{◌++◌, length, map, drop, Some, option_map, ap, arith, length-append}
+use Rattle.simulated_link.proofs.Common.{length-drop, ltb-false, eq-eqb, length-map, On, ahead_by, CopFault, Directive}
+use Rattle.simulated_link.proofs.Common.{S2, S3, directive_step, PulledUnit, pull_step, SentUnit, unmarked_unit}
+use Rattle.simulated_link.proofs.Common.{marked_unit, after_move_on, after_new_value, retransmits, tick_step}
+use Rattle.simulated_link.proofs.Common.{after_acknowledge, after_repeat, after_alert, after_stop, Config, LinkFault}
+use Rattle.simulated_link.proofs.Common.{refill_step, unless_refused, after_submission, frame_to_send, is_initiation}
+use Rattle.simulated_link.proofs.Common.{first_in, is_closed, obeyed, begun, ticked, pulled_out, heard_active, Bool}
 use Rattle.tc_frame.specs.Layout as command_layout
 use Rattle.tc_frame.specs.Encoding.{spelling}
 use Rattle.clcw.specs.Decoding.{clcw_at}
@@ -27,6 +24,7 @@ use Rattle.nodes.specs.declared.heard.HeardClcw.{HeardClcw}
 use Rattle.nodes.specs.Fates.{Fates, with_submission, after_acknowledging, after_obeying}
 use Rattle.nodes.specs.Ground as ground
 pub use Rattle.nodes.proofs.Owed.{IsConfirming, IsCause, AtEachState, reported}
+use Rattle.nodes.proofs.Owed.{without_mark}
 
 -- What telemetry that arrives may do at the ground.
 
@@ -79,11 +77,7 @@ module _ (f : FopState SegmentView) where
 
   -- an initiation leaves the queue empty
   begun_sent : (d : Directive) → is_initiation d ≡ true → (begun f d).sent ≡ []
-  begun_sent InitWithoutCheck is = refl
-  begun_sent InitWithCheck is = refl
-  begun_sent InitUnlock is = refl
-  begun_sent (InitSetVr x) is = refl
-  begun_sent _ is = absurd cc
+  begun_sent d is = grind arith
 
   directed_shorter : (d : Directive) → IsShorter f (directive_step f d)
   directed_shorter = obeyed f (λ d o. IsShorter f o) (record {
@@ -99,11 +93,6 @@ module _ (f : FopState SegmentView) where
 module _ (c : Config) (f : FopState SegmentView) where
   abbrev IsPutFirst : FopOutcome SegmentView (PulledUnit SegmentView) → Type 0
   IsPutFirst o = length o.after.sent ≤ length f.sent + length (first_in f.vs (frame_to_send c o.answer))
-
-  without_mark : (us : Units) → length (without_oldest_mark us) ≡ length us
-  without_mark [] = refl
-  without_mark (u ∷ us) =
-      cond_both u.marked _ _ (λ (xs : Units). length xs ≡ suc (length us)) (λ t. refl) (λ t. ap suc (without_mark us))
 
   put_first : IsPutFirst (pull_step f)
   put_first = pulled_out f IsPutFirst (record {
@@ -132,13 +121,8 @@ module _ (f : FopState SegmentView) (fop : IsFop f) (octet : f.nn < 256) (r : Cl
       → length g.sent ≤ length (drop (ahead_by r.value f.nn) f.sent)
       → ahead_by g.nn f.nn + length g.sent ≤ length f.sent
   goes g active inside nn le =
-      rw nn (omega (
-        arith,
-        fop.numbered active,
-        ltb-false (ahead_by f.vs f.nn) (ahead_by r.value f.nn) inside,
-        le,
-        length-drop (ahead_by r.value f.nn) f.sent,
-      ))
+      let below = ltb-false (ahead_by f.vs f.nn) (ahead_by r.value f.nn) inside in
+      rw nn (omega (arith, fop.numbered active, length-drop (ahead_by r.value f.nn) f.sent))
 
   again_gone : (repeats : Bool) → IsGone (goes_on (retransmits f repeats))
   again_gone true = stays (record (after_repeat f) { state = S2 }) refl (no_longer f (after_repeat f) refl)

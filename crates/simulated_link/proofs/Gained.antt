@@ -1,61 +1,24 @@
 -- What is to be accepted on board is accepted, and delivered on its MAP after what the session delivered there.
-use Rattle.simulated_link.proofs.Common.{◌≡◌, refl, sym, ap, ◌∙◌, map, option_map, ℕ, List, [], ◌++◌, Bool, true, false}
-use Rattle.simulated_link.proofs.Common.{option_to_list, Option, Some, None, Result, Ok, Err, if◌then◌else◌, append-nil}
-use Rattle.simulated_link.proofs.Common.{map-append, On, TcFault, SegmentView, BodyView, Ad, Bd, Bc, segment_octets}
-use Rattle.simulated_link.proofs.Common.{Verdict, Accepted, verdict_of, SpacecraftState, SpacecraftOutcome}
-use Rattle.simulated_link.proofs.Common.{spacecraft_receive, frame_outcome, body_outcome, sequence_outcome}
-use Rattle.simulated_link.proofs.Common.{bypass_outcome, is_free, is_own_frame, is_kept, limits_of, segment_to_accept}
-use Rattle.simulated_link.proofs.Common.{◌≤◌, ◌∷◌, length, take, drop, arith, length-append, inl, inr, cases_eq, eq-eqb}
-use Rattle.simulated_link.proofs.Common.{ne_eqb, take-append-drop, take-append-le, drop-append-le, Limits, assembled}
+use Rattle.simulated_link.proofs.Common.{◌≡◌, refl, sym, ap, ◌∙◌, map, option_map, ℕ, List, [], ◌++◌, option_to_list}
+use Rattle.simulated_link.proofs.Common.{Option, Some, None, append-nil, map-append, SegmentView, segment_octets}
+use Rattle.simulated_link.proofs.Common.{SpacecraftState, spacecraft_receive, limits_of, segment_to_accept, ◌≤◌, ◌∷◌}
+use Rattle.simulated_link.proofs.Common.{length, take, drop, arith, length-append, inl, inr, cases_eq, eq-eqb, ne_eqb}
+use Rattle.simulated_link.proofs.Common.{take-append-drop, take-append-le, drop-append-le, Limits, assembled}
 use Rattle.simulated_link.proofs.Common.{assembled_begins, assembled-push, assembled-other, Config, acceptance_with}
 use Rattle.simulated_link.proofs.Common.{packets_accepted_on}
-use Rattle.tc_frame.specs.Layout.{FrameView}
-use Rattle.tc_frame.specs.Decoding.{frame_at}
-use Rattle.nodes.specs.declared.received.Received.{Received}
-use Rattle.nodes.specs.declared.received.Received.TheVariants.{Foreign}
-use Rattle.nodes.specs.Spacecraft.{is_accepted}
-use Rattle.nodes.specs.Arrival.{segment_in_body, segment_in_frame}
+use Rattle.nodes.proofs.Arrivals.{octets_come}
 
 -- What is to be accepted is what is accepted.
-
-same : {A : Type 0} (xs : List A) → xs ≡ xs ++ []
-same xs = sym (append-nil xs)
-
-in_sequence : (s : SpacecraftState) (n : ℕ) (segment : SegmentView) (verdict : Verdict)
-    → (sequence_outcome s n segment verdict).after.accepted ≡ s.accepted
-    ++ option_to_list (if is_accepted verdict then Some segment else None)
-in_sequence s n segment Accepted = refl
-in_sequence s n segment _ = same s.accepted
-
-in_bypass : (s : SpacecraftState) (segment : SegmentView) (kept : Bool)
-    → (bypass_outcome s segment kept).after.accepted ≡ s.accepted ++ []
-in_bypass s segment true = same s.accepted
-in_bypass s segment false = same s.accepted
-
-in_own : (s : SpacecraftState) (body : BodyView)
-    → (body_outcome s body).after.accepted ≡ s.accepted ++ option_to_list (segment_in_body s body)
-in_own s (Ad n segment) = in_sequence s n segment (verdict_of s.farm n (is_free s))
-in_own s (Bd segment) = in_bypass s segment (is_kept (limits_of s.config) segment)
-in_own s (Bc command) = same s.accepted
-
-abbrev pub foreign : SpacecraftState → SpacecraftOutcome Received
-foreign s = record { answer = Foreign; after = s }
-
-in_any : (s : SpacecraftState) (frame : FrameView) (own : Bool)
-    → (if own then body_outcome s frame.body else foreign s).after.accepted ≡ s.accepted
-    ++ option_to_list (if own then segment_in_body s frame.body else None)
-in_any s frame true = in_own s frame.body
-in_any s frame false = same s.accepted
-
-in_read : (s : SpacecraftState) (r : Result FrameView TcFault)
-    → (frame_outcome s r).after.accepted ≡ s.accepted ++ option_to_list (segment_in_frame s r)
-in_read s (Err fault) = same s.accepted
-in_read s (Ok frame) = in_any s frame (is_own_frame s.config frame)
 
 -- what is accepted when octets arrive
 pub accepts_segment : (s : SpacecraftState) (octets : List ℕ)
     → (spacecraft_receive s octets).after.accepted ≡ s.accepted ++ option_to_list (segment_to_accept s octets)
-accepts_segment s octets = in_read s (frame_at On octets)
+accepts_segment s = octets_come s (λ o t. t.accepted ≡ s.accepted ++ option_to_list o) (record {
+  same = sym (append-nil s.accepted);
+  steps = λ e. sym (append-nil s.accepted);
+  keeps = λ packet. sym (append-nil s.accepted);
+  accepts = λ n u. refl;
+})
 
 of_option : (x : Option SegmentView)
     → option_to_list (option_map segment_octets x) ≡ map segment_octets (option_to_list x)
@@ -67,42 +30,13 @@ pub field_behind : (s : SpacecraftState) (octets : List ℕ) (fields : List (Lis
     → fields ≡ map segment_octets s.accepted → field ≡ option_map segment_octets (segment_to_accept s octets)
     → fields ++ option_to_list field ≡ map segment_octets (spacecraft_receive s octets).after.accepted
 field_behind s octets fields field before field_is =
-    ap (λ (xs : List (List ℕ)). xs ++ option_to_list field) before
-    ∙ ap (λ (o : Option (List ℕ)). map segment_octets s.accepted ++ option_to_list o) field_is
-    ∙ ap (λ (xs : List (List ℕ)). map segment_octets s.accepted ++ xs) (of_option (segment_to_accept s octets))
-    ∙ sym (map-append segment_octets s.accepted (option_to_list (segment_to_accept s octets)))
-    ∙ ap (map segment_octets) (sym (accepts_segment s octets))
+    rw (before, field_is, of_option (segment_to_accept s octets), accepts_segment s octets) (sym (map-append _ _ _))
 
 -- What is accepted on board is delivered on its MAP, after what the session delivered there.
 
--- ---- the configuration stays
-
-sequence_keeps : (s : SpacecraftState) (n : ℕ) (segment : SegmentView) (verdict : Verdict)
-    → (sequence_outcome s n segment verdict).after.config ≡ s.config
-sequence_keeps s n segment Accepted = refl
-sequence_keeps s n segment _ = refl
-
-bypass_keeps : (s : SpacecraftState) (segment : SegmentView) (kept : Bool)
-    → (bypass_outcome s segment kept).after.config ≡ s.config
-bypass_keeps s segment true = refl
-bypass_keeps s segment false = refl
-
-own_keeps : (s : SpacecraftState) (body : BodyView) → (body_outcome s body).after.config ≡ s.config
-own_keeps s (Ad n segment) = sequence_keeps s n segment (verdict_of s.farm n (is_free s))
-own_keeps s (Bd segment) = bypass_keeps s segment (is_kept (limits_of s.config) segment)
-own_keeps s (Bc command) = refl
-
-any_keeps : (s : SpacecraftState) (frame : FrameView) (own : Bool)
-    → (if own then body_outcome s frame.body else foreign s).after.config ≡ s.config
-any_keeps s frame true = own_keeps s frame.body
-any_keeps s frame false = refl
-
-read_keeps : (s : SpacecraftState) (r : Result FrameView TcFault) → (frame_outcome s r).after.config ≡ s.config
-read_keeps s (Err fault) = refl
-read_keeps s (Ok frame) = any_keeps s frame (is_own_frame s.config frame)
-
+-- the configuration stays
 pub config_stays : (s : SpacecraftState) (octets : List ℕ) → (spacecraft_receive s octets).after.config ≡ s.config
-config_stays s octets = read_keeps s (frame_at On octets)
+config_stays s = octets_come s (λ o t. t.config ≡ s.config) assumption
 
 -- ---- what is delivered
 

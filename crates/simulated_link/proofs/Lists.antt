@@ -15,13 +15,7 @@ pub front_is : (n : ℕ) (out front old : List ℕ) → out ≡ front ++ drop n 
     → take n out ≡ front
 front_is n out front old written same within =
     ap (take n) written
-    ∙ take_at front (drop n old) n (omega (
-      arith,
-      ap length written,
-      length-append front (drop n old),
-      length-drop n
-          old,
-    ))
+    ∙ take_at front (drop n old) n (omega (arith, ap length written, length-append {A = ℕ}, length-drop n old))
 
 -- Lists of packets for each MAP, one of which changes.
 

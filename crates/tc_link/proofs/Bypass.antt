@@ -1,28 +1,26 @@
 -- Packets that go past the sequence control.
-use Rattle.tc_link.proofs.Common.{◌≡◌, ℕ, Bool, true, false, refl, ◌∙◌, Clcw, SegmentView, Directive, CopFault, Alert}
-use Rattle.tc_link.proofs.Common.{InitWithoutCheck, InitUnlock, directive_step, FopState}
-use Rattle.tc_link.proofs.Common.{FopOutcome, clcw_step, retransmits, tick_step, heard_active, obeyed, begun, ticked}
-use Rattle.tc_link.proofs.Common.{GroundState, refill_step, with_fop, Result, Option, directive_outcome, TmFault, ◌≢◌}
-use Rattle.tc_link.proofs.Common.{telemetry_outcome, LinkFault, unless_refused, List, after_alert, Some, None, SetVs}
-use Rattle.tc_link.proofs.Common.{obeying, submitting, zero, suc, [], ◌∷◌, ◌++◌, drop, AreSomeOf, ◌+◌, ◌%◌, ◌-◌, length}
-use Rattle.tc_link.proofs.Common.{map, Ok, Err, ap, sym, subst, append_assoc, append-nil, map-append, cond_both}
-use Rattle.tc_link.proofs.Common.{AllByRecursion, TcFault, On, BodyView, Ad, Bd, Bc, PulledUnit, pull_step, pulled_out}
-use Rattle.tc_link.proofs.Common.{units_of, Verdict, Config, FitsFrame, frame_of, frame_to_send, bypass_fault}
-use Rattle.tc_link.proofs.Common.{after_bypass, PacketOn, SpacecraftState, SpacecraftOutcome, frame_outcome}
-use Rattle.tc_link.proofs.Common.{body_outcome, sequence_outcome, bypass_outcome, is_own_frame, is_kept, verdict_of}
-use Rattle.tc_link.proofs.Common.{is_free, limits_of, spacecraft_take_bypass, Heard, Event, World, WorldOutcome}
-use Rattle.tc_link.proofs.Common.{world_step, world_after_pull, world_after_take, active_on, report_while_active}
+use Rattle.tc_link.proofs.Common.{◌≡◌, ℕ, Bool, true, false, refl, arith, ◌∙◌, Clcw, SegmentView, Directive, CopFault}
+use Rattle.tc_link.proofs.Common.{Alert, InitUnlock, directive_step, FopState, FopOutcome, clcw_step, retransmits}
+use Rattle.tc_link.proofs.Common.{tick_step, heard_active, obeyed, begun, ticked, GroundState, refill_step, with_fop}
+use Rattle.tc_link.proofs.Common.{Result, Option, directive_outcome, TmFault, ◌≢◌, telemetry_outcome, LinkFault}
+use Rattle.tc_link.proofs.Common.{unless_refused, List, after_alert, Some, None, SetVs, obeying, submitting, zero, suc}
+use Rattle.tc_link.proofs.Common.{[], ◌∷◌, ◌++◌, drop, AreSomeOf, ◌+◌, ◌%◌, ◌-◌, length, map, Ok, Err, ap, sym, subst}
+use Rattle.tc_link.proofs.Common.{append_assoc, append-nil, map-append, cond_both, AllByRecursion, TcFault, On}
+use Rattle.tc_link.proofs.Common.{BodyView, Ad, Bd, Bc, PulledUnit, pull_step, pulled_out, Config, FitsFrame, frame_of}
+use Rattle.tc_link.proofs.Common.{frame_to_send, bypass_fault, after_bypass, PacketOn, SpacecraftState}
+use Rattle.tc_link.proofs.Common.{SpacecraftOutcome, frame_outcome, body_outcome, bypass_outcome, is_own_frame, is_kept}
+use Rattle.tc_link.proofs.Common.{verdict_of, is_free, limits_of, spacecraft_take_bypass, Heard, Event, World}
+use Rattle.tc_link.proofs.Common.{WorldOutcome, world_step, world_after_pull, world_after_take, active_on}
 use Rattle.std.proofs.lemmas.List.Concat.{flat_map-append}
 use Rattle.std.specs.List.{flat_map}
 use Rattle.std.specs.Borrow.{Bor}
 use Rattle.tc_frame.specs.Layout.{FrameView}
 use Rattle.tc_frame.specs.Encoding.{spelling}
 use Rattle.tc_frame.specs.Decoding as command
-use Rattle.clcw.specs.declared.fault.ClcwFault.{ClcwFault}
 use Rattle.clcw.specs.Decoding.{clcw_at}
 use Rattle.tm_link.specs.Layout as telemetry
 use Rattle.tm_link.specs.Decoding.{frame_at}
-use Rattle.nodes.specs.Ground.{report_outcome, ground_step, ground_take_telemetry}
+use Rattle.nodes.specs.Ground.{ground_step, ground_take_telemetry}
 use Rattle.nodes.specs.Spacecraft.{is_accepted}
 use Rattle.nodes.specs.declared.received.Received.{Received}
 use Rattle.nodes.specs.declared.heard.HeardReport.{HeardReport}
@@ -43,9 +41,8 @@ use Rattle.tc_link.specs.Bypass.{BypassKeepsOrder}
 use Rattle.tc_link.specs.InTransit.{in_frame}
 use Rattle.tc_link.proofs.Refilled.{refilled_keeps}
 use Rattle.tc_link.proofs.Promised.{link_step_holds, past_holds}
-use Rattle.tc_link.proofs.Readable.{moved, Goes, reads_back, fits_at}
+use Rattle.tc_link.proofs.Readable.{moved, marked_fits, Goes, reads_back}
 use Rattle.tc_link.proofs.Invariant.{Holding}
-use Rattle.tc_link.proofs.Lists.{oldest_stands}
 
 -- The bypass queue of the sender changes by a packet that is accepted and one that is sent alone.
 
@@ -55,25 +52,20 @@ module _ (s : FopState SegmentView) where
   Same f = f.bypass ≡ s.bypass
 
   begun_same : (d : Directive) → Same (begun s d)
-  begun_same InitWithoutCheck = refl
-  begun_same _ = refl
+  begun_same d = grind arith
 
   again_same : (repeats : Bool) → Same (retransmits s repeats)
-  again_same true = refl
-  again_same false = refl
-
-  active_same : (r : Clcw) → Same (report_while_active s r).after
-  active_same r = heard_active s r (λ o. Same o.after) (assumption again_same)
+  again_same repeats = grind arith
 
   pub report_same : (r : Clcw) → Same (clcw_step s r).after
-  report_same r = reported s r (λ o. Same o.after) (assumption (active_same r))
+  report_same r =
+      reported s r (λ o. Same o.after) (assumption (heard_active s r (λ o. Same o.after) (assumption again_same)))
 
   pub tick_same : Same (tick_step s).after
   tick_same = ticked s (λ o. Same o.after) (assumption)
 
-module _ (s : GroundState) where
-  pub refilled_same : (refill_step s).fop.bypass ≡ s.fop.bypass
-  refilled_same = refilled_keeps (λ g. g.fop.bypass ≡ s.fop.bypass) s (λ waiting pending on off. refl)
+pub refilled_same : (s : GroundState) → (refill_step s).fop.bypass ≡ s.fop.bypass
+refilled_same s = refilled_keeps (λ g. g.fop.bypass ≡ s.fop.bypass) s (λ waiting pending on off. refl)
 
 with_same : (s : GroundState) (f : FopState SegmentView) → Same s.fop f → (with_fop s f).fop.bypass ≡ s.fop.bypass
 with_same s f same = refilled_same (record s { fop = f }) ∙ same
@@ -99,10 +91,6 @@ module _ (s : GroundState) where
     extracts = λ x. refl;
     uses = λ x report. refilled_same _ ∙ report_same s.fop report;
   })
-
-  pub word_same : (r : Result Clcw ClcwFault) → (report_outcome s r).after.fop.bypass ≡ s.fop.bypass
-  word_same =
-      report_seen s (λ g. g.fop.bypass ≡ s.fop.bypass) refl (λ report. refilled_same _ ∙ report_same s.fop report)
 
 -- Packets that go past the sequence control.
 
@@ -158,18 +146,16 @@ module _ (s : SpacecraftState) where
   abbrev Keeps_of : List PacketOn → List PacketOn → Type 0
   Keeps_of came after = AreSomeOf after (s.bypass ++ came)
 
-  verdict_kept : (n : ℕ) (u : SegmentView) (v : Verdict) → Keeps_of [] (sequence_outcome s n u v).after.bypass
-  verdict_kept n u v =
-      cond_both (is_accepted v) _ _ (λ (o : SpacecraftOutcome Received). Keeps_of [] o.after.bypass)
-      (λ t. some_first s.bypass []) (λ t. some_first s.bypass [])
-
   bypass_kept : (u : SegmentView) (kept : Bool) → Keeps_of (packet_of u ∷ []) (bypass_outcome s u kept).after.bypass
   bypass_kept u true =
       let all : List PacketOn = s.bypass ++ packet_of u ∷ [] in some_drop (length all - s.config.bypass_slots) all
   bypass_kept u false = some_first s.bypass (packet_of u ∷ [])
 
   body_kept : (f : BodyView) → Keeps_of (packet_in f) (body_outcome s f).after.bypass
-  body_kept (Ad n u) = verdict_kept n u (verdict_of s.farm n (is_free s))
+  body_kept (Ad n u) =
+      cond_both (is_accepted (verdict_of s.farm n (is_free s))) _ _
+      (λ (o : SpacecraftOutcome Received). Keeps_of [] o.after.bypass) (λ t. some_first s.bypass [])
+      (λ t. some_first s.bypass [])
   body_kept (Bd u) = bypass_kept u (is_kept (limits_of s.config) u)
   body_kept (Bc command) = some_first s.bypass []
 
@@ -223,9 +209,7 @@ module _ (c : Config) (w : World) (h : Holding c w) where
         let all : AreSomeOf (s.bypass ++ (in_all bs ++ q)) ((ring ++ in_octets b) ++ (in_all bs ++ q)) =
         some_append kept (some_all (in_all bs ++ q)) in
         let parts : (ring ++ in_octets b) ++ (in_all bs ++ q) ≡ bypass_held w =
-        append_assoc ring (in_octets b) (in_all bs ++ q)
-        ∙ ap (λ (ps : List PacketOn). ring ++ ps) (sym (append_assoc (in_octets b) (in_all bs) q))
-        ∙ ap (λ (ps : List PacketOn). ring ++ (ps ++ q)) (sym up_is) in
+        rw (up_is, append_assoc ring (in_octets b) (in_all bs ++ q), append_assoc (in_octets b) (in_all bs) q) in
         with_none (record w { up = bs; spacecraft = s }) (subst (AreSomeOf (s.bypass ++ (in_all bs ++ q))) parts all)
 
   -- ---- a frame is sent
@@ -255,12 +239,7 @@ module _ (c : Config) (w : World) (h : Holding c w) where
   sends f goes new board up queued =
       let up_so : bypass_up new ≡ bypass_up w ++ packet_in f =
       ap (λ (way : List (List ℕ)). in_all way) up ∙ pushed f goes in
-      let held : bypass_held new ≡ bypass_held w =
-      ap (λ (s : SpacecraftState). s.bypass ++ (bypass_up new ++ bypass_queued new)) board
-      ∙ ap (λ (ps : List PacketOn). w.spacecraft.bypass ++ (ps ++ bypass_queued new)) up_so
-      ∙ ap (λ (ps : List PacketOn). w.spacecraft.bypass ++ ps)
-      (append_assoc (bypass_up w) (packet_in f) (bypass_queued new))
-      ∙ ap (λ (ps : List PacketOn). w.spacecraft.bypass ++ (bypass_up w ++ ps)) queued in
+      let held : bypass_held new ≡ bypass_held w = rw (board, up_so, append_assoc, queued) in
       with_none new (subst (λ (ps : List PacketOn). AreSomeOf ps (bypass_held w)) (sym held) (some_all (bypass_held w)))
 
   abbrev queue_of : List SegmentView → List PacketOn
@@ -278,9 +257,7 @@ module _ (c : Config) (w : World) (h : Holding c w) where
             sends (Bd u) fit.0 _ refl refl
             (ap (λ (left : List SegmentView). packet_of u ∷ queue_of left) (refilled_same _) ∙ ap queue_of (sym is));
         again = λ active x is.
-            let stands = oldest_stands 0 s.sent x is in
-            let fit : FitsFrame x.1 =
-            fits_at (units_of s.sent) stands.0 x.1 (g.sent (active_on s.state active)) stands.2 in
+            let fit : FitsFrame x.1 = marked_fits s w.ground_node.pending g x is (active_on s.state active) in
             sends (Ad ((s.nn + x.0) % 256) x.1) fit _ refl refl (ap queue_of (refilled_same _));
         first = λ active u is room.
             let fit : FitsFrame u = (moved s w.ground_node.pending g u is (active_on s.state active)).0 in
@@ -380,8 +357,7 @@ module _ (c : Config) (w : World) (h : Holding c w) where
 
   taken_same : (packets : List (List ℕ))
       → (ground_take_telemetry w.ground_node packets).after.fop.bypass ≡ w.ground_node.fop.bypass
-  taken_same [] = refl
-  taken_same (packet ∷ left) = refl
+  taken_same packets = grind arith
 
   step_passes : (s : LinkStep) → ReceivesNothingElse s
       → Passes w (by_step bypass_taken_by w s) (by_step bypass_accepted_by w s) (link_step w s)
@@ -392,8 +368,10 @@ module _ (c : Config) (w : World) (h : Holding c w) where
       heard_passes o.after o.answer
       (telemetry_same w.ground_node (frame_at w.ground_node.config.frame_length octets))
   step_passes (HearsReport octets) own =
-      let o = ground_step w.ground_node (ground_calls.ControlWord octets) in
-      report_passes o.after o.answer.report (word_same w.ground_node (clcw_at octets))
+      let s = w.ground_node in
+      let o = ground_step s (ground_calls.ControlWord octets) in
+      report_passes o.after o.answer.report (report_seen s (λ g. g.fop.bypass ≡ s.fop.bypass) refl
+      (λ report. refilled_same _ ∙ report_same s.fop report) (clcw_at octets))
   step_passes ForgetTelemetry own = on_ground _ refl refl refl
   step_passes NewGround own =
       fewer _ (some_all w.spacecraft.bypass) (some_all (bypass_up w)) (some_none (bypass_queued w))

@@ -6,21 +6,20 @@ use Rattle.tc_link.proofs.Common.{◌||◌, eq-eqb, Clcw, SegmentView, ahead_by,
 use Rattle.tc_link.proofs.Common.{FopState, report_of, Extracted, extract_step, Config, Heard, spacecraft_step, Report}
 use Rattle.tc_link.proofs.Common.{GroundState, GroundOutcome, is_closed, after_report, after_extraction}
 use Rattle.tc_link.proofs.Common.{telemetry_outcome, own_frame_outcome, IsChecked, World, is_confirmation}
-use Rattle.tc_link.proofs.Common.{AtMostOneStep, Rises, acknowledging, ground_telemetry, Option, Some, None}
-use Rattle.tc_link.proofs.Common.{if◌then◌else◌, Result, PlainLink, WorldOutcome, world_step, down_deliver_step}
-use Rattle.tc_link.proofs.Common.{with_fop, Alert, Idle, FopMode, S1, S4, S5, S6, FopOutcome, units_of, after_alert}
-use Rattle.tc_link.proofs.Common.{alerts, goes_on, is_initialising, ◌%◌, report_in, report_while_active}
+use Rattle.tc_link.proofs.Common.{AtMostOneStep, Rises, acknowledging, ground_telemetry, Option, None, if◌then◌else◌}
+use Rattle.tc_link.proofs.Common.{PlainLink, WorldOutcome, world_step, down_deliver_step, with_fop, Alert, Idle}
+use Rattle.tc_link.proofs.Common.{FopMode, S1, S4, S5, S6, FopOutcome, units_of, after_alert, goes_on, is_initialising}
+use Rattle.tc_link.proofs.Common.{◌%◌, report_in, report_while_active}
 use Rattle.std.proofs.lemmas.List.{drop-drop}
-use Rattle.clcw.specs.declared.fault.ClcwFault.{ClcwFault}
 use Rattle.tm_link.specs.Decoding.{frame_at}
 use Rattle.tm_link.specs.Decoding as telemetry_reading
 use Rattle.tm_link.specs.Extractor.{ExtractorState}
 use Rattle.nodes.specs.declared.heard.Heard.TheVariants.{Frame}
 use Rattle.nodes.specs.declared.heard.HeardReport.TheVariants.{Used}
-use Rattle.nodes.specs.Ground.{report_outcome, after_moving_up}
+use Rattle.nodes.specs.Ground.{after_moving_up}
 use Rattle.nodes.specs.declared.heard.HeardClcw.{HeardClcw}
 use Rattle.nodes.specs.declared.event.Event.TheVariants as events
-use Rattle.simulated_link.specs.World.{world_after_report, world_after_word, down_word_outcome, down_clcw_step}
+use Rattle.simulated_link.specs.World.{world_after_report, world_after_word, down_clcw_step}
 use Rattle.simulated_link.specs.Replies.{Down, replied_alert}
 use Rattle.simulated_link.proofs.Counted.{IsConfirming, reported}
 use Rattle.tc_link.specs.PlainLink.{reports as tells, loses_down, hears, ignores}
@@ -122,9 +121,7 @@ apart s extractor packets = record s { extractor = extractor; telemetry = packet
 moved_apart : (s : GroundState) (x : ExtractorState) (packets : List (List ℕ)) (waiting : Option SegmentView)
     (pending : List SegmentView)
     → after_moving_up (apart s x packets) waiting pending ≡ apart (after_moving_up s waiting pending) x packets
-moved_apart s x packets (Some u) pending = refl
-moved_apart s x packets None [] = refl
-moved_apart s x packets None (u ∷ us) = refl
+moved_apart s x packets waiting pending = grind arith
 
 settled_apart : (s : GroundState) (f : FopState SegmentView) (x : ExtractorState) (packets : List (List ℕ))
     → with_fop (apart s x packets) f ≡ apart (with_fop s f) x packets
@@ -149,9 +146,7 @@ module _ (c : Config) (w : World) (k : Sound c w) where
         let s : GroundState = w.ground_node in
         let is : s.config ≡ c = k.ground_node.config in
         let reads : frame_at s.config.frame_length b ≡ Ok t.frame = rw is t.reads in
-        ap (down_word_outcome w bs) reads
-        ∙ ap (λ (x : Result Clcw ClcwFault). world_after_word w bs (report_outcome s x)) t.word
-        ∙ rw (eq-eqb r.vcid s.config.vcid (rw is t.own)) refl
+        rw (reads, t.word, eq-eqb r.vcid s.config.vcid (rw is t.own)) refl
 
     word_apart : (down_clcw_step w (b ∷ bs)).after ≡ with_telemetry_of w (down_deliver_step w (b ∷ bs)).after
     word_apart =
@@ -175,35 +170,26 @@ module _ (c : Config) (w : World) (k : Sound c w) where
         ap (λ (o : WorldOutcome). alert_in o.answer) word_is
         ∙ sym (ap (λ (o : GroundOutcome Heard). replied_alert (Down o.answer)) whole_is)
 
-  apart_on : (bs : List (List ℕ)) (rs : List Clcw) → Reporting c bs rs
-      → (down_clcw_step w bs).after ≡ with_telemetry_of w (down_deliver_step w bs).after
-  apart_on [] rs reporting = refl
-  apart_on (b ∷ bs) [] reporting = elim reporting [ ]
-  apart_on (b ∷ bs) (r ∷ rs) reporting = word_apart b bs r reporting.0
-
-  says_on : (bs : List (List ℕ)) (rs : List Clcw) → Reporting c bs rs
-      → SaysAs (down_deliver_step w bs).answer (down_clcw_step w bs).answer
-  says_on [] rs reporting = refl
-  says_on (b ∷ bs) [] reporting = elim reporting [ ]
-  says_on (b ∷ bs) (r ∷ rs) reporting = word_says b bs r reporting.0
-
-  alerts_on : (bs : List (List ℕ)) (rs : List Clcw) → Reporting c bs rs
-      → alert_in (down_clcw_step w bs).answer ≡ alert_in (down_deliver_step w bs).answer
-  alerts_on [] rs reporting = refl
-  alerts_on (b ∷ bs) [] reporting = elim reporting [ ]
-  alerts_on (b ∷ bs) (r ∷ rs) reporting = word_alerts b bs r reporting.0
+  words_on : (bs : List (List ℕ)) (rs : List Clcw) → Reporting c bs rs
+      → ((down_clcw_step w bs).after ≡ with_telemetry_of w (down_deliver_step w bs).after)
+      × SaysAs (down_deliver_step w bs).answer (down_clcw_step w bs).answer
+      × (alert_in (down_clcw_step w bs).answer ≡ alert_in (down_deliver_step w bs).answer)
+  words_on [] rs reporting = (refl, refl, refl)
+  words_on (b ∷ bs) [] reporting = elim reporting [ ]
+  words_on (b ∷ bs) (r ∷ rs) reporting =
+      let t = reporting.0 in (word_apart b bs r t, word_says b bs r t, word_alerts b bs r t)
 
   module _ (t : HasReports c w.down) where
     pub words_apart : (world_step w events.DownClcw).after
         ≡ with_telemetry_of w (world_step w events.DownDeliver).after
-    words_apart = apart_on w.down t.reports t.reporting
+    words_apart = (words_on w.down t.reports t.reporting).0
 
     pub words_say : SaysAs (world_step w events.DownDeliver).answer (world_step w events.DownClcw).answer
-    words_say = says_on w.down t.reports t.reporting
+    words_say = (words_on w.down t.reports t.reporting).1
 
     pub words_alert : alert_in (world_step w events.DownClcw).answer
         ≡ alert_in (world_step w events.DownDeliver).answer
-    words_alert = alerts_on w.down t.reports t.reporting
+    words_alert = (words_on w.down t.reports t.reporting).2
 
 -- telemetry is nothing to a session
 pub next_apart : {early : Bool} {c : Config} {d : Directive} {base : ℕ} {p : PlainLink} (w : World) {new : World}
@@ -392,16 +378,6 @@ module _ (c : Config) (d : Directive) (base : ℕ) (w : World) (k : Sound c w) (
           same = λ e. (same e).4;
         })
 
-    goes_off : (alert : Alert) → Hears (alerts w.ground_node.fop alert)
-    goes_off alert =
-        inl (stays_early (after_alert w.ground_node.fop) tt tt (moves (after_alert w.ground_node.fop) refl
-        (λ pending n units was. kept_of (is_closed w.ground_node.fop.state) _ _ _ _ _ _ _ _ was)))
-
-    goes_on_early : Hears (goes_on w.ground_node.fop)
-    goes_on_early =
-        inl (stays_early w.ground_node.fop g.stage.early g.stage.command_is
-        (moves w.ground_node.fop refl (λ pending n units was. was)))
-
     vs_of : is_closed w.ground_node.fop.state ≡ false → w.ground_node.fop.vs ≡ base
     vs_of on = omega (arith, (holds_on g.linked on).vs_is, g.stage.none_sent, g.linked.base_octet)
 
@@ -455,14 +431,15 @@ module _ (c : Config) (d : Directive) (base : ℕ) (w : World) (k : Sound c w) (
         λ on t. (t.0, t.1, t.2, t.3 ∙ vs_of on) in
         reported s r (λ o. Hears o) (record {
           active = λ active. absurd (early_off d s.state g.stage.early active);
-          alerted = λ is alert cause. goes_off alert;
+          alerted = λ is alert cause. inl (stays_early (after_alert s) tt tt (moves (after_alert s) refl
+              (λ pending n units was. kept_of (is_closed w.ground_node.fop.state) _ _ _ _ _ _ _ _ was)));
           checked = λ state confirms. let on : is_closed s.state ≡ false = rw state refl in
               goes_late (record s { state = S1; ticks = None }) on (rw state refl) refl refl refl refl refl
               (confirming on confirms);
           commanded = λ state confirms. let on : is_closed s.state ≡ false = rw state refl in
               goes_late (record s { state = S1; ticks = None; control = Idle }) on (rw state refl) refl refl refl refl
               refl (confirming on confirms);
-          same = goes_on_early;
+          same = inl (stays_early s g.stage.early g.stage.command_is (moves s refl (λ pending n units was. was)));
         })
 
   down_early : (bs : List (List ℕ)) (rs : List Clcw) (vs : List ℕ) → g.reports ≡ rs → g.plain.down ≡ vs
@@ -592,12 +569,10 @@ module _ (c : Config) (d : Directive) (base : ℕ) (w : World) (k : Sound c w) (
         unlocked = λ t. (ranks t).0;
         wait_flag = λ t. (ranks t).1;
         rank_low = λ t. (ranks t).2;
-        rank_high = λ t. omega (
-          arith,
-          ranks_to (2 * v + bit (asks r)) (2 * p.r + bit w.spacecraft.farm.retransmit) rs
-              vs (ranks t).3,
-          (g.stage.calm t).rank_most,
-        );
+        rank_high = λ t.
+            let most = (g.stage.calm t).rank_most in
+            let rest = ranks_to (2 * v + bit (asks r)) (2 * p.r + bit w.spacecraft.farm.retransmit) rs vs (ranks t).3 in
+            omega arith;
       }
 
   module _ (r : Clcw) (v : ℕ) (comes : Comes r v)

@@ -5,11 +5,12 @@ use Rattle.tc_link.proofs.Common.{◌++◌, length, replicate, ap, length-append
 use Rattle.tc_link.proofs.Common.{idle_tail, data_size, is_at_rest, room_left, Config, report_octets, spacecraft_report}
 use Rattle.tc_link.proofs.Common.{World, Event, world_step, sym, ◌∙◌, ◌==◌, list_all, and_parts, eqb-true, Directive}
 use Rattle.tc_link.proofs.Common.{SpacecraftState, begins_clean, begins_idle, reports_as, report_now, ◌⊎◌, inl, inr}
-use Rattle.tc_link.proofs.Common.{drop, SegmentView, Idle, InitWithoutCheck, InitWithCheck, InitUnlock, InitSetVr, S6}
+use Rattle.tc_link.proofs.Common.{SegmentView, Idle, InitWithoutCheck, InitWithCheck, InitUnlock, InitSetVr, S6}
 use Rattle.tc_link.proofs.Common.{directive_step, FopState, FopOutcome, is_closed, directive_outcome, refill_step}
 use Rattle.tc_link.proofs.Common.{world_after_directive, session_begun_by, IsDirective, obeyed, begun, is_initiation}
 use Rattle.tc_link.proofs.Common.{Alert, CopFault, Option, None, Result, option_to_list, IsChecked, closed_is, obeying}
-use Rattle.std.proofs.lemmas.List.{length-replicate, drop_all}
+use Rattle.std.proofs.Math.Seq.{drop-length}
+use Rattle.std.proofs.lemmas.List.{length-replicate}
 use Rattle.std.specs.Int.RustNames.{bit_and}
 use Rattle.clcw.specs.Decoding.{clcw_at}
 use Rattle.clcw.specs.Encoding.{spelling}
@@ -35,30 +36,16 @@ use Rattle.tc_link.proofs.Refilled.{session_refilled}
 
 -- What a receiver reports is read from its octets.
 
-flags_multiple : (l w t : Bool) → (value_if l 32 + value_if w 16 + value_if t 8) % 8 ≡ 0
-flags_multiple true true true = refl
-flags_multiple true true false = refl
-flags_multiple true false true = refl
-flags_multiple true false false = refl
-flags_multiple false true true = refl
-flags_multiple false true false = refl
-flags_multiple false false true = refl
-flags_multiple false false false = refl
+abbrev flags_of : Bool → Bool → Bool → ℕ
+flags_of l w t = value_if l 32 + value_if w 16 + value_if t 8
 
-flags_in : (s : FarmState) (vcid : ℕ) (l w t : Bool) → s.lockout ≡ l → s.wait ≡ w → s.retransmit ≡ t
-    → (locks (report_of s vcid) ≡ l) × (waits (report_of s vcid) ≡ w) × (asks (report_of s vcid) ≡ t)
-flags_in s vcid true true true e f g = rw (e, f, g) (refl, refl, refl)
-flags_in s vcid true true false e f g = rw (e, f, g) (refl, refl, refl)
-flags_in s vcid true false true e f g = rw (e, f, g) (refl, refl, refl)
-flags_in s vcid true false false e f g = rw (e, f, g) (refl, refl, refl)
-flags_in s vcid false true true e f g = rw (e, f, g) (refl, refl, refl)
-flags_in s vcid false true false e f g = rw (e, f, g) (refl, refl, refl)
-flags_in s vcid false false true e f g = rw (e, f, g) (refl, refl, refl)
-flags_in s vcid false false false e f g = rw (e, f, g) (refl, refl, refl)
+flags_read : (l w t : Bool) → (flags_of l w t % 8 ≡ 0) × ((bit_and (flags_of l w t) 32 == 32) ≡ l)
+    × ((bit_and (flags_of l w t) 16 == 16) ≡ w) × ((bit_and (flags_of l w t) 8 == 8) ≡ t)
+flags_read l w t = grind arith
 
 pub flags_are : (s : FarmState) (vcid : ℕ) → (locks (report_of s vcid) ≡ s.lockout)
     × (waits (report_of s vcid) ≡ s.wait) × (asks (report_of s vcid) ≡ s.retransmit)
-flags_are s vcid = flags_in s vcid s.lockout s.wait s.retransmit refl refl refl
+flags_are s vcid = let read = flags_read s.lockout s.wait s.retransmit in (read.1, read.2, read.3)
 
 read_again : (word : Clcw) → word.status ≡ 0 → flags_number word.flags % 8 ≡ 0 → word.farm_b < 4
     → clcw_at (spelling word) ≡ Ok word
@@ -78,7 +65,7 @@ read_again word status flags farm_b =
 
 pub report_reads : (s : FarmState) (vcid : ℕ) → s.farm_b < 4
     → clcw_at (spelling (report_of s vcid)) ≡ Ok (report_of s vcid)
-report_reads s vcid farm_b = read_again (report_of s vcid) refl (flags_multiple s.lockout s.wait s.retransmit) farm_b
+report_reads s vcid farm_b = read_again (report_of s vcid) refl (flags_read s.lockout s.wait s.retransmit).0 farm_b
 
 -- A telemetry frame that is sent is read with its report.
 
@@ -94,14 +81,9 @@ data_length s least =
     let tail : length (idle_tail s.idle_left) ≡ s.idle_left = length-tail s.idle_left (omega (arith, least)) in
     let sizes : length all ≡ s.idle_left
     + (length s.pending + max (room_left (data_size s) s.idle_left (length s.pending)) 7) =
-    omega (
-      arith,
-      length-append (idle_tail s.idle_left ++ s.pending) filler,
-      length-append (idle_tail s.idle_left)
-          s.pending,
-      tail,
-      length-idle (max (room_left (data_size s) s.idle_left (length s.pending)) 7) room,
-    ) in
+    let idle = length-idle (max (room_left (data_size s) s.idle_left (length s.pending)) 7) room in
+    let front = length-append (idle_tail s.idle_left) s.pending in
+    omega (arith, length-append (idle_tail s.idle_left ++ s.pending) filler) in
     let enough : data_size s ≤ length all = omega (arith, sizes) in
     length-take-le (data_size s) all enough)
 
@@ -184,12 +166,11 @@ module _ (now : Clcw) (c : Config) (total : ℕ) (size : total ≡ c.frame_lengt
   all_say : (bs : List (List ℕ)) (rs : List Clcw) → Reporting c bs rs
       → list_all (λ (b : List ℕ). reports_as now (frame_at total b)) bs ≡ true → AllSay now rs
   all_say [] [] rest is = tt
-  all_say [] (r ∷ rs) rest is = elim rest [ ]
-  all_say (b ∷ bs) [] rest is = elim rest [ ]
   all_say (b ∷ bs) (r ∷ rs) rest is =
       let both = and_parts (reports_as now (frame_at total b))
       (list_all (λ (b : List ℕ). reports_as now (frame_at total b)) bs) is in
       (says_so b r rest.0 both.0, all_say bs rs rest.1 both.1)
+  all_say _ _ rest is = elim rest [ ]
 
 -- ---- what they say
 
@@ -254,17 +235,12 @@ module _ (c : Config) (w : World) (t : HasReports c w.down) where
             both.1,
       )
 
--- a quiet world is idle
-quiet_idle : (w : World) → is_quiet w ≡ true → is_idle w ≡ true
-quiet_idle w h =
-    let both = and_parts (is_none w.up) (is_none w.down) h in
-    rw (both.0, empty w.down both.1) refl
-
--- a session that begins clean has an idle start
+-- a session that begins clean has an idle start, since a quiet world is idle
 pub clean_idle : (w : World) (d : Directive) → begins_clean w d ≡ true → begins_idle w d ≡ true
 clean_idle w d h =
     let both = and_parts (may_begin w d) (is_quiet w) h in
-    rw (both.0, quiet_idle w both.1) refl
+    let none = and_parts (is_none w.up) (is_none w.down) both.1 in
+    rw (both.0, none.0, empty w.down none.1) refl
 
 -- A session begins by an idle start.
 
@@ -272,6 +248,11 @@ pub record InSession (c : Config) (w : World) : Type 0 where
   pub directive : Directive
   pub base : ℕ
   pub session : Begun c directive base w ⊎ Late c directive base w
+
+-- whether it is confirmed or not
+pub in_session : {A : Type 0} {c : Config} {w : World} (s : InSession c w)
+    → ((early : Bool) → In early c s.directive s.base w → A) → A
+in_session s each = elim s.session [ inl g ↦ each true g | inr g ↦ each false g ]
 
 module _ (c : Config) (w : World) (k : Sound c w) (t : HasReports c w.down) where
   abbrev begun_with : Directive → FopState SegmentView → World
@@ -282,9 +263,6 @@ module _ (c : Config) (w : World) (k : Sound c w) (t : HasReports c w.down) wher
 
   parts : is_idle w ≡ true → (w.up ≡ []) × AllSay (report_now w) t.reports
   parts h = idle_parts c w t k.ground_node.config h
-
-  none_after : drop (length w.spacecraft.accepted) w.spacecraft.accepted ≡ []
-  none_after = drop_all (length w.spacecraft.accepted) w.spacecraft.accepted (omega arith)
 
   module _ (off : w.ground_node.fop.state ≡ S6) where
     pending : w.ground_node.pending ≡ []
@@ -320,7 +298,7 @@ module _ (c : Config) (w : World) (k : Sound c w) (t : HasReports c w.down) wher
           linked = assumption (
             nn_octet,
             held,
-            none_after,
+            drop-length w.spacecraft.accepted,
             least,
             most,
             carries,

@@ -12,7 +12,7 @@ use Rattle.tc_link.proofs.Common.{take-append-le, assembled-push, assembled-othe
 use Rattle.std.specs.List.{flat_map, concat}
 use Rattle.std.proofs.lemmas.List.{take-take, append_cancel_left, take-map}
 use Rattle.std.proofs.lemmas.Bool.{cases_lt}
-use Rattle.std.proofs.Math.Seq.{take-append-add}
+use Rattle.std.proofs.Math.Seq.{take-append-add, drop-append_seam}
 use Rattle.octets.specs.Beginning.{IsBeginning}
 use Rattle.tc_frame.specs.declared.frame.SegmentFlags.{SegmentFlags}
 use Rattle.tc_frame.specs.declared.frame.SegmentFlags.TheVariants.{First, Continuing, Last, Alone}
@@ -25,12 +25,12 @@ use Rattle.map_service.proofs.Passage.{given-passed, other-append, cuttable_from
 use Rattle.map_service.proofs.Parts.{segments-joined}
 use Rattle.nodes.specs.Ground.{outstanding}
 use Rattle.nodes.specs.Fates.{without_one, left_after, whole_within}
-use Rattle.nodes.proofs.Owed.{fewer_left, left_more, Needs, none_whole, one_whole}
+use Rattle.nodes.proofs.Owed.{fewer_left, left_more, Needs, none_whole, one_whole, with_one}
 use Rattle.simulated_link.specs.World.{submitted}
 use Rattle.tc_link.specs.Accepted.{KeepsNumbers, said_by}
 use Rattle.tc_link.specs.InOrder.{IsInOrder}
 use Rattle.tc_link.specs.Whole.{segments_each, on_board, submitted_first, IsOneGroup, DeliversWhole}
-use Rattle.tc_link.proofs.IdleStart.{InSession}
+use Rattle.tc_link.proofs.IdleStart.{InSession, in_session}
 use Rattle.tc_link.proofs.Linked.{SessionBy, Linked, Settled, IsGiven, units_of_all, kept_of, holds_on, Fits, DownIs}
 use Rattle.tc_link.proofs.Linked.{rises_to}
 use Rattle.tc_link.proofs.Locks.{units_in, values_in, reports_of}
@@ -72,11 +72,10 @@ module _ (c : Config) (m : ℕ) (one : 1 ≤ c.part) where
       → assembled bounds m (before ++ flat_map segments ps) ≡ assembled bounds m before ++ packets ps
   all_given before [] h = ap (assembled bounds m) (append-nil before) ∙ sym (append-nil (assembled bounds m before))
   all_given before (p ∷ ps) h =
-      ap (assembled bounds m) (sym (append_assoc before (segments p) (flat_map segments ps)))
-      ∙ all_given (before ++ segments p) ps h.1
-      ∙ ap (λ (xs : List (List ℕ)). xs ++ packets ps) (one_given before p (eqb p.on_map m) refl h.0)
-      ∙ append_assoc (assembled bounds m before) (cond (eqb p.on_map m) (packets_in p.octets) []) (packets ps)
-      ∙ ap (λ (xs : List (List ℕ)). assembled bounds m before ++ xs) (cond_first (eqb p.on_map m) p ps)
+      let one = one_given before p (eqb p.on_map m) refl h.0 in
+      rw (← append_assoc before (segments p) (flat_map segments ps), all_given (before ++ segments p) ps h.1, one)
+      (append_assoc (assembled bounds m before) (cond (eqb p.on_map m) (packets_in p.octets) []) (packets ps)
+      ∙ ap (λ (xs : List (List ℕ)). assembled bounds m before ++ xs) (cond_first (eqb p.on_map m) p ps))
 
 -- ---- what the records say
 
@@ -108,10 +107,6 @@ all_near h p r [] below fit = tt
 all_near h p r (q ∷ qs) below fit =
     ((fit.1, omega (arith, below, fit.2)), all_near h p (max r (q.0 + 1)) qs (omega (arith, below)) fit.3)
 
-drop_front : {A : Type 0} (xs ys : List A) → drop (length xs) (xs ++ ys) ≡ ys
-drop_front [] ys = refl
-drop_front (x ∷ xs) ys = drop_front xs ys
-
 module _ (early : Bool) {Reached : PlainLink → Type 0} (c : Config) (d : Directive) (base : ℕ) (w : World)
     (g : SessionBy early Reached c d base w) where
   abbrev p : PlainLink
@@ -129,18 +124,7 @@ module _ (early : Bool) {Reached : PlainLink → Type 0} (c : Config) (d : Direc
       ap length (sym held.sent_is) in
       let rest : length (drop p.n p.units) ≡ length (unsent_segments w.ground_node) =
       ap length (sym held.rest_is) in
-      omega (
-        arith,
-        none_left,
-        sent,
-        rest,
-        length-drop p.a (take p.n p.units),
-        length-take-le p.n p.units l.n_most,
-        length-drop p.n p.units,
-        l.a_r,
-        l.r_n,
-        l.n_most,
-      )
+      omega (arith, length-drop p.a (take p.n p.units), length-take-le p.n p.units l.n_most, length-drop p.n p.units)
 
   abbrev pub Ends : Type 0
   Ends = (w.ground_node.fop.vs ≡ number_of base p.n) × (w.ground_node.fop.nn ≡ number_of base p.a)
@@ -177,14 +161,13 @@ module _ (early : Bool) {Reached : PlainLink → Type 0} (c : Config) (d : Direc
       → p.a ≤ low → DownIs base rs vs → Rises low vs p.r
       → map (said_by w) (map (λ (r : Clcw). r.value) rs) ≡ map (λ v. Some (v - p.a)) vs
   said_all half_most ends low [] [] above down up = refl
-  said_all half_most ends low [] (v ∷ vs) above down up = elim down [ ]
-  said_all half_most ends low (r ∷ rs) [] above down up = elim down [ ]
   said_all half_most ends low (r ∷ rs) (v ∷ vs) above down up =
       let high : v ≤ p.r = rises_to v p.r vs up.1 in
       let first : said_by w r.value ≡ Some (v - p.a) =
       said_is half_most ends r.value v down.0 (omega (arith, above, up.0)) high in
       ap (λ o. o ∷ map (said_by w) (map (λ (r : Clcw). r.value) rs)) first
       ∙ ap (λ os. Some (v - p.a) ∷ os) (said_all half_most ends v rs vs (omega (arith, above, up.0)) down.1 up.1)
+  said_all half_most ends low _ _ above down up = elim down [ ]
 
   module _ (k : Sound c w) where
     abbrev l : Linked c d base w p g.front g.frames g.reports
@@ -203,9 +186,6 @@ module _ (early : Bool) {Reached : PlainLink → Type 0} (c : Config) (d : Direc
       abbrev new : List SegmentView
       new = take p.r p.units
 
-      all_is : w.spacecraft.accepted ≡ old ++ new
-      all_is = sym (take-append-drop w.session.before w.spacecraft.accepted) ∙ ap (λ xs. old ++ xs) l.accepted_is
-
       begins : (rest : List (List ℕ)) × (assembled lim m (old ++ new) ≡ assembled lim m old ++ rest)
       begins = assembled_begins lim m old new
 
@@ -213,9 +193,10 @@ module _ (early : Bool) {Reached : PlainLink → Type 0} (c : Config) (d : Direc
       delivered_is =
           ap (λ (x : Config). drop (length (assembled (limits_of x) m old))
           (assembled (limits_of x) m w.spacecraft.accepted)) k.spacecraft.config
-          ∙ ap (λ xs. drop (length (assembled lim m old)) (assembled lim m xs)) all_is
+          ∙ ap (λ xs. drop (length (assembled lim m old)) (assembled lim m xs))
+          (sym (take-append-drop w.session.before w.spacecraft.accepted) ∙ ap (λ xs. old ++ xs) l.accepted_is)
           ∙ ap (drop (length (assembled lim m old))) begins.1
-          ∙ drop_front (assembled lim m old) begins.0
+          ∙ drop-append_seam (assembled lim m old) begins.0
 
       -- the units that were accepted give what is delivered
       pub delivered_so : assembled lim m (old ++ new) ≡ assembled lim m old ++ delivered w m
@@ -316,18 +297,11 @@ module _ (early : Bool) {Reached : PlainLink → Type 0} (c : Config) (d : Direc
         }
 
 pub is_in_order : (c : Config) (w : World) → Sound c w → InSession c w → IsInOrder w
-is_in_order c w k s = elim s.session [
-  | inl g ↦ in_order_by true c s.directive s.base w g k
-  | inr g ↦ in_order_by false c s.directive s.base w g k
-]
+is_in_order c w k s = in_session s (λ early g. in_order_by early c s.directive s.base w g k)
 
 pub has_plain_history : (c : Config) (w : World) → Sound c w → InSession c w → HasPlainHistory w
-has_plain_history c w k s = elim s.session [
-  | inl g ↦
-      record { base = s.base; plain = g.plain; ran = g.ran; is = is_history true c s.directive s.base w g k }
-  | inr g ↦
-      record { base = s.base; plain = g.plain; ran = g.ran; is = is_history false c s.directive s.base w g k }
-]
+has_plain_history c w k s = in_session s (λ early g.
+    record { base = s.base; plain = g.plain; ran = g.ran; is = is_history early c s.directive s.base w g k })
 
 -- How many submissions are whole, by lists of how many segments each has.
 
@@ -338,41 +312,24 @@ total (n ∷ ns) = n + total ns
 less_total : (ns : List ℕ) → total ns ≤ 1 + total (without_one ns)
 less_total [] = omega arith
 less_total (suc (suc n) ∷ ns) = omega arith
-less_total (suc zero ∷ ns) = omega arith
-less_total (zero ∷ ns) = omega arith
-
-one_with : (x : ℕ) (ns more : List ℕ) → without_one ((x ∷ ns) ++ more) ≡ without_one (x ∷ ns) ++ more
-one_with (suc (suc n)) ns more = refl
-one_with (suc zero) ns more = refl
-one_with zero ns more = refl
+less_total (_ ∷ ns) = omega arith
 
 -- what is submitted later is left whole
 pub left_with : (k : ℕ) (ns more : List ℕ) → k ≤ total ns → left_after k (ns ++ more) ≡ left_after k ns ++ more
 left_with zero ns more le = refl
 left_with (suc k) [] more le = absurd (omega (arith, le))
 left_with (suc k) (n ∷ ns) more le =
-    ap (left_after k) (one_with n ns more)
+    ap (left_after k) (with_one n ns more)
     ∙ left_with k (without_one (n ∷ ns)) more (omega (arith, le, less_total (n ∷ ns)))
 
 pub whole_still : (k : ℕ) (ns more : List ℕ) → k ≤ total ns → whole_within k (ns ++ more) ≡ whole_within k ns
 whole_still k ns more le =
-    omega (
-      arith,
-      ap length (left_with k ns more le),
-      length-append ns more,
-      length-append (left_after k ns) more,
-      (fewer_left k ns).0,
-    )
+    omega (arith, ap length (left_with k ns more le), length-append {A = ℕ}, (fewer_left k ns).0)
 
 pub whole_more : (j k m : ℕ) (ns : List ℕ) → m ≡ j + k
     → whole_within m ns ≡ whole_within j ns + whole_within k (left_after j ns)
 whole_more j k m ns is =
-    omega (
-      arith,
-      ap length (left_more j k m ns is),
-      (fewer_left j ns).0,
-      (fewer_left k (left_after j ns)).0,
-    )
+    omega (arith, ap length (left_more j k m ns is), (fewer_left j ns).0, (fewer_left k (left_after j ns)).0)
 
 -- with more segments there are no fewer
 pub whole_rises : (j k : ℕ) (ns : List ℕ) → j ≤ k → whole_within j ns ≤ whole_within k ns
@@ -414,8 +371,7 @@ cell_none : (limits : Limits) (flags : SegmentFlags) (part : Option (List ℕ)) 
 cell_none limits First part octets more = opens_only limits (interruption part) octets
 cell_none limits Continuing None octets more = refl
 cell_none limits Continuing (Some part) octets more = opens_only limits None (part ++ octets)
-cell_none limits Last part octets more = elim more [ ]
-cell_none limits Alone part octets more = elim more [ ]
+cell_none limits _ _ octets more = elim more [ ]
 
 step_none : (limits : Limits) (part : Option (List ℕ)) (s : SegmentView) → HasMore s.header.flags
     → (take_step limits part s).packets ≡ []
@@ -450,16 +406,14 @@ flagged_more : (front single : SegmentFlags) (m : ℕ) (pieces : List (List ℕ)
     → i < length (flagged_segments front single m pieces)
     → AllHaveMore (take i (flagged_segments front single m pieces))
 flagged_more front single m pieces zero more lt = tt
-flagged_more front single m [] (suc i) more lt = absurd (omega (arith, lt))
-flagged_more front single m (x ∷ []) (suc i) more lt = absurd (omega (arith, lt))
 flagged_more front single m (x ∷ y ∷ ys) (suc i) more lt =
     (more, flagged_more Continuing Last m (y ∷ ys) i tt (omega (arith, lt)))
+flagged_more front single m _ _ more lt = absurd (omega (arith, lt))
 
 only_group : (part m : ℕ) (groups : List (List (List ℕ))) → length groups ≡ 1
     → (group : List (List ℕ)) × (flat_map (λ g. parts_of part m (concat g)) groups ≡ parts_of part m (concat group))
-only_group part m [] one = absurd (omega (arith, one))
 only_group part m (g ∷ []) one = (g, append-nil (parts_of part m (concat g)))
-only_group part m (g ∷ h ∷ gs) one = absurd (omega (arith, one))
+only_group part m _ one = absurd (omega (arith, one))
 
 begun_none : (limits : Limits) (part m : ℕ) (p : PacketOn) (i : ℕ) → IsOneGroup part p
     → i < length (segments_of part p.on_map p.octets) → (before : List SegmentView)
@@ -485,9 +439,8 @@ lone_group part octets = refl
 
 given_first : (c : Config) (j : ℕ) (ps : List PacketOn) → AllByRecursion (IsGiven c) ps
     → AllByRecursion (IsGiven c) (take j ps)
-given_first c zero ps h = tt
-given_first c (suc j) [] h = tt
 given_first c (suc j) (p ∷ ps) h = (h.0, given_first c j ps h.1)
+given_first c _ _ h = tt
 
 abbrev each : ℕ → List PacketOn → List ℕ
 each part ps = map (λ (p : PacketOn). length (segments_of part p.on_map p.octets)) ps
@@ -674,8 +627,4 @@ module _ (early : Bool) {Reached : PlainLink → Type 0} (c : Config) (d : Direc
 
 pub delivers_whole : (c : Config) (w : World) → Sound c w → InSession c w → DeliversWhole w
 delivers_whole c w k s =
-    let acknowledged : w.session.acknowledged ≤ length (accepted w) = (is_in_order c w k s).counted.1 in
-    elim s.session [
-      | inl g ↦ whole_by true c s.directive s.base w g k acknowledged
-      | inr g ↦ whole_by false c s.directive s.base w g k acknowledged
-    ]
+    in_session s (λ early g. whole_by early c s.directive s.base w g k (is_in_order c w k s).counted.1)

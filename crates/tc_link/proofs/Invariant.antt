@@ -6,14 +6,13 @@ use Rattle.tc_link.proofs.Common.{Directive, directive_step, Config, Event, Open
 use Rattle.tc_link.proofs.Common.{directive_outcome, is_initiation, World, new_world, world_step, world_run, IsClean}
 use Rattle.tc_link.proofs.Common.{IsIdle, BeginsNoSession, down_deliver_step, begins_clean, begins_idle}
 use Rattle.tc_link.proofs.Common.{session_begun_by, session_after_directive, IsDirective, IsEvent, IsReached, obeyed}
-use Rattle.tc_link.proofs.Common.{FopOutcome, closed_not, closed_is, SetVs, InitUnlock, GroundState, and_parts, S6, ◌+◌}
-use Rattle.tc_link.proofs.Common.{◌%◌, ◌<◌, ◌++◌, length, arith, length-append, eq-eqb, append-nil, Clcw, Ad}
-use Rattle.tc_link.proofs.Common.{segment_octets, Sent, PulledUnit, pull_step, clcw_step, FopState, tick_step}
-use Rattle.tc_link.proofs.Common.{after_alert, after_stop, retransmits, after_new_value, after_restart, pulled_out}
-use Rattle.tc_link.proofs.Common.{ticked, heard_active, without_oldest_mark, with_fop, frame_to_send, world_after_pull}
-use Rattle.tc_link.proofs.Common.{world_after_directive, Fates, submitting, report_while_active}
+use Rattle.tc_link.proofs.Common.{FopOutcome, closed_not, closed_is, SetVs, InitUnlock, GroundState, S6, ◌+◌, ◌%◌, ◌<◌}
+use Rattle.tc_link.proofs.Common.{◌++◌, length, arith, length-append, eq-eqb, append-nil, Clcw, Ad, segment_octets}
+use Rattle.tc_link.proofs.Common.{Sent, PulledUnit, pull_step, clcw_step, FopState, tick_step, after_alert, after_stop}
+use Rattle.tc_link.proofs.Common.{retransmits, after_new_value, after_restart, pulled_out, ticked, heard_active}
+use Rattle.tc_link.proofs.Common.{without_oldest_mark, with_fop, frame_to_send, world_after_pull, world_after_directive}
+use Rattle.tc_link.proofs.Common.{Fates, submitting, report_while_active}
 use Rattle.std.proofs.lemmas.Bool.{cases_Bool}
-use Rattle.std.specs.Prelude.{◌&&◌}
 use Rattle.cop1.specs.FopPull.{after_send_first}
 use Rattle.nodes.specs.declared.event.Event.TheVariants as events
 use Rattle.nodes.specs.Ground.{can_resume}
@@ -23,7 +22,7 @@ use Rattle.simulated_link.proofs.Counted.{reported}
 use Rattle.tc_link.specs.Taken.{BeginsSession}
 use Rattle.tc_link.specs.Known.{SetsNoNumber, MovesWithRecords}
 use Rattle.tc_link.proofs.Upward.{up_delivers, up_lost, same_keeps, releases_keep, ticks, directs, pulls_keep, not_next}
-use Rattle.tc_link.proofs.IdleStart.{InSession, begins, clean_idle, HasReports, step_reports}
+use Rattle.tc_link.proofs.IdleStart.{InSession, in_session, begins, clean_idle, HasReports, step_reports}
 use Rattle.tc_link.proofs.Readable.{Carried, step_carried}
 use Rattle.tc_link.proofs.Downward.{early_down_deliver, reports_keep, down_lost, late_down_deliver, late_down_clcw}
 use Rattle.tc_link.proofs.Downward.{early_down_clcw}
@@ -166,12 +165,6 @@ module _ (c : Config) (w : World) (h : Holding c w) where
         ];
       }
 
-  clean_goes : (e : Event) → BeginsNoSession w e → IsClean (world_step w e).after → IsIdle (world_step w e).after
-  clean_goes e goes is =
-      let stays = opening_stays w e goes in
-      let was : IsClean w = sym (ap cleans stays) ∙ is in
-      ap idles stays ∙ h.clean was
-
   some_true : (b : Bool) → Some b ≡ Some true → b ≡ true
   some_true b e = cc
 
@@ -198,7 +191,7 @@ module _ (c : Config) (w : World) (h : Holding c w) where
     sound = step_sound c w h.sound e fits;
     reports = step_reports c w h.sound h.reports e;
     carried = step_carried c w h.sound h.carried e fits;
-    clean = clean_goes e goes;
+    clean = λ is. let stays = opening_stays w e goes in ap idles stays ∙ h.clean (sym (ap cleans stays) ∙ is);
     session = session_goes e goes fits;
   }
 
@@ -247,9 +240,7 @@ reached_holds w r =
 -- ---- a session begins with an event
 
 pub can_off : (s : GroundState) (value : ℕ) → can_resume s value ≡ true → s.fop.state ≡ S6
-can_off s value can =
-    let both = and_parts (is_closed s.fop.state && s.fates.kept) _ can in
-    closed_is s.fop.state (and_parts (is_closed s.fop.state) s.fates.kept both.0).0
+can_off s value can = grind (arith, can)
 
 -- it is an initiation, or ends with one
 pub record BeganAt (w : World) (e : Event) : Type 0 where
@@ -289,8 +280,7 @@ alert_same : (f : FopState SegmentView) → Same f (after_alert f)
 alert_same f = (refl, refl)
 
 again_same : (f : FopState SegmentView) (again : Bool) → (retransmits f again).vs ≡ f.vs
-again_same f true = refl
-again_same f false = refl
+again_same f again = grind arith
 
 -- a report leaves V(S)
 heard_same : (f : FopState SegmentView) (r : Clcw) → (clcw_step f r).after.vs ≡ f.vs
@@ -387,16 +377,13 @@ module _ (early : Bool) (c : Config) (d : Directive) (base : ℕ) (w : World) (k
 
 module _ (c : Config) (w : World) (k : Sound c w) (s : InSession c w) where
   sends : MovesWithRecords w (world_step w events.Send).after
-  sends = elim s.session [
-    | inl g ↦ send_so true c s.directive s.base w k g
-    | inr g ↦ send_so false c s.directive s.base w k g
-  ]
+  sends = in_session s (λ early g. send_so early c s.directive s.base w k g)
 
   abbrev pub IsOctet : World → Type 0
   IsOctet new = new.ground_node.fop.nn < 256
 
   pub octet : IsOctet w
-  octet = elim s.session [ inl g ↦ g.linked.nn_octet | inr g ↦ g.linked.nn_octet ]
+  octet = in_session s (λ early g. g.linked.nn_octet)
 
   -- the ground is this, and these are the records
   abbrev Moves : GroundState → Session → Type 0

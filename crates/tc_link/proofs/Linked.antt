@@ -32,17 +32,15 @@ CommandFits _ base _ = ⊥
 -- the frames are the pairs; control frames stand before the first of them alone, where `front` says so
 abbrev pub UpIs : Directive → ℕ → Bool → List BodyView → List (ℕ × SegmentView) → Type 0
 UpIs d base front [] [] = Unit {0}
-UpIs d base front [] (q ∷ qs) = ⊥
 UpIs d base front (Bd s ∷ fs) qs = UpIs d base front fs qs
 UpIs d base front (Bc command ∷ fs) qs = (front ≡ true) × CommandFits d base command × UpIs d base front fs qs
-UpIs d base front (Ad n u ∷ fs) [] = ⊥
 UpIs d base front (Ad n u ∷ fs) (q ∷ qs) = (n ≡ (base + q.0) % 256) × (u ≡ q.1) × UpIs d base false fs qs
+UpIs d base front _ _ = ⊥
 
 abbrev pub DownIs : ℕ → List Clcw → List ℕ → Type 0
 DownIs base [] [] = Unit {0}
-DownIs base [] (v ∷ vs) = ⊥
-DownIs base (c ∷ cs) [] = ⊥
 DownIs base (c ∷ cs) (v ∷ vs) = (c.value ≡ (base + v) % 256) × DownIs base cs vs
+DownIs base _ _ = ⊥
 
 -- each pair was sent, and none before it takes the receiver past its window
 abbrev pub Fits : (h n : ℕ) → List SegmentView → ℕ → List (ℕ × SegmentView) → Type 0
@@ -58,11 +56,10 @@ bit false = 0
 -- and one that waits asks for repetition.
 abbrev pub Ranks : ℕ → List Clcw → List ℕ → ℕ → Type 0
 Ranks low [] [] high = low ≤ high
-Ranks low [] (v ∷ vs) high = ⊥
-Ranks low (c ∷ cs) [] high = ⊥
 Ranks low (c ∷ cs) (v ∷ vs) high =
     (locks c ≡ false) × (waits c ≡ true → asks c ≡ true) × (low ≤ 2 * v + bit (asks c))
     × Ranks (2 * v + bit (asks c)) cs vs high
+Ranks low _ _ high = ⊥
 
 -- ---- what keeps them
 
@@ -70,20 +67,18 @@ pub up_push : (d : Directive) (base n i : ℕ) (u : SegmentView) (front : Bool) 
     (qs : List (ℕ × SegmentView)) → n ≡ (base + i) % 256 → UpIs d base front fs qs
     → UpIs d base front (fs ++ Ad n u ∷ []) (qs ++ (i, u) ∷ [])
 up_push d base n i u front [] [] e h = (e, refl, tt)
-up_push d base n i u front [] (q ∷ qs) e h = elim h [ ]
 up_push d base n i u front (Bd s ∷ fs) qs e h = up_push d base n i u front fs qs e h
 up_push d base n i u front (Bc command ∷ fs) qs e h = (h.0, h.1, up_push d base n i u front fs qs e h.2)
-up_push d base n i u front (Ad m v ∷ fs) [] e h = elim h [ ]
 up_push d base n i u front (Ad m v ∷ fs) (q ∷ qs) e h = (h.0, h.1, up_push d base n i u false fs qs e h.2)
+up_push d base n i u front _ _ e h = elim h [ ]
 
 pub up_push_bypass : (d : Directive) (base : ℕ) (s : SegmentView) (front : Bool) (fs : List BodyView)
     (qs : List (ℕ × SegmentView)) → UpIs d base front fs qs → UpIs d base front (fs ++ Bd s ∷ []) qs
 up_push_bypass d base s front [] [] h = tt
-up_push_bypass d base s front [] (q ∷ qs) h = elim h [ ]
 up_push_bypass d base s front (Bd t ∷ fs) qs h = up_push_bypass d base s front fs qs h
 up_push_bypass d base s front (Bc command ∷ fs) qs h = (h.0, h.1, up_push_bypass d base s front fs qs h.2)
-up_push_bypass d base s front (Ad m v ∷ fs) [] h = elim h [ ]
 up_push_bypass d base s front (Ad m v ∷ fs) (q ∷ qs) h = (h.0, h.1, up_push_bypass d base s false fs qs h.2)
+up_push_bypass d base s front _ _ h = elim h [ ]
 
 -- before any Type-AD frame
 pub up_push_control : (d : Directive) (base : ℕ) (command : Command) (fs : List BodyView) → CommandFits d base command
@@ -96,9 +91,8 @@ up_push_control d base command (Ad m v ∷ fs) fits h = elim h [ ]
 pub down_push : (base v : ℕ) (c : Clcw) (cs : List Clcw) (vs : List ℕ) → c.value ≡ (base + v) % 256 → DownIs base cs vs
     → DownIs base (cs ++ c ∷ []) (vs ++ v ∷ [])
 down_push base v c [] [] e h = (e, tt)
-down_push base v c [] (w ∷ ws) e h = elim h [ ]
-down_push base v c (d ∷ ds) [] e h = elim h [ ]
 down_push base v c (d ∷ ds) (w ∷ ws) e h = (h.0, down_push base v c ds ws e h.1)
+down_push base v c _ _ e h = elim h [ ]
 
 pub fits_less : (h n : ℕ) (units : List SegmentView) (r s : ℕ) (qs : List (ℕ × SegmentView)) → s ≤ r
     → Fits h n units r qs → Fits h n units s qs
@@ -144,31 +138,27 @@ pub ranks_push : (low high r : ℕ) (c : Clcw) (cs : List Clcw) (vs : List ℕ) 
     → (waits c ≡ true → asks c ≡ true) → high ≡ 2 * r + bit (asks c) → Ranks low cs vs high
     → Ranks low (cs ++ c ∷ []) (vs ++ r ∷ []) high
 ranks_push low high r c [] [] free waiting is up = (free, waiting, omega arith, omega arith)
-ranks_push low high r c [] (w ∷ ws) free waiting is up = elim up [ ]
-ranks_push low high r c (d ∷ ds) [] free waiting is up = elim up [ ]
 ranks_push low high r c (d ∷ ds) (w ∷ ws) free waiting is up =
     (up.0, up.1, up.2, ranks_push (2 * w + bit (asks d)) high r c ds ws free waiting is up.3)
+ranks_push low high r c _ _ free waiting is up = elim up [ ]
 
 pub ranks_higher : (low high higher : ℕ) (cs : List Clcw) (vs : List ℕ) → high ≤ higher → Ranks low cs vs high
     → Ranks low cs vs higher
 ranks_higher low high higher [] [] above up = omega arith
-ranks_higher low high higher [] (w ∷ ws) above up = elim up [ ]
-ranks_higher low high higher (d ∷ ds) [] above up = elim up [ ]
 ranks_higher low high higher (d ∷ ds) (w ∷ ws) above up =
     (up.0, up.1, up.2, ranks_higher (2 * w + bit (asks d)) high higher ds ws above up.3)
+ranks_higher low high higher _ _ above up = elim up [ ]
 
 pub ranks_lower : (low lower high : ℕ) (cs : List Clcw) (vs : List ℕ) → lower ≤ low → Ranks low cs vs high
     → Ranks lower cs vs high
 ranks_lower low lower high [] [] below up = omega arith
-ranks_lower low lower high [] (w ∷ ws) below up = elim up [ ]
-ranks_lower low lower high (d ∷ ds) [] below up = elim up [ ]
 ranks_lower low lower high (d ∷ ds) (w ∷ ws) below up = (up.0, up.1, omega (arith, up.2), up.3)
+ranks_lower low lower high _ _ below up = elim up [ ]
 
 pub ranks_to : (low high : ℕ) (cs : List Clcw) (vs : List ℕ) → Ranks low cs vs high → low ≤ high
 ranks_to low high [] [] up = up
-ranks_to low high [] (w ∷ ws) up = elim up [ ]
-ranks_to low high (d ∷ ds) [] up = elim up [ ]
 ranks_to low high (d ∷ ds) (w ∷ ws) up = omega (arith, up.2, ranks_to (2 * w + bit (asks d)) high ds ws up.3)
+ranks_to low high _ _ up = elim up [ ]
 
 -- What a report does at the sender, where its value lies between the numbers of what is acknowledged and what was sent.
 
@@ -308,17 +298,7 @@ module _ (base h : ℕ) (checked : Type 0) (s : FopState SegmentView) (a n : ℕ
   pub active_led : IsActive s.state → Led base checked s a c v (report_while_active s c)
   active_led active = heard_active s c (Led base checked s a c v) (record {
     locked = λ t. alert_led Lockout (λ is. absurd (let no : locks c ≡ false = k.unlocked is in cc));
-    outside = λ t. absurd (omega (
-      arith,
-      ltb-true _ _ t,
-      k.value_is,
-      k.vs_is,
-      k.nn_is,
-      k.low,
-      k.high,
-      k.n_a,
-      k.half_most,
-    ));
+    outside = λ t. absurd (omega (arith, ltb-true _ _ t));
     wait_flag = λ unasked waiting. alert_led ClcwAlert
         (λ is. absurd (let yes : asks c ≡ true = k.wait_flag is waiting in cc));
     asks_none = λ asking at. alert_led Synch (λ is. absurd (
@@ -418,18 +398,15 @@ zeros_count (c ∷ cs) = omega (arith, zeros_count cs)
 pub good_down : (base low : ℕ) (cs : List Clcw) (vs : List ℕ) (l : Type 0) → base < 256 → length cs ≡ length vs
     → Rises low vs 0 → AllGood base cs l → DownIs base cs vs
 good_down base low [] [] l most count up all = tt
-good_down base low [] (v ∷ vs) l most count up all = absurd cc
-good_down base low (c ∷ cs) [] l most count up all = absurd cc
 good_down base low (c ∷ cs) (v ∷ vs) l most count up all = (
   omega (arith, all.0.3, rises_to v 0 vs up.1),
   good_down base v cs vs l most (omega (arith, count)) up.1 all.1,
 )
+good_down base low _ _ l most count up all = absurd cc
 
 pub good_ranks : (base low rank : ℕ) (cs : List Clcw) (vs : List ℕ) (l : Type 0) → rank ≡ 0 → length cs ≡ length vs
     → Rises low vs 0 → AllGood base cs l → Ranks rank cs vs 0
 good_ranks base low rank [] [] l least count up all = omega (arith, least)
-good_ranks base low rank [] (v ∷ vs) l least count up all = absurd cc
-good_ranks base low rank (c ∷ cs) [] l least count up all = absurd cc
 good_ranks base low rank (c ∷ cs) (v ∷ vs) l least count up all =
     let none_asked : bit (asks c) ≡ 0 = rw all.0.2 refl in (
       all.0.0,
@@ -438,6 +415,7 @@ good_ranks base low rank (c ∷ cs) (v ∷ vs) l least count up all =
       good_ranks base v (2 * v + bit (asks c)) cs vs l (omega (arith, none_asked, rises_to v 0 vs up.1))
           (omega (arith, count)) up.1 all.1,
     )
+good_ranks base low rank _ _ l least count up all = absurd cc
 
 -- ---- what holds before the confirmation
 
@@ -491,9 +469,8 @@ pub record Unsettled (d : Directive) (base : ℕ) (m : FopMode) (control : Contr
 
 abbrev pub Carries : Config → List (List ℕ) → List BodyView → Type 0
 Carries c [] [] = Unit {0}
-Carries c [] (f ∷ fs) = ⊥
-Carries c (b ∷ bs) [] = ⊥
 Carries c (b ∷ bs) (f ∷ fs) = (command.frame_at On b ≡ Ok (frame_of c f)) × Carries c bs fs
+Carries c _ _ = ⊥
 
 -- octets of a telemetry frame with this report
 pub record Tells (c : Config) (octets : List ℕ) (report : Clcw) : Type 0 where
@@ -506,9 +483,8 @@ pub record Tells (c : Config) (octets : List ℕ) (report : Clcw) : Type 0 where
 
 abbrev pub Reporting : Config → List (List ℕ) → List Clcw → Type 0
 Reporting c [] [] = Unit {0}
-Reporting c [] (r ∷ rs) = ⊥
-Reporting c (b ∷ bs) [] = ⊥
 Reporting c (b ∷ bs) (r ∷ rs) = Tells c b r × Reporting c bs rs
+Reporting c _ _ = ⊥
 
 -- ---- a submission that was accepted
 
@@ -536,12 +512,6 @@ abbrev pub Held : Bool → (base vs nn : ℕ) → List (SentUnit SegmentView) �
     → List SegmentView → Type 0
 Held true base vs nn sent rest a n units = Kept base vs nn a n
 Held false base vs nn sent rest a n units = Holds base vs nn sent rest a n units
-
-pub holds_where : {off : Bool} {base vs nn : ℕ} {sent : List (SentUnit SegmentView)} {rest : List SegmentView}
-    {a n : ℕ} {units : List SegmentView} → off ≡ false → Held off base vs nn sent rest a n units
-    → Holds base vs nn sent rest a n units
-holds_where {off} {base} {vs} {nn} {sent} {rest} {a} {n} {units} on held =
-    let it : Held false base vs nn sent rest a n units = rw on at held in it
 
 pub kept_of : (off : Bool) (base vs nn : ℕ) (sent : List (SentUnit SegmentView)) (rest : List SegmentView) (a n : ℕ)
     (units : List SegmentView) → Held off base vs nn sent rest a n units → Kept base vs nn a n
@@ -580,7 +550,9 @@ pub holds_on : {c : Config} {d : Directive} {base : ℕ} {w : World} {p : PlainL
     → is_closed w.ground_node.fop.state ≡ false
     → Holds base w.ground_node.fop.vs w.ground_node.fop.nn w.ground_node.fop.sent (unsent_segments w.ground_node)
     p.a p.n p.units
-holds_on l on = holds_where on l.held
+holds_on {base = base} {w = w} {p = p} l on =
+    let f = w.ground_node.fop in
+    let it : Held false base f.vs f.nn f.sent (unsent_segments w.ground_node) p.a p.n p.units = rw on at l.held in it
 
 -- ---- once it is confirmed, or begun without a check
 
@@ -684,13 +656,11 @@ run_to {early} {to} {c} {d} {base} {w} {new} g s = beside s new (run_on g.plain 
 pub carries_push : (c : Config) (octets : List ℕ) (f : BodyView) (bs : List (List ℕ)) (fs : List BodyView)
     → command.frame_at On octets ≡ Ok (frame_of c f) → Carries c bs fs → Carries c (bs ++ octets ∷ []) (fs ++ f ∷ [])
 carries_push c octets f [] [] reads h = (reads, tt)
-carries_push c octets f [] (g ∷ gs) reads h = elim h [ ]
-carries_push c octets f (b ∷ bs) [] reads h = elim h [ ]
 carries_push c octets f (b ∷ bs) (g ∷ gs) reads h = (h.0, carries_push c octets f bs gs reads h.1)
+carries_push c octets f _ _ reads h = elim h [ ]
 
 pub reporting_push : (c : Config) (octets : List ℕ) (r : Clcw) (bs : List (List ℕ)) (rs : List Clcw) → Tells c octets r
     → Reporting c bs rs → Reporting c (bs ++ octets ∷ []) (rs ++ r ∷ [])
 reporting_push c octets r [] [] says h = (says, tt)
-reporting_push c octets r [] (g ∷ gs) says h = elim h [ ]
-reporting_push c octets r (b ∷ bs) [] says h = elim h [ ]
 reporting_push c octets r (b ∷ bs) (g ∷ gs) says h = (h.0, reporting_push c octets r bs gs says h.1)
+reporting_push c octets r _ _ says h = elim h [ ]

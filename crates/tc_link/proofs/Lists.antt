@@ -7,24 +7,21 @@ use Rattle.std.proofs.Common.{add-one, zero-add}
 module _ {A : Type 0} where
   -- the rest of a list from n on, taken apart
   pub drop_cons_get : (xs : List A) (n : ℕ) (u : A) (us : List A) → drop n xs ≡ u ∷ us → slice_get xs n ≡ Some u
-  drop_cons_get [] zero u us e = cc
-  drop_cons_get [] (suc n) u us e = cc
-  drop_cons_get (x ∷ xs) zero u us e = cc
   drop_cons_get (x ∷ xs) (suc n) u us e = drop_cons_get xs n u us e
+  drop_cons_get [] (suc n) u us e = cc
+  drop_cons_get _ zero u us e = cc
 
   pub drop_cons_rest : (xs : List A) (n : ℕ) (u : A) (us : List A) → drop n xs ≡ u ∷ us → drop (n + 1) xs ≡ us
-  drop_cons_rest [] zero u us e = cc
-  drop_cons_rest [] (suc n) u us e = cc
-  drop_cons_rest (x ∷ xs) zero u us e = cc
   drop_cons_rest (x ∷ xs) (suc n) u us e =
       let here : drop (n + 1) xs ≡ us = drop_cons_rest xs n u us e in rw add-one (rw add-one at here)
+  drop_cons_rest [] (suc n) u us e = cc
+  drop_cons_rest _ zero u us e = cc
 
   pub take_next : (xs : List A) (n : ℕ) (u : A) → slice_get xs n ≡ Some u → take (n + 1) xs ≡ take n xs ++ u ∷ []
-  take_next [] n u e = cc
-  take_next (x ∷ xs) zero u e = cc
   take_next (x ∷ xs) (suc n) u e =
       let here : take (n + 1) xs ≡ take n xs ++ u ∷ [] =
       take_next xs n u e in rw add-one (ap (λ l. x ∷ l) (rw add-one at here))
+  take_next _ _ u e = cc
 
   pub get_append : (xs ys : List A) (n : ℕ) (u : A) → slice_get xs n ≡ Some u → slice_get (xs ++ ys) n ≡ Some u
   get_append [] ys n u e = cc
@@ -37,10 +34,10 @@ module _ {A : Type 0} where
   get_drop (x ∷ xs) (suc a) j u e = let same : suc a + j ≡ suc (a + j) = omega arith in rw same (get_drop xs a j u e)
 
   pub get_take : (xs : List A) (n j : ℕ) (u : A) → slice_get (take n xs) j ≡ Some u → slice_get xs j ≡ Some u
-  get_take xs zero j u e = cc
-  get_take [] (suc n) j u e = cc
   get_take (x ∷ xs) (suc n) zero u e = e
   get_take (x ∷ xs) (suc n) (suc j) u e = get_take xs n j u e
+  get_take [] (suc n) j u e = cc
+  get_take xs zero j u e = cc
 
 -- The sent queue as the list of its units.
 
@@ -50,9 +47,8 @@ module _ {U : Type 0} where
   units-marked (x ∷ xs) = ap (λ l. x.unit ∷ l) (units-marked xs)
 
   pub units-drop : (k : ℕ) (xs : List (SentUnit U)) → units_of (drop k xs) ≡ drop k (units_of xs)
-  units-drop zero xs = refl
-  units-drop (suc k) [] = refl
   units-drop (suc k) (x ∷ xs) = units-drop k xs
+  units-drop _ _ = refl
 
   pub units-push : (xs : List (SentUnit U)) (u : U) → units_of (xs ++ unmarked_unit u ∷ []) ≡ units_of xs ++ u ∷ []
   units-push [] u = refl

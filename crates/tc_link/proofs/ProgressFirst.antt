@@ -6,8 +6,8 @@ use Rattle.tc_link.proofs.Common.{World, world_step, down_deliver_step, IsReache
 use Rattle.tc_link.proofs.Common.{spacecraft_take, up_deliver_step, active_on, AllByRecursion, ◌⊎◌, Option, Some, None}
 use Rattle.tc_link.proofs.Common.{Ok, Alert, Extracted, SpacecraftState, WorldOutcome, FopOutcome, subst, sym}
 use Rattle.tc_link.proofs.Common.{replicate, not, inl, true, cond_both, marked_unit, S1, S2, clcw_step, locks, waits}
-use Rattle.tc_link.proofs.Common.{asks, pull_step, tick_step, after_repeat, after_stop, Open, FarmState, FlagsAgree}
-use Rattle.tc_link.proofs.Common.{report_of, after_extraction, spacecraft_report, acknowledging, Bool, retransmits}
+use Rattle.tc_link.proofs.Common.{asks, pull_step, tick_step, after_repeat, after_stop, Open, report_of}
+use Rattle.tc_link.proofs.Common.{after_extraction, spacecraft_report, acknowledging, Bool, retransmits}
 use Rattle.tc_link.proofs.Common.{after_new_value, heard_active, pulled_out, ticked, Event, goes_on, after_alert}
 use Rattle.tc_link.proofs.Common.{report_while_active, if◌then◌else◌}
 use Rattle.std.specs.Prelude.{IsSome}
@@ -28,7 +28,7 @@ use Rattle.tc_link.specs.Progress.{all_sent, reported, all_heard, are_marked, ti
 use Rattle.tc_link.proofs.Downward.{used, used_is}
 use Rattle.tc_link.proofs.Linked.{Tells}
 use Rattle.tc_link.proofs.ProgressNumbers.{IsOctetReport, known, Ends, ends_then, ends_repeat, ends_times, ends_once}
-use Rattle.tc_link.proofs.ProgressNumbers.{going_step, ends_trip, IsCalm, no_directive, no_resumption}
+use Rattle.tc_link.proofs.ProgressNumbers.{going_step, ends_trip, IsCalm, no_directive, no_resumption, or_on}
 use Rattle.tc_link.proofs.ProgressSender.{Running, HoldsNoMore, tick_on, holds_more, Obeys, heard_fresh, pull_no_more}
 use Rattle.tc_link.proofs.ProgressSender.{report_holds, active_report, tick_end, marked_all, step_kept}
 use Rattle.tc_link.proofs.Refilled.{refilled_keeps}
@@ -107,13 +107,8 @@ pub record HasNumbers (w : World) : Type 0 where
 pub has_numbers : (w : World) → IsReached w → IsActive w.ground_node.fop.state → HasNumbers w
 has_numbers w g active =
     let k = (known w g).octets in
-    record {
-      numbered = k.sender.numbered (active_on w.ground_node.fop.state active);
-      most = k.sender.most;
-      vs = k.sender.vs;
-      nn = k.sender.nn;
-      vr = k.receiver.vr;
-    }
+    let numbered = k.sender.numbered (active_on w.ground_node.fop.state active) in
+    assumption (numbered, k.sender, k.receiver)
 
 -- units are sent where the numbers differ
 pub some_sent : (w : World) → HasNumbers w → w.ground_node.fop.nn ≢ w.ground_node.fop.vs
@@ -155,8 +150,7 @@ Taken P n m w = P n w × (length w.spacecraft.ready ≡ m)
 
 one_taken : (m : ℕ) (s : SpacecraftState) (ps : List PacketOn) → length ps ≡ suc m
     → length (spacecraft_take s ps).after.ready ≡ m
-one_taken m s [] is = absurd (omega (arith, is))
-one_taken m s (p ∷ ps) is = omega (arith, is)
+one_taken m s ps is = grind (arith, is)
 
 module _ (P : ℕ → World → Type 0) (taken : (n : ℕ) (w : World) → P n w → P n (world_step w events.Take).after) where
   pub takes : (n : ℕ) (w : World) → IsReached w → P n w → Ends (Taken P n zero) w (all_taken w)
@@ -306,9 +300,6 @@ module _ (most k : ℕ) where
   Hears zero w = Heard w
   Hears (suc n) w = ToHear n w
 
-  open_state : (s : FarmState) → FlagsAgree s → s.wait ≡ false → s.lockout ≡ false → s.state ≡ Open
-  open_state s flags free unlocked = flags.state ∙ rw (unlocked, free) refl
-
   said : (w : World)
       → (locks (report_of w.spacecraft.farm w.spacecraft.config.vcid) ≡ w.spacecraft.farm.lockout)
       × (waits (report_of w.spacecraft.farm w.spacecraft.config.vcid) ≡ w.spacecraft.farm.wait)
@@ -327,13 +318,8 @@ module _ (most k : ℕ) where
       let active = t.bounds.active in
       let free : waits r ≡ false = rw same ((said w).1 ∙ t.free) in
       rw (active_report w.ground_node.fop r active)
-      (elim (heard_fresh w.ground_node.fop r active free) [
-        | inl a ↦ inl a
-        | inr o ↦ elim (report_holds w.ground_node.fop w.ground_node.pending active r) [
-          | inl a ↦ inl a
-          | inr h ↦ inr (o, h)
-        ]
-      ])
+      (or_on (heard_fresh w.ground_node.fop r active free) (λ o.
+      or_on (report_holds w.ground_node.fop w.ground_node.pending active r) (λ h. inr (o, h))))
 
   hears_last : (w : World) → IsReached w → ToHear zero w → Fresh (world_step w events.DownDeliver)
   hears_last w g t =
@@ -346,30 +332,25 @@ module _ (most k : ℕ) where
       let o : WorldOutcome = world_after_telemetry w [] (used w.ground_node x r) in
       let going : IsReached o.after =
       subst (λ (o : WorldOutcome). IsReached o.after) same (going_step w g events.DownDeliver tt) in
-      subst Fresh (sym same) (elim (obeys_last w t r refl) [
-        | inl a ↦ inl a
-        | inr p ↦ (
-            let is = with_same s f in
-            let b : IsBounded most k s =
-            record { active = t.bounds.active; holds = t.bounds.holds; window = t.bounds.window } in
-            let bounds : IsBounded most k (with_fop s f) = bounded most k s f b p.1 in
-            let numbers : HasNumbers o.after = has_numbers o.after going bounds.active in
-            let some : r.value ≢ f.vs → 1 ≤ length (with_fop s f).fop.sent =
-            λ apart. some_sent o.after numbers (λ e. apart (sym p.0.nn ∙ sym is.nn ∙ e ∙ is.vs)) in
-            let flags = (known w g).holds.sound.spacecraft.farm.flags in
-            inr (
-              record {
-                state = rw is.state p.0.state;
-                asked = λ e. some (p.0.asked (sym is.state ∙ e));
-                up = t.up;
-                down = refl;
-                opened = open_state w.spacecraft.farm flags t.free (sym (said w).0 ∙ p.0.unlocked);
-                vr = sym (is.nn ∙ p.0.nn);
-                asks = λ e. some (p.0.asking ((said w).2 ∙ e));
-              },
-              bounds,
-            ))
-      ])
+      subst Fresh (sym same) (or_on (obeys_last w t r refl) (λ p.
+      let is = with_same s f in
+      let bounds : IsBounded most k (with_fop s f) = bounded most k s f (assumption t.bounds) p.1 in
+      let numbers : HasNumbers o.after = has_numbers o.after going bounds.active in
+      let some : r.value ≢ f.vs → 1 ≤ length (with_fop s f).fop.sent =
+      λ apart. some_sent o.after numbers (λ e. apart (sym p.0.nn ∙ sym is.nn ∙ e ∙ is.vs)) in
+      let flags = (known w g).holds.sound.spacecraft.farm.flags in
+      inr (
+        record {
+          state = rw is.state p.0.state;
+          asked = λ e. some (p.0.asked (sym is.state ∙ e));
+          up = t.up;
+          down = refl;
+          opened = flags.state ∙ rw (sym (said w).0 ∙ p.0.unlocked, t.free) refl;
+          vr = sym (is.nn ∙ p.0.nn);
+          asks = λ e. some (p.0.asking ((said w).2 ∙ e));
+        },
+        bounds,
+      )))
 
   -- one before it
   module _ (n : ℕ) (w : World) (g : IsReached w) (t : ToHear (suc n) w) where
@@ -381,24 +362,19 @@ module _ (most k : ℕ) where
     hears_one (b ∷ bs) is =
         let down : w.down ≡ b ∷ (bs ++ t.last ∷ []) = t.down ∙ ap (λ xs. xs ++ t.last ∷ []) is in
         oldest_heard More w g b (bs ++ t.last ∷ []) down (λ r x.
-        elim (holds_more w.ground_node.fop w.ground_node.pending r t.bounds.active) [
-          | inl a ↦ inl a
-          | inr less ↦ (
-              let f : FopState SegmentView = (clcw_step w.ground_node.fop r).after in
-              let s : GroundState = acknowledging (after_extraction w.ground_node x) f in
-              let before : IsBounded most k s =
-              record { active = t.bounds.active; holds = t.bounds.holds; window = t.bounds.window } in
-              inr (record {
-                bounds = bounded most k s f before less;
-                up = t.up;
-                free = t.free;
-                olds = bs;
-                last = t.last;
-                down = refl;
-                count = omega (arith, ap length is, t.count);
-                tells = rw (with_config s f) t.tells;
-              }))
-        ])
+        or_on (holds_more w.ground_node.fop w.ground_node.pending r t.bounds.active) (λ less.
+        let f : FopState SegmentView = (clcw_step w.ground_node.fop r).after in
+        let s : GroundState = acknowledging (after_extraction w.ground_node x) f in
+        inr (record {
+          bounds = bounded most k s f (assumption t.bounds) less;
+          up = t.up;
+          free = t.free;
+          olds = bs;
+          last = t.last;
+          down = refl;
+          count = omega (arith, ap length is, t.count);
+          tells = rw (with_config s f) t.tells;
+        })))
 
   hears : (n : ℕ) (w : World) → IsReached w → Hears (suc n) w
       → IsSome (alert_in (world_step w events.DownDeliver).answer) ⊎ Hears n (world_step w events.DownDeliver).after
@@ -535,16 +511,13 @@ module _ (s : FopState SegmentView) where
       λ two below. cond_both (is_none_sent s.sent) 1 s.count (λ n. n < s.limit) (λ t. two) (λ t. below) in
       pulled_out s (λ o. Goes IsBelow o) (assumption first)
 
-  tick_limit : (tick_step s).after.limit ≡ s.limit
-  tick_limit = ticked s (λ o. o.after.limit ≡ s.limit) (assumption)
-
 pub limit_stays : (w : World) (e : Event) → IsCalm e
     → (world_step w e).after.ground_node.fop.limit ≡ w.ground_node.fop.limit
 limit_stays w e calm =
     let s = w.ground_node.fop in
-    step_kept (λ f. f.limit ≡ s.limit) (λ f waiting bypass is. is) w refl e (λ is. tick_limit s)
-    (λ is. (pull_goes s).0) (λ told r. (report_goes s r).0) (λ d is. no_directive e calm d is)
-    (λ value is. no_resumption e calm value is)
+    step_kept (λ f. f.limit ≡ s.limit) (λ f waiting bypass is. is) w refl e
+    (λ is. ticked s (λ o. o.after.limit ≡ s.limit) (assumption)) (λ is. (pull_goes s).0)
+    (λ told r. (report_goes s r).0) (λ d is. no_directive e calm d is) (λ value is. no_resumption e calm value is)
 
 -- until the report is heard
 abbrev pub IsBefore : Event → Type 0

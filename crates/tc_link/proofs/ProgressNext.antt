@@ -1,19 +1,17 @@
 -- An exchange once the link is ready: what is sent is accepted and acknowledged, so that exchanges end with all
 -- delivered.
-use Rattle.tc_link.proofs.Common.{◌≡◌, ◌<◌, ◌≤◌, ◌⊎◌, inl, inr, ℕ, suc, ◌+◌, ◌/◌, ◌%◌, Bool, true, false, not, List, []}
-use Rattle.tc_link.proofs.Common.{◌∷◌, ◌++◌, length, Option, Some, None, Ok, refl, ap, sym, subst, ◌∙◌, arith, nat_lt}
-use Rattle.tc_link.proofs.Common.{◌==◌, cond_both, eqb-true, ltb-true, ltb-false, Clcw, On, SegmentView, Ad, Bd}
-use Rattle.tc_link.proofs.Common.{ahead_by, FopState, FopOutcome, S1, S2, Alert, Idle, oldest_marked}
-use Rattle.tc_link.proofs.Common.{without_oldest_mark, PulledUnit, pull_step, after_restart, report_while_active, locks}
-use Rattle.tc_link.proofs.Common.{waits, asks, goes_on, alerts, NnR, Synch, FarmState, Open, Accepted, verdict_of}
-use Rattle.tc_link.proofs.Common.{Config, frame_of, zero, ◌-◌, length-append, replicate, AllByRecursion, option_to_list}
-use Rattle.tc_link.proofs.Common.{unmarked_unit, IsActive, clcw_step, units_of, farm_step, AdArrives, BufferReleased}
-use Rattle.tc_link.proofs.Common.{after_verdict, Verdict, report_of, IsConfig, FitsFrame, frame_to_send, PacketOn}
-use Rattle.tc_link.proofs.Common.{GroundState, with_fop, unsent_segments, after_extraction, extract_step}
+use Rattle.tc_link.proofs.Common.{◌≡◌, ◌<◌, ◌≤◌, ◌⊎◌, inl, inr, ℕ, suc, ◌+◌, ◌%◌, Bool, true, false, not, List, [], ◌∷◌}
+use Rattle.tc_link.proofs.Common.{◌++◌, length, Option, Some, None, Ok, refl, ap, sym, subst, ◌∙◌, arith, nat_lt, ◌==◌}
+use Rattle.tc_link.proofs.Common.{cond_both, eqb-true, ltb-true, ltb-false, Clcw, On, SegmentView, Ad, Bd, ahead_by}
+use Rattle.tc_link.proofs.Common.{FopState, FopOutcome, S1, S2, Alert, Idle, oldest_marked, without_oldest_mark}
+use Rattle.tc_link.proofs.Common.{PulledUnit, pull_step, after_restart, report_while_active, locks, waits, asks}
+use Rattle.tc_link.proofs.Common.{goes_on, alerts, NnR, Synch, FarmState, Open, Accepted, verdict_of, Config, frame_of}
+use Rattle.tc_link.proofs.Common.{zero, ◌-◌, length-append, replicate, AllByRecursion, option_to_list, unmarked_unit}
+use Rattle.tc_link.proofs.Common.{IsActive, clcw_step, after_verdict, report_of, IsConfig, FitsFrame, frame_to_send}
+use Rattle.tc_link.proofs.Common.{PacketOn, GroundState, with_fop, unsent_segments, after_extraction, extract_step}
 use Rattle.tc_link.proofs.Common.{SpacecraftState, SpacecraftOutcome, spacecraft_take, spacecraft_report, body_outcome}
-use Rattle.tc_link.proofs.Common.{sequence_outcome, bypass_outcome, is_free, is_kept, limits_of, World, WorldOutcome}
-use Rattle.tc_link.proofs.Common.{world_step, world_after_pull, up_deliver_step, after_release, BodyView, IsReached}
-use Rattle.tc_link.proofs.Common.{active_on, acknowledging, ◌*◌, world_run}
+use Rattle.tc_link.proofs.Common.{is_free, World, WorldOutcome, world_step, world_after_pull, up_deliver_step, BodyView}
+use Rattle.tc_link.proofs.Common.{IsReached, active_on, acknowledging, ◌*◌, world_run}
 use Rattle.std.specs.Prelude.{◌&&◌}
 use Rattle.std.proofs.lemmas.List.{drop_all, nil_from_length}
 use Rattle.std.proofs.lemmas.Bool.{lt-ltb, false_from_ne_true}
@@ -21,7 +19,7 @@ use Rattle.tc_frame.specs.Decoding.{frame_at}
 use Rattle.tc_frame.specs.Encoding.{spelling}
 use Rattle.tm_link.specs.Encoding as telemetry_writing
 use Rattle.cop1.specs.declared.vocabulary.Alert.TheVariants.{Lockout, Clcw as ClcwAlert}
-use Rattle.cop1.specs.Farm.{ad_verdict, place_at, after_type_b}
+use Rattle.cop1.specs.Farm.{after_type_b}
 use Rattle.cop1.specs.FopPull.{NothingPulled, BypassPulled, SequencePulled, pulls, pull_control, pull_bypass, pull_in}
 use Rattle.cop1.specs.FopPull.{pull_marked, pull_waiting, after_send_first}
 use Rattle.cop1.specs.FopReport.{nothing_new, move_on}
@@ -30,22 +28,21 @@ use Rattle.cop1.specs.Units.{oldest_of}
 use Rattle.nodes.specs.declared.received.Received.{Received}
 use Rattle.nodes.specs.declared.event.Event.TheVariants as events
 use Rattle.nodes.specs.Ground.{outstanding}
-use Rattle.tc_link.specs.Progress.{awaits, all_sent, all_arrived, reported, all_heard, are_marked, ticks_left}
-use Rattle.tc_link.specs.Progress.{timer_run_out, round_trip, exchange, times, EachMakesProgress, EachAcknowledges}
+use Rattle.tc_link.specs.Progress.{awaits, all_sent, reported, all_heard, are_marked, ticks_left, timer_run_out}
+use Rattle.tc_link.specs.Progress.{round_trip, exchange, times, EachMakesProgress, EachAcknowledges}
 use Rattle.tc_link.proofs.ProgressSender.{MarkedFrom, next_marked, open_flags, all_marked, marked_within, marked_push}
 use Rattle.tc_link.proofs.ProgressSender.{HoldsNoMore, pull_no_more, without_length, active_report}
 use Rattle.tc_link.proofs.Upward.{own_arrives}
-use Rattle.tc_link.proofs.Readable.{moved, reads_back, fits_at}
+use Rattle.tc_link.proofs.Readable.{moved, marked_fits, reads_back}
 use Rattle.tc_link.proofs.Linked.{Tells}
-use Rattle.tc_link.proofs.Lists.{oldest_stands}
 use Rattle.tc_link.proofs.IdleStart.{tells_now, flags_are}
 use Rattle.tc_link.proofs.Sound.{Commanded}
 use Rattle.tc_link.proofs.ProgressFirst.{awaits_so, Ready, with_same, with_config, with_unsent, size, size_is}
 use Rattle.tc_link.proofs.ProgressFirst.{IsBounded, bounded, has_numbers, heard_is, Taken, takes, arrives, ReadyWith}
 use Rattle.tc_link.proofs.ProgressFirst.{first_exchange}
 use Rattle.tc_link.proofs.ProgressNumbers.{known, Ends, ends_then, ends_repeat, ends_once, ends_so, ends_trip}
-use Rattle.tc_link.proofs.ProgressNumbers.{idle_after, alerts_first, alerts_then, run_append, ends_times}
-use Rattle.tc_link.proofs.Promised.{promised}
+use Rattle.tc_link.proofs.ProgressNumbers.{idle_after, alerts_first, alerts_then, or_on, ends_times}
+use Rattle.tc_link.proofs.Promised.{promised, run_append}
 
 -- What goes on the link next in an exchange, where what is not acknowledged is to be sent again: units with the
 -- numbers from NN(R) on, one after another; and how the receiver takes them.
@@ -88,18 +85,15 @@ module _ (s : FopState SegmentView) (j : ℕ) (state : (s.state ≡ S1) ⊎ (s.s
       (λ t e. first nothing at u is (ltb-true (ahead_by s.vs s.nn) s.window t) e)
       (λ t e. none nothing at (inr (ltb-false (ahead_by s.vs s.nn) s.window t)) e) goes
 
-  of_bypass : (us : List SegmentView) → s.bypass ≡ us → NextPull s j
-  of_bypass (u ∷ us) is = bypasses u us is (ap (pull_control s) idle ∙ ap (λ us. pull_bypass s (oldest_of us)) is)
-  of_bypass [] is = elim (next_marked 0 j s.sent marked) [
+  next_pull : (us : List SegmentView) → s.bypass ≡ us → NextPull s j
+  next_pull (u ∷ us) is = bypasses u us is (ap (pull_control s) idle ∙ ap (λ us. pull_bypass s (oldest_of us)) is)
+  next_pull [] is = elim (next_marked 0 j s.sent marked) [
     | inl unmarked ↦ of_waiting is unmarked.1 unmarked.0 s.waiting refl
     | inr some ↦ (
         let oldest : oldest_marked 0 s.sent ≡ Some (j, some.0) =
         some.1 ∙ ap (λ n. Some (n, some.0)) (omega arith) in
         again is some.0 oldest some.2 (in_sequence is ∙ ap (pull_marked s) oldest))
   ]
-
-  pub next_pull : NextPull s j
-  next_pull = of_bypass s.bypass refl
 
 -- ---- frames on their way up: units with the numbers from one to another, one after another, and bypass units
 
@@ -131,10 +125,7 @@ next_bypass c v (x ∷ bs) e b u reads is = elim is [
 pub accepts_expected : (s : FarmState) (free : Bool) → s.vr < 256 → s.state ≡ Open → free ≡ true
     → verdict_of s s.vr free ≡ Accepted
 accepts_expected s free octet opened is =
-    let none : ahead_by s.vr s.vr ≡ 0 = omega (arith, octet) in
-    ap (λ d. ad_verdict (place_at (s.width / 2) d) free s.state) none
-    ∙ ap (λ m. ad_verdict (place_at (s.width / 2) 0) free m) opened
-    ∙ ap (λ b. ad_verdict (place_at (s.width / 2) 0) b Open) is
+    let none : ahead_by s.vr s.vr ≡ 0 = omega (arith, octet) in rw (none, opened, is) refl
 
 -- ---- a report that says that all was accepted
 
@@ -274,9 +265,6 @@ module _ (most k : ℕ) where
     own : IsConfig c
     own = let h = known w g in subst IsConfig (sym h.holds.sound.ground_node.config) h.holds.sound.ranges
 
-    step_number : ((s.nn + p.j) % 256 + 1) % 256 ≡ (s.nn + suc p.j) % 256
-    step_number = omega arith
-
     sends_next : NextPull s p.j → Next (world_step w events.Send)
     sends_next (bypasses u us is e) =
         let o = pulls (record s { bypass = us }) (BypassPulled u) in
@@ -294,15 +282,15 @@ module _ (most k : ℕ) where
         let number : ℕ = (s.nn + p.j) % 256 in
         let o = pulls f (SequencePulled number u) in
         let h = known w g in
-        let stands = oldest_stands 0 s.sent (p.j, u) is in
         let fit : FitsFrame u =
-        fits_at (units_of s.sent) stands.0 u (h.holds.carried.fits.sent (active_on s.state on)) stands.2 in
+        marked_fits s w.ground_node.pending h.holds.carried.fits (p.j, u) is (active_on s.state on) in
         let reads = reads_back c (Ad number u) own fit in
         let more = marked_within (suc p.j) (without_oldest_mark s.sent) marked in
         let same = without_length s.sent in
+        let step : (number + 1) % 256 ≡ (s.nn + suc p.j) % 256 = omega arith in
         send_as o e (goes_on_with f (w.up ++ spelling On (frame_of c (Ad number u)) ∷ []) (suc p.j)
         (less_by o e) refl refl (omega (arith, same)) marked
-        (subst (Consecutive c w.spacecraft.farm.vr (w.up ++ spelling On (frame_of c (Ad number u)) ∷ [])) step_number
+        (subst (Consecutive c w.spacecraft.farm.vr (w.up ++ spelling On (frame_of c (Ad number u)) ∷ [])) step
         (next_number c w.spacecraft.farm.vr w.up number (spelling On (frame_of c (Ad number u))) u reads p.up))
         (elim p.left [
           | inl few ↦ inl (omega (arith, same, more, few))
@@ -356,7 +344,7 @@ module _ (most k : ℕ) where
         ]
 
     sends_on : Next (world_step w events.Send)
-    sends_on = sends_next (next_pull s p.j p.state idle p.marked)
+    sends_on = sends_next (next_pull s p.j p.state idle p.marked s.bypass refl)
 
   -- what the ground holds then is sent, as far as the window has room
   record Filled (g : GroundState) : Type 0 where
@@ -427,10 +415,7 @@ module _ (most k : ℕ) where
 
   taken_farm : (s : SpacecraftState) (ps : List PacketOn) → s.farm.state ≡ Open
       → (spacecraft_take s ps).after.farm ≡ s.farm
-  taken_farm s [] opened = refl
-  taken_farm s (p ∷ left) opened =
-      cond_both (nat_lt (length left) s.config.ready_slots) (farm_step s.farm BufferReleased) s.farm
-      (λ (farm : FarmState). farm ≡ s.farm) (λ t. ap (after_release s.farm) opened) (λ t. refl)
+  taken_farm s ps opened = grind (arith, opened)
 
   -- the spacecraft is another, with the same receiver
   coming_as : (n : ℕ) (w : World) (s : SpacecraftState) → s.farm ≡ w.spacecraft.farm → Coming n w
@@ -451,16 +436,6 @@ module _ (most k : ℕ) where
   one_taken n w p =
       coming_as n w (spacecraft_take w.spacecraft w.spacecraft.ready).after
       (taken_farm w.spacecraft w.spacecraft.ready p.opened) p
-
-  sequence_farm : (s : SpacecraftState) (n : ℕ) (u : SegmentView) (v : Verdict)
-      → (sequence_outcome s n u v).after.farm ≡ farm_step s.farm (AdArrives n (is_free s))
-  sequence_farm s n u Accepted = refl
-  sequence_farm s n u _ = refl
-
-  bypass_farm : (s : SpacecraftState) (u : SegmentView) (kept : Bool)
-      → (bypass_outcome s u kept).after.farm ≡ after_type_b s.farm
-  bypass_farm s u true = refl
-  bypass_farm s u false = refl
 
   module _ (n : ℕ) (w : World) (g : IsReached w) (p : Coming (suc n) w) (empty : length w.spacecraft.ready ≡ 0) where
     abbrev craft : SpacecraftState
@@ -492,8 +467,7 @@ module _ (most k : ℕ) where
         let numbers = has_numbers w g p.filled.bounds.active in
         let verdict = accepts_expected craft.farm (is_free craft) numbers.vr p.opened free in
         let farm : (body_outcome craft (Ad craft.farm.vr u)).after.farm ≡ after_verdict craft.farm Accepted =
-        sequence_farm craft craft.farm.vr u (verdict_of craft.farm craft.farm.vr (is_free craft))
-        ∙ ap (after_verdict craft.farm) verdict in
+        rw verdict refl in
         record {
           filled = p.filled;
           down = p.down;
@@ -507,8 +481,7 @@ module _ (most k : ℕ) where
         → Consecutive w.ground_node.config craft.farm.vr bs w.ground_node.fop.vs
         → Coming n (record w { up = bs; spacecraft = (body_outcome craft (Bd u)).after })
     bypass_next u bs count rest =
-        let farm : (body_outcome craft (Bd u)).after.farm ≡ after_type_b craft.farm =
-        bypass_farm craft u (is_kept (limits_of craft.config) u) in
+        let farm : (body_outcome craft (Bd u)).after.farm ≡ after_type_b craft.farm = grind arith in
         record {
           filled = p.filled;
           down = p.down;
@@ -528,9 +501,6 @@ module _ (most k : ℕ) where
           | inl t ↦ arrived_as b bs (Ad craft.farm.vr t.0) t.1 (accepted_next t.0 bs count t.2)
           | inr t ↦ arrived_as b bs (Bd t.0) t.1 (bypass_next t.0 bs count t.2)
         ]
-
-  arrives_all : (w : World) → IsReached w → ComesAll w → Ends (Coming zero) w (all_arrived w)
-  arrives_all = arrives Coming one_taken (λ n w g p. arrives_first n w g p.0 p.1 w.up refl)
 
   -- ---- the spacecraft reports that all was accepted
 
@@ -637,8 +607,9 @@ module _ (most k : ℕ) where
   pub next_round_trip : (w : World) → IsReached w → Ready w → IsBounded most k w.ground_node
       → Ends Advanced w (round_trip w)
   next_round_trip w g r b =
-      ends_trip ComesAll (Coming zero) (Takes zero) Tells_all Advanced w (sends_all w g r b) arrives_all
-      (takes Coming one_taken zero) reports_all hears_all
+      ends_trip ComesAll (Coming zero) (Takes zero) Tells_all Advanced w (sends_all w g r b)
+      (arrives Coming one_taken (λ n w g p. arrives_first n w g p.0 p.1 w.up refl)) (takes Coming one_taken zero)
+      reports_all hears_all
 
   pub next_exchange : (w : World) → IsReached w → Ready w → IsBounded most k w.ground_node
       → Ends Advanced w (exchange w)
@@ -680,16 +651,13 @@ module _ (k : ℕ) where
 
 pub each_makes_progress : EachMakesProgress
 each_makes_progress w g active n most =
-    elim (makes_progress w.ground_node.fop.window w g active refl n most) [
-      | inl alert ↦ inl alert
-      | inr t ↦ inr (record {
-        active = t.1.0;
-        nothing = t.1.1;
-        delivered = λ idle.
-            let v = world_run w (times (suc n) exchange w) in
-            (promised v t.0 (idle_after (suc n) w idle)).in_order.complete t.1.0 t.1.1;
-      })
-    ]
+    or_on (makes_progress w.ground_node.fop.window w g active refl n most) (λ t. inr (record {
+      active = t.1.0;
+      nothing = t.1.1;
+      delivered = λ idle.
+          let v = world_run w (times (suc n) exchange w) in
+          (promised v t.0 (idle_after (suc n) w idle)).in_order.complete t.1.0 t.1.1;
+    }))
 
 -- two exchanges, one after the other
 pub each_acknowledges : EachAcknowledges

@@ -7,44 +7,39 @@ use Rattle.tc_link.proofs.Common.{InitWithoutCheck, InitWithCheck, InitUnlock, I
 use Rattle.tc_link.proofs.Common.{directive_step, FopState, FopOutcome, S1, S3, S6, clcw_step, report_while_active}
 use Rattle.tc_link.proofs.Common.{after_move_on, after_acknowledge, after_new_value, retransmits, heard_active}
 use Rattle.tc_link.proofs.Common.{pull_step, pulled_out, PulledUnit, after_restart, without_oldest_mark, unmarked_unit}
-use Rattle.tc_link.proofs.Common.{units_of, tick_step, ticked, after_repeat, after_stop, due_again, after_alert}
-use Rattle.tc_link.proofs.Common.{FarmState, FarmMode, Open, Verdict, Accepted, verdict_of, after_verdict}
-use Rattle.tc_link.proofs.Common.{after_unlock, after_set_vr, after_release, report_of, Config, FitsFrame, frame_of}
-use Rattle.tc_link.proofs.Common.{frame_to_send, with_fop, is_closed, after_extraction, extract_step, IsDirective}
-use Rattle.tc_link.proofs.Common.{IsEvent, SpacecraftState, SpacecraftOutcome, body_outcome, sequence_outcome}
-use Rattle.tc_link.proofs.Common.{bypass_outcome, is_free, is_kept, limits_of, Event, World, WorldOutcome, new_world}
-use Rattle.tc_link.proofs.Common.{world_step, world_after_pull, up_deliver_step, down_deliver_step, closed_not}
-use Rattle.tc_link.proofs.Common.{active_on, spacecraft_report, FlagsAgree, acknowledging, SetVs, ◌≢◌, ◌⊎◌, inl, inr}
-use Rattle.tc_link.proofs.Common.{zero, suc, replicate, world_run, IsIdle, IsSettled, IsReached, BeginsNoSession}
-use Rattle.tc_link.proofs.Common.{option_map, Opening, directive_of}
+use Rattle.tc_link.proofs.Common.{tick_step, ticked, after_repeat, after_stop, due_again, after_alert, report_of}
+use Rattle.tc_link.proofs.Common.{Config, FitsFrame, frame_of, frame_to_send, with_fop, is_closed, after_extraction}
+use Rattle.tc_link.proofs.Common.{extract_step, IsDirective, IsEvent, SpacecraftState, SpacecraftOutcome, body_outcome}
+use Rattle.tc_link.proofs.Common.{Event, World, WorldOutcome, new_world, world_step, world_after_pull, up_deliver_step}
+use Rattle.tc_link.proofs.Common.{down_deliver_step, closed_not, active_on, spacecraft_report, FlagsAgree}
+use Rattle.tc_link.proofs.Common.{acknowledging, SetVs, ◌≢◌, ◌⊎◌, inl, inr, zero, suc, replicate, world_run, IsIdle}
+use Rattle.tc_link.proofs.Common.{IsSettled, IsReached, BeginsNoSession, option_map, Opening, directive_of}
 use Rattle.std.specs.Prelude.{IsSome}
 use Rattle.tc_frame.specs.Decoding.{frame_at}
 use Rattle.tc_frame.specs.Encoding.{spelling}
 use Rattle.tm_link.specs.Encoding as telemetry_writing
-use Rattle.cop1.specs.declared.farm.FarmMode.TheVariants.{Lockout}
 use Rattle.cop1.specs.FopPull.{after_send_first}
 use Rattle.cop1.specs.FopWords.{is_outside}
 use Rattle.nodes.specs.declared.received.Received.{Received}
 use Rattle.nodes.specs.declared.event.Event.TheVariants as events
 use Rattle.simulated_link.specs.World.{world_after_telemetry, directed}
-use Rattle.simulated_link.proofs.Unchanged.{up_arrives, down_arrives, resumes, BringsReport}
-use Rattle.simulated_link.proofs.Unchanged.{board_after, down_after, up_after}
+use Rattle.simulated_link.proofs.Unchanged.{up_arrives, down_arrives, resumes, BringsReport, board_after, down_after}
+use Rattle.simulated_link.proofs.Unchanged.{up_after}
 use Rattle.simulated_link.proofs.Counted.{reported as report_cases}
 use Rattle.tc_link.specs.FalseAlarms.{alert_in}
 use Rattle.tc_link.specs.Progress.{Schedule, followed_by, times, AlertsIn, all_sent, all_arrived, all_taken, reported}
 use Rattle.tc_link.specs.Progress.{all_heard, round_trip, awaits, most_sent, next_arrived, are_marked, ticks_left}
 use Rattle.tc_link.specs.Progress.{timer_run_out, exchange}
 use Rattle.tc_link.proofs.Upward.{own_arrives}
-use Rattle.tc_link.proofs.Readable.{moved, Goes, reads_back, fits_at}
+use Rattle.tc_link.proofs.Readable.{moved, marked_fits, Goes, reads_back}
 use Rattle.tc_link.proofs.Downward.{used_is, words_apart}
 use Rattle.tc_link.proofs.Invariant.{Holding, step_holds, opening_stays, idle_goes, new_holds}
 use Rattle.tc_link.proofs.Linked.{Tells}
-use Rattle.tc_link.proofs.Lists.{oldest_stands}
 use Rattle.tc_link.proofs.IdleStart.{tells_now}
 use Rattle.tc_link.proofs.ProgressSender.{with_kept, step_kept, without_length, marked_length, WaitsFull, body_full}
 use Rattle.tc_link.proofs.ProgressSender.{released, directed_kept, Timed, timed_empty, timed_step}
 use Rattle.tc_link.proofs.Sound.{Commanded, all_append}
-use Rattle.tc_link.proofs.Promised.{settled_goes, reached_step}
+use Rattle.tc_link.proofs.Promised.{run_append, settled_goes, reached_step}
 
 -- The numbers of the sender, at every moment of a run, in any session: while it is on, those of the units that it sent
 -- are the ones from NN(R) to V(S) - 1; and all numbers are octets, those that are on their way too.
@@ -220,41 +215,14 @@ queued_numbers f waiting bypass k = assumption k
 
 -- ---- the receiver
 
-module _ (s : FarmState) (octet : s.vr < 256) where
-  verdict_octet : (v : Verdict) → (after_verdict s v).vr < 256
-  verdict_octet Accepted = omega arith
-  verdict_octet _ = octet
-
-  unlock_octet : (m : FarmMode) → (after_unlock s m).vr < 256
-  unlock_octet Open = octet
-  unlock_octet _ = octet
-
-  set_octet : (x : ℕ) (m : FarmMode) → x < 256 → (after_set_vr s x m).vr < 256
-  set_octet x Lockout is = octet
-  set_octet x _ is = is
-
-  release_octet : (m : FarmMode) → (after_release s m).vr < 256
-  release_octet Open = octet
-  release_octet _ = octet
-
 abbrev pub IsOctetBody : BodyView → Type 0
 IsOctetBody (Bc command) = IsOctetIn command
 IsOctetBody _ = Unit {0}
 
 module _ (s : SpacecraftState) (octet : s.farm.vr < 256) where
-  sequence_octet : (n : ℕ) (u : SegmentView) (v : Verdict) → (sequence_outcome s n u v).after.farm.vr < 256
-  sequence_octet n u Accepted = verdict_octet s.farm octet (verdict_of s.farm n (is_free s))
-  sequence_octet n u _ = verdict_octet s.farm octet (verdict_of s.farm n (is_free s))
-
-  bypass_octet : (u : SegmentView) (kept : Bool) → (bypass_outcome s u kept).after.farm.vr < 256
-  bypass_octet u true = octet
-  bypass_octet u false = octet
-
   body_octet : (f : BodyView) → IsOctetBody f → (body_outcome s f).after.farm.vr < 256
-  body_octet (Ad n u) is = sequence_octet n u (verdict_of s.farm n (is_free s))
-  body_octet (Bd u) is = bypass_octet u (is_kept (limits_of s.config) u)
-  body_octet (Bc Unlock) is = unlock_octet s.farm octet s.farm.state
-  body_octet (Bc (SetVr x)) is = set_octet s.farm octet x s.farm.state is
+  body_octet (Bc (SetVr x)) is = grind (arith, is)
+  body_octet f is = grind arith
 
 -- ---- what is on its way
 
@@ -325,18 +293,13 @@ module _ (c : Config) (w : World) (h : Holding c w) (k : HasOctets c w) where
         let fit : AllByRecursion FitsFrame (u ∷ us) = rw is at h.sound.ground_node.fop.bypass_fits in
         sent_after (record s { bypass = us }) (Bd u) fit.0 tt numbers;
     again = λ active x is numbers.
-        let stands = oldest_stands 0 s.sent x is in
-        let fit : FitsFrame x.1 =
-        fits_at (units_of s.sent) stands.0 x.1 (h.carried.fits.sent (active_on s.state active)) stands.2 in
+        let fit : FitsFrame x.1 = marked_fits s w.ground_node.pending h.carried.fits x is (active_on s.state active) in
         sent_after (record (after_restart s) { sent = without_oldest_mark s.sent }) (Ad ((s.nn + x.0) % 256) x.1) fit tt
         numbers;
     first = λ active u is room numbers.
         let fit : FitsFrame u = (moved s w.ground_node.pending h.carried.fits u is (active_on s.state active)).0 in
         sent_after (after_send_first s u) (Ad s.vs u) fit tt numbers;
   })
-
-  small_window : s.window ≤ 127
-  small_window = omega (arith, h.sound.ground_node.fop.window, h.sound.ranges.width)
 
   -- ---- a frame arrives
 
@@ -399,7 +362,7 @@ module _ (c : Config) (w : World) (h : Holding c w) (k : HasOctets c w) where
       reports = λ is. absurd (not_made is);
       takes = λ is left kept. record { vr = k.receiver.vr; full = λ waits. ltb-false _ _ kept };
       releases = λ is left free. record {
-        vr = release_octet w.spacecraft.farm k.receiver.vr w.spacecraft.farm.state;
+        vr = let octet = k.receiver.vr in grind (arith, octet);
         full = λ waits. absurd
             (let free = released w.spacecraft flags k.receiver.full w.spacecraft.farm.state refl in cc (waits, free));
       };
@@ -413,7 +376,8 @@ module _ (c : Config) (w : World) (h : Holding c w) (k : HasOctets c w) where
   -- where it is known what resuming leads to
   event_octets : ((value : ℕ) → value < 256 → HasOctets c (world_step w (events.Resume value)).after)
       → (e : Event) → IsEvent e → After (world_step w e)
-  event_octets goes events.Send fits = sends (pull_numbers s k.sender small_window)
+  event_octets goes events.Send fits =
+      sends (pull_numbers s k.sender (omega (arith, h.sound.ground_node.fop.window, h.sound.ranges.width)))
   event_octets goes events.UpDeliver fits = up_arrives w After k arrives
   event_octets goes events.Report fits = record {
     sender = k.sender;
@@ -521,11 +485,12 @@ settled_step w g e calm idle settled =
     let h = (known w g).holds in
     settled_goes g.config w h.sound (h.session idle) e (calm_fits e calm) settled (calm_goes w e calm)
 
--- ---- where a list of events leads
+-- an alert comes first, or it goes on
+pub or_on : {A B C : Type 0} → A ⊎ B → (B → A ⊎ C) → A ⊎ C
+or_on (inl a) on = inl a
+or_on (inr b) on = on b
 
-pub run_append : (w : World) (es fs : List Event) → world_run w (es ++ fs) ≡ world_run (world_run w es) fs
-run_append w [] fs = refl
-run_append w (e ∷ es) fs = run_append (world_step w e).after es fs
+-- ---- where a list of events leads
 
 pub alerts_first : (w : World) (es fs : List Event) → AlertsIn w es → AlertsIn w (es ++ fs)
 alerts_first w [] fs a = absurd a
@@ -588,10 +553,7 @@ ends_once P w e calm g one = elim one [
 -- what holds then says more
 pub ends_so : (P Q : World → Type 0) (w : World) (es : List Event) → Ends P w es
     → ((v : World) → IsReached v → P v → Q v) → Ends Q w es
-ends_so P Q w es ends says = elim ends [
-  | inl a ↦ inl a
-  | inr t ↦ inr (t.0, says (world_run w es) t.0 t.1)
-]
+ends_so P Q w es ends says = or_on ends (λ t. inr (t.0, says (world_run w es) t.0 t.1))
 
 -- a round trip: all is sent, arrives and is taken, and a report is made and heard
 pub ends_trip : (A B C D Q : World → Type 0) (w : World) → Ends A w (all_sent w)
@@ -630,9 +592,6 @@ module _ (K : Event → Type 0) where
   all_times (suc n) schedule is w = all_then schedule (times n schedule) is (all_times n schedule is) w
 
   module _ (send : K events.Send) (deliver : K events.UpDeliver) (take : K events.Take) (report : K events.Report) where
-    sends_are : (w : World) → All (all_sent w)
-    sends_are w = all_same (most_sent w) events.Send send
-
     takes_are : (w : World) → All (all_taken w)
     takes_are w = all_same _ events.Take take
 
@@ -641,23 +600,18 @@ module _ (K : Event → Type 0) where
         all_times (length w.up) (followed_by all_taken next_arrived)
         (all_then all_taken next_arrived takes_are (λ w. (deliver, tt))) w
 
-    reports_are : (w : World) → All (reported w)
-    reports_are w = (report, tt)
-
     pub befores_are : (w : World) → All (all_sent w) × All (all_arrived w) × All (all_taken w) × All (reported w)
-    befores_are w = (sends_are w, arrives_are w, takes_are w, reports_are w)
+    befores_are w = (all_same (most_sent w) events.Send send, arrives_are w, takes_are w, (report, tt))
 
     module _ (hear : K events.DownDeliver) where
-      hears_are : (w : World) → All (all_heard w)
-      hears_are w = all_same _ events.DownDeliver hear
-
       pub trips_are : (w : World) → All (round_trip w)
       trips_are =
           let after_taking = followed_by reported all_heard in
           let after_arriving = followed_by all_taken after_taking in
           let after_sending = followed_by all_arrived after_arriving in
-          all_then all_sent after_sending sends_are (all_then all_arrived after_arriving arrives_are
-          (all_then all_taken after_taking takes_are (all_then reported all_heard reports_are hears_are)))
+          all_then all_sent after_sending (λ w. all_same (most_sent w) events.Send send)
+          (all_then all_arrived after_arriving arrives_are (all_then all_taken after_taking takes_are
+          (all_then reported all_heard (λ w. (report, tt)) (λ w. all_same _ events.DownDeliver hear))))
 
 -- the events of a round trip
 abbrev pub IsTalk : Event → Type 0

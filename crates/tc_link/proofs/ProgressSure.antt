@@ -6,11 +6,10 @@ use Rattle.tc_link.proofs.Common.{SegmentView, Alert, NnR, Synch, Control, Idle,
 use Rattle.tc_link.proofs.Common.{FopMode, S1, S2, S4, S5, IsActive, locks, waits, asks, confirms, clcw_step, report_in}
 use Rattle.tc_link.proofs.Common.{pull_step, pulled_out, tick_step, ticked, after_stop, after_count, due_again, goes_on}
 use Rattle.tc_link.proofs.Common.{alerts, GroundState, with_fop, after_extraction, World, WorldOutcome, world_step}
-use Rattle.tc_link.proofs.Common.{world_run, is_initialising, spacecraft_report, acknowledging, IsSettled, Ok}
-use Rattle.tc_link.proofs.Common.{AllByRecursion, Limit, Event, directive_of, IsChecking}
+use Rattle.tc_link.proofs.Common.{world_run, is_initialising, acknowledging, IsSettled, Ok, AllByRecursion, Limit}
+use Rattle.tc_link.proofs.Common.{Event, directive_of, IsChecking}
 use Rattle.std.specs.Prelude.{IsSome}
 use Rattle.std.proofs.lemmas.Bool.{ltb-true}
-use Rattle.tm_link.specs.Encoding as telemetry_writing
 use Rattle.cop1.specs.declared.vocabulary.Alert.TheVariants.{Lockout, Clcw as ClcwAlert, Timer, Terminated}
 use Rattle.cop1.specs.FopPull.{pull_control, pull_bypass, pull_in}
 use Rattle.cop1.specs.FopTick.{tick_with, timer_ended, while_below}
@@ -30,12 +29,12 @@ use Rattle.tc_link.proofs.ProgressFirst.{first_round_trip, first_exchange, IsBou
 use Rattle.tc_link.proofs.ProgressSender.{holds_more, IsDueNow, Running, tick_on}
 use Rattle.tc_link.proofs.ProgressNext.{each_makes_progress, Advanced, next_round_trip, next_exchange}
 use Rattle.tc_link.proofs.ProgressNumbers.{idle_run, exchange_calm, ends_trip, known, Ends, ends_then, ends_repeat}
-use Rattle.tc_link.proofs.ProgressNumbers.{ends_once, alerts_first, alerts_then, run_append, ends_so, befores_are}
-use Rattle.tc_link.proofs.ProgressNumbers.{IsTalk, talks_calm, trip_talks, timer_calm, going_step, IsCalm, calm_fits}
+use Rattle.tc_link.proofs.ProgressNumbers.{ends_once, alerts_first, alerts_then, or_on, ends_so, befores_are, IsTalk}
+use Rattle.tc_link.proofs.ProgressNumbers.{talks_calm, trip_talks, timer_calm, going_step, IsCalm, calm_fits}
 use Rattle.tc_link.proofs.ProgressNumbers.{directive_stays, idle_step, settled_step}
 use Rattle.tc_link.proofs.Linked.{early_off}
 use Rattle.tc_link.proofs.Invariant.{reached_holds}
-use Rattle.tc_link.proofs.Promised.{promised_of}
+use Rattle.tc_link.proofs.Promised.{promised_of, run_append}
 
 -- Exchanges while a session is not confirmed yet, in S4 and S5: each ends with an alert or with the sender Active,
 -- or one transmission less is left.
@@ -190,15 +189,12 @@ module _ (count limit : ℕ) where
   abbrev Hears : ℕ → World → Type 0
   Hears n w = (length w.down ≡ n) × (Active w ⊎ (ReadyNow w × ((w.ground_node.fop.state ≡ S5) ⊎ (1 ≤ n))))
 
-  length-push : (ds : List (List ℕ)) (d : List ℕ) → length (ds ++ d ∷ []) ≡ suc (length ds)
-  length-push ds d = omega (arith, length-append ds (d ∷ []))
-
   reports : (w : World) → IsReached w → ReadyNow w → Ends (λ v. (n : ℕ) × Hears (suc n) v) w (reported w)
   reports w g b =
       ends_once (λ v. (n : ℕ) × Hears (suc n) v) w events.Report tt g (inr (
         length w.down,
         (
-          length-push w.down (telemetry_writing.spelling (spacecraft_report w.spacecraft).answer),
+          omega (arith, length-append {A = List ℕ}),
           inr (
             (record { state = b.0.state; count_is = b.0.count_is; limit_is = b.0.limit_is }, b.1),
             inr (omega arith),
@@ -219,34 +215,23 @@ module _ (count limit : ℕ) where
         let s : GroundState = acknowledging (after_extraction w.ground_node x) f in
         let same = with_same s f in
         elim p.1 [
-          | inl active ↦ elim (holds_more w.ground_node.fop w.ground_node.pending r active) [
-            | inl a ↦ inl a
-            | inr less ↦ inr (count, inl (rw same.state less.active))
-          ]
-          | inr begun ↦ elim (report_leads w.ground_node.fop begun.0.0.state r) [
-            | inl a ↦ inl a
-            | inr led ↦ elim led [
-              | inl active ↦ inr (count, inl (rw same.state active))
-              | inr ignored ↦ (
-                  let still : f ≡ w.ground_node.fop = ap (λ o. o.after) ignored.1 in
-                  let state : (with_fop s f).fop.state ≡ S5 =
-                  same.state ∙ ap (λ f. f.state) still ∙ ignored.0 in
-                  inr (
-                    count,
-                    inr (
-                      (
-                        record {
-                          state = inr state;
-                          count_is = same.count ∙ ap (λ f. f.count) still ∙ begun.0.0.count_is;
-                          limit_is = same.limit ∙ ap (λ f. f.limit) still ∙ begun.0.0.limit_is;
-                        },
-                        λ due. begun.0.1 (subst IsDueNow (same.control ∙ ap (λ f. f.control) still) due),
-                      ),
-                      inl state,
-                    ),
-                  ))
-            ]
-          ]
+          | inl active ↦ or_on (holds_more w.ground_node.fop w.ground_node.pending r active)
+              (λ less. inr (count, inl (rw same.state less.active)))
+          | inr begun ↦ or_on (report_leads w.ground_node.fop begun.0.0.state r) (λ led. elim led [
+            | inl active ↦ inr (count, inl (rw same.state active))
+            | inr ignored ↦ (
+                let still : f ≡ w.ground_node.fop = ap (λ o. o.after) ignored.1 in
+                let state : (with_fop s f).fop.state ≡ S5 =
+                same.state ∙ ap (λ f. f.state) still ∙ ignored.0 in
+                let kept : Begins (with_fop s f) = record {
+                  state = inr state;
+                  count_is = same.count ∙ ap (λ f. f.count) still ∙ begun.0.0.count_is;
+                  limit_is = same.limit ∙ ap (λ f. f.limit) still ∙ begun.0.0.limit_is;
+                } in
+                let pulled : Pulled (with_fop s f) =
+                λ due. begun.0.1 (subst IsDueNow (same.control ∙ ap (λ f. f.control) still) due) in
+                inr (count, inr ((kept, pulled), inl state)))
+          ])
         ])
 
   -- Active, or in S5 with the command on its way
@@ -397,14 +382,8 @@ then_done : (w : World) (m : ℕ) → Done (world_run w (exchange w)) m → Done
 then_done w m done =
     let v = world_run w (exchange w) in
     let idle : IsIdle w → IsIdle v = idle_run (exchange w) w (exchange_calm w) in
-    one_first (IsDone w) w m (elim done [
-      | inl a ↦ inl a
-      | inr d ↦ inr (record {
-        active = d.active;
-        nothing = d.nothing;
-        delivered = λ is. d.delivered (idle is);
-      })
-    ])
+    one_first (IsDone w) w m (or_on done (λ d.
+    inr (record { active = d.active; nothing = d.nothing; delivered = λ is. d.delivered (idle is) })))
 
 no_less : (n k : ℕ) → 1 ≤ k → n ≤ n * k
 no_less zero k one = omega arith
@@ -502,9 +481,6 @@ talk_silent (e ∷ es) w k all a = elim a [
 trip_silent : (w : World) → Steady w → AlertsIn w (round_trip w) → ⊥
 trip_silent w k = talk_silent (round_trip w) w k (trip_talks w)
 
-trip_steady : (w : World) → Steady w → Steady (world_run w (round_trip w))
-trip_steady w k = steady_run (round_trip w) w k (talks_calm (round_trip w) (trip_talks w))
-
 -- ---- the timer
 
 abbrev Ends_at : ℕ → World → Type 0
@@ -557,7 +533,8 @@ exchange_steady : (w : World) → Steady w → Steady (world_run w (exchange w))
 exchange_steady w k =
     let v = world_run w (round_trip w) in
     subst Steady (sym (run_append w (round_trip w) (timer_run_out v)))
-    (steady_run (timer_run_out v) v (trip_steady w k) (timer_calm v))
+    (steady_run (timer_run_out v) v (steady_run (round_trip w) w k (talks_calm (round_trip w) (trip_talks w)))
+    (timer_calm v))
 
 -- ---- the count stays below the limit until the report is heard
 

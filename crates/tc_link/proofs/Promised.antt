@@ -12,9 +12,9 @@ use Rattle.tc_link.proofs.Common.{sequence_outcome, bypass_outcome, verdict_of, 
 use Rattle.tc_link.proofs.Common.{is_own_frame, telemetry_outcome, FarmState, FarmEvent, AdArrives, farm_step}
 use Rattle.tc_link.proofs.Common.{after_verdict, after_report, acknowledging, length-take-le, length-map}
 use Rattle.tc_link.proofs.Common.{segment_octets, IsNear, number_of, numbered, PlainLink, PlainRun, AtMostOneStep}
-use Rattle.tc_link.proofs.Common.{new_link, more, KeepsSession, accepted, Option, CopFault, Alert, InitWithoutCheck}
-use Rattle.tc_link.proofs.Common.{InitWithCheck, InitUnlock, InitSetVr, directive_step, FopState, FopOutcome, begun}
-use Rattle.tc_link.proofs.Common.{obeyed, is_initiation, directive_outcome, closed_is, obeying}
+use Rattle.tc_link.proofs.Common.{new_link, more, KeepsSession, accepted, Option, CopFault, Alert, directive_step}
+use Rattle.tc_link.proofs.Common.{FopState, FopOutcome, begun, obeyed, is_initiation, directive_outcome, closed_is}
+use Rattle.tc_link.proofs.Common.{obeying}
 use Rattle.std.proofs.Common.{OnErr}
 use Rattle.std.proofs.lemmas.List.{take_more}
 use Rattle.tc_frame.specs.Layout.{FrameView}
@@ -43,14 +43,15 @@ use Rattle.tc_link.specs.OneLink.{HistoriesAre, HasOneLink, IsUnsent, EachHasOne
 use Rattle.tc_link.specs.PlainLink.{PlainStep, none}
 use Rattle.tc_link.specs.CountsOn.{SetsNone, CountsFrom, KeepsWhatIsKnown}
 use Rattle.tc_link.specs.Known.{MovesWithRecords}
-use Rattle.tc_link.proofs.IdleStart.{InSession}
+use Rattle.tc_link.proofs.IdleStart.{InSession, in_session}
 use Rattle.tc_link.proofs.InOrder.{is_history, unsettled, ends_as, said_is, were_accepted, accepted_length, settled_as}
 use Rattle.tc_link.proofs.InOrder.{is_in_order, has_plain_history, delivers_whole}
 use Rattle.tc_link.proofs.Invariant.{late_step, Holding, reached_holds, moves_with_records, new_holds, step_holds}
-use Rattle.tc_link.proofs.Invariant.{idle_goes, with_same, octet, began_at, begun_session}
+use Rattle.tc_link.proofs.Invariant.{run_holds, idle_goes, with_same, octet, began_at, begun_session}
 use Rattle.tc_link.proofs.Linked.{Next, In, kept_of, DownIs, rises_to, beside, run_to}
-use Rattle.tc_link.proofs.Sound.{step_sound, Sound, all_push, refilled_so, report_so, sequence_so, bypass_so, body_so}
-use Rattle.tc_link.proofs.Sound.{new_sound, GroundNodeSteady, SpacecraftSteady}
+use Rattle.tc_link.proofs.Sound.{step_sound, Sound, all_push, refilled_so, report_so, arrives_so, new_sound}
+use Rattle.tc_link.proofs.Sound.{GroundNodeSteady, SpacecraftSteady}
+use Rattle.nodes.proofs.Arrivals.{AtEachArrival, sequence_comes, bypass_comes, bypass_same, body_comes}
 use Rattle.tc_link.proofs.Readable.{accepts_no_more, all_readable, GroundFits, with_fits, heard_fits}
 use Rattle.tc_link.proofs.Locks.{reports_of, has_no_false_alarm, confirms_exactly, keeps_to_window}
 use Rattle.tc_link.proofs.Locks.{is_confirmed_exactly}
@@ -85,13 +86,12 @@ each_value : (P : ℕ → Type 0) (base a r low : ℕ)
     → ((value v : ℕ) → value ≡ (base + v) % 256 → a ≤ v → v ≤ r → P value) → (rs : List Clcw) (vs : List ℕ)
     → a ≤ low → DownIs base rs vs → Rises low vs r → AllByRecursion P (map (λ (r : Clcw). r.value) rs)
 each_value P base a r low each [] [] above down up = tt
-each_value P base a r low each [] (v ∷ vs) above down up = elim down [ ]
-each_value P base a r low each (c ∷ cs) [] above down up = elim down [ ]
 each_value P base a r low each (c ∷ cs) (v ∷ vs) above down up =
     let high : v ≤ r = rises_to v r vs up.1 in (
       each c.value v down.0 (omega (arith, above, up.0)) high,
       each_value P base a r v each cs vs (omega (arith, above, up.0)) down.1 up.1,
     )
+each_value P base a r low each _ _ above down up = elim down [ ]
 
 module _ (c : Config) (w : World) (k : Sound c w) (early : Bool) (d : Directive) (base : ℕ) (g : In early c d base w)
   where
@@ -142,10 +142,6 @@ module _ (c : Config) (w : World) (k : Sound c w) (early : Bool) (d : Directive)
           no_more = accepts_no_more c w k;
         }
 
-pub says_what_was_accepted : (c : Config) (w : World) → Sound c w → InSession c w → SaysWhatWasAccepted w
-says_what_was_accepted c w k s =
-    elim s.session [ inl g ↦ says c w k true s.directive s.base g | inr g ↦ says c w k false s.directive s.base g ]
-
 -- What a world that a run leads to promises.
 
 module _ (c : Config) (w : World) (h : Holding c w) where
@@ -161,7 +157,7 @@ module _ (c : Config) (w : World) (h : Holding c w) where
         history = has_plain_history c w h.sound s;
         window = keeps_to_window c w h.sound s;
         confirmed = is_confirmed_exactly c w h.sound s;
-        says = says_what_was_accepted c w h.sound s;
+        says = in_session s (λ early g. says c w h.sound early s.directive s.base g);
       }
 
   promised_of_so : (e : Event) → IsEvent e → IsIdle w → IsPromisedOf w e
@@ -197,10 +193,9 @@ promised_of w e r fits is = promised_of_so r.config w (reached_holds w r) e fits
 
 -- ---- how worlds are reached
 
-pub run_push : (w : World) (events : List Event) (e : Event)
-    → world_run w (events ++ e ∷ []) ≡ (world_step (world_run w events) e).after
-run_push w [] e = refl
-run_push w (x ∷ xs) e = run_push (world_step w x).after xs e
+pub run_append : (w : World) (es fs : List Event) → world_run w (es ++ fs) ≡ world_run (world_run w es) fs
+run_append w [] fs = refl
+run_append w (e ∷ es) fs = run_append (world_step w e).after es fs
 
 pub reached_step : (w : World) (e : Event) → IsReached w → IsEvent e → IsReached (world_step w e).after
 reached_step w e r fits = record {
@@ -208,7 +203,7 @@ reached_step w e r fits = record {
   ranges = r.ranges;
   events = r.events ++ e ∷ [];
   octets = all_push IsEvent r.events e r.octets fits;
-  led = run_push (new_world r.config) r.events e ∙ ap (λ x. (world_step x e).after) r.led;
+  led = run_append (new_world r.config) r.events (e ∷ []) ∙ ap (λ x. (world_step x e).after) r.led;
 }
 
 pub reached_run : (c : Config) (events : List Event) → IsConfig c → AllByRecursion IsEvent events
@@ -265,14 +260,12 @@ parts : (before : List Event) (e : Event) (after : List Event) → AllByRecursio
 parts [] e after all = (tt, all.0)
 parts (x ∷ xs) e after all = let t = parts xs e after all.1 in ((all.0, t.0), t.1)
 
-pub holds_at : (w : World) (e : Event) → IsReached w → IsEvent e → HoldsAt w e
-holds_at w e r fits = holds_so r.config w (reached_holds w r) e fits
-
 pub holds_throughout : (c : Config) (events : List Event) → IsConfig c → AllByRecursion IsEvent events
     → HoldsThroughout c events
 holds_throughout c events ranges all before after e split =
     let t = parts before e after (subst (AllByRecursion IsEvent) split all) in
-    holds_at (world_run (new_world c) before) e (reached_run c before ranges t.0) t.1
+    let holds = run_holds c before (new_world c) t.0 (new_holds c ranges) in
+    holds_so c (world_run (new_world c) before) holds e t.1
 
 pub reached_by : (c : Config) (events : List Event) (s : SimState) → s ≡ sim_run c events → IsConfig c
     → AllByRecursion IsEvent events → IsReached s.world
@@ -325,27 +318,21 @@ module _ (c : Config) (w : World) (h : Holding c w) (u : SegmentView) (kept : Bo
   abbrev bypassed : World
   bypassed = record w { spacecraft = (bypass_outcome w.spacecraft u kept).after }
 
-  same_accepted : (kept : Bool) → (bypass_outcome w.spacecraft u kept).after.accepted ≡ w.spacecraft.accepted
-  same_accepted true = refl
-  same_accepted false = refl
-
-  bypassed_in : (early : Bool) (d : Directive) (base : ℕ) → In early c d base w → In early c d base bypassed
-  bypassed_in early d base g =
-      run_to g (eases_keep early c d base w h.sound g (bypass_outcome w.spacecraft u kept).after (same_accepted kept)
-      (bypass_eases d base g.front w.spacecraft u kept))
-
   bypassed_holds : Holding c bypassed
   bypassed_holds = record {
     sound = record {
       ranges = h.sound.ranges;
       ground_node = h.sound.ground_node;
-      spacecraft = (bypass_so c w.spacecraft h.sound.spacecraft u kept).steady;
-      before = rw (same_accepted kept) h.sound.before;
+      spacecraft = bypass_comes w.spacecraft (λ o t. SpacecraftSteady c t)
+          (arrives_so c w.spacecraft h.sound.spacecraft) u kept;
+      before = rw (bypass_same w.spacecraft u kept) h.sound.before;
     };
     reports = h.reports;
     carried = record { frames = h.carried.frames; carries = h.carried.carries; fits = h.carried.fits };
     clean = h.clean;
-    session = λ is. session_to c w bypassed bypassed_in (h.session is);
+    session = λ is. session_to c w bypassed (λ early d base g.
+        run_to g (eases_keep early c d base w h.sound g (bypass_outcome w.spacecraft u kept).after
+        (bypass_same w.spacecraft u kept) (bypass_eases d base g.front w.spacecraft u kept))) (h.session is);
   }
 
 -- ---- each step
@@ -375,6 +362,9 @@ module _ (c : Config) (w : World) (h : Holding c w) where
   board_holds : (after : SpacecraftState) → SpacecraftSteady c after → Holding c (with_nodes w w.ground_node after)
   board_holds after steady = nodes_hold w.ground_node after h.sound.ground_node h.carried.fits steady
 
+  arrives : AtEachArrival w.spacecraft (λ o t. SpacecraftSteady c t)
+  arrives = arrives_so c w.spacecraft h.sound.spacecraft
+
   -- the receiver leaves the frame, and is as it was
   left_holds : (e : FarmEvent) → farm_step w.spacecraft.farm e ≡ w.spacecraft.farm
       → Holding c (record w { spacecraft = after_farm w.spacecraft e })
@@ -388,8 +378,8 @@ module _ (c : Config) (w : World) (h : Holding c w) where
       left_holds (AdArrives n (is_free w.spacecraft)) (ap (after_verdict w.spacecraft.farm) is)
   sequence_holds n u Discarded is =
       left_holds (AdArrives n (is_free w.spacecraft)) (ap (after_verdict w.spacecraft.farm) is)
-  sequence_holds n u Accepted is = board_holds _ (sequence_so c w.spacecraft h.sound.spacecraft n u Accepted).steady
-  sequence_holds n u v is = board_holds _ (sequence_so c w.spacecraft h.sound.spacecraft n u v).steady
+  sequence_holds n u Accepted is = board_holds _ (sequence_comes w.spacecraft _ arrives n u Accepted)
+  sequence_holds n u v is = board_holds _ (sequence_comes w.spacecraft _ arrives n u v)
 
   bypass_holds : (u : SegmentView) (kept : Bool) → Receives_well (bypass_outcome w.spacecraft u kept)
   bypass_holds u true = bypassed_holds c w h u true
@@ -398,7 +388,7 @@ module _ (c : Config) (w : World) (h : Holding c w) where
   body_holds : (f : BodyView) → Receives_well (body_outcome w.spacecraft f)
   body_holds (Ad n u) = sequence_holds n u (verdict_of w.spacecraft.farm n (is_free w.spacecraft)) refl
   body_holds (Bd u) = bypass_holds u (is_kept (limits_of w.spacecraft.config) u)
-  body_holds (Bc command) = board_holds _ (body_so c w.spacecraft h.sound.spacecraft (Bc command)).steady
+  body_holds (Bc command) = board_holds _ (body_comes w.spacecraft _ arrives (Bc command))
 
   received_holds : (r : Result FrameView TcFault) → Receives_well (frame_outcome w.spacecraft r)
   received_holds (Err fault) = h
@@ -441,9 +431,6 @@ module _ (c : Config) (w : World) (h : Holding c w) where
 
   -- ---- a node is new
 
-  new_ground_steady : GroundNodeSteady c (new_ground w.ground_node.config)
-  new_ground_steady = rw h.sound.ground_node.config (new_sound c h.sound.ranges).ground_node
-
   restarted_steady : (kept : KeptNumbers) → AreNumbers kept
       → SpacecraftSteady c (restarted_spacecraft w.spacecraft.config kept)
   restarted_steady kept numbers = rw h.sound.spacecraft.config (record {
@@ -463,7 +450,8 @@ module _ (c : Config) (w : World) (h : Holding c w) where
       word_holds w.ground_node.extractor w.ground_node.telemetry (clcw_at octets)
   link_step_holds ForgetTelemetry fits = telemetry_holds c w new_extractor w.ground_node.telemetry h
   link_step_holds NewGround fits =
-      nodes_hold (new_ground w.ground_node.config) w.spacecraft new_ground_steady
+      nodes_hold (new_ground w.ground_node.config) w.spacecraft
+      (rw h.sound.ground_node.config (new_sound c h.sound.ranges).ground_node)
       (record { sent = λ running. tt; unsent = λ running. tt }) h.sound.spacecraft
   link_step_holds (NewSpacecraft kept) fits =
       board_holds (restarted_spacecraft w.spacecraft.config kept) (restarted_steady kept fits)
@@ -512,25 +500,20 @@ up_is_one : (b c h : ℕ) (p q : PlainLink) → b % 256 ≡ c % 256 → p.r ≡ 
     → (xs ys : List (ℕ × SegmentView)) → map (numbered b) xs ≡ map (numbered c) ys
     → AllByRecursion (IsNear p h) xs → AllByRecursion (IsNear q h) ys → xs ≡ ys
 up_is_one b c h p q base r n most small [] [] is near_x near_y = refl
-up_is_one b c h p q base r n most small [] (y ∷ ys) is near_x near_y = absurd cc
-up_is_one b c h p q base r n most small (x ∷ xs) [] is near_x near_y = absurd cc
 up_is_one b c h p q base r n most small (x ∷ xs) (y ∷ ys) is near_x near_y =
     let first : numbered b x ≡ numbered c y = cc in
     let rest : map (numbered b) xs ≡ map (numbered c) ys = cc in
     let number : (b + x.0) % 256 ≡ (c + y.0) % 256 = ap (λ (t : ℕ × SegmentView). t.0) first in
     let place : x.0 ≡ y.0 = omega (arith, number, base, r, n, most, small, near_x.0, near_y.0) in
     let unit : x.1 ≡ y.1 = ap (λ (t : ℕ × SegmentView). t.1) first in
-    ap (λ (i : ℕ). (i, x.1) ∷ xs) place
-    ∙ ap (λ (u : SegmentView). (y.0, u) ∷ xs) unit
-    ∙ ap (λ (zs : List (ℕ × SegmentView)). y ∷ zs)
-    (up_is_one b c h p q base r n most small xs ys rest near_x.1 near_y.1)
+    let others : xs ≡ ys = up_is_one b c h p q base r n most small xs ys rest near_x.1 near_y.1 in
+    grind (arith, place, unit, others)
+up_is_one b c h p q base r n most small _ _ is near_x near_y = absurd cc
 
 -- and so do the numbers on their way down
 down_is_one : (b c a high low least : ℕ) → b % 256 ≡ c % 256 → high ≤ a + 127 → a ≤ low → a ≤ least
     → (vs us : List ℕ) → map (number_of b) vs ≡ map (number_of c) us → Rises low vs high → Rises least us high → vs ≡ us
 down_is_one b c a high low least base small above over [] [] is up rises = refl
-down_is_one b c a high low least base small above over [] (u ∷ us) is up rises = absurd cc
-down_is_one b c a high low least base small above over (v ∷ vs) [] is up rises = absurd cc
 down_is_one b c a high low least base small above over (v ∷ vs) (u ∷ us) is up rises =
     let first : (b + v) % 256 ≡ (c + u) % 256 = cc in
     let rest : map (number_of b) vs ≡ map (number_of c) us = cc in
@@ -540,6 +523,7 @@ down_is_one b c a high low least base small above over (v ∷ vs) (u ∷ us) is 
     ap (λ (x : ℕ). x ∷ vs) one
     ∙ ap (λ (xs : List ℕ). u ∷ xs) (down_is_one b c a high v u base small (omega (arith, above, up.0))
     (omega (arith, over, rises.0)) vs us rest up.1 rises.1)
+down_is_one b c a high low least base small above over _ _ is up rises = absurd cc
 
 none_near : (p : PlainLink) (h : ℕ) → p.n ≡ 0 → (xs : List (ℕ × SegmentView)) → AllByRecursion (IsNear p h) xs → xs ≡ []
 none_near p h n [] near = refl
@@ -575,13 +559,7 @@ module _ (w : World) (b : ℕ) (p : PlainLink) (h : IsHistory w b p) where
 
 link_is : (p q : PlainLink) → p.units ≡ q.units → p.a ≡ q.a → p.r ≡ q.r → p.n ≡ q.n → p.up ≡ q.up → p.down ≡ q.down
     → p ≡ q
-link_is p q units a r n up down =
-    ap (λ (x : List SegmentView). record p { units = x }) units
-    ∙ ap (λ (x : ℕ). record p { units = q.units; a = x }) a
-    ∙ ap (λ (x : ℕ). record p { units = q.units; a = q.a; r = x }) r
-    ∙ ap (λ (x : ℕ). record p { units = q.units; a = q.a; r = q.r; n = x }) n
-    ∙ ap (λ (x : List (ℕ × SegmentView)). record q { up = x; down = p.down }) up
-    ∙ ap (λ (x : List ℕ). record q { down = x }) down
+link_is p q units a r n up down = grind (arith, units, a, r, n, up, down)
 
 one_link : (w : World) → IsConfig w.ground_node.config → HasOneLink w
 one_link w ranges settled b c p q h k =
@@ -676,11 +654,7 @@ each_goes_on_as_one w r idle settled =
 
 -- an initiation sets NN(R) to V(S)
 begun_equal : (f : FopState SegmentView) (d : Directive) → is_initiation d ≡ true → (begun f d).nn ≡ (begun f d).vs
-begun_equal f InitWithoutCheck is = refl
-begun_equal f InitWithCheck is = refl
-begun_equal f InitUnlock is = refl
-begun_equal f (InitSetVr x) is = refl
-begun_equal f _ is = absurd cc
+begun_equal f d is = grind arith
 
 module _ (w : World) where
   abbrev StartsEqual : Directive → FopOutcome SegmentView (Result (Option Alert) CopFault) → Type 0

@@ -1,22 +1,21 @@
 -- What the ground holds to be sent fits into frames, and each string on its way up is one of these and is read as
 -- such.
 use Rattle.tc_link.proofs.Common.{◌≡◌, ◌≤◌, ℕ, zero, suc, true, List, [], ◌∷◌, length, Some, Ok, refl, subst, arith}
-use Rattle.tc_link.proofs.Common.{slice_get, AllByRecursion, On, Unlock, SetVr, SegmentView, BodyView, Ad, Bd, Bc}
-use Rattle.tc_link.proofs.Common.{Config, IsConfig, FitsFrame, frame_of, Bool, false, ◌++◌, drop, Option, None, Result}
-use Rattle.tc_link.proofs.Common.{option_to_list, ap, sym, ◌∙◌, append_assoc, Clcw, segments_of, ahead_by, CopFault}
-use Rattle.tc_link.proofs.Common.{Alert, Idle, Directive, InitWithoutCheck, InitWithCheck, InitUnlock, InitSetVr, S1}
-use Rattle.tc_link.proofs.Common.{S2, S3, S6, is_initiation, directive_step, units_of, pull_step, without_oldest_mark}
-use Rattle.tc_link.proofs.Common.{FopState, FopOutcome, clcw_step, report_while_active, after_move_on, retransmits}
-use Rattle.tc_link.proofs.Common.{after_new_value, tick_step, after_acknowledge, after_repeat, after_alert, after_stop}
-use Rattle.tc_link.proofs.Common.{after_restart, heard_active, obeyed, begun, pulled_out, ticked, TmFault, GroundState}
-use Rattle.tc_link.proofs.Common.{is_closed, unsent_segments, refill_step, with_fop, directive_outcome, submit_fault}
-use Rattle.tc_link.proofs.Common.{after_submission, segments_on, segments_fit, closed_not, active_on, SetVs, obeying}
-use Rattle.tc_link.proofs.Common.{submitting, ◌+◌, ◌%◌, if◌then◌else◌, Err, ◌==◌, ◌||◌, nat_lt, not, eqb-true, or_parts}
-use Rattle.tc_link.proofs.Common.{not-false, PulledUnit, frame_to_send, Event, AllReadable, World, world_step}
+use Rattle.tc_link.proofs.Common.{slice_get, AllByRecursion, On, SegmentView, BodyView, Ad, Bd, Bc, Config, IsConfig}
+use Rattle.tc_link.proofs.Common.{FitsFrame, frame_of, Bool, false, ◌++◌, drop, Option, None, Result, option_to_list}
+use Rattle.tc_link.proofs.Common.{ap, sym, ◌∙◌, append_assoc, Clcw, segments_of, ahead_by, CopFault, Alert, Idle}
+use Rattle.tc_link.proofs.Common.{Directive, InitUnlock, S1, S2, S3, S6, is_initiation, directive_step, units_of}
+use Rattle.tc_link.proofs.Common.{pull_step, without_oldest_mark, FopState, FopOutcome, clcw_step, report_while_active}
+use Rattle.tc_link.proofs.Common.{after_move_on, retransmits, after_new_value, tick_step, after_acknowledge}
+use Rattle.tc_link.proofs.Common.{after_repeat, after_alert, after_stop, after_restart, heard_active, obeyed, begun}
+use Rattle.tc_link.proofs.Common.{pulled_out, ticked, TmFault, GroundState, is_closed, unsent_segments, refill_step}
+use Rattle.tc_link.proofs.Common.{with_fop, directive_outcome, submit_fault, after_submission, segments_on}
+use Rattle.tc_link.proofs.Common.{segments_fit, closed_not, active_on, SetVs, obeying, submitting, ◌+◌, ◌%◌}
+use Rattle.tc_link.proofs.Common.{if◌then◌else◌, Err, PulledUnit, frame_to_send, Event, AllReadable, World, world_step}
 use Rattle.tc_link.proofs.Common.{world_after_pull, IsEvent, ◌<◌, map, cond_both, TcFault, segment_octets, FopMode}
 use Rattle.tc_link.proofs.Common.{report_in, IsActive, is_kept, limits_of, SpacecraftState, frame_outcome, body_outcome}
-use Rattle.tc_link.proofs.Common.{bypass_outcome, is_own_frame, number_in, in_frame, world_after_directive}
-use Rattle.tc_link.proofs.Common.{BeginsNoSession, accepted}
+use Rattle.tc_link.proofs.Common.{is_own_frame, number_in, in_frame, world_after_directive, BeginsNoSession, accepted}
+use Rattle.tc_link.proofs.Common.{oldest_marked}
 use Rattle.std.proofs.lemmas.Bool.{lt-ltb, le-leb}
 use Rattle.std.specs.Prelude.{flat_map}
 use Rattle.tc_frame.specs.Layout.{body_fits, FrameView}
@@ -40,6 +39,7 @@ use Rattle.tc_link.proofs.Refilled.{refilled_keeps}
 use Rattle.tc_link.proofs.Linked.{Carries, Reporting, carries_push}
 use Rattle.tc_link.proofs.IdleStart.{HasReports}
 use Rattle.nodes.specs.Spacecraft.{spacecraft_receive}
+use Rattle.nodes.proofs.Arrivals.{bypass_same}
 use Rattle.map_service.proofs.Groups.{behind-each}
 
 -- What is put on the link is read from it.
@@ -53,14 +53,12 @@ Goes (Bc command) = Unit {0}
 body_goes : (f : BodyView) → Goes f → body_fits f ≡ true
 body_goes (Ad n s) h = rw (lt-ltb s.header.map 64 h.map, lt-ltb 0 (length s.payload) h.least) refl
 body_goes (Bd s) h = rw (lt-ltb s.header.map 64 h.map, lt-ltb 0 (length s.payload) h.least) refl
-body_goes (Bc Unlock) h = refl
-body_goes (Bc (SetVr x)) h = refl
+body_goes (Bc command) h = grind arith
 
 total_goes : (c : Config) (f : BodyView) → Goes f → total_of On (frame_of c f) ≤ 1024
 total_goes c (Ad n s) h = omega (arith, h.most)
 total_goes c (Bd s) h = omega (arith, h.most)
-total_goes c (Bc Unlock) h = omega arith
-total_goes c (Bc (SetVr x)) h = omega arith
+total_goes c (Bc command) h = grind arith
 
 goes_fits : (c : Config) (f : BodyView) → IsConfig c → Goes f → frame_fits On (frame_of c f) ≡ true
 goes_fits c f is h =
@@ -111,10 +109,7 @@ module _ (s : FopState SegmentView) (pending : List SegmentView) (k : Fit s pend
 
   same : (f : FopState SegmentView) → (is_closed f.state ≡ false → is_closed s.state ≡ false)
       → units_of f.sent ≡ units_of s.sent → f.waiting ≡ s.waiting → Fit f pending
-  same f on sent waiting = record {
-    sent = λ running. subst All (sym sent) (k.sent (on running));
-    unsent = λ running. rw waiting (k.unsent (on running));
-  }
+  same f on sent waiting = fewer f 0 on sent waiting
 
   -- ---- a report
 
@@ -163,6 +158,10 @@ module _ (s : FopState SegmentView) (pending : List SegmentView) (k : Fit s pend
   pub moved : (u : SegmentView) → s.waiting ≡ Some u → is_closed s.state ≡ false → FitsFrame u × All pending
   moved u is on = let all : All (option_to_list (Some u) ++ pending) = rw is at (k.unsent on) in (all.0, all.1)
 
+  pub marked_fits : (x : ℕ × SegmentView) → oldest_marked 0 s.sent ≡ Some x → is_closed s.state ≡ false → FitsFrame x.1
+  marked_fits x is on =
+      let stands = oldest_stands 0 s.sent x is in fits_at (units_of s.sent) stands.0 x.1 (k.sent on) stands.2
+
   pub pull_fits : Fits (pull_step s)
   pull_fits = pulled_out s (λ o. Fits o) (record {
     none = k;
@@ -193,11 +192,10 @@ with_fits s f k = refilled_fits (record s { fop = f }) k
 
 module _ (c : Config) (s : GroundState) (g : GroundNodeSteady c s) (k : GroundFits s) where
   begun_fits : (d : Directive) → is_initiation d ≡ true → s.pending ≡ [] → Fit (begun s.fop d) s.pending
-  begun_fits InitWithoutCheck is none = record { sent = λ running. tt; unsent = λ running. rw none tt }
-  begun_fits InitWithCheck is none = record { sent = λ running. tt; unsent = λ running. rw none tt }
-  begun_fits InitUnlock is none = record { sent = λ running. tt; unsent = λ running. rw none tt }
-  begun_fits (InitSetVr x) is none = record { sent = λ running. tt; unsent = λ running. rw none tt }
-  begun_fits _ is none = absurd cc
+  begun_fits d is none =
+      let unsent : (begun s.fop d).waiting ≡ None = grind arith in
+      let sent : (begun s.fop d).sent ≡ [] = grind arith in
+      record { sent = λ running. rw sent tt; unsent = λ running. rw (unsent, none) tt }
 
   abbrev Directed : Directive → FopOutcome SegmentView (Result (Option Alert) CopFault) → Type 0
   Directed d o = GroundFits (directive_outcome s d o).after
@@ -272,9 +270,7 @@ module _ (c : Config) (w : World) (k : Sound c w) (g : Carried c w) where
             let fit : AllByRecursion FitsFrame (u ∷ us) = rw is at k.ground_node.fop.bypass_fits in
             record { frames = g.frames ++ Bd u ∷ []; carries = pushed (Bd u) fit.0; fits = fits };
         again = λ active x is fits.
-            let stands = oldest_stands 0 s.sent x is in
-            let fit : FitsFrame x.1 =
-            fits_at (units_of s.sent) stands.0 x.1 (g.fits.sent (active_on s.state active)) stands.2 in
+            let fit : FitsFrame x.1 = marked_fits s w.ground_node.pending g.fits x is (active_on s.state active) in
             record {
               frames = g.frames ++ Ad ((s.nn + x.0) % 256) x.1 ∷ [];
               carries = pushed (Ad ((s.nn + x.0) % 256) x.1) fit;
@@ -318,16 +314,13 @@ module _ (c : Config) (w : World) (k : Sound c w) (g : Carried c w) where
 
 length_right : (b : Bool) (rest : Result telemetry.FrameView TmFault) (f : telemetry.FrameView)
     → (if b then Err faults.Length else rest) ≡ Ok f → b ≡ false
-length_right true rest f h = absurd cc
-length_right false rest f h = refl
+length_right b rest f h = grind (arith, h)
 
 size_of : (total : ℕ) (b : List ℕ) (f : telemetry.FrameView) → frame_at total b ≡ Ok f → length b ≡ total
 unfolding frame_at
 size_of total b f h =
     let right : is_length_wrong total (length b) ≡ false = length_right (is_length_wrong total (length b)) _ f h in
-    let both = or_parts (not (length b == total) || nat_lt total 16) (nat_lt 2048 total) right in
-    let first = or_parts (not (length b == total)) (nat_lt total 16) both.0 in
-    eqb-true (length b) total (not-false (length b == total) first.0)
+    grind (arith, right)
 
 up_readable : (c : Config) (bs : List (List ℕ)) (fs : List BodyView) → Carries c bs fs
     → AllByRecursion (IsCommandOf c) bs
@@ -373,21 +366,16 @@ numbers_in r = in_frame number_in r
 abbrev numbers : List (List ℕ) → List ℕ
 numbers bs = flat_map (λ octets. in_frame number_in (reading.frame_at On octets)) bs
 
-first_none : (xs ys : List ℕ) → xs ++ ys ≡ [] → xs ≡ []
-first_none [] ys e = refl
-first_none (x ∷ xs) ys e = absurd cc
-
-rest_none : (xs ys : List ℕ) → xs ++ ys ≡ [] → ys ≡ []
-rest_none [] ys e = e
-rest_none (x ∷ xs) ys e = absurd cc
+both_none : (xs ys : List ℕ) → xs ++ ys ≡ [] → (xs ≡ []) × (ys ≡ [])
+both_none [] ys e = (refl, e)
+both_none (x ∷ xs) ys e = absurd cc
 
 push_none : (bs : List (List ℕ)) (b : List ℕ) → numbers bs ≡ [] → numbers_in (reading.frame_at On b) ≡ []
     → numbers (bs ++ b ∷ []) ≡ []
 push_none [] b none new = ap (λ (ns : List ℕ). ns ++ []) new
 push_none (x ∷ xs) b none new =
-    ap (λ (ns : List ℕ). ns ++ numbers (xs ++ b ∷ []))
-    (first_none (numbers_in (reading.frame_at On x)) (numbers xs) none)
-    ∙ push_none xs b (rest_none (numbers_in (reading.frame_at On x)) (numbers xs) none) new
+    let both = both_none (numbers_in (reading.frame_at On x)) (numbers xs) none in
+    ap (λ (ns : List ℕ). ns ++ numbers (xs ++ b ∷ [])) both.0 ∙ push_none xs b both.1 new
 
 -- ---- one event
 
@@ -397,18 +385,13 @@ closed_with s f off = refilled_keeps (λ t. t.fop.state ≡ S6) (record s { fop 
 
 heard_in : (f : FopState SegmentView) (r : Clcw) (m : FopMode) → m ≡ S6 → f.state ≡ S6
     → (report_in f r m).after.state ≡ S6
-heard_in f r S6 is off = off
-heard_in f r _ is off = absurd cc
+heard_in f r m is off = rw is off
 
 -- on board a frame that is not of Type-AD adds no segment to those accepted
 module _ (s : SpacecraftState) where
-  bypass_same : (u : SegmentView) (kept : Bool) → (bypass_outcome s u kept).after.accepted ≡ s.accepted
-  bypass_same u true = refl
-  bypass_same u false = refl
-
   body_same : (f : BodyView) → number_in f ≡ [] → (body_outcome s f).after.accepted ≡ s.accepted
   body_same (Ad n u) none = absurd cc
-  body_same (Bd u) none = bypass_same u (is_kept (limits_of s.config) u)
+  body_same (Bd u) none = bypass_same s u (is_kept (limits_of s.config) u)
   body_same (Bc command) none = refl
 
   arrived_same : (r : Result FrameView TcFault) → numbers_in r ≡ [] → (frame_outcome s r).after.accepted ≡ s.accepted
@@ -488,26 +471,23 @@ module _ (c : Config) (w : World) (k : Sound c w) (off : IsOff w) (none_up : num
     first = λ active u is room. not_active active;
   })
 
-  -- a frame arrives on board
-  all_none : (bs : List (List ℕ)) → w.up ≡ bs → numbers bs ≡ []
-  all_none bs is = subst (λ (xs : List (List ℕ)). numbers xs ≡ []) is none_up
-
-  up_rest : (b : List ℕ) (bs : List (List ℕ)) → w.up ≡ b ∷ bs → numbers bs ≡ []
-  up_rest b bs is = rest_none (numbers_in (reading.frame_at On b)) (numbers bs) (all_none (b ∷ bs) is)
-
-  up_first : (b : List ℕ) (bs : List (List ℕ)) → w.up ≡ b ∷ bs → numbers_in (reading.frame_at On b) ≡ []
-  up_first b bs is = first_none (numbers_in (reading.frame_at On b)) (numbers bs) (all_none (b ∷ bs) is)
+  -- a frame arrives on board, and others are left
+  up_none : (b : List ℕ) (bs : List (List ℕ)) → w.up ≡ b ∷ bs
+      → (numbers_in (reading.frame_at On b) ≡ []) × (numbers bs ≡ [])
+  up_none b bs is =
+      both_none (numbers_in (reading.frame_at On b)) (numbers bs)
+      (subst (λ (xs : List (List ℕ)). numbers xs ≡ []) is none_up)
 
   none_so : (e : Event) → numbers_up (world_step w e).after ≡ []
   none_so events.Send = send_so
-  none_so e = up_after w (λ way. numbers way ≡ []) e (λ is. cc is) none_up up_rest
+  none_so e = up_after w (λ way. numbers way ≡ []) e (λ is. cc is) none_up (λ b bs is. (up_none b bs is).1)
 
   same_so : (e : Event) → BeginsNoSession w e → Same (world_step w e).after
   same_so e goes =
       let receives : e ≡ events.UpDeliver → (b : List ℕ) (bs : List (List ℕ)) → w.up ≡ b ∷ bs
       → Same (record w { up = bs; spacecraft = (spacecraft_receive w.spacecraft b).after }) = λ is b bs first.
       ap (λ (xs : List SegmentView). map segment_octets (drop w.session.before xs))
-      (arrived_same w.spacecraft (reading.frame_at On b) (up_first b bs first)) in
+      (arrived_same w.spacecraft (reading.frame_at On b) (up_none b bs first).0) in
       let directs : (d : Directive) → e ≡ events.Directive d → Same (directed w d) = λ d is.
       (directive_so d (subst (BeginsNoSession w) is goes)).1 in
       let restarts : (value : ℕ) → e ≡ events.Resume value → can_resume w.ground_node value ≡ true

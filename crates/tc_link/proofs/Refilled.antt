@@ -5,8 +5,8 @@ use Rattle.tc_link.proofs.Common.{Directive, FopMode, S6, FopState, SentUnit, un
 use Rattle.tc_link.proofs.Common.{unsent_segments, refill_step, with_fop, IsChecked, PlainLink, World, Fates, Result}
 use Rattle.tc_link.proofs.Common.{Ok, Err, ap, eq-eqb, Alert, CopFault, tick_step, pull_step, directive_step, LinkFault}
 use Rattle.tc_link.proofs.Common.{GroundOutcome, unless_refused, submit_fault, bypass_fault, after_submission, subst}
-use Rattle.tc_link.proofs.Common.{after_bypass, after_acknowledging, obeying, moved_by, ExtractorState}
-use Rattle.tc_link.proofs.Common.{clcw_step, with_submission}
+use Rattle.tc_link.proofs.Common.{after_bypass, after_acknowledging, obeying, moved_by, ExtractorState, clcw_step}
+use Rattle.tc_link.proofs.Common.{with_submission}
 use Rattle.std.specs.Prelude.{◌^◌}
 use Rattle.nodes.specs.Ground.{after_moving_up, GroundEvent, Submit, Bypass, Direct, Resume, Pull, Tick, Telemetry}
 use Rattle.nodes.specs.Ground.{ControlWord, TakeTelemetry, ForgetTelemetry, ground_step, ground_take_telemetry}

@@ -1,27 +1,25 @@
 -- A program that resumes after each alert has a prefix of what it wants delivered.
-use Rattle.tc_link.proofs.Common.{◌≡◌, ℕ, zero, suc, ◌+◌, ◌%◌, ◌<◌, ◌≤◌, Bool, true, false, List, [], ◌∷◌, ◌++◌, length}
-use Rattle.tc_link.proofs.Common.{take, drop, Some, Result, Ok, Err, refl, ap, sym, subst, ◌∙◌, arith, length-append}
-use Rattle.tc_link.proofs.Common.{length-map, take-append-drop, AllByRecursion, inl, inr, Opening, segments_of}
-use Rattle.tc_link.proofs.Common.{length-drop, option_map, SetVs, InitUnlock, is_closed, Config, GroundState, PacketOn}
-use Rattle.tc_link.proofs.Common.{Event, World, world_step, world_run, KeepsSession, BeginsNoSession, IsIdle, IsEvent}
-use Rattle.tc_link.proofs.Common.{session_begun_by, delivered, ahead_by, cond}
+use Rattle.tc_link.proofs.Common.{◌≡◌, ℕ, ◌+◌, ◌%◌, ◌<◌, ◌≤◌, true, List, [], ◌∷◌, ◌++◌, length, take, drop, Some}
+use Rattle.tc_link.proofs.Common.{Result, Ok, refl, ap, sym, subst, ◌∙◌, arith, length-append, length-map}
+use Rattle.tc_link.proofs.Common.{take-append-drop, AllByRecursion, inl, inr, Opening, length-drop, option_map, SetVs}
+use Rattle.tc_link.proofs.Common.{InitUnlock, is_closed, Config, GroundState, PacketOn, Event, World, world_step}
+use Rattle.tc_link.proofs.Common.{world_run, KeepsSession, BeginsNoSession, IsIdle, IsEvent, session_begun_by}
+use Rattle.tc_link.proofs.Common.{delivered, ahead_by}
 use Rattle.std.specs.Prelude.{◌^◌, ◌==◌, ◌&&◌, nat_lt}
 use Rattle.std.specs.List.{flat_map, filter, list_all}
 use Rattle.std.proofs.lemmas.Bool.{cases_Bool, and_parts, not-true, ltb-false, eqb-true}
-use Rattle.std.proofs.Math.Seq.{take-nil}
+use Rattle.std.proofs.Math.Seq.{take-add}
 use Rattle.std.proofs.lemmas.List.{take-append-le}
 use Rattle.std.proofs.lemmas.List.Concat.{flat_map-append}
 use Rattle.std.proofs.lemmas.List.Elements.{filter-append}
 use Rattle.octets.specs.Beginning.{IsBeginning}
 use Rattle.map_service.specs.Packets.{packets_in}
 use Rattle.nodes.specs.Fates.{whole_with}
-use Rattle.nodes.specs.Ground.{ground_step, Resume, can_resume, after_resuming, known_on_board, ground_resume}
-use Rattle.nodes.specs.Ground.{GroundOutcome}
+use Rattle.nodes.specs.Ground.{ground_step, Resume, can_resume, known_on_board, ground_resume}
 use Rattle.nodes.specs.declared.fault.LinkFault.{LinkFault}
-use Rattle.nodes.specs.declared.fault.LinkFault.TheVariants.{NotKnown}
 use Rattle.nodes.specs.declared.event.Event.TheVariants as events
 use Rattle.simulated_link.specs.World.{Session, is_idle, is_none, reports_as, report_now, world_after_resuming}
-use Rattle.tc_link.proofs.Promised.{past_holds, promised_so}
+use Rattle.tc_link.proofs.Promised.{past_holds, promised_so, run_append}
 use Rattle.tc_link.proofs.Fates.{knows_fates}
 use Rattle.tc_link.proofs.Invariant.{Holding, idle_goes, octet, began_at, begun_session, can_off}
 use Rattle.tc_link.proofs.Sound.{all_push}
@@ -35,7 +33,6 @@ use Rattle.tc_link.specs.Whole.{on_board, IsOneGroup, AreSingle, DeliversWhole}
 use Rattle.tm_link.specs.Decoding as telemetry_reading
 use Rattle.simulated_link.specs.Replies.{Resumed}
 use Rattle.map_service.proofs.Groups.{behind-each}
-use Rattle.tc_link.proofs.Promised.{run_push}
 
 -- ---- lists of submissions
 
@@ -45,13 +42,6 @@ packets_append xs ys m =
     ap (flat_map (λ (p : PacketOn). packets_in p.octets)) (filter-append (λ (p : PacketOn). p.on_map == m) xs ys)
     ∙ flat_map-append (λ (p : PacketOn). packets_in p.octets) (filter (λ (p : PacketOn). p.on_map == m) xs)
     (filter (λ (p : PacketOn). p.on_map == m) ys)
-
-take_further : {X : Type 0} (j k : ℕ) (xs : List X) → take (j + k) xs ≡ take j xs ++ take k (drop j xs)
-take_further {X} zero k xs = let is : zero + k ≡ k = omega arith in ap (λ (n : ℕ). take n xs) is
-take_further {X} (suc j) k [] = take-nil (suc j + k) ∙ sym (take-nil k)
-take_further {X} (suc j) k (x ∷ xs) =
-    let is : suc j + k ≡ suc (j + k) = omega arith in
-    ap (λ (n : ℕ). take n (x ∷ xs)) is ∙ ap (λ (ys : List X). x ∷ ys) (take_further j k xs)
 
 all_of_front : {X : Type 0} (P : X → Type 0) (xs ys : List X) → AllByRecursion P (xs ++ ys) → AllByRecursion P xs
 all_of_front P [] ys all = tt
@@ -151,24 +141,15 @@ module _ (c : Config) (wanted : List PacketOn) (w : World) (done : ℕ) (l : Lea
         quiet = sets_push at l.since e l.quiet (subst (λ (x : World). SetsNoNumber x e) (sym l.led) quiet);
         fits = (l.fits.0, all_push IsEvent l.since e l.fits.1 fits);
         idle = l.idle;
-        led = run_push at l.since e ∙ ap (λ (x : World). (world_step x e).after) l.led;
+        led = run_append at l.since (e ∷ []) ∙ ap (λ (x : World). (world_step x e).after) l.led;
         submits = submits;
       }
 
 -- ---- the ground resumes
 
-resumes_if : (can : Bool) (s next : GroundState) (whole more : ℕ)
-    → (cond {A = GroundOutcome (Result ℕ LinkFault)} can (record { answer = Ok whole; after = next })
-    (record { answer = Err NotKnown; after = s })).answer ≡ Ok more
-    → (can ≡ true) × (more ≡ whole)
-resumes_if true s next whole more answered = (refl, cc answered)
-resumes_if false s next whole more answered = absurd (cc answered)
-
 ground_resumes : (s : GroundState) (value more : ℕ) → (ground_resume s value).answer ≡ Ok more
     → (can_resume s value ≡ true) × (more ≡ whole_with (ahead_by value s.fop.nn) s.fates)
-ground_resumes s value more answered =
-    resumes_if (can_resume s value) s (after_resuming s value) (whole_with (ahead_by value s.fop.nn) s.fates) more
-    answered
+ground_resumes s value more answered = grind (arith, answered)
 
 pub resumes_so : ResumesSo
 resumes_so w value more answered =
@@ -182,8 +163,7 @@ resumes_so w value more answered =
 -- what the link answers is what the ground answers
 answered_by : (w : World) (value more : ℕ) (r : Result ℕ LinkFault)
     → (world_after_resuming w value r).answer ≡ Ok (Resumed more) → r ≡ Ok more
-answered_by w value more (Ok whole) is = cc is
-answered_by w value more (Err fault) is = absurd (cc is)
+answered_by w value more r is = grind (arith, is)
 
 -- what a value says, by which the ground resumes, it says of what is on board
 known_by : (s : GroundState) (value : ℕ) → s.fop.nn < 256 → can_resume s value ≡ true
@@ -205,21 +185,11 @@ module _ (c : Config) (wanted : List PacketOn) (w : World) (done : ℕ) (l : Lea
     (small : length wanted < 2 ^ 64) where
   few : length w.session.submissions < 2 ^ 64
   few =
-      omega (
-        arith,
-        small,
-        ap length l.submits.1,
-        length-append w.session.submissions l.submits.0,
-        length-drop done wanted,
-      )
+      omega (arith, ap length l.submits.1, length-append w.session.submissions l.submits.0, length-drop done wanted)
 
   board_most : on_board w ≤ length w.session.submissions
   board_most =
-      omega (
-        arith,
-        length-map w.session.submissions
-            (λ (p : PacketOn). length (segments_of w.ground_node.config.part p.on_map p.octets)),
-      )
+      omega (arith, length-map {A = PacketOn} {B = ℕ})
 
   -- as many more as are on board
   more_is : (value more : ℕ) → value ≡ w.spacecraft.farm.vr
@@ -258,7 +228,7 @@ module _ (c : Config) (wanted : List PacketOn) (w : World) (done : ℕ) (l : Lea
         ap (λ ps. ps ++ delivered w m) given
         ∙ ap (λ ps. packets_on_map (take done wanted) m ++ ps) (delivered_is m)
         ∙ sym (packets_append (take done wanted) (take (on_board w) (drop done wanted)) m)
-        ∙ ap (λ (ps : List PacketOn). packets_on_map ps m) (sym (take_further done (on_board w) wanted))
+        ∙ ap (λ (ps : List PacketOn). packets_on_map ps m) (sym (take-add done (on_board w) wanted))
 
     prefix : (before : ℕ → List (List ℕ)) (m : ℕ) → before m ≡ packets_on_map (take done wanted) m
         → IsBeginning (before m ++ delivered w m) (packets_on_map wanted m)
@@ -281,33 +251,23 @@ module _ (c : Config) (wanted : List PacketOn) (w : World) (done : ℕ) (l : Lea
   abbrev set : World
   set = (world_step w (events.Directive (SetVs value))).after
 
-  set_past : (q : HasAnyPast set) × (q.config ≡ c)
-  set_past =
-      let p = past_now c wanted w done l in
-      past_push c w p.0 p.1 (events.Directive (SetVs value)) octet_is
-
   set_idle : is_idle set ≡ true
   set_idle =
-      let q = set_past in
+      let p = past_now c wanted w done l in
+      let q = past_push c w p.0 p.1 (events.Directive (SetVs value)) octet_is in
       let config : set.ground_node.config ≡ w.ground_node.config =
       (past_holds set q.0).sound.ground_node.config ∙ q.1 ∙ sym (config_now c wanted w done l) in
       ap (λ (x : Config). is_none w.up && list_all (λ (octets : List ℕ). reports_as (report_now w)
       (telemetry_reading.frame_at x.frame_length octets)) w.down) config ∙ quiet
-
-  set_closed : is_closed set.ground_node.fop.state ≡ true
-  set_closed = let off = can_off w.ground_node value can in rw off refl
 
   begun_so : (world_step w (events.Resume value)).after.session ≡ session_begun_by set InitUnlock
   begun_so = begun_session w (events.Resume value) (record {
     start = set;
     directive = InitUnlock;
     initiates = refl;
-    closed = set_closed;
+    closed = let off = can_off w.ground_node value can in rw off refl;
     is = rw can refl;
   })
-
-  resumed_idle : IsIdle (world_step w (events.Resume value)).after
-  resumed_idle = ap (λ (s : Session). option_map (λ (o : Opening). o.idle) s.opening) begun_so ∙ ap Some set_idle
 
   leads_resumed : Leads c wanted (world_step w (events.Resume value)).after (done + more)
   leads_resumed =
@@ -322,7 +282,7 @@ module _ (c : Config) (wanted : List PacketOn) (w : World) (done : ℕ) (l : Lea
         keeps = tt;
         quiet = tt;
         fits = (octet_is, tt);
-        idle = resumed_idle;
+        idle = ap (λ (s : Session). option_map (λ (o : Opening). o.idle) s.opening) begun_so ∙ ap Some set_idle;
         led = refl;
         submits = (
           drop (done + more) wanted,

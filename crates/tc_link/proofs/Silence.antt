@@ -1,27 +1,27 @@
 -- While silence is kept the receiver's report stays, so the frames down that follow the first ones carry it.
 use Rattle.tc_link.proofs.Common.{◌≡◌, ℕ, zero, suc, ◌-◌, ◌≤◌, true, false, List, [], ◌∷◌, ◌++◌, length, refl, arith}
 use Rattle.tc_link.proofs.Common.{◌∙◌, subst, AllByRecursion, list_all, Clcw, flags_number, ◌≢◌, FarmState, FarmMode}
-use Rattle.tc_link.proofs.Common.{Open, Wait, after_release, report_of, Config, GroundState, Heard, Event, World}
-use Rattle.tc_link.proofs.Common.{WorldOutcome, world_step, spacecraft_report, reports_as, report_now, eq-eqb, ◌==◌}
+use Rattle.tc_link.proofs.Common.{after_release, report_of, Config, GroundState, Heard, Event, World, WorldOutcome}
+use Rattle.tc_link.proofs.Common.{world_step, spacecraft_report, reports_as, report_now, eq-eqb, ◌==◌}
 use Rattle.nodes.specs.Ground as ground_calls
 use Rattle.nodes.specs.Ground.{ground_step}
 use Rattle.nodes.specs.declared.heard.Heard.TheVariants as heard_cases
 use Rattle.nodes.specs.declared.heard.HeardReport.{HeardReport}
 use Rattle.nodes.specs.declared.heard.HeardReport.TheVariants.{Used}
-use Rattle.simulated_link.proofs.Unchanged.{lost, down_arrives, TakesDown, board_after}
+use Rattle.simulated_link.proofs.Unchanged.{lost, down_arrives, TakesDown, board_after, word_arrives, down_after}
+use Rattle.simulated_link.proofs.Unchanged.{up_after}
 use Rattle.simulated_link.specs.World.{is_idle}
 use Rattle.tm_link.specs.Decoding.{frame_at}
 use Rattle.tm_link.specs.Encoding.{spelling}
 use Rattle.nodes.specs.declared.event.Event.TheVariants as events
-use Rattle.tc_link.specs.AnyPast.{LinkStep, Happens, TakeTelemetry, Hears, HearsReport, ForgetTelemetry}
-use Rattle.tc_link.specs.AnyPast.{NewGround, IsLinkStep, link_step, link_run, after_report, after_hearing}
+use Rattle.tc_link.specs.AnyPast.{LinkStep, Happens, TakeTelemetry, Hears, HearsReport, ForgetTelemetry, NewGround}
+use Rattle.tc_link.specs.AnyPast.{IsLinkStep, link_step, link_run, after_report, after_hearing}
 use Rattle.tc_link.specs.Silence.{IsSilent, KeepsSilence, gone_by, gone_down, SilenceIsIdle}
 use Rattle.tc_link.specs.Telemetry.{came_by}
 use Rattle.tc_link.proofs.Promised.{link_step_holds, past_holds}
 use Rattle.tc_link.proofs.Invariant.{Holding}
 use Rattle.tc_link.proofs.Linked.{Tells}
 use Rattle.tc_link.proofs.IdleStart.{tells_now}
-use Rattle.simulated_link.proofs.Unchanged.{word_arrives, down_after, up_after}
 
 -- ---- the frames on their way down
 
@@ -40,8 +40,7 @@ less zero = zero
 less (suc k) = k
 
 less_is : (k : ℕ) → less k ≤ k - 1
-less_is zero = omega arith
-less_is (suc k) = omega arith
+less_is k = grind arith
 
 module _ (now : Clcw) (total : ℕ) where
   none_later : (bs : List (List ℕ)) → AllLater now total (length bs) bs
@@ -85,9 +84,7 @@ record Left (c : Config) (k gone : ℕ) (w : World) : Type 0 where
 
 released : (s : FarmState) (vcid : ℕ) (m : FarmMode) → s.wait ≡ false
     → report_of (after_release s m) vcid ≡ report_of s vcid
-released s vcid Open is = refl
-released s vcid Wait is = rw is refl
-released s vcid _ is = rw is refl
+released s vcid m is = grind (arith, is)
 
 module _ (c : Config) (w : World) (h : Holding c w) (k : ℕ) (q : Quiet c k w) where
   abbrev Keeps : Event → WorldOutcome → Type 0

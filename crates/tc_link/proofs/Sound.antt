@@ -1,35 +1,31 @@
 -- What holds of each node, of what is submitted, and of the world at every moment, in any session.
 use Rattle.tc_link.proofs.Common.{◌≡◌, ◌/◌, ◌<◌, ◌≤◌, true, [], length, AllByRecursion, SegmentView, Control, Idle}
 use Rattle.tc_link.proofs.Common.{FopMode, FarmState, FlagsAgree, FopState, Config, FitsFrame, GroundState, is_closed}
-use Rattle.tc_link.proofs.Common.{SpacecraftState, IsBuilderOf, IsConfig, World, S5, None, ℕ, false, ◌∷◌, Some, refl}
-use Rattle.tc_link.proofs.Common.{◌∙◌, arith, ◌+◌, ◌%◌, Clcw, FarmMode, Open, Verdict, Accepted, Sent, FarmEvent}
-use Rattle.tc_link.proofs.Common.{AdArrives, BdArrives, BufferReleased, farm_step, after_verdict, goes_on, after_unlock}
-use Rattle.tc_link.proofs.Common.{after_set_vr, after_release, verdict_of, FopOutcome, pull_step, clcw_step}
-use Rattle.tc_link.proofs.Common.{report_while_active, retransmits, after_new_value, IsActive, tick_step, after_count}
-use Rattle.tc_link.proofs.Common.{due_again, after_alert, after_stop, refill_step, ticked, pulled_out, heard_active}
-use Rattle.tc_link.proofs.Common.{Bool, cond, List, ◌++◌, take, drop, map, Option, option_to_list, ap, sym, subst}
-use Rattle.tc_link.proofs.Common.{append_assoc, length-append, inr, ◌==◌, and_parts, not-false, take-append-le}
-use Rattle.tc_link.proofs.Common.{drop-append-le, append-nil, segment_octets, segments_of, Directive, LinkFault}
-use Rattle.tc_link.proofs.Common.{PacketOn, packet_on, segments_on, submit_fault, after_submission, bypass_fault}
-use Rattle.tc_link.proofs.Common.{after_bypass, segments_fit, submitting, ◌-◌, Result, Ok, Err, cond_both, eqb-false}
-use Rattle.tc_link.proofs.Common.{TcFault, On, BodyView, Ad, Bd, Bc, CopFault, Alert, InitWithoutCheck, InitWithCheck}
-use Rattle.tc_link.proofs.Common.{InitUnlock, InitSetVr, S6, directive_step, BuilderState, after_queue, data_size}
-use Rattle.tc_link.proofs.Common.{is_at_rest, room_left, Event, is_kept, limits_of, spacecraft_report, frame_outcome}
-use Rattle.tc_link.proofs.Common.{body_outcome, sequence_outcome, bypass_outcome, is_free, is_own_frame, with_fop}
+use Rattle.tc_link.proofs.Common.{SpacecraftState, IsBuilderOf, IsConfig, World, S5, None, ℕ, false, ◌∷◌, refl, ◌∙◌}
+use Rattle.tc_link.proofs.Common.{arith, ◌+◌, ◌%◌, Clcw, Sent, FarmEvent, AdArrives, BdArrives, BufferReleased}
+use Rattle.tc_link.proofs.Common.{farm_step, goes_on, FopOutcome, pull_step, clcw_step, report_while_active}
+use Rattle.tc_link.proofs.Common.{retransmits, after_new_value, IsActive, tick_step, after_count, due_again}
+use Rattle.tc_link.proofs.Common.{after_alert, after_stop, refill_step, ticked, pulled_out, heard_active, Bool, List}
+use Rattle.tc_link.proofs.Common.{◌++◌, take, drop, map, Option, option_to_list, ap, sym, subst, append_assoc}
+use Rattle.tc_link.proofs.Common.{length-append, inr, ◌==◌, and_parts, not-false, take-append-le, drop-append-le}
+use Rattle.tc_link.proofs.Common.{append-nil, segment_octets, segments_of, Directive, PacketOn, packet_on, segments_on}
+use Rattle.tc_link.proofs.Common.{submit_fault, after_submission, bypass_fault, after_bypass, segments_fit, submitting}
+use Rattle.tc_link.proofs.Common.{◌-◌, Result, Ok, Err, cond_both, eqb-false, CopFault, Alert, InitWithoutCheck}
+use Rattle.tc_link.proofs.Common.{InitWithCheck, InitUnlock, InitSetVr, S6, directive_step, BuilderState, after_queue}
+use Rattle.tc_link.proofs.Common.{data_size, is_at_rest, room_left, Event, spacecraft_report, is_free, with_fop}
 use Rattle.tc_link.proofs.Common.{directive_outcome, new_world, world_step, is_initiation, session_after_directive}
 use Rattle.tc_link.proofs.Common.{IsDirective, IsEvent, obeyed, begun, SetVs, obeying}
 use Rattle.tc_frame.specs.declared.frame.SegmentFlags.TheVariants.{Alone}
-use Rattle.tc_frame.specs.Layout.{FrameView}
-use Rattle.tc_frame.specs.Decoding.{frame_at}
 use Rattle.map_service.specs.Packets.{packets_in, are_taken, is_some_over}
 use Rattle.map_service.specs.Cutting.{segment_with}
 use Rattle.tm_link.specs.Builder.{after_send, idle_after, with_next_count}
-use Rattle.cop1.specs.Farm.{UnlockArrives, SetVrArrives, InvalidArrives}
 use Rattle.cop1.proofs.FarmFlags.{FlagsAgree-step}
-use Rattle.nodes.specs.Spacecraft.{command_event, spacecraft_receive}
+use Rattle.nodes.specs.Spacecraft.{after_farm, spacecraft_receive}
+use Rattle.nodes.proofs.Arrivals.{AtEachArrival, octets_come}
+use Rattle.simulated_link.proofs.Gained.{accepts_segment}
 use Rattle.nodes.specs.declared.event.Event.TheVariants as events
 use Rattle.nodes.specs.Ground.{can_resume}
-use Rattle.nodes.proofs.Submissions.{submit_map, bypass_fits}
+use Rattle.nodes.proofs.Submissions.{passed, submit_map, bypass_fits}
 use Rattle.simulated_link.specs.World.{directed, resumed}
 use Rattle.simulated_link.proofs.Counted.{reported}
 use Rattle.simulated_link.proofs.Unchanged.{board_after, ground_after, stepped}
@@ -173,33 +169,9 @@ refilled_so c s is k = refilled_keeps (GroundNodeSteady c) s (λ waiting pending
 
 -- ---- the receiver
 
-verdict_so : (s : FarmState) (v : Verdict)
-    → ((after_verdict s v).width ≡ s.width) × ((after_verdict s v).farm_b ≡ s.farm_b)
-verdict_so s Accepted = (refl, refl)
-verdict_so s _ = (refl, refl)
-
-unlock_so : (s : FarmState) (m : FarmMode) → ((after_unlock s m).width ≡ s.width) × ((after_unlock s m).farm_b < 4)
-unlock_so s Open = (refl, omega arith)
-unlock_so s _ = (refl, omega arith)
-
-set_so : (s : FarmState) (x : ℕ) (m : FarmMode)
-    → ((after_set_vr s x m).width ≡ s.width) × ((after_set_vr s x m).farm_b < 4)
-set_so s x Open = (refl, omega arith)
-set_so s x _ = (refl, omega arith)
-
-release_so : (s : FarmState) (m : FarmMode)
-    → ((after_release s m).width ≡ s.width) × ((after_release s m).farm_b ≡ s.farm_b)
-release_so s Open = (refl, refl)
-release_so s _ = (refl, refl)
-
 farm_fields : (s : FarmState) (e : FarmEvent) → s.farm_b < 4
     → ((farm_step s e).width ≡ s.width) × ((farm_step s e).farm_b < 4)
-farm_fields s (AdArrives n free) lt = let t = verdict_so s (verdict_of s n free) in (t.0, omega (arith, t.1, lt))
-farm_fields s BdArrives lt = (refl, omega arith)
-farm_fields s UnlockArrives lt = unlock_so s s.state
-farm_fields s (SetVrArrives x) lt = set_so s x s.state
-farm_fields s InvalidArrives lt = (refl, lt)
-farm_fields s BufferReleased lt = let t = release_so s s.state in (t.0, omega (arith, t.1, lt))
+farm_fields s e lt = grind arith
 
 pub farm_so : (c : Config) (s : FarmState) (e : FarmEvent) → FarmSteady c s → FarmSteady c (farm_step s e)
 farm_so c s e k =
@@ -207,11 +179,6 @@ farm_so c s e k =
     { width = t.0 ∙ k.width; farm_b = t.1; flags = FlagsAgree-step s e k.flags }
 
 -- Packets that are submitted keep what holds in a session.
-
-passed : (b : Bool) (fault : LinkFault) (rest : Option LinkFault) → cond b (Some fault) rest ≡ None
-    → (b ≡ false) × (rest ≡ None)
-passed true fault rest h = absurd cc
-passed false fault rest h = (refl, h)
 
 -- what is known of a submission that is not refused
 pub record Taken (c : Config) (s : GroundState) (m : ℕ) (octets : List ℕ) : Type 0 where
@@ -237,23 +204,19 @@ pub taken_is : (c : Config) (s : GroundState) (m : ℕ) (octets : List ℕ) → 
     → Taken c s m octets
 taken_is c s m octets is h = subst (λ x. Taken x s m octets) is (taken_from s m octets h)
 
-pub all_push : {X : Type 0} (P : X → Type 0) (xs : List X) (x : X) → AllByRecursion P xs → P x
-    → AllByRecursion P (xs ++ x ∷ [])
-all_push P [] x all is = (is, tt)
-all_push P (y ∷ ys) x all is = (all.0, all_push P ys x all.1 is)
-
 pub all_append : {X : Type 0} (P : X → Type 0) (xs ys : List X) → AllByRecursion P xs → AllByRecursion P ys
     → AllByRecursion P (xs ++ ys)
 all_append P [] ys all rest = rest
 all_append P (x ∷ xs) ys all rest = (all.0, all_append P xs ys all.1 rest)
 
+pub all_push : {X : Type 0} (P : X → Type 0) (xs : List X) (x : X) → AllByRecursion P xs → P x
+    → AllByRecursion P (xs ++ x ∷ [])
+all_push P xs x all is = all_append P xs (x ∷ []) all (is, tt)
+
 pub units-push : (c : Config) (ps : List PacketOn) (p : PacketOn)
     → units_of_all c (ps ++ p ∷ []) ≡ units_of_all c ps ++ segments_of c.part p.on_map p.octets
 units-push c [] p = append-nil (segments_of c.part p.on_map p.octets)
-units-push c (x ∷ xs) p =
-    ap (λ l. segments_of c.part x.on_map x.octets ++ l) (units-push c xs p)
-    ∙ sym (append_assoc (segments_of c.part x.on_map x.octets) (units_of_all c xs)
-    (segments_of c.part p.on_map p.octets))
+units-push c (x ∷ xs) p = rw (units-push c xs p, append_assoc) refl
 
 module _ (early : Bool) (c : Config) (d : Directive) (base : ℕ) (w : World) (k : Sound c w) (g : In early c d base w)
     (m : ℕ) (octets : List ℕ) where
@@ -316,10 +279,6 @@ module _ (early : Bool) (c : Config) (d : Directive) (base : ℕ) (w : World) (k
 
 -- ---- the spacecraft
 
-pub record Grows (c : Config) (s t : SpacecraftState) : Type 0 where
-  pub steady : SpacecraftSteady c t
-  pub accepted : length s.accepted ≤ length t.accepted
-
 module _ (c : Config) (s : SpacecraftState) (k : SpacecraftSteady c s) where
   -- the receiver steps, and the spacecraft is as it was but for what no field speaks of
   steps_so : (e : FarmEvent) (t : SpacecraftState) → t.config ≡ s.config → t.farm ≡ farm_step s.farm e
@@ -332,38 +291,13 @@ module _ (c : Config) (s : SpacecraftState) (k : SpacecraftSteady c s) where
         idle_left = rw builder k.idle_left;
       }
 
-  pub sequence_so : (n : ℕ) (u : SegmentView) (v : Verdict) → Grows c s (sequence_outcome s n u v).after
-  sequence_so n u Accepted =
-      record {
-        steady = steps_so (AdArrives n (is_free s)) (sequence_outcome s n u Accepted).after refl refl refl;
-        accepted = omega (arith, length-append s.accepted (u ∷ []));
-      }
-  sequence_so n u v =
-      record {
-        steady = steps_so (AdArrives n (is_free s)) (sequence_outcome s n u v).after refl refl refl;
-        accepted = omega arith;
-      }
-
-  pub bypass_so : (u : SegmentView) (kept : Bool) → Grows c s (bypass_outcome s u kept).after
-  bypass_so u true =
-      record { steady = steps_so BdArrives (bypass_outcome s u true).after refl refl refl; accepted = omega arith }
-  bypass_so u false =
-      record { steady = steps_so BdArrives (bypass_outcome s u false).after refl refl refl; accepted = omega arith }
-
-  pub body_so : (f : BodyView) → Grows c s (body_outcome s f).after
-  body_so (Ad n u) = sequence_so n u (verdict_of s.farm n (is_free s))
-  body_so (Bd u) = bypass_so u (is_kept (limits_of s.config) u)
-  body_so (Bc command) =
-      record {
-        steady = steps_so (command_event command) (body_outcome s (Bc command)).after refl refl refl;
-        accepted = omega arith;
-      }
-
-  arrived_so : (r : Result FrameView TcFault) → Grows c s (frame_outcome s r).after
-  arrived_so (Err fault) = record { steady = k; accepted = omega arith }
-  arrived_so (Ok frame) =
-      cond_both (is_own_frame s.config frame) (body_outcome s frame.body) _ (λ o. Grows c s o.after)
-      (λ t. body_so frame.body) (λ t. record { steady = k; accepted = omega arith })
+  pub arrives_so : AtEachArrival s (λ o t. SpacecraftSteady c t)
+  arrives_so = record {
+    same = k;
+    steps = λ e. steps_so e (after_farm s e) refl refl refl;
+    keeps = λ packet. steps_so BdArrives _ refl refl refl;
+    accepts = λ n u. steps_so (AdArrives n (is_free s)) _ refl refl refl;
+  }
 
   -- the telemetry is another
   builder_so : (b : BuilderState) → b.scid ≡ s.builder.scid → b.vcid ≡ s.builder.vcid → b.total ≡ s.builder.total
@@ -471,24 +405,18 @@ module _ (c : Config) (w : World) (k : Sound c w) (e : Event) (fits : IsEvent e)
     hears = λ told x packets r. refilled_so c _ k.ground_node.config (report_so c s.fop k.ground_node.fop r);
   })
 
-  abbrev Board : SpacecraftState → Type 0
-  Board t = Grows c w.spacecraft t
-
-  board_so : Grows c w.spacecraft (world_step w e).after.spacecraft
+  board_so : SpacecraftSteady c (world_step w e).after.spacecraft
   board_so =
       let t = w.spacecraft in
       let so = k.spacecraft in
-      let stays : (t : SpacecraftState) → SpacecraftSteady c t → t.accepted ≡ w.spacecraft.accepted → Board t =
-      λ t steady same. record { steady = steady; accepted = rw same (omega arith) } in
-      board_after w Board e (record {
-        same = stays t so refl;
-        receives = λ is b bs first. arrived_so c t so (frame_at On b);
-        reports = λ is. stays _ (reported_so c t so) refl;
-        takes = λ is left kept. stays _ (assumption so) refl;
-        releases = λ is left free. stays _ (steps_so c t so BufferReleased _ refl refl refl) refl;
-        passes = λ is left. stays _ (assumption so) refl;
-        queues = λ octets is. stays _ (builder_so c t so (after_queue t.builder octets.now) refl refl refl
-            so.idle_left) refl;
+      board_after w (SpacecraftSteady c) e (record {
+        same = so;
+        receives = λ is b bs first. octets_come t (λ o t. SpacecraftSteady c t) (arrives_so c t so) b;
+        reports = λ is. reported_so c t so;
+        takes = λ is left kept. assumption so;
+        releases = λ is left free. steps_so c t so BufferReleased _ refl refl refl;
+        passes = λ is left. assumption so;
+        queues = λ octets is. builder_so c t so (after_queue t.builder octets.now) refl refl refl so.idle_left;
       })
 
   abbrev Before : World → Type 0
@@ -498,7 +426,8 @@ module _ (c : Config) (w : World) (k : Sound c w) (e : Event) (fits : IsEvent e)
   before_so =
       let receives : e ≡ events.UpDeliver → (b : List ℕ) (bs : List (List ℕ)) → w.up ≡ b ∷ bs
       → w.session.before ≤ length (spacecraft_receive w.spacecraft b).after.accepted =
-      λ is b bs first. omega (arith, k.before, (arrived_so c w.spacecraft k.spacecraft (frame_at On b)).accepted) in
+      λ is b bs first. let more = accepts_segment w.spacecraft b in
+      omega (arith, k.before, ap length more, length-append {A = SegmentView}) in
       let directs : (d : Directive) → e ≡ events.Directive d → Before (directed w d) =
       λ d is. session_so w d (directive_step s.fop d).answer k.before in
       let restarts : (value : ℕ) → e ≡ events.Resume value → can_resume s value ≡ true → Before (resumed w value) =
@@ -509,7 +438,7 @@ pub step_sound : (c : Config) (w : World) → Sound c w → (e : Event) → IsEv
 step_sound c w k e fits = record {
   ranges = k.ranges;
   ground_node = ground_so c w k e fits;
-  spacecraft = (board_so c w k e fits).steady;
+  spacecraft = board_so c w k e fits;
   before = before_so c w k e fits;
 }
 

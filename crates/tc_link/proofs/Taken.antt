@@ -1,40 +1,36 @@
 -- What is taken on board since a session began is what it has delivered.
-use Rattle.tc_link.proofs.Common.{◌≡◌, ◌≤◌, ℕ, Bool, true, false, if◌then◌else◌, List, [], ◌∷◌, ◌++◌, Option, Some}
-use Rattle.tc_link.proofs.Common.{None, Result, Ok, Err, take, drop, refl, ap, sym, subst, ◌∙◌, append-nil, ◌≢◌}
-use Rattle.tc_link.proofs.Common.{append_assoc, map-append, take-append-drop, option_to_list, AllByRecursion}
-use Rattle.tc_link.proofs.Common.{SegmentView, BodyView, Ad, Bd, Bc, On, Limits, assembled, assembled-push, segments_of}
-use Rattle.tc_link.proofs.Common.{TcFault, Verdict, Accepted, verdict_of, Config, PacketOn, packet_on, limits_of}
-use Rattle.tc_link.proofs.Common.{SpacecraftState, frame_outcome, body_outcome, sequence_outcome, bypass_outcome}
-use Rattle.tc_link.proofs.Common.{is_free, is_own_frame, is_kept, segment_to_accept, spacecraft_step, length, map}
+use Rattle.tc_link.proofs.Common.{◌≡◌, ◌≤◌, ℕ, Bool, List, [], ◌∷◌, ◌++◌, Option, take, drop, refl, ap, sym, subst, ◌∙◌}
+use Rattle.tc_link.proofs.Common.{append-nil, ◌≢◌, append_assoc, map-append, take-append-drop, option_to_list}
+use Rattle.tc_link.proofs.Common.{AllByRecursion, SegmentView, Limits, assembled, assembled-push, segments_of, Config}
+use Rattle.tc_link.proofs.Common.{PacketOn, limits_of, SpacecraftState, segment_to_accept, spacecraft_step, length, map}
 use Rattle.tc_link.proofs.Common.{filter, eqb, option_map, filter-append, assembled-other, spacecraft_take, Event}
 use Rattle.tc_link.proofs.Common.{Opening, KeepsSession, World, WorldOutcome, IsIdle, delivered, world_step, world_run}
-use Rattle.tc_link.proofs.Common.{run_answers, world_after_take, inl, inr, S1, take_all, Directive, PlainLink}
+use Rattle.tc_link.proofs.Common.{run_answers, world_after_take, S1, take_all, Directive, PlainLink}
 use Rattle.std.specs.List.{flat_map}
 use Rattle.std.proofs.lemmas.List.{append_cancel_left}
 use Rattle.std.proofs.Math.Seq.{take-append_seam, drop-append_seam}
 use Rattle.octets.specs.Beginning.{IsBeginning}
-use Rattle.tc_frame.specs.Layout.{FrameView}
-use Rattle.tc_frame.specs.Decoding.{frame_at}
 use Rattle.map_service.specs.Assembly.{open_part}
 use Rattle.map_service.specs.Cutting.{IsPart}
 use Rattle.map_service.specs.Packets.{packets_in}
 use Rattle.map_service.specs.AssemblerTable.{take_step}
 use Rattle.map_service.proofs.Parts.{segments-parts}
 use Rattle.map_service.proofs.Passage.{given-passed}
-use Rattle.nodes.specs.Arrival.{segment_in_body, segment_in_frame}
 use Rattle.nodes.specs.Packets.{put_on_map}
-use Rattle.nodes.specs.Spacecraft.{Receive, is_accepted}
+use Rattle.nodes.specs.Spacecraft.{Receive}
 use Rattle.nodes.specs.Delivery.{packets_of_map, delivered_on}
 use Rattle.nodes.specs.Ground.{outstanding}
 use Rattle.nodes.specs.declared.event.Event.TheVariants as events
+use Rattle.nodes.proofs.Arrivals.{octets_come}
 use Rattle.nodes.proofs.Delivery.{delivers}
 use Rattle.simulated_link.specs.World.{Session}
-use Rattle.simulated_link.proofs.Gained.{foreign, accepts_segment, config_stays}
+use Rattle.simulated_link.proofs.Gained.{accepts_segment, config_stays}
 use Rattle.simulated_link.proofs.Unchanged.{board_after}
 use Rattle.tc_link.specs.Taken.{BeginsSession, handed_out, taken, taken_since, ready_on, HandsOutWhatIsDelivered}
 use Rattle.tc_link.specs.Taken.{HandsOutWhatIsSubmitted, HandsOutAsSubmitted, all_submitted}
 use Rattle.tc_link.proofs.Linked.{IsGiven, units_of_all, In}
 use Rattle.tc_link.proofs.Sound.{Sound}
+use Rattle.tc_link.proofs.IdleStart.{in_session}
 use Rattle.tc_link.proofs.InOrder.{is_in_order, all_accepted}
 use Rattle.tc_link.proofs.Promised.{past_holds}
 use Rattle.tc_link.proofs.Invariant.{opened, session_stays, begun_is, step_holds, run_holds, began_at}
@@ -52,48 +48,19 @@ pub made-append : (limits : Limits) (before xs ys : List SegmentView)
     → made limits before (xs ++ ys) ≡ made limits before xs ++ made limits (before ++ xs) ys
 made-append limits before [] ys = ap (λ b. made limits b ys) (sym (append-nil before))
 made-append limits before (s ∷ xs) ys =
-    let first = put_on_map s.header.map (take_step limits (open_part limits s.header.map before) s).packets in
-    ap (λ ps. first ++ ps) (made-append limits (before ++ s ∷ []) xs ys
-    ∙ ap (λ b. made limits (before ++ s ∷ []) xs ++ made limits b ys) (append_assoc before (s ∷ []) xs))
-    ∙ sym (append_assoc first (made limits (before ++ s ∷ []) xs) (made limits (before ++ s ∷ xs) ys))
+    rw (made-append limits (before ++ s ∷ []) xs ys, append_assoc before (s ∷ []) xs, append_assoc)
 
 -- ---- octets that arrive
 
-module _ (s : SpacecraftState) where
-  abbrev makes : Option SegmentView → List PacketOn
-  makes o = made (limits_of s.config) s.accepted (option_to_list o)
-
-  same : s.ready ≡ s.ready ++ []
-  same = sym (append-nil s.ready)
-
-  in_sequence : (n : ℕ) (segment : SegmentView) (verdict : Verdict)
-      → (sequence_outcome s n segment verdict).after.ready ≡ s.ready
-      ++ makes (if is_accepted verdict then Some segment else None)
-  in_sequence n segment Accepted = ap (λ ps. s.ready ++ ps) (sym (append-nil _))
-  in_sequence n segment _ = same
-
-  in_bypass : (segment : SegmentView) (kept : Bool) → (bypass_outcome s segment kept).after.ready ≡ s.ready ++ []
-  in_bypass segment true = same
-  in_bypass segment false = same
-
-  in_own : (body : BodyView) → (body_outcome s body).after.ready ≡ s.ready ++ makes (segment_in_body s body)
-  in_own (Ad n segment) = in_sequence n segment (verdict_of s.farm n (is_free s))
-  in_own (Bd segment) = in_bypass segment (is_kept (limits_of s.config) segment)
-  in_own (Bc command) = same
-
-  in_any : (frame : FrameView) (own : Bool)
-      → (if own then body_outcome s frame.body else foreign s).after.ready ≡ s.ready
-      ++ makes (if own then segment_in_body s frame.body else None)
-  in_any frame true = in_own frame.body
-  in_any frame false = same
-
-  in_read : (r : Result FrameView TcFault) → (frame_outcome s r).after.ready ≡ s.ready ++ makes (segment_in_frame s r)
-  in_read (Err fault) = same
-  in_read (Ok frame) = in_any frame (is_own_frame s.config frame)
-
-  pub receives_made : (octets : List ℕ)
-      → (spacecraft_step s (Receive octets)).after.ready ≡ s.ready ++ makes (segment_to_accept s octets)
-  receives_made octets = in_read (frame_at On octets)
+receives_made : (s : SpacecraftState) (octets : List ℕ) → (spacecraft_step s (Receive octets)).after.ready ≡ s.ready
+    ++ made (limits_of s.config) s.accepted (option_to_list (segment_to_accept s octets))
+receives_made s = octets_come s (λ o t. t.ready ≡ s.ready ++ made (limits_of s.config) s.accepted (option_to_list o))
+    (record {
+      same = sym (append-nil s.ready);
+      steps = λ e. sym (append-nil s.ready);
+      keeps = λ packet. sym (append-nil s.ready);
+      accepts = λ n u. ap (λ ps. s.ready ++ ps) (sym (append-nil _));
+    })
 
 -- ---- what was submitted
 
@@ -119,13 +86,8 @@ made_on limits part m before (s ∷ more) h =
     (assembled-push limits before s _ refl) in
     record {
       packets = first ++ rest.packets;
-      made_is = ap (λ ps. put_on_map s.header.map first ++ ps) rest.made_is
-          ∙ ap (λ k. put_on_map k first ++ put_on_map m rest.packets) own
-          ∙ sym (map-append (packet_on m) first rest.packets);
-      assembled_is = ap (assembled limits m) (sym (append_assoc before (s ∷ []) more))
-          ∙ rest.assembled_is
-          ∙ ap (λ ps. ps ++ rest.packets) pushed
-          ∙ append_assoc (assembled limits m before) first rest.packets;
+      made_is = rw (rest.made_is, own, map-append);
+      assembled_is = rw (← append_assoc before (s ∷ []) more, rest.assembled_is, pushed, append_assoc);
     }
 
 module _ (c : Config) (one : 1 ≤ c.part) where
@@ -148,17 +110,8 @@ module _ (c : Config) (one : 1 ≤ c.part) where
   all_made before [] h = refl
   all_made before (p ∷ ps) h =
       let cut = segments_of c.part p.on_map p.octets in
-      made-append (limits_of c) before cut (units_of_all c ps)
-      ∙ ap (λ xs. xs ++ made (limits_of c) (before ++ cut) (units_of_all c ps)) (one_made before p h.0)
-      ∙ ap (λ xs. packets_of p ++ xs) (all_made (before ++ cut) ps h.1)
-
-  -- and of the first segments the first of them
-  pub first_made : (before units : List SegmentView) (r : ℕ)
-      → made (limits_of c) before units
-      ≡ made (limits_of c) before (take r units) ++ made (limits_of c) (before ++ take r units) (drop r units)
-  first_made before units r =
-      ap (made (limits_of c) before) (sym (take-append-drop r units))
-      ∙ made-append (limits_of c) before (take r units) (drop r units)
+      rw (made-append (limits_of c) before cut (units_of_all c ps), one_made before p h.0)
+      (ap (λ xs. packets_of p ++ xs) (all_made (before ++ cut) ps h.1))
 
 -- What is taken on board since a session began is what it has delivered.
 
@@ -195,23 +148,13 @@ passes_both : (s t u : SpacecraftState) (xs ys : List PacketOn) → Passes s xs 
 passes_both s t u xs ys first next = record {
   config = next.config ∙ first.config;
   segments = first.segments ++ next.segments;
-  accepted = next.accepted ∙ ap (λ a. a ++ next.segments) first.accepted
-      ∙ append_assoc s.accepted first.segments next.segments;
+  accepted = rw (next.accepted, first.accepted) (append_assoc s.accepted first.segments next.segments);
   more = first.more ++ next.more;
-  made_is = ap (λ r. r ++ next.more) first.made_is
-      ∙ ap (λ r. made (limits_of s.config) s.accepted first.segments ++ r) (next.made_is
-      ∙ ap (λ (c : Config). made (limits_of c) t.accepted next.segments) first.config
-      ∙ ap (λ a. made (limits_of s.config) a next.segments) first.accepted)
-      ∙ sym (made-append (limits_of s.config) s.accepted first.segments next.segments);
-  ready = append_assoc xs ys u.ready
-      ∙ ap (λ r. xs ++ r) next.ready
-      ∙ sym (append_assoc xs t.ready next.more)
-      ∙ ap (λ r. r ++ next.more) first.ready
-      ∙ append_assoc s.ready first.more next.more;
-  delivered = λ m. next.delivered m
-      ∙ ap (λ d. d ++ packets_of_map m next.more) (first.delivered m)
-      ∙ append_assoc (delivered_on m s) (packets_of_map m first.more) (packets_of_map m next.more)
-      ∙ ap (λ d. delivered_on m s ++ d) (sym (of_both m first.more next.more));
+  made_is = rw (first.made_is, next.made_is, first.config, first.accepted)
+      (sym (made-append (limits_of s.config) s.accepted first.segments next.segments));
+  ready = rw (append_assoc, next.ready, ← append_assoc xs t.ready next.more, first.ready)
+      (append_assoc s.ready first.more next.more);
+  delivered = λ m. rw (next.delivered m, first.delivered m, of_both m first.more next.more, append_assoc);
 }
 
 -- ---- each event
@@ -278,24 +221,16 @@ module _ (old new : World) (out : List PacketOn) (m : ℕ) (s : Since old out ne
   -- what the session delivered was made ready since
   delivered_is : delivered new m ≡ packets_of_map m s.passes.more
   delivered_is =
-      let was : List (List ℕ) = delivered_on m old.spacecraft in
-      ap (λ (c : Config). drop (length (assembled (limits_of c) m (take new.session.before new.spacecraft.accepted)))
-      (delivered_on m new.spacecraft)) s.passes.config
-      ∙ ap (λ (n : ℕ). drop (length (assembled (limits_of old.spacecraft.config) m (take n new.spacecraft.accepted)))
-      (delivered_on m new.spacecraft)) (ap (λ (o : Option Opening × ℕ). o.1) s.same ∙ begins)
-      ∙ ap (λ (xs : List SegmentView). drop (length (assembled (limits_of old.spacecraft.config) m
-      (take (length old.spacecraft.accepted) xs))) (delivered_on m new.spacecraft)) s.passes.accepted
-      ∙ ap (λ (xs : List SegmentView). drop (length (assembled (limits_of old.spacecraft.config) m xs))
-      (delivered_on m new.spacecraft)) (take-append_seam old.spacecraft.accepted s.passes.segments)
-      ∙ ap (drop (length was)) (s.passes.delivered m)
-      ∙ drop-append_seam was (packets_of_map m s.passes.more)
+      let before : new.session.before ≡ length old.spacecraft.accepted =
+      ap (λ (o : Option Opening × ℕ). o.1) s.same ∙ begins in
+      let seam = take-append_seam old.spacecraft.accepted s.passes.segments in
+      rw (s.passes.delivered m, s.passes.config, before, s.passes.accepted, seam)
+      (drop-append_seam (delivered_on m old.spacecraft) (packets_of_map m s.passes.more))
 
   hands_out : packets_of_map m out ++ ready_on new m ≡ ready_on old m ++ delivered new m
   hands_out =
-      sym (of_both m out new.spacecraft.ready)
-      ∙ ap (packets_of_map m) s.passes.ready
-      ∙ of_both m old.spacecraft.ready s.passes.more
-      ∙ ap (λ d. ready_on old m ++ d) (sym delivered_is)
+      sym (of_both m out new.spacecraft.ready) ∙ ap (packets_of_map m) s.passes.ready
+      ∙ of_both m old.spacecraft.ready s.passes.more ∙ ap (λ d. ready_on old m ++ d) (sym delivered_is)
 
 begins_there : (w : World) (e : Event) → BeginsSession w e
     → (world_step w e).after.session.before ≡ length (world_step w e).after.spacecraft.accepted
@@ -343,13 +278,10 @@ module _ (old new : World) (out : List PacketOn) (s : Since old out new)
     abbrev was : List SegmentView
     was = old.spacecraft.accepted
 
-    old_config : old.spacecraft.config ≡ c
-    old_config = sym s.passes.config ∙ k.spacecraft.config
-
     more_is : s.passes.more ≡ made (limits_of c) was (take p.r p.units)
     more_is =
         s.passes.made_is
-        ∙ ap (λ (x : Config). made (limits_of x) was s.passes.segments) old_config
+        ∙ ap (λ (x : Config). made (limits_of x) was s.passes.segments) (sym s.passes.config ∙ k.spacecraft.config)
         ∙ ap (made (limits_of c) was) (since_is ∙ g.linked.accepted_is)
 
     units_made : made (limits_of c) was p.units ≡ all_submitted new
@@ -360,7 +292,8 @@ module _ (old new : World) (out : List PacketOn) (s : Since old out new)
     begins_all = (
       made (limits_of c) (was ++ take p.r p.units) (drop p.r p.units),
       sym units_made
-          ∙ first_made c k.ranges.part.0 was p.units p.r
+          ∙ ap (made (limits_of c) was) (sym (take-append-drop p.r p.units))
+          ∙ made-append (limits_of c) was (take p.r p.units) (drop p.r p.units)
           ∙ ap (λ ps. ps ++ made (limits_of c) (was ++ take p.r p.units) (drop p.r p.units)) (sym more_is),
     )
 
@@ -384,12 +317,6 @@ hands_out_as_submitted w e since r b keeps fits idle =
     record {
       passed = s.passes.more;
       order = s.passes.ready;
-      begins = elim t.session [
-        | inl g ↦ begins_all start new out s begins true r.config t.directive t.base k g
-        | inr g ↦ begins_all start new out s begins false r.config t.directive t.base k g
-      ];
-      complete = elim t.session [
-        | inl g ↦ all_passed start new out s begins true r.config t.directive t.base k g
-        | inr g ↦ all_passed start new out s begins false r.config t.directive t.base k g
-      ];
+      begins = in_session t (λ early g. begins_all start new out s begins early r.config t.directive t.base k g);
+      complete = in_session t (λ early g. all_passed start new out s begins early r.config t.directive t.base k g);
     }

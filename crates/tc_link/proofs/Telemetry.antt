@@ -3,16 +3,14 @@ use Rattle.tc_link.proofs.Common.{◌≡◌, ℕ, Bool, true, false, if◌then�
 use Rattle.tc_link.proofs.Common.{refl, sym, ap, subst, ◌∙◌, arith, append_assoc, AllByRecursion, append-nil, ◌≢◌}
 use Rattle.tc_link.proofs.Common.{all_extracted, state_after, ExtractorState, without_idle, extract_step, choice}
 use Rattle.tc_link.proofs.Common.{AreSomeOf, Option, Result, Ok, Err, ◌+◌, ◌==◌, cond_both, and_parts, eqb-true, Clcw}
-use Rattle.tc_link.proofs.Common.{ClcwFault, TcFault, SegmentView, BodyView, Ad, Bd, Bc, CopFault, Verdict, Accepted}
-use Rattle.tc_link.proofs.Common.{Alert, clcw_step, FopState, BuilderState, is_to_send, after_queue, idle_tail}
-use Rattle.tc_link.proofs.Common.{Extracted, held_by, IsLaidOutBy, is_kept, limits_of, SpacecraftState, frame_outcome}
-use Rattle.tc_link.proofs.Common.{body_outcome, sequence_outcome, bypass_outcome, is_own_frame, GroundState}
-use Rattle.tc_link.proofs.Common.{GroundOutcome, with_fop, refill_step, after_extraction, own_frame_outcome, Directive}
+use Rattle.tc_link.proofs.Common.{ClcwFault, SegmentView, CopFault, Alert, clcw_step, FopState, BuilderState}
+use Rattle.tc_link.proofs.Common.{is_to_send, after_queue, idle_tail, Extracted, held_by, IsLaidOutBy, SpacecraftState}
+use Rattle.tc_link.proofs.Common.{GroundState, GroundOutcome, with_fop, after_extraction, own_frame_outcome, Directive}
 use Rattle.tc_link.proofs.Common.{obeying, submitting, acknowledging, ◌<◌, ◌≤◌, map, length-append, eq-eqb, map-append}
-use Rattle.tc_link.proofs.Common.{On, directive_step, pull_step, tick_step, TmFault, data_size, Config}
-use Rattle.tc_link.proofs.Common.{telemetry_outcome, ground_telemetry, Heard, SpacecraftOutcome, report_octets}
-use Rattle.tc_link.proofs.Common.{IsConfig, Event, NotDetectable, Down, World, WorldOutcome, world_step, world_run}
-use Rattle.tc_link.proofs.Common.{new_world, down_deliver_step, down_lose_step, down_damage_step, down_damage_outcome}
+use Rattle.tc_link.proofs.Common.{directive_step, pull_step, tick_step, TmFault, data_size, Config, telemetry_outcome}
+use Rattle.tc_link.proofs.Common.{ground_telemetry, Heard, SpacecraftOutcome, report_octets, IsConfig, Event}
+use Rattle.tc_link.proofs.Common.{NotDetectable, Down, World, WorldOutcome, world_step, world_run, new_world}
+use Rattle.tc_link.proofs.Common.{down_deliver_step, down_lose_step, down_damage_step, down_damage_outcome}
 use Rattle.tc_link.proofs.Common.{world_refusal, world_reply, world_after_queueing, SetVs, InitUnlock}
 use Rattle.std.specs.List.{concat}
 use Rattle.std.proofs.lemmas.List.{drop_at}
@@ -21,14 +19,11 @@ use Rattle.octets.proofs.Streams.{split_of}
 use Rattle.space_packet.specs.Laws.{extent_has_header}
 use Rattle.space_packet.specs.Packets.{is_packet, packets_in, rest_in}
 use Rattle.space_packet.specs.Decoding.{extent_at}
-use Rattle.tc_frame.specs.Layout as command_layout
-use Rattle.tc_frame.specs.Decoding as command
 use Rattle.clcw.specs.Decoding.{clcw_at}
 use Rattle.tm_link.specs.Extractor.{is_idle, new_extractor}
 use Rattle.tm_link.specs.Layout.{FrameView}
 use Rattle.tm_link.specs.Stream.{are_received, complete_packets, carried_octets, IsLaidOut, IsClose, marks_of}
 use Rattle.tm_link.specs.Stream.{arrived_packets}
-use Rattle.tm_link.specs.Layout as telemetry
 use Rattle.tm_link.specs.Arrivals.{IsInRange}
 use Rattle.tm_link.specs.Builder.{build_step}
 use Rattle.tm_link.specs.Decoding.{frame_at}
@@ -37,14 +32,15 @@ use Rattle.tm_link.proofs.Laid.{packet_after, laid_again, new_laid}
 use Rattle.tm_link.proofs.Passed.{cut_more}
 use Rattle.tm_link.proofs.Choices.{all_handed_out, extraction_exact}
 use Rattle.tm_link.proofs.BuiltFrames.{build_laid}
+use Rattle.nodes.proofs.Arrivals.{octets_come}
+use Rattle.nodes.specs.Spacecraft.{spacecraft_receive}
 use Rattle.nodes.specs.Ground.{after_directive, report_outcome, ground_take_telemetry}
-use Rattle.nodes.specs.declared.heard.HeardClcw.{HeardClcw}
 use Rattle.nodes.specs.declared.heard.Heard.TheVariants as heard_cases
 use Rattle.nodes.specs.declared.event.Event.TheVariants as events
-use Rattle.simulated_link.specs.World.{directed, world_after_word, down_word_outcome, down_clcw_step}
+use Rattle.simulated_link.specs.World.{directed, down_word_outcome, down_clcw_step}
 use Rattle.simulated_link.proofs.Counted.{report_seen}
-use Rattle.simulated_link.proofs.Unchanged.{first_on, down_arrives, BringsReport}
-use Rattle.simulated_link.proofs.Unchanged.{TakesDown, board_after, down_after, ground_after}
+use Rattle.simulated_link.proofs.Unchanged.{first_on, down_arrives, BringsReport, TakesDown, board_after, down_after}
+use Rattle.simulated_link.proofs.Unchanged.{ground_after}
 use Rattle.tc_link.specs.Telemetry.{none, one, without, Downlink, DownlinkStep, Happens, TakeTelemetry, IsDownlinkStep}
 use Rattle.tc_link.specs.Telemetry.{new_downlink, after_event, after_taking, downlink_step, downlink_run, packets_down}
 use Rattle.tc_link.specs.Telemetry.{IsTelemetryInOrder, downlink_of}
@@ -64,28 +60,25 @@ choice_none (f ∷ frames) = refl
 pub choice_front : (gone going : List FrameView) (came : List Bool) → length came ≡ length gone
     → choice (gone ++ going) came ≡ choice gone came
 choice_front [] going [] e = choice_none going
-choice_front [] going (c ∷ came) e = absurd (omega arith)
-choice_front (f ∷ gone) going [] e = absurd (omega arith)
 choice_front (f ∷ gone) going (true ∷ came) e =
     ap (λ (fs : List FrameView). f ∷ fs) (choice_front gone going came (omega arith))
 choice_front (f ∷ gone) going (false ∷ came) e = choice_front gone going came (omega arith)
+choice_front _ going _ e = absurd (omega arith)
 
 pub choice_more : (gone : List FrameView) (f : FrameView) (came : List Bool) (b : Bool) → length came ≡ length gone
     → choice (gone ++ f ∷ []) (came ++ b ∷ []) ≡ choice gone came ++ choice (f ∷ []) (b ∷ [])
 choice_more [] f [] b e = refl
-choice_more [] f (c ∷ came) b e = absurd (omega arith)
-choice_more (g ∷ gone) f [] b e = absurd (omega arith)
 choice_more (g ∷ gone) f (true ∷ came) b e =
     ap (λ (fs : List FrameView). g ∷ fs) (choice_more gone f came b (omega arith))
 choice_more (g ∷ gone) f (false ∷ came) b e = choice_more gone f came b (omega arith)
+choice_more _ f _ b e = absurd (omega arith)
 
 pub choice_whole : (frames : List FrameView) (came : List Bool) → length came ≡ length frames
     → AllByRecursion (λ (c : Bool). c ≡ true) came → choice frames came ≡ frames
-choice_whole [] [] e all = refl
-choice_whole [] (c ∷ came) e all = refl
 choice_whole (f ∷ frames) [] e all = absurd (omega arith)
 choice_whole (f ∷ frames) (c ∷ came) e all =
     rw all.0 (ap (λ (fs : List FrameView). f ∷ fs) (choice_whole frames came (omega arith) all.1))
+choice_whole _ _ e all = refl
 
 -- ---- one frame more
 
@@ -144,11 +137,9 @@ arrived_some all queued marks sent =
 
 lone_record : (octets : List ℕ) (ps : List (List ℕ)) (rest : List ℕ) → octets ≡ concat ps ++ rest
     → AllByRecursion (IsRecord 6 extent_at) ps → length ps ≡ 1 → length rest ≡ 0 → IsRecord 6 extent_at octets
-lone_record octets [] rest e each single over = absurd (omega arith)
-lone_record octets (p ∷ q ∷ ps) rest e each single over = absurd (omega arith)
-lone_record octets (p ∷ []) (x ∷ rest) e each single over = absurd (omega arith)
 lone_record octets (p ∷ []) [] e each single over =
     subst (IsRecord 6 extent_at) (sym (e ∙ append-nil (p ++ []) ∙ append-nil p)) each.0
+lone_record octets _ _ e each single over = absurd (omega arith)
 
 packet_record : (octets : List ℕ) → is_packet octets ≡ true → IsRecord 6 extent_at octets
 packet_record octets h =
@@ -157,7 +148,7 @@ packet_record octets h =
     lone_record octets (packets_in octets) (rest_in octets) split.whole split.each (eqb-true _ _ both.0)
     (eqb-true _ _ both.1)
 
-pub queued_laid : (s : BuilderState) (octets : List ℕ) (packets : List (List ℕ)) (frames : List telemetry.FrameView)
+pub queued_laid : (s : BuilderState) (octets : List ℕ) (packets : List (List ℕ)) (frames : List FrameView)
     → is_to_send octets ≡ true → IsLaidOutBy s packets frames
     → IsLaidOutBy (after_queue s octets) (packets ++ octets ∷ []) frames
 queued_laid s octets packets frames sends h =
@@ -173,28 +164,9 @@ queued_laid s octets packets frames sends h =
 
 -- ---- the builder stays
 
-module _ (s : SpacecraftState) where
-  abbrev pub Builds : SpacecraftState → Type 0
-  Builds t = t.builder ≡ s.builder
-
-  sequence_builds : (n : ℕ) (u : SegmentView) (v : Verdict) → Builds (sequence_outcome s n u v).after
-  sequence_builds n u Accepted = refl
-  sequence_builds n u _ = refl
-
-  bypass_builds : (u : SegmentView) (kept : Bool) → Builds (bypass_outcome s u kept).after
-  bypass_builds u true = refl
-  bypass_builds u false = refl
-
-  body_builds : (f : BodyView) → Builds (body_outcome s f).after
-  body_builds (Ad n u) = sequence_builds n u _
-  body_builds (Bd u) = bypass_builds u (is_kept (limits_of s.config) u)
-  body_builds (Bc command) = refl
-
-  pub arrived_builds : (r : Result command_layout.FrameView TcFault) → Builds (frame_outcome s r).after
-  arrived_builds (Err fault) = refl
-  arrived_builds (Ok frame) =
-      cond_both (is_own_frame s.config frame) (body_outcome s frame.body) _ (λ o. Builds o.after)
-      (λ t. body_builds frame.body) (λ t. refl)
+pub arrived_builds : (s : SpacecraftState) (octets : List ℕ)
+    → (spacecraft_receive s octets).after.builder ≡ s.builder
+arrived_builds s = octets_come s (λ o t. t.builder ≡ s.builder) assumption
 
 -- ---- the extractor and the packets stay
 
@@ -202,32 +174,15 @@ module _ (s : GroundState) where
   abbrev pub Extracts : GroundState → Type 0
   Extracts t = (t.extractor ≡ s.extractor) × (t.telemetry ≡ s.telemetry)
 
-  refilled_extracts : Extracts (refill_step s)
-  refilled_extracts = refilled_keeps Extracts s (λ waiting pending on off. (refl, refl))
-
 pub with_extracts : (s : GroundState) (f : FopState SegmentView) → Extracts s (with_fop s f)
-with_extracts s f = refilled_extracts (record s { fop = f })
+with_extracts s f = refilled_keeps (Extracts s) (record s { fop = f }) (λ waiting pending on off. (refl, refl))
 
 pub directed_extracts : (s : GroundState) (d : Directive) (r : Result (Option Alert) CopFault)
     (fop : FopState SegmentView) → Extracts s (after_directive s d r fop)
 directed_extracts s d (Ok alert) fop = with_extracts (obeying s d) fop
 directed_extracts s d (Err fault) fop = (refl, refl)
 
--- ---- a frame is heard
-
-abbrev pub IsExtracted : GroundState → Extracted → GroundState → Type 0
-IsExtracted s x t = (t.extractor ≡ x.after) × (t.telemetry ≡ s.telemetry ++ x.packets)
-
-pub word_extracts : (s : GroundState) (x : Extracted) (r : Result Clcw ClcwFault)
-    → IsExtracted s x (own_frame_outcome s x r).after
-word_extracts s x (Err fault) = (refl, refl)
-word_extracts s x (Ok report) =
-    cond_both (report.vcid == s.config.vcid) _ _ (λ (o : GroundOutcome HeardClcw). IsExtracted s x o.after)
-    (λ t.
-    let f : FopState SegmentView = (clcw_step s.fop report).after in
-    with_extracts (acknowledging (after_extraction s x) f) f) (λ t. (refl, refl))
-
--- ---- a control word by itself
+-- ---- a report is heard, beside a frame or by itself
 
 pub report_extracts : (s : GroundState) (r : Result Clcw ClcwFault) → Extracts s (report_outcome s r).after
 report_extracts s = report_seen s (Extracts s) (refl, refl) (λ report.
@@ -303,26 +258,22 @@ first_of c d gone (f ∷ after) b bs each parts e =
       sent = each_at c gone after f (subst (AllByRecursion (IsSentBy c)) parts each);
     }
 
--- the lists are the same
-laid_at : (c : Config) (world : World) (taken : List (List ℕ)) {queued more : List (List ℕ)}
-    {sent frames : List FrameView} {came marks : List Bool} → more ≡ queued → frames ≡ sent → marks ≡ came
-    → Laid c (record { world = world; queued = queued; sent = sent; came = came; taken = taken })
-    → Laid c (record { world = world; queued = more; sent = frames; came = marks; taken = taken })
-laid_at c world taken first second third g = rw (first, second, third) g
-
 module _ (c : Config) (d : Downlink) (g : Laid c d) where
+  -- in another world, where these were queued, sent and marked besides
+  abbrev Grown : World → List (List ℕ) → List FrameView → List Bool → Type 0
+  Grown new queued sent came = Laid c (record {
+    world = new;
+    queued = d.queued ++ queued;
+    sent = d.sent ++ sent;
+    came = d.came ++ came;
+    taken = d.taken;
+  })
+
   -- nothing of telemetry changes
   stays : (new : World) → Sound c new → new.spacecraft.builder ≡ d.world.spacecraft.builder → new.down ≡ d.world.down
-      → Extracts d.world.ground_node new.ground_node
-      → Laid c (record {
-        world = new;
-        queued = d.queued ++ [];
-        sent = d.sent ++ [];
-        came = d.came ++ [];
-        taken = d.taken;
-      })
+      → Extracts d.world.ground_node new.ground_node → Grown new [] [] []
   stays new sound builder down ground =
-      laid_at c new d.taken (append-nil d.queued) (append-nil d.sent) (append-nil d.came) (record {
+      rw (append-nil d.queued, append-nil d.sent, append-nil d.came) (record {
         sound = sound;
         laid = rw builder g.laid;
         count = rw builder g.count;
@@ -332,23 +283,15 @@ module _ (c : Config) (d : Downlink) (g : Laid c d) where
 
   -- ---- on board
 
-  queued : (octets : List ℕ) → is_to_send octets ≡ true
-      → Sound c (record d.world {
-        spacecraft = record d.world.spacecraft { builder = after_queue d.world.spacecraft.builder octets };
-      })
-      → Laid c (record {
-        world = record d.world {
-          spacecraft = record d.world.spacecraft { builder = after_queue d.world.spacecraft.builder octets };
-        };
-        queued = d.queued ++ octets ∷ [];
-        sent = d.sent ++ [];
-        came = d.came ++ [];
-        taken = d.taken;
-      })
+  abbrev queues : List ℕ → World
+  queues octets = record d.world {
+    spacecraft = record d.world.spacecraft { builder = after_queue d.world.spacecraft.builder octets };
+  }
+
+  queued : (octets : List ℕ) → is_to_send octets ≡ true → Sound c (queues octets)
+      → Grown (queues octets) (octets ∷ []) [] []
   queued octets sends sound =
-      laid_at c (record d.world {
-        spacecraft = record d.world.spacecraft { builder = after_queue d.world.spacecraft.builder octets };
-      }) d.taken refl (append-nil d.sent) (append-nil d.came) (record {
+      rw (append-nil d.sent, append-nil d.came) (record {
         sound = sound;
         laid = queued_laid d.world.spacecraft.builder octets d.queued d.sent sends g.laid;
         count = g.count;
@@ -367,8 +310,7 @@ module _ (c : Config) (d : Downlink) (g : Laid c d) where
       let most : b.total ≤ 2048 = omega (arith, total, g.sound.ranges.frame_length) in
       let size : length f.payload ≡ data_size b = data_length b k.idle_left in
       let some : 0 < length f.payload = omega (arith, size, total, g.sound.ranges.frame_length) in
-      laid_at c (world_step d.world events.Report).after d.taken (append-nil d.queued) refl (append-nil d.came)
-      (record {
+      rw (append-nil d.queued, append-nil d.came) (record {
         sound = sound;
         laid = build_laid b ocf d.queued d.sent k.idle_left most g.laid;
         count = omega arith;
@@ -406,15 +348,9 @@ module _ (c : Config) (d : Downlink) (g : Laid c d) where
     gone : (came : Bool) (new : World) → Sound c new → new.spacecraft.builder ≡ d.world.spacecraft.builder
         → new.down ≡ bs → new.ground_node.extractor ≡ state_after new_extractor (came_with came)
         → d.taken ++ new.ground_node.telemetry ≡ all_extracted new_extractor (came_with came)
-        → Laid c (record {
-          world = new;
-          queued = d.queued ++ [];
-          sent = d.sent ++ [];
-          came = d.came ++ came ∷ [];
-          taken = d.taken;
-        })
+        → Grown new [] [] (came ∷ [])
     gone came new sound builder down state given =
-        laid_at c new d.taken (append-nil d.queued) (append-nil d.sent) refl (record {
+        rw (append-nil d.queued, append-nil d.sent) (record {
           sound = sound;
           laid = rw builder g.laid;
           count = rw builder g.count;
@@ -423,51 +359,31 @@ module _ (c : Config) (d : Downlink) (g : Laid c d) where
             gone = g.way.gone ++ first.frame ∷ [];
             going = first.after;
             parts = first.parts;
-            counted = omega (
-              arith,
-              length-append d.came (came ∷ []),
-              length-append g.way.gone (first.frame ∷ []),
-              g.way.counted,
-            );
+            counted = omega (arith, length-append {A = Bool}, length-append {A = FrameView}, g.way.counted);
             down_is = first.rest ∙ sym down;
             state = state;
             given = given;
           };
         })
 
-    lost : Sound c (record d.world { down = bs })
-        → Laid c (record {
-          world = record d.world { down = bs };
-          queued = d.queued ++ [];
-          sent = d.sent ++ [];
-          came = d.came ++ false ∷ [];
-          taken = d.taken;
-        })
-    lost sound =
+    -- it is lost, or its control word alone reaches the ground
+    unseen : (new : World) → Sound c new → new.spacecraft.builder ≡ d.world.spacecraft.builder → new.down ≡ bs
+        → Extracts d.world.ground_node new.ground_node → Grown new [] [] (false ∷ [])
+    unseen new sound builder down ground =
         let v = g.way in
         let same : came_with false ≡ choice v.gone d.came =
         choice_more v.gone first.frame d.came false v.counted ∙ append-nil (choice v.gone d.came) in
-        gone false (record d.world { down = bs }) sound refl refl (rw same v.state) (rw same v.given)
+        gone false new sound builder down (rw same (ground.0 ∙ v.state))
+        (rw same (ap (λ (ps : List (List ℕ)). d.taken ++ ps) ground.1 ∙ v.given))
 
-    -- its control word alone reaches the ground
-    word_lost : (r : Result Clcw ClcwFault)
-        → Keeps events.DownClcw (world_after_word d.world bs (report_outcome d.world.ground_node r))
-    word_lost r sound =
-        let v = g.way in
-        let s : GroundState = d.world.ground_node in
-        let t = report_extracts s r in
-        let same : came_with false ≡ choice v.gone d.came =
-        choice_more v.gone first.frame d.came false v.counted ∙ append-nil (choice v.gone d.came) in
-        let state : s.extractor ≡ state_after new_extractor (came_with false) = rw same v.state in
-        let given : d.taken ++ s.telemetry ≡ all_extracted new_extractor (came_with false) = rw same v.given in
-        gone false (world_after_word d.world bs (report_outcome s r)).after sound refl refl (t.0 ∙ state)
-        (ap (λ (ps : List (List ℕ)). d.taken ++ ps) t.1 ∙ given)
+    lost : Sound c (record d.world { down = bs }) → Grown (record d.world { down = bs }) [] [] (false ∷ [])
+    lost sound = unseen (record d.world { down = bs }) sound refl refl (refl, refl)
 
     word_seen : (r : Result FrameView TmFault) → Keeps events.DownClcw (down_word_outcome d.world bs r)
-    word_seen (Ok frame) = word_lost (clcw_at frame.ocf)
-    word_seen (Err fault) = lost
+    word_seen (Ok frame) sound = unseen _ sound refl refl (report_extracts d.world.ground_node (clcw_at frame.ocf))
+    word_seen (Err fault) sound = lost sound
 
-    extracts : IsExtracted d.world.ground_node (extract_step d.world.ground_node.extractor first.frame)
+    extracts : Extracts (after_extraction d.world.ground_node (extract_step d.world.ground_node.extractor first.frame))
         (down_deliver_step d.world (b ∷ bs)).after.ground_node
     extracts =
         let s : GroundState = d.world.ground_node in
@@ -480,10 +396,11 @@ module _ (c : Config) (d : Downlink) (g : Laid c d) where
         let vcid : f.vcid == s.config.tm_vcid ≡ true =
         eq-eqb f.vcid s.config.tm_vcid
         (first.sent.vcid ∙ sym (ap (λ (x : Config). x.tm_vcid) g.sound.ground_node.config)) in
-        let same : ground_telemetry s b ≡ own_frame_outcome s (extract_step s.extractor f) (clcw_at f.ocf) =
+        let x : Extracted = extract_step s.extractor f in
+        let same : ground_telemetry s b ≡ own_frame_outcome s x (clcw_at f.ocf) =
         ap (telemetry_outcome s) reads ∙ rw (scid, vcid) refl in
-        subst (λ (o : GroundOutcome Heard). IsExtracted s (extract_step s.extractor f) o.after) (sym same)
-        (word_extracts s (extract_step s.extractor f) (clcw_at f.ocf))
+        subst (λ (o : GroundOutcome Heard). Extracts (after_extraction s x) o.after) (sym same)
+        (report_extracts (after_extraction s x) (clcw_at f.ocf))
 
     arrives : Sound c (down_deliver_step d.world (b ∷ bs)).after
         → Laid c (after_event d events.DownDeliver (down_deliver_step d.world (b ∷ bs)))
@@ -510,26 +427,13 @@ module _ (c : Config) (d : Downlink) (g : Laid c d) where
   down_seen P bs refused seen (Ok frame) = refused
   down_seen P bs refused seen (Err fault) = seen fault
 
-  refused : Sound c d.world
-      → Laid c (record {
-        world = d.world;
-        queued = d.queued ++ [];
-        sent = d.sent ++ [];
-        came = d.came ++ [];
-        taken = d.taken;
-      })
+  refused : Sound c d.world → Grown d.world [] [] []
   refused sound = stays d.world sound refl refl (refl, refl)
 
   -- nothing of telemetry is queued, sent or heard
   others : (e : Event) → ((octets : Bor (List ℕ)) → e ≢ events.Telemetry octets) → e ≢ events.Report
       → (TakesDown e → ⊥) → (BringsReport e → ⊥) → Sound c (world_step d.world e).after
-      → Laid c (record {
-        world = (world_step d.world e).after;
-        queued = d.queued ++ [];
-        sent = d.sent ++ [];
-        came = d.came ++ [];
-        taken = d.taken;
-      })
+      → Grown (world_step d.world e).after [] [] []
   others e not_queued not_made not_gone not_told sound =
       let w = d.world in
       let s : GroundState = w.ground_node in
@@ -538,7 +442,7 @@ module _ (c : Config) (d : Downlink) (g : Laid c d) where
       stays (world_step w e).after sound
       (board_after w (λ t. t.builder ≡ w.spacecraft.builder) e (record {
         same = refl;
-        receives = λ is b bs first. arrived_builds w.spacecraft (command.frame_at On b);
+        receives = λ is b bs first. arrived_builds w.spacecraft b;
         reports = λ is. absurd (not_made is);
         takes = λ is left kept. refl;
         releases = λ is left free. refl;

@@ -27,10 +27,11 @@ use Rattle.cop1.specs.Farm.{place_at, ad_verdict}
 use Rattle.cop1.specs.declared.farm.Verdict.TheVariants.{Behind, Discarded}
 use Rattle.cop1.specs.FopPull.{SequencePulled, pulls, after_send_first}
 use Rattle.nodes.specs.Spacecraft.{after_segment}
+use Rattle.nodes.proofs.Arrivals.{bypass_same}
 use Rattle.simulated_link.specs.World.{first_sent}
 use Rattle.tc_link.specs.PlainLink.{leaves, puts_next, puts_again}
 use Rattle.tc_link.specs.PlainLink as link_steps
-use Rattle.tc_link.proofs.Linked.{CommandFits, asked, UpIs, Fits, Ranks, bit, fits_less, rises_higher, ranks_higher}
+use Rattle.tc_link.proofs.Linked.{CommandFits, asked, UpIs, Fits, bit, fits_less, rises_higher, ranks_higher}
 use Rattle.tc_link.proofs.Linked.{WouldConfirm, Lasts, lasts_on, AllSame, In, Late, WithReceiver, Carries, Next, stays}
 use Rattle.tc_link.proofs.Linked.{IsLate, up_push, up_push_bypass, up_push_control, fits_push, fits_further}
 use Rattle.tc_link.proofs.Linked.{ControlFits, early_off, Begun, Stage, WithSender, Calm, Held, carries_push, holds_on}
@@ -74,10 +75,8 @@ module _ (d : Directive) (base : ℕ) (front : Bool) (s : FarmState) where
   unlock_eases : (mode : FarmMode) → front ≡ true → (d ≡ InitWithCheck → ⊥) → Eases d base front s (after_unlock s mode)
   unlock_eases Open is other =
       record { lockout = λ e. e; wait = λ e. e; retransmit = λ e. refl; so = inr (is, other, inl refl) }
-  unlock_eases Wait is other =
-      record { lockout = λ e. e; wait = λ e. refl; retransmit = λ e. refl; so = inr (is, other, inl refl) }
-  unlock_eases Lockout is other =
-      record { lockout = λ e. refl; wait = λ e. refl; retransmit = λ e. refl; so = inr (is, other, inl refl) }
+  unlock_eases _ is other =
+      record { lockout = λ e. cc; wait = λ e. refl; retransmit = λ e. refl; so = inr (is, other, inl refl) }
 
   set_eases : (x : ℕ) (mode : FarmMode) → x ≡ base → front ≡ true → (d ≡ InitWithCheck → ⊥)
       → Eases d base front s (after_set_vr s x mode)
@@ -89,8 +88,8 @@ module _ (d : Directive) (base : ℕ) (front : Bool) (s : FarmState) where
 
 module _ (d : Directive) (base : ℕ) (front : Bool) (s : SpacecraftState) where
   pub bypass_eases : (u : SegmentView) (kept : Bool) → Eases d base front s.farm (bypass_outcome s u kept).after.farm
-  bypass_eases u true = eased_same d base front s.farm (bypass_outcome s u true).after.farm refl refl refl refl
-  bypass_eases u false = eased_same d base front s.farm (bypass_outcome s u false).after.farm refl refl refl refl
+  bypass_eases u true = eased_same d base front s.farm _ refl refl refl refl
+  bypass_eases u false = eased_same d base front s.farm _ refl refl refl refl
 
   control_by : (command : Command) (e : Directive) → e ≡ d → front ≡ true → CommandFits e base command
       → Eases d base front s.farm (body_outcome s (Bc command)).after.farm
@@ -151,8 +150,7 @@ verdict_in_window s base h r i n free half most vr number low high =
 -- A frame that arrives, or doesn't, keeps what holds in a session.
 
 bit_most : (b : Bool) → bit b ≤ 1
-bit_most true = omega arith
-bit_most false = omega arith
+bit_most b = grind arith
 
 pub own_arrives : (s : SpacecraftState) (c : Config) (f : BodyView) (r : Result FrameView TcFault) → s.config ≡ c
     → r ≡ Ok (frame_of c f) → frame_outcome s r ≡ body_outcome s f
@@ -170,8 +168,7 @@ after_judging s u v = record (accepted_by s u v) { farm = after_verdict s.farm v
 
 judged_is : (s : SpacecraftState) (n : ℕ) (u : SegmentView) (v : Verdict) → verdict_of s.farm n (is_free s) ≡ v
     → (sequence_outcome s n u v).after ≡ after_judging s u v
-judged_is s n u Accepted e = ap (λ v. record (after_segment s u) { farm = after_verdict s.farm v }) e
-judged_is s n u _ e = ap (λ v. record s { farm = after_verdict s.farm v }) e
+judged_is s n u v e = grind (arith, e)
 
 -- what a stage says of a receiver that is eased
 eased : (early : Bool) (c : Config) (d : Directive) (base : ℕ) (w : World) (g : In early c d base w) (farm : FarmState)
@@ -189,30 +186,25 @@ eased true c d base w g farm e =
     assumption (lasts, same, s)
 eased false c d base w g farm e =
     let s = g.stage in
+    let p = g.plain in
+    let vr_is : farm.vr ≡ (base + p.r) % 256 = elim e.so [
+      | inl t ↦ t.2 ∙ s.vr_is
+      | inr t ↦ elim t.2 [
+        | inl v ↦ v ∙ s.vr_is
+        | inr v ↦ (let none = s.first t.0 in omega (arith, v, none, g.linked.base_octet))
+      ]
+    ] in
+    let calm : IsChecked d → Calm w.ground_node.fop.state farm g.front g.reports p.a p.r p.n p.down = λ checked.
+    let m = s.calm checked in
+    let asks : farm.retransmit ≡ w.spacecraft.farm.retransmit =
+    elim e.so [ inl t ↦ t.1 | inr t ↦ e.retransmit (m.clear t.0) ∙ sym (m.clear t.0) ] in
     record {
-      late = s.late;
-      confirmed_is = s.confirmed_is;
-      confirmed_so = s.confirmed_so;
-      vr_is = elim e.so [
-        | inl t ↦ t.2 ∙ s.vr_is
-        | inr t ↦ elim t.2 [
-          | inl v ↦ v ∙ s.vr_is
-          | inr v ↦ (let none = s.first t.0 in omega (arith, v, none, g.linked.base_octet))
-        ]
-      ];
-      first = s.first;
-      down_is = s.down_is;
-      calm = λ checked.
-          let m = s.calm checked in
-          let asks : farm.retransmit ≡ w.spacecraft.farm.retransmit =
-          elim e.so [ inl t ↦ t.1 | inr t ↦ e.retransmit (m.clear t.0) ∙ sym (m.clear t.0) ] in
-          record {
-            unlocked = e.lockout m.unlocked;
-            clear = λ t. asks ∙ m.clear t;
-            ranks = rw asks m.ranks;
-            rank_most = rw asks m.rank_most;
-          };
-    }
+      unlocked = e.lockout m.unlocked;
+      clear = λ t. asks ∙ m.clear t;
+      ranks = rw asks m.ranks;
+      rank_most = rw asks m.rank_most;
+    } in
+    assumption (vr_is, calm, s)
 
 -- ---- a Type-AD frame comes once the session is settled
 
@@ -230,6 +222,19 @@ module _ (c : Config) (d : Directive) (base : ℕ) (w : World) (k : Sound c w) (
       let fits : Fits (c.width / 2) p.n p.units p.r qs =
       fits_less (c.width / 2) p.n p.units (max p.r (i + 1)) p.r qs (omega arith) fit.3 in
       let s = g.stage in
+      let vr_is : farm.vr ≡ (base + p.r) % 256 = vr ∙ s.vr_is in
+      let first : false ≡ true → p.r ≡ 0 = λ e. cc in
+      let calm : IsChecked d → Calm w.ground_node.fop.state farm false g.reports p.a p.r p.n p.down = λ checked.
+      let m = s.calm checked in
+      let grows : bit w.spacecraft.farm.retransmit ≤ bit farm.retransmit =
+      elim asks [ inl e ↦ (rw e (omega arith)) | inr e ↦ (rw e.0 (bit_most w.spacecraft.farm.retransmit)) ] in
+      record {
+        unlocked = lockout ∙ m.unlocked;
+        clear = λ e. cc;
+        ranks = ranks_higher (2 * p.a + asked w.ground_node.fop.state) (2 * p.r + bit w.spacecraft.farm.retransmit)
+            (2 * p.r + bit farm.retransmit) g.reports p.down (omega arith) m.ranks;
+        rank_most = elim asks [ inl e ↦ (rw e m.rank_most) | inr e ↦ (rw e.0 (omega (arith, e.1))) ];
+      } in
       record {
         plain = record p { up = qs };
         ran = inr (leaves also);
@@ -237,27 +242,7 @@ module _ (c : Config) (d : Directive) (base : ℕ) (w : World) (k : Sound c w) (
         frames = fs;
         reports = g.reports;
         linked = assumption (rest, up, fits, l);
-        stage = record {
-          late = s.late;
-          confirmed_is = s.confirmed_is;
-          confirmed_so = s.confirmed_so;
-          vr_is = vr ∙ s.vr_is;
-          first = λ e. cc;
-          down_is = s.down_is;
-          calm = λ checked.
-              let m = s.calm checked in
-              let clear : false ≡ true → farm.retransmit ≡ false = λ e. cc in
-              let grows : bit w.spacecraft.farm.retransmit ≤ bit farm.retransmit =
-              elim asks [ inl e ↦ (rw e (omega arith)) | inr e ↦ (rw e.0 (bit_most w.spacecraft.farm.retransmit)) ] in
-              let ranks : Ranks (2 * p.a + asked w.ground_node.fop.state) g.reports p.down
-              (2 * p.r + bit farm.retransmit) =
-              ranks_higher (2 * p.a + asked w.ground_node.fop.state) (2 * p.r + bit w.spacecraft.farm.retransmit)
-              (2 * p.r + bit farm.retransmit) g.reports p.down (omega arith) m.ranks in
-              let rank_most : 2 * p.r + bit farm.retransmit ≤ 2 * p.n =
-              elim asks [ inl e ↦ (rw e m.rank_most) | inr e ↦ (rw e.0 (omega (arith, e.1))) ] in
-              let unlocked : farm.lockout ≡ false = lockout ∙ m.unlocked in
-              assumption (clear, ranks, rank_most, unlocked);
-        };
+        stage = assumption (vr_is, first, calm, s);
       }
 
   judged_keeps : (i : ℕ) (x u : SegmentView) (qs : List (ℕ × SegmentView)) (v : Verdict) → g.plain.up ≡ (i, x) ∷ qs
@@ -278,6 +263,19 @@ module _ (c : Config) (d : Directive) (base : ℕ) (w : World) (k : Sound c w) (
       let fits : Fits (c.width / 2) p.n p.units (p.r + 1) qs =
       fits_less (c.width / 2) p.n p.units (max p.r (i + 1)) (p.r + 1) qs (omega arith) fit.3 in
       let rises : Rises p.a p.down (p.r + 1) = rises_higher p.a p.r (p.r + 1) p.down (omega arith) l.rises in
+      let farm : FarmState = after_verdict w.spacecraft.farm Accepted in
+      let vr_is : farm.vr ≡ (base + (p.r + 1)) % 256 = omega (arith, s.vr_is) in
+      let first : false ≡ true → p.r + 1 ≡ 0 = λ e. cc in
+      let calm : IsChecked d → Calm w.ground_node.fop.state farm false g.reports p.a (p.r + 1) p.n p.down = λ checked.
+      let m = s.calm checked in
+      record {
+        unlocked = m.unlocked;
+        clear = λ e. refl;
+        ranks = ranks_higher (2 * p.a + asked w.ground_node.fop.state) (2 * p.r + bit w.spacecraft.farm.retransmit)
+            (2 * (p.r + 1) + 0) g.reports p.down (let most = bit_most w.spacecraft.farm.retransmit in omega arith)
+            m.ranks;
+        rank_most = omega arith;
+      } in
       record {
         plain = record p { r = p.r + 1; up = qs };
         ran = inr (link_steps.takes arrives);
@@ -285,23 +283,7 @@ module _ (c : Config) (d : Directive) (base : ℕ) (w : World) (k : Sound c w) (
         frames = fs;
         reports = g.reports;
         linked = assumption (rest, r_n, a_r, accepted_is, up, fits, rises, l);
-        stage = record {
-          late = s.late;
-          confirmed_is = s.confirmed_is;
-          confirmed_so = s.confirmed_so;
-          vr_is = omega (arith, s.vr_is);
-          first = λ e. cc;
-          down_is = s.down_is;
-          calm = λ checked.
-              let m = s.calm checked in
-              let clear : false ≡ true → false ≡ false = λ e. refl in
-              let ranks : Ranks (2 * p.a + asked w.ground_node.fop.state) g.reports p.down (2 * (p.r + 1) + 0) =
-              ranks_higher (2 * p.a + asked w.ground_node.fop.state) (2 * p.r + bit w.spacecraft.farm.retransmit)
-              (2 * (p.r + 1) + 0) g.reports p.down (let most = bit_most w.spacecraft.farm.retransmit in omega arith)
-              m.ranks in
-              let rank_most : 2 * (p.r + 1) + 0 ≤ 2 * p.n = omega arith in
-              assumption (clear, ranks, rank_most, m);
-        };
+        stage = assumption (vr_is, first, calm, s);
       }
   judged_keeps i x u qs Outside also same up fit here = elim here [ ]
   judged_keeps i x u qs Ahead also same up fit here =
@@ -346,13 +328,6 @@ module _ (early : Bool) (c : Config) (d : Directive) (base : ℕ) (w : World) (k
         stage = eased early c d base w g spacecraft.farm eases;
       }
 
-  bypass_arrives : (u : SegmentView) (kept : Bool) → UpIs d base g.front fs g.plain.up
-      → Next early c d base g.plain (record w { up = bs; spacecraft = (bypass_outcome w.spacecraft u kept).after })
-  bypass_arrives u true up =
-      other_keeps (bypass_outcome w.spacecraft u true).after up refl (bypass_eases d base g.front w.spacecraft u true)
-  bypass_arrives u false up =
-      other_keeps (bypass_outcome w.spacecraft u false).after up refl (bypass_eases d base g.front w.spacecraft u false)
-
   -- it is lost
   lost_keeps : UpIs d base g.front fs g.plain.up → Next early c d base g.plain (record w { up = bs })
   lost_keeps up =
@@ -386,7 +361,9 @@ module _ (early : Bool) (c : Config) (d : Directive) (base : ℕ) (w : World) (k
         → Fits (c.width / 2) g.plain.n g.plain.units g.plain.r qs
         → Next early c d base g.plain (record w { up = bs; spacecraft = (body_outcome w.spacecraft f).after })
     body_keeps bs fs rest (Bd s) qs also up fit =
-        bypass_arrives early c d base w k g bs fs rest s (is_kept (limits_of w.spacecraft.config) s) (rw also up)
+        let kept = is_kept (limits_of w.spacecraft.config) s in
+        other_keeps early c d base w k g bs fs rest (bypass_outcome w.spacecraft s kept).after (rw also up)
+        (bypass_same w.spacecraft s kept) (bypass_eases d base g.front w.spacecraft s kept)
     body_keeps bs fs rest (Bc command) qs also up fit =
         other_keeps early c d base w k g bs fs rest (body_outcome w.spacecraft (Bc command)).after (rw also up.2) refl
         (control_eases d base g.front w.spacecraft command up.0 up.1)
@@ -425,10 +402,8 @@ module _ (early : Bool) (c : Config) (d : Directive) (base : ℕ) (w : World) (k
     pub up_delivers : Next early c d base g.plain (up_deliver_step w w.up).after
     up_delivers = delivers w.up g.frames g.linked.carries g.linked.up_is
 
--- What is taken and queued on board keeps what holds in a session.
+    -- ---- what is taken and queued on board keeps what holds
 
-module _ (early : Bool) (c : Config) (d : Directive) (base : ℕ) (w : World) (k : Sound c w) (g : In early c d base w)
-  where
     pub eases_keep : (spacecraft : SpacecraftState) → spacecraft.accepted ≡ w.spacecraft.accepted
         → Eases d base g.front w.spacecraft.farm spacecraft.farm
         → Next early c d base g.plain (record w { spacecraft = spacecraft })
@@ -459,12 +434,12 @@ none_fit h n units r [] none fit = refl
 none_fit h n units r (q ∷ qs) none fit = absurd (omega (arith, none, fit.1))
 
 -- before the confirmation no Type-AD frame is on its way
+none_up : (c : Config) (d : Directive) (base : ℕ) (w : World) (g : Begun c d base w) → g.plain.up ≡ []
+none_up c d base w g =
+    none_fit (c.width / 2) g.plain.n g.plain.units g.plain.r g.plain.up g.stage.none_sent g.linked.fits
+
 pub early_up : (c : Config) (d : Directive) (base : ℕ) (w : World) (g : Begun c d base w) → UpIs d base true g.frames []
-early_up c d base w g =
-    let l = g.linked in
-    let none : g.plain.up ≡ [] =
-    none_fit (c.width / 2) g.plain.n g.plain.units g.plain.r g.plain.up g.stage.none_sent l.fits in
-    rw (g.stage.front_is, none) at l.up_is
+early_up c d base w g = rw (g.stage.front_is, none_up c d base w g) at g.linked.up_is
 
 idle : (m : FopMode) (control : Control) → IsLate m → Commanded m control → control ≡ Idle
 idle S5 control late is = elim late [ ]
@@ -476,14 +451,11 @@ commanded : (early : Bool) (c : Config) (d : Directive) (base : ℕ) (w : World)
     → UpIs d base g.front (g.frames ++ Bc command ∷ []) g.plain.up
     × WithSender g w.ground_node.fop.state (Sent command)
 commanded true c d base w k g command is =
-    let l = g.linked in
     let s = g.stage in
     let command_is : CommandFits d base command =
     let it : ControlFits d base (Due command) = rw is at s.command_is in it in
-    let none : g.plain.up ≡ [] =
-    none_fit (c.width / 2) g.plain.n g.plain.units g.plain.r g.plain.up s.none_sent l.fits in
     let up = up_push_control d base command g.frames command_is (early_up c d base w g) in
-    (rw (s.front_is, none) up, assumption (command_is, s))
+    (rw (s.front_is, none_up c d base w g) up, assumption (command_is, s))
 commanded false c d base w k g command is =
     absurd (let none : w.ground_node.fop.control ≡ Idle =
     idle w.ground_node.fop.state w.ground_node.fop.control g.stage.late k.ground_node.fop.commanded in cc (none, is))

@@ -2,9 +2,8 @@ use Rattle.std.proofs.Common.{◌≡◌, ◌∙◌, ◌++◌, ◌+◌, [], Err, 
 use Rattle.std.specs.Prelude.{Some}
 use Rattle.std.proofs.lemmas.Result.{on_err_weaker}
 use Rattle.listings.specs.Layouts.{first_by}
-use Rattle.listings.specs.Listing.{listed, rest_line}
+use Rattle.listings.specs.Listing.{listed, rest_line, standing, where_refused}
 use Rattle.listings.specs.Text.{written}
-use Rattle.listings.specs.Listing.{standing, where_refused}
 use Rattle.listings.proofs.Listed.{begins_more, begins_same, rest_line-refused}
 use Rattle.listings.proofs.stream.list_piece.Given.{Over}
 use Rattle.listings.proofs.stream.list_piece.Goals as goal

@@ -3,9 +3,8 @@ use Rattle.std.specs.Prelude.{Some, None, ◌&&◌}
 use Rattle.octets.specs.Splitter.{rest_after, failure_after}
 use Rattle.octets.proofs.Streams.{IsNoRecord}
 use Rattle.listings.specs.Layouts.{first_by}
-use Rattle.listings.specs.Listing.{listed}
+use Rattle.listings.specs.Listing.{listed, standing}
 use Rattle.listings.specs.Text.{written}
-use Rattle.listings.specs.Listing.{standing}
 use Rattle.listings.proofs.Listed.{goes_on, shorter, listed-none}
 use Rattle.listings.proofs.stream.list_records.Given.{Over}
 use Rattle.listings.proofs.stream.list_records.Goals as goal

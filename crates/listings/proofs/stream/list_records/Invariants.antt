@@ -1,7 +1,6 @@
 use Rattle.std.proofs.Common.{◌≡◌, ◌+◌, ◌≤◌, length}
 use Rattle.listings.specs.Text.{written}
-use Rattle.listings.specs.Listing.{listed}
-use Rattle.listings.specs.Listing.{standing}
+use Rattle.listings.specs.Listing.{listed, standing}
 use Rattle.listings.proofs.stream.list_records.Given as goal
 
 -- the listing goes to where it goes from the start

@@ -1,5 +1,5 @@
-use Rattle.std.proofs.Common.{◌≡◌, ◌++◌, ◌∷◌, [], true, ℕ, List, Bool, Bor, take, drop, refl, sym, ap}
-use Rattle.std.proofs.Common.{◌∙◌, arith, length-take, cond, Some, None}
+use Rattle.std.proofs.Common.{◌≡◌, ◌++◌, ◌∷◌, [], true, ℕ, List, Bool, Bor, take, drop, refl, sym, ap, ◌∙◌, arith}
+use Rattle.std.proofs.Common.{length-take, cond, Some, None}
 use Rattle.std.specs.Prelude.{◌||◌, ◌&&◌, nat_lt}
 use Rattle.std.specs.List.{list_all}
 use Rattle.std.proofs.Math.Bool.{or_assoc}
@@ -34,14 +34,7 @@ returns-then-not-is_command_packet-clause-err c =
 pub packets-smaller : goal.packets-smaller
 packets-smaller c =
     let first : IsFirstPacket (packet_view c.in-Ok.packet) c.in-Ok.size c.packets.rest.now = c.in-Ok.ensures.found in
-    omega (
-      arith,
-      c.split_at.ensures.back_len,
-      first.spells.least,
-      first.within,
-      length-take c.in-Ok.size
-          c.packets.rest.now,
-    )
+    omega (arith, c.split_at.ensures.back_len, first.spells.least, length-take c.in-Ok.size c.packets.rest.now)
 
 pub packets-preserved : goal.packets-preserved
 packets-preserved c =

@@ -1,7 +1,6 @@
 use Rattle.std.proofs.Common.{sym, ap, ◌∙◌}
 use Rattle.cop1.specs.FopReport.{clcw_step}
-use Rattle.cop1.proofs.UnitsFollow.{report-follows}
-use Rattle.cop1.proofs.UnitsFollow.{trimmed-state, trimmed-sound}
+use Rattle.cop1.proofs.UnitsFollow.{report-follows, trimmed-state, trimmed-sound}
 use Rattle.cop1.proofs.fop.Fop.clcw.Goals as goal
 
 pub invariant_of-self : goal.invariant_of-self

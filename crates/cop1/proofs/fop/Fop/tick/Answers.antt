@@ -1,7 +1,6 @@
 use Rattle.std.proofs.Common.{sym, ap, ◌∙◌}
 use Rattle.cop1.specs.FopTick.{tick_step}
-use Rattle.cop1.proofs.UnitsFollow.{tick-follows}
-use Rattle.cop1.proofs.UnitsFollow.{trimmed-state, trimmed-sound}
+use Rattle.cop1.proofs.UnitsFollow.{tick-follows, trimmed-state, trimmed-sound}
 use Rattle.cop1.proofs.fop.Fop.tick.Goals as goal
 
 pub invariant_of-self : goal.invariant_of-self

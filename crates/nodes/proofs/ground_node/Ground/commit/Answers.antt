@@ -1,5 +1,5 @@
-use Rattle.std.proofs.Common.{◌≡◌, ◌≢◌, ◌≤◌, ◌+◌, ◌++◌, ℕ, List, [], ◌∷◌, length, Bool, true, if◌then◌else◌, is_ok}
-use Rattle.std.proofs.Common.{sym, ap, ◌∙◌, arith, length-append}
+use Rattle.std.proofs.Common.{◌≡◌, ◌≢◌, ◌≤◌, ◌+◌, ◌++◌, ℕ, List, [], ◌∷◌, length, Bool, true, if◌then◌else◌, is_ok, sym}
+use Rattle.std.proofs.Common.{ap, ◌∙◌, arith, length-append}
 use Rattle.std.specs.Prelude.{map, option_to_list}
 use Rattle.std.proofs.lemmas.List.{length-map}
 use Rattle.tc_frame.specs.Layout.{SegmentView}
@@ -8,8 +8,7 @@ use Rattle.nodes.specs.declared.ground_node.Ground.TheInside.{Inside}
 use Rattle.nodes.specs.declared.ground_node.submission.Segments.TheVariants.{One}
 use Rattle.nodes.specs.declared.ground_node.submission.Submission.{Submission}
 use Rattle.nodes.specs.Ground.{GroundState, segments_on, after_submission, outstanding, refill_step, submit_fault}
-use Rattle.nodes.specs.Ground.{unless_refused}
-use Rattle.nodes.specs.Ground.{unsent_segments}
+use Rattle.nodes.specs.Ground.{unless_refused, unsent_segments}
 use Rattle.nodes.specs.GroundFields.{state_of, IsSound}
 use Rattle.nodes.specs.Parameters.{IsConfig, limits_of}
 use Rattle.nodes.specs.Submissions.{segments_held, IsSubmissionAt}
@@ -48,15 +47,8 @@ module _ (s t : GroundState) (b : Submission) (prepared : IsSubmissionAt s b) (s
   room : AreOwed t.fop t.pending t.fates.left → length t.fop.sent ≤ 127 → IsConfig t.config
       → 1 + length t.fates.left ≤ t.config.queue_slots + 127
   room owed sent c =
-      omega (
-        arith,
-        most_left (length (outstanding t)) t.fates.left (owed on),
-        length-append (map (λ u. u.unit) t.fop.sent) (unsent_segments t),
-        length-map t.fop.sent (λ u. u.unit),
-        sent,
-        places,
-        some c,
-      )
+      let most = most_left (length (outstanding t)) t.fates.left (owed on) in
+      omega (arith, length-append {A = SegmentView}, length-map t.fop.sent (λ u. u.unit), places, some c)
 
   queued : (x : GroundState) (pending : List SegmentView) (left : List ℕ)
       → x ≡ record t { pending = pending; fates = record t.fates { left = left } }
@@ -101,13 +93,9 @@ one_held b segment is = sym (ap segments_held is)
 
 pub push_back_reserved-requires-in-One : goal.push_back_reserved-requires-in-One
 push_back_reserved-requires-in-One c =
-    omega (
-      arith,
-      fits c.args.self.now c.self.inside c.args.submission c.requires c.self.view_is c.self.invariant,
-      ap length (one_held c.args.submission c.in-One.segment c.in-One.is),
-      c.self.invariant.room,
-      c.self.inside.pending.ok.0,
-    )
+    let places = fits c.args.self.now c.self.inside c.args.submission c.requires c.self.view_is c.self.invariant in
+    let one = ap length (one_held c.args.submission c.in-One.segment c.in-One.is) in
+    omega (arith, c.self.invariant.room, c.self.inside.pending.ok.0)
 
 pub invariant_of-self : goal.invariant_of-self
 invariant_of-self c = record {
@@ -138,14 +126,10 @@ module _ (c : goal.After-drop-segments) where
 
   all_joined : is_ok c.append.result ≡ true
   all_joined =
-      c.append.ensures.succeeds (omega (
-        arith,
-        fits c.args.self.now c.self.inside c.args.submission c.requires c.self.view_is c.self.invariant,
-        ap length held_are,
-        c.self.invariant.room,
-        c.self.inside.pending.ok.0,
-        c.in-Several.segments.ok.0,
-      ))
+      let places = fits c.args.self.now c.self.inside c.args.submission c.requires c.self.view_is c.self.invariant in
+      let held = ap length held_are in
+      c.append.ensures.succeeds
+      (omega (arith, c.self.invariant.room, c.self.inside.pending.ok.0, c.in-Several.segments.ok.0))
 
   joined_are : c.append.new.self.items ≡ c.self.inside.pending.items ++ segments_held c.args.submission.segments
   joined_are =
@@ -180,15 +164,11 @@ returns c =
           ∙ ap (λ (ss : List SegmentView). i.pending.items ++ ss) (one_held b w.in-One.segment w.in-One.is)) counted
       | in-Several w ↦
           let is = sym (ap segments_held w.in-Several.is) in
+          let places = fits s i b c.requires c.self.view_is c.self.invariant in
+          let held = ap length is in
           let ok : is_ok w.append.result ≡ true =
-          w.append.ensures.succeeds (omega (
-            arith,
-            fits s i b c.requires c.self.view_is c.self.invariant,
-            ap length is,
-            c.self.invariant.room,
-            i.pending.ok.0,
-            w.in-Several.segments.ok.0,
-          )) in
+          w.append.ensures.succeeds
+          (omega (arith, c.self.invariant.room, i.pending.ok.0, w.in-Several.segments.ok.0)) in
           queued s (state_of i) b c.requires c.self.view_is c.match-segments.self w.append.new.self.items
           c.push_back_reserved.new.self.items w.self-is
           (several_held i b w.in-Several.segments.items is w.append.new.self.items (is_ok w.append.result)

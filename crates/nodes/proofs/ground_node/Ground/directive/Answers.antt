@@ -1,7 +1,7 @@
 use Rattle.tc_frame.specs.Layout.{SegmentView}
 use Rattle.cop1.specs.Units.{FopState, FopOutcome}
 use Rattle.nodes.specs.GroundFields.{state_of}
-use Rattle.std.proofs.Common.{◌≡◌, Result, Ok, Err, IsErrAnd, OnErr, ap, Option, IfErr, refl, sym, ◌∙◌}
+use Rattle.std.proofs.Common.{◌≡◌, Result, Ok, Err, IsErrAnd, OnErr, ap, Option, IfErr, refl, sym, ◌∙◌, arith}
 use Rattle.cop1.specs.declared.fault.CopFault.{CopFault}
 use Rattle.cop1.specs.declared.vocabulary.Alert.{Alert}
 use Rattle.cop1.specs.declared.vocabulary.Directive.{Directive}
@@ -11,7 +11,6 @@ use Rattle.std.proofs.lemmas.Result.{IfErr-at_err}
 use Rattle.nodes.specs.Fates.{Fates}
 use Rattle.nodes.specs.Ground.{GroundState, ground_step, Direct, after_directive, with_fop}
 use Rattle.nodes.proofs.Owed.{still_owed_then}
-use Rattle.std.proofs.Common.{arith}
 use Rattle.nodes.proofs.ground_node.Ground.directive.Goals as goal
 
 -- What a `?` hands on of a fault.

@@ -32,13 +32,7 @@ invariant_of-self-2 c =
     let old : List (List ℕ) = octets_of c.self.inside.finished.items in
     let all : AreWhole ((waiting ++ old) ++ packets) =
     whole_append (waiting ++ old) packets c.self.invariant.packets (extracted_whole c.self.inside.extractor frame) in
-    record {
-      config = c.self.invariant.config;
-      room = c.self.invariant.room;
-      packets =
-          subst AreWhole
-          (append_assoc waiting old packets ∙ ap (λ (ps : List (List ℕ)). waiting ++ ps) (sym c.in-Ok.ensures.packets))
-          all;
-      owed = c.self.invariant.owed;
-      places = c.self.invariant.places;
-    }
+    let whole = subst AreWhole
+    (append_assoc waiting old packets ∙ ap (λ (ps : List (List ℕ)). waiting ++ ps) (sym c.in-Ok.ensures.packets))
+    all in
+    assumption (whole, c.self.invariant)

@@ -2,21 +2,15 @@ use Rattle.std.proofs.Common.{ap, ◌∙◌}
 use Rattle.cop1.specs.FopTick.{tick_step}
 use Rattle.nodes.specs.Ground.{GroundState, ground_step, Tick, with_fop}
 use Rattle.nodes.specs.GroundFields.{state_of}
-use Rattle.nodes.proofs.Owed.{ticked_holds, still_owed}
+use Rattle.nodes.proofs.Owed.{AreOwed, ticked_holds, still_owed}
 use Rattle.nodes.proofs.ground_node.Ground.tick.Goals as goal
 
 pub invariant_of-self : goal.invariant_of-self
 invariant_of-self c =
     let s = c.self.inside in
-    let owed = still_owed s.fop (tick_step s.fop).after s.pending.items s.left.items 0 (ticked_holds s.fop)
-    c.self.invariant.owed in
-    record {
-      config = c.self.invariant.config;
-      room = c.self.invariant.room;
-      packets = c.self.invariant.packets;
-      owed = rw c.tick-alert.ensures.after owed;
-      places = c.self.invariant.places;
-    }
+    let owed : AreOwed c.tick-alert.new.self s.pending.items s.left.items = rw c.tick-alert.ensures.after (still_owed
+    s.fop (tick_step s.fop).after s.pending.items s.left.items 0 (ticked_holds s.fop) c.self.invariant.owed) in
+    assumption (owed, c.self.invariant)
 
 pub returns-clause-answer : goal.returns-clause-answer
 returns-clause-answer c =

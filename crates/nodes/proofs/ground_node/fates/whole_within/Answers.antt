@@ -21,12 +21,8 @@ returns-then-more-needed c =
       c.needed-needed.ensures.most,
       c.needed-needed.ensures.one,
     ) in
-    omega (
-      arith,
-      c.submissions.invariant.counted,
-      ap (whole_within c.submissions.more) here,
-      none_whole c.submissions.more n c.needed-needed.result (drop (k + 1) ns) is c.if-more-needed.true,
-    )
+    let none = none_whole c.submissions.more n c.needed-needed.result (drop (k + 1) ns) is c.if-more-needed.true in
+    omega (arith, c.submissions.invariant.counted, ap (whole_within c.submissions.more) here)
 
 pub submissions-preserved : goal.submissions-preserved
 submissions-preserved c =
@@ -42,11 +38,8 @@ submissions-preserved c =
       c.needed-needed.ensures.one,
     ) in
     record {
-      counted = omega (
-        arith,
-        c.submissions.invariant.counted,
-        ap (whole_within c.submissions.more) here,
-        one_whole c.submissions.more n c.needed-needed.result (drop (k + 1) ns) is c.if-more-needed.false,
-      );
+      counted =
+          let one = one_whole c.submissions.more n c.needed-needed.result (drop (k + 1) ns) is c.if-more-needed.false in
+          omega (arith, c.submissions.invariant.counted, ap (whole_within c.submissions.more) here);
       within = omega (arith, lt);
     }

@@ -1,6 +1,5 @@
 use Rattle.std.proofs.Common.{◌≡◌, ◌++◌, ℕ, List, drop, take, Bool, true, false, if◌then◌else◌, Ok, refl, sym, ap}
-use Rattle.std.proofs.Common.{subst}
-use Rattle.std.proofs.Common.{◌∙◌}
+use Rattle.std.proofs.Common.{subst, ◌∙◌}
 use Rattle.clcw.specs.declared.word.Clcw.{Clcw}
 use Rattle.clcw.specs.Encoding as words
 use Rattle.tm_link.specs.Builder.{BuilderState, is_at_rest, after_send, data_size, after_fill, with_next_count}
@@ -52,15 +51,10 @@ module _ (c : goal.After-build) where
       ∙ ap (λ (s : SpacecraftState). (spacecraft_step s Report).answer) c.self.view_is
 
 pub invariant_of-self : goal.invariant_of-self
-invariant_of-self c = record {
-  vcid = c.self.invariant.vcid;
-  limits = c.self.invariant.limits;
-  parts = c.self.invariant.parts;
-  slots = c.self.invariant.slots;
-  room = c.self.invariant.room;
-  frames = subst (IsBuilderOf c.self.inside.config) (sym c.build.ensures.after)
-      (built c.self.inside.config c.self.inside.builder c.self.invariant.frames);
-}
+invariant_of-self c =
+    let frames = subst (IsBuilderOf c.self.inside.config) (sym c.build.ensures.after)
+    (built c.self.inside.config c.self.inside.builder c.self.invariant.frames) in
+    assumption (frames, c.self.invariant)
 
 pub returns-clause-count : goal.returns-clause-count
 returns-clause-count c =

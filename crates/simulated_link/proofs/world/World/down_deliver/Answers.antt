@@ -1,6 +1,5 @@
-use Rattle.simulated_link.proofs.Common.{◌≡◌, ◌≤◌, ◌+◌, length, sym, subst, arith, ahead_by, GroundState}
-use Rattle.simulated_link.proofs.Common.{[], ℕ, List, drop, refl, ap, ◌∙◌, octets_of, Ok, Down, World}
-use Rattle.simulated_link.proofs.Common.{down_deliver_step, FopMode}
+use Rattle.simulated_link.proofs.Common.{◌≡◌, ◌≤◌, ◌+◌, length, sym, subst, arith, ahead_by, GroundState, [], ℕ, List}
+use Rattle.simulated_link.proofs.Common.{drop, refl, ap, ◌∙◌, octets_of, Ok, Down, World, down_deliver_step, FopMode}
 use Rattle.std.proofs.Common.{rules}
 use Rattle.std.specs.Prelude.{◌||◌}
 use Rattle.tm_link.specs.Decoding.{frame_at}

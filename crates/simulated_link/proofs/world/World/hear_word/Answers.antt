@@ -1,5 +1,4 @@
-use Rattle.simulated_link.proofs.Common.{◌≡◌, ◌≤◌, ◌+◌, length, sym, subst, arith, ahead_by, GroundState}
-use Rattle.simulated_link.proofs.Common.{ℕ, ap, ◌∙◌}
+use Rattle.simulated_link.proofs.Common.{◌≡◌, ◌≤◌, ◌+◌, length, sym, subst, arith, ahead_by, GroundState, ℕ, ap, ◌∙◌}
 use Rattle.clcw.specs.Decoding.{clcw_at}
 use Rattle.simulated_link.proofs.Counted.{word_less}
 use Rattle.simulated_link.proofs.world.World.hear_word.Goals as goal

@@ -22,8 +22,7 @@ use Rattle.simulated_link.proofs.Unchanged.{refused, submit_never}
 use Rattle.simulated_link.proofs.Counted.{submit_same}
 use Rattle.simulated_link.proofs.Transit.{happens, lacks}
 use Rattle.simulated_link.proofs.world.World.submit.Goals.{then-is_err-via-then-is_err}
-use Rattle.simulated_link.proofs.world.World.submit.Goals.{then-is_err-via-else-is_err+then-is_err-2}
-use Rattle.simulated_link.proofs.world.World.submit.Goals.{In-Ok}
+use Rattle.simulated_link.proofs.world.World.submit.Goals.{then-is_err-via-else-is_err+then-is_err-2, In-Ok}
 use Rattle.simulated_link.proofs.world.World.submit.Goals as goal
 
 -- the packets of these submissions that are on MAP m

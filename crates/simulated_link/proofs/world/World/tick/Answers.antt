@@ -6,11 +6,6 @@ pub invariant_of-self : goal.invariant_of-self
 invariant_of-self c =
     let counted : c.self.inside.session.acknowledged + length c.tick.new.self.fop.sent
     ≤ length c.self.inside.session.sent.items =
-    omega (
-      arith,
-      c.self.invariant.counted,
-      tick_shorter c.self.inside.ground_node,
-      ap
-          (λ (s : GroundState). length s.fop.sent) c.tick.ensures.after,
-    ) in
+    let same = ap (λ (s : GroundState). length s.fop.sent) c.tick.ensures.after in
+    omega (arith, c.self.invariant.counted, tick_shorter c.self.inside.ground_node) in
     assumption (counted, c.self.invariant)
