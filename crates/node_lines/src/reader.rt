@@ -56,8 +56,7 @@ fn ask_of(event: Event<'_>) -> Option<Ask<'_>>
         Event::Take => Some(Ask::Take),
         Event::TakeBypass => Some(Ask::TakeBypass),
         Event::Telemetry(digits) => Some(Ask::Telemetry(digits)),
-        Event::UpDeliver | Event::UpLose | Event::UpDamage(_) => None,
-        Event::DownDeliver | Event::DownLose | Event::DownDamage(_) | Event::DownClcw => None,
+        _ => None,
     }
 }
 
