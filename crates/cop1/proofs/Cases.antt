@@ -2,7 +2,7 @@
 use Rattle.std.proofs.Common.{◌≡◌, Bool, true, false, refl, ◌⊎◌, inl, inr, not, ◌&&◌, Option, ℕ, ◌-◌, Some, None, ◌≢◌}
 use Rattle.std.proofs.Common.{◌≤◌, Result, arith, ◌+◌, ◌%◌, List, [], ◌∷◌}
 use Rattle.std.specs.Prelude.{if◌then◌else◌, nat_lt, ◌==◌, ◌||◌}
-use Rattle.std.proofs.lemmas.Bool.{eqb-true, and_parts, not-true, not-false, ltb-false, or_parts, cond_both}
+use Rattle.std.proofs.lemmas.Bool.{eqb-true, eqb-false, and_parts, not-true, not-false, ltb-false, or_parts, cond_both}
 use Rattle.tc_frame.specs.declared.frame.Command.TheVariants.{Unlock, SetVr}
 use Rattle.tc_frame.specs.declared.frame.Command.{Command}
 use Rattle.clcw.specs.declared.word.Clcw.{Clcw}
@@ -171,9 +171,17 @@ begun s InitUnlock = record (after_begin s) { nn = s.vs; control = Due Unlock; s
 begun s (InitSetVr x) = record (after_begin s) { vs = x; nn = x; control = Due (SetVr x); state = S5 }
 begun s _ = s
 
+-- what a directive sets that begins no session and sets no number: the window, the limit or the timer, or nothing
+pub record Sets {H : Store} (s : SenderOf H) (d : Directive) (k n ticks : ℕ) : Type 0 where
+  pub window : (k ≡ s.window) ⊎ ((1 ≤ k) × (k ≤ s.room))
+  pub limit : (n ≡ s.limit) ⊎ (d ≡ SetLimit n)
+  pub timer : (ticks ≡ s.timer) ⊎ (1 ≤ ticks)
+  pub plain : (x : ℕ) → d ≢ SetVs x
+
 -- at a sender, and at another with the same numbers
-pub record AtEachDirective {H K : Store} (s : SenderOf H) (v : SenderOf K) (P : Directive
-    → OutcomeOf H (Result (Option Alert) CopFault) → OutcomeOf K (Result (Option Alert) CopFault) → Type 0) : Type 0
+pub record AtEachDirective {H K : Store} (Q : Directive → ℕ → ℕ → ℕ → Type 0) (s : SenderOf H) (v : SenderOf K)
+    (P : Directive → OutcomeOf H (Result (Option Alert) CopFault) → OutcomeOf K (Result (Option Alert) CopFault)
+    → Type 0) : Type 0
   where
     pub refused : (d : Directive) (fault : CopFault) → (is_initiation d ≡ true → s.state ≢ S6)
         → P d (refuses s fault) (refuses v fault)
@@ -181,15 +189,14 @@ pub record AtEachDirective {H K : Store} (s : SenderOf H) (v : SenderOf K) (P : 
     pub terminated : P Terminate (terminates s) (terminates v)
     pub numbers : (x : ℕ) → s.state ≡ S6
         → P (SetVs x) (obeys (record s { vs = x; nn = x })) (obeys (record v { vs = x; nn = x }))
-    -- the window, the limit and the timer are set, the window to no more than it was or its room is
-    pub sets : (d : Directive) (k n ticks : ℕ) → is_initiation d ≡ false
-        → ((most : ℕ) → s.window ≤ most → s.room ≤ most → k ≤ most)
+    -- the window, the limit and the timer are set, to what is so
+    pub sets : (d : Directive) (k n ticks : ℕ) → is_initiation d ≡ false → Q d k n ticks
         → P d (obeys (record s { window = k; limit = n; timer = ticks }))
         (obeys (record v { window = k; limit = n; timer = ticks }))
 
 module _ {H K : Store} (s : SenderOf H) (w : K.Waiting) (q : K.Sent) (b : K.Bypass) (P : Directive
     → OutcomeOf H (Result (Option Alert) CopFault) → OutcomeOf K (Result (Option Alert) CopFault) → Type 0)
-    (each : AtEachDirective s (held_by K s w q b) P) where
+    (each : AtEachDirective (Sets s) s (held_by K s w q b) P) where
   abbrev v : SenderOf K
   v = held_by K s w q b
 
@@ -211,19 +218,38 @@ module _ {H K : Store} (s : SenderOf H) (w : K.Waiting) (q : K.Sent) (b : K.Bypa
   obeyed_both (SetVs x) = from (SetVs x) s.state refl (each.numbers x)
   obeyed_both (SetWindow k) =
       when (P (SetWindow k)) ((k == 0) || nat_lt s.room k) (λ v. each.refused (SetWindow k) Window (λ v. absurd cc))
-      (λ small. each.sets (SetWindow k) k s.limit s.timer refl (λ most window room.
-      omega (arith, ltb-false s.room k (or_parts (k == 0) (nat_lt s.room k) small).1, room)))
+      (λ small.
+      let is = or_parts (k == 0) (nat_lt s.room k) small in
+      let fits : (1 ≤ k) × (k ≤ s.room) = omega (arith, eqb-false k 0 is.0, ltb-false s.room k is.1) in
+      each.sets (SetWindow k) k s.limit s.timer refl
+      (record { window = inr fits; limit = inl refl; timer = inl refl; plain = λ x e. cc e }))
   obeyed_both (SetLimit n) =
       when (P (SetLimit n)) (n == 0) (λ v. each.refused (SetLimit n) refusals.Limit (λ v. absurd cc))
-      (λ v. each.sets (SetLimit n) s.window n s.timer refl (λ most window room. window))
+      (λ v. each.sets (SetLimit n) s.window n s.timer refl
+      (record { window = inl refl; limit = inr refl; timer = inl refl; plain = λ x e. cc e }))
   obeyed_both (SetTimer n) =
       when (P (SetTimer n)) (n == 0) (λ v. each.refused (SetTimer n) refusals.Timer (λ v. absurd cc))
-      (λ v. each.sets (SetTimer n) s.window s.limit n refl (λ most window room. window))
+      (λ some.
+      let fits : 1 ≤ n = omega (arith, eqb-false n 0 some) in
+      each.sets (SetTimer n) s.window s.limit n refl
+      (record { window = inl refl; limit = inl refl; timer = inr fits; plain = λ x e. cc e }))
 
 -- at one sender of units
-pub obeyed : {U : Type 0} (s : FopState U) (P : Directive → FopOutcome U (Result (Option Alert) CopFault) → Type 0)
-    → AtEachDirective s s (λ d o p. P d o) → (d : Directive) → P d (directive_step s d)
-obeyed s P each = obeyed_both s s.waiting s.sent s.bypass (λ d o p. P d o) each
+module _ {U : Type 0} (s : FopState U) (P : Directive → FopOutcome U (Result (Option Alert) CopFault) → Type 0) where
+  pub obeyed_set : AtEachDirective (Sets s) s s (λ d o p. P d o) → (d : Directive) → P d (directive_step s d)
+  obeyed_set each = obeyed_both s s.waiting s.sent s.bypass (λ d o p. P d o) each
+
+  -- the window is set to no more than it was or its room is
+  pub obeyed : AtEachDirective (λ d k n ticks. (most : ℕ) → s.window ≤ most → s.room ≤ most → k ≤ most) s s
+      (λ d o p. P d o) → (d : Directive) → P d (directive_step s d)
+  obeyed each = obeyed_set (record {
+    refused = each.refused;
+    begins = each.begins;
+    terminated = each.terminated;
+    numbers = each.numbers;
+    sets = λ d k n ticks plain set. each.sets d k n ticks plain
+        (λ most window room. omega (arith, set.window, window, room));
+  })
 
 -- What a pull may take from the sender.
 

@@ -1,7 +1,6 @@
 -- What a line says to a node: a line of a script, or one of `frame HEX` and `clcw HEX`.
-use Rattle.std.specs.Prelude.{◌≤◌, ℕ, if◌then◌else◌, List, [], ◌∷◌, codes, Option, Some, None}
+use Rattle.std.specs.Prelude.{◌≤◌, ℕ, List, [], codes, Option, Some, None}
 use Rattle.std.specs.Prelude.{option_map, ◌≡◌, Result, String, OnOk}
-use Rattle.std.specs.Str.{bytes_eq}
 use Rattle.octets.specs.Beginning.{Appends}
 use Rattle.cop1.specs.declared.vocabulary.Directive.{Directive}
 use Rattle.nodes.specs.declared.event.Event.{Event}
@@ -9,7 +8,7 @@ use Rattle.nodes.specs.declared.event.Event.TheVariants as events
 use Rattle.nodes.specs.declared.parameter.Parameter.{Parameter}
 use Rattle.nodes.specs.declared.config.Config.{Config}
 use Rattle.nodes.specs.Steps.{Outcome}
-use Rattle.script_lines.specs.Words.{words_in, octets_in_word}
+use Rattle.script_lines.specs.Words.{octets_in_word, rest_after, after_words}
 use Rattle.script_lines.specs.Lines.{ScriptLine, line_in, octets_of_digits}
 use Rattle.script_lines.specs.Lines as scripts
 use Rattle.node_lines.specs.declared.ask.Ask as code
@@ -74,15 +73,11 @@ line_of_script scripts.Unreadable = Unreadable
 
 -- ---- a line that no script has
 
-abbrev pub ask_of_two_words : List ℕ → List ℕ → Option Ask
-ask_of_two_words name word =
-    if bytes_eq name (codes "frame") then option_map Frame (octets_in_word word)
-    else if bytes_eq name (codes "clcw") then option_map ControlWord (octets_in_word word)
-    else None
-
-abbrev pub ask_of_words : List (List ℕ) → Option Ask
-ask_of_words (name ∷ word ∷ []) = ask_of_two_words name word
-ask_of_words words = None
+abbrev pub own_ask : List ℕ → Option Ask
+own_ask line =
+    after_words (λ word. option_map Frame (octets_in_word word)) (rest_after (codes "frame ") line)
+    (after_words (λ word. option_map ControlWord (octets_in_word word))
+    (rest_after (codes "clcw ") line) None)
 
 -- ---- a line
 
@@ -91,7 +86,7 @@ asking_or (Some ask) line = Asking ask
 asking_or None line = line
 
 abbrev pub node_line : List ℕ → NodeLine
-node_line line = asking_or (ask_of_words (words_in line)) (line_of_script (line_in line))
+node_line line = asking_or (own_ask line) (line_of_script (line_in line))
 
 -- ---- an ask as the code has it
 

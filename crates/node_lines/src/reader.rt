@@ -4,12 +4,12 @@ ghost use Rattle.std.specs.Prelude.{◌≡◌, option_map, Some, true, is_some};
 ghost use Rattle.nodes.specs.declared.event.Event.{Event};
 ghost use Rattle.script_lines.specs.Lines.{event_said, octets_of_digits};
 ghost use Rattle.script_lines.specs.Lines as scripts;
-ghost use Rattle.script_lines.specs.Words.{words_in, octets_in_word};
-ghost use Rattle.node_lines.specs.Asks.{ask_of, asking, ask_said, ask_of_two_words, ask_of_words, line_of_script, node_line, line_view, IsWellRead};
+ghost use Rattle.script_lines.specs.Words.{octets_in_word};
+ghost use Rattle.node_lines.specs.Asks.{ask_of, asking, ask_said, own_ask, line_of_script, node_line, line_view, IsWellRead};
 
 use crate::ask::{Ask, NodeLine};
 use nodes::Event;
-use script_lines::{Line, cut, is, is_octets, read_line};
+use script_lines::{Line, is_octets, read_line, rest_after};
 
 /// What a line says to a node, a line of a script or one that no script has. The octets that it carries are
 /// lent as digits.
@@ -18,7 +18,7 @@ pub fn node_line(line: &[u8]) -> NodeLine<'_>
     ensures line { line_view result ≡ node_line line.now }
     ensures fits { IsWellRead result }
 {
-    match ask_of_words(line) {
+    match own_ask(line) {
         Some(ask) => NodeLine::Asking(ask),
         None => line_of_script(read_line(line)),
     }
@@ -56,29 +56,18 @@ fn ask_of(event: Event<'_>) -> Option<Ask<'_>>
         Event::Take => Some(Ask::Take),
         Event::TakeBypass => Some(Ask::TakeBypass),
         Event::Telemetry(digits) => Some(Ask::Telemetry(digits)),
-        Event::UpDeliver | Event::UpLose | Event::UpDamage(_) => None,
-        Event::DownDeliver | Event::DownLose | Event::DownDamage(_) | Event::DownClcw => None,
+        _ => None,
     }
 }
 
-fn ask_of_words(line: &[u8]) -> Option<Ask<'_>>
-    ensures { option_map ask_said result ≡ ask_of_words (words_in line.now) }
+// What a line that no script has asks of a node.
+fn own_ask(line: &[u8]) -> Option<Ask<'_>>
+    ensures { option_map ask_said result ≡ own_ask line.now }
 {
-    let (name, after) = cut(line, b' ');
-    let (word, after) = cut(after?, b' ');
-    match after {
-        None => ask_of_two_words(name, word),
-        Some(_) => None,
-    }
-}
-
-fn ask_of_two_words<'a>(name: &'a [u8], word: &'a [u8]) -> Option<Ask<'a>>
-    ensures { option_map ask_said result ≡ ask_of_two_words name.now word.now }
-{
-    if is(name, "frame") {
+    if let Some(word) = rest_after(line, "frame ") {
         return Some(Ask::Frame(digits_in(word)?));
     }
-    if is(name, "clcw") {
+    if let Some(word) = rest_after(line, "clcw ") {
         return Some(Ask::ControlWord(digits_in(word)?));
     }
     None

@@ -5,8 +5,8 @@ use Rattle.std.specs.List.{slice_split, position_or_len}
 use Rattle.std.proofs.lemmas.Bool.Decides.{nat_tests}
 use Rattle.std.proofs.lemmas.List.Splits.{slice_split_first, slice_split_none, length-slice_split}
 use Rattle.std.proofs.lemmas.List.Sums.{fails_before_first}
-use Rattle.script_lines.specs.Words.{words_in, lines_in}
-use Rattle.script_lines.specs.Lines.{line_of_words, ScriptLine, line_in}
+use Rattle.script_lines.specs.Words.{words_in, lines_in, two_words}
+use Rattle.script_lines.specs.Lines.{ScriptLine, line_in}
 use Rattle.script_lines.specs.Scripts.{script_in, is_action, is_refused, first_refused}
 
 module _ (p : ℕ → Bool) (xs : List ℕ) where
@@ -32,13 +32,13 @@ pub first_part : (p : ℕ → Bool) (xs : List ℕ)
     → (part : List ℕ) × (parts : List (List ℕ)) × (slice_split p xs ≡ part ∷ parts)
 first_part p xs = some_first (slice_split p xs) (omega (arith, length-slice_split p xs))
 
--- a line of four words or more says nothing
-pub four_words : (line name one first two second three : List ℕ) → words_in line ≡ name ∷ words_in one
-    → words_in one ≡ first ∷ words_in two → words_in two ≡ second ∷ words_in three
-    → line_of_words (words_in line) ≡ None
-four_words line name one first two second three e f g =
-    let more = first_part (λ (octet : ℕ). octet == 32) three in
-    rw (e, f, g, more.2) refl
+-- three words or more are not two
+pub three_words : (octets name one first two : List ℕ) → words_in octets ≡ name ∷ words_in one
+    → words_in one ≡ first ∷ words_in two → two_words octets ≡ None
+unfolding two_words
+three_words octets name one first two e f =
+    let more = first_part (λ (octet : ℕ). octet == 32) two in
+    rw (e, f, more.2) refl
 
 -- A script's lines, one after another.
 

@@ -4,7 +4,7 @@ use Rattle.hex.specs.Hex.{pair_value, value_at, ◌>>=◌}
 use Rattle.hex.specs.declared.error.FromHexError.{FromHexError}
 use Rattle.std.proofs.Common.{ap, sym, ◌∙◌, ◌≡◌, ◌<◌, ◌^◌, ℕ, Bool, true, false, ◌&&◌, List, [], ◌∷◌, length, refl}
 use Rattle.std.proofs.Common.{arith, rules, Result, Ok, Err, ◌≤◌, cond, Some, None, Option, get_or, leb, eqb, zero, suc}
-use Rattle.std.proofs.Common.{◌+◌, ◌*◌, ◌/◌, ◌%◌, ◌==◌, ◌||◌, inl, inr, slice_index, subst, ◌++◌, not}
+use Rattle.std.proofs.Common.{take, drop, ◌+◌, ◌*◌, ◌/◌, ◌%◌, ◌==◌, ◌||◌, inl, inr, slice_index, subst, ◌++◌, not}
 use Rattle.hex.proofs.HexLemmas.{decode_of-even, decode_of-ok, IsDigits-lower_digits, IsDigits-upper_digits}
 use Rattle.hex.proofs.Pairs.{cons_byte, decode_pairs-ok_pair}
 use Rattle.std.specs.Prelude.{decimal, ◌↔◌, codes, option_map, option_and_then}
@@ -14,7 +14,9 @@ use Rattle.std.proofs.lemmas.Bool.{leb-true, le-leb, and_parts, cases_lt, not-tr
 use Rattle.std.proofs.lemmas.Fmt.{decimal-digits_value, digits_value-decimal, digits_decimal, first_decimal}
 use Rattle.std.proofs.lemmas.Fmt.{decimal_nonempty, decimal_digit}
 use Rattle.std.specs.Char.{is_ascii_digit}
-use Rattle.std.specs.List.{list_all, All}
+use Rattle.std.specs.List.{list_all, All, join_with_byte}
+use Rattle.std.proofs.lemmas.List.{take-append-drop}
+use Rattle.std.proofs.lemmas.List.Splits.{join_with_byte-slice_split}
 use Rattle.std.specs.Result.{OkIff, result_ok, result_unwrap_or}
 use Rattle.std.specs.Str.{IsAscii, IsUtf8, bytes_eq}
 use Rattle.std.specs.Str.Parse.{digits_value, ParsesUnsigned}
@@ -25,7 +27,8 @@ use Rattle.std.proofs.lemmas.Grind.{common_steps}
 use Rattle.std.proofs.lemmas.Slice.Eq.{bytes_eq-Decides}
 use Rattle.std.proofs.lemmas.List.Splits.{slice_split_at, slice_split_none}
 use Rattle.std.proofs.lemmas.List.Sums.{AllPass-from_list_all}
-use Rattle.script_lines.specs.Words.{starts_well, is_numeral, number_in_word, octets_in_word, words_in}
+use Rattle.script_lines.specs.Words.{starts_well, is_numeral, number_in_word, octets_in_word, words_in, both}
+use Rattle.script_lines.specs.Words.{two_words, rest_after}
 use Rattle.script_lines.specs.Spelling.{IsHexDigit, IsPairs, no_pair, pair, IsHex, no_octets, some_octets}
 
 -- What is found where a chain of options answers.
@@ -84,8 +87,8 @@ ok_some (Err e) Q v h = h
 
 -- ---- a number is read where it is spelled as it is printed
 
-chosen : (b : Bool) (v n : ℕ) → cond b (Some v) None ≡ Some n → (b ≡ true) × (v ≡ n)
-chosen true v n e = (refl, cc e)
+chosen : {A : Type 0} (b : Bool) (v n : A) → cond b (Some v) None ≡ Some n → (b ≡ true) × (v ≡ n)
+chosen true v n e = (refl, same_Some v n e)
 chosen false v n e = cc e
 
 leads : (word : List ℕ) → starts_well word ≡ true → get_or word 0 0 ≡ 48 → length word ≡ 1
@@ -290,14 +293,30 @@ one_word word h = slice_split_none (λ (octet : ℕ). octet == 32) word (passes 
 pub more_words : (word more : List ℕ) → is_word word ≡ true → words_in (word ++ 32 ∷ more) ≡ word ∷ words_in more
 more_words word more h = slice_split_at (λ (octet : ℕ). octet == 32) word 32 more (passes word h) refl
 
-pub two_words : (name word : List ℕ) → is_word name ≡ true → is_word word ≡ true
-    → words_in (name ++ 32 ∷ word) ≡ name ∷ word ∷ []
-two_words name word h k = more_words name word h ∙ ap (λ (ws : List (List ℕ)). name ∷ ws) (one_word word k)
+pub spelled_two : (name word : List ℕ) → is_word name ≡ true → is_word word ≡ true
+    → two_words (name ++ 32 ∷ word) ≡ Some (name, word)
+unfolding two_words
+spelled_two name word h k = rw (more_words name word h, one_word word k) refl
 
-pub three_words : (name first second : List ℕ) → is_word name ≡ true → is_word first ≡ true → is_word second ≡ true
-    → words_in (name ++ 32 ∷ (first ++ 32 ∷ second)) ≡ name ∷ first ∷ second ∷ []
-three_words name first second h k l =
-    more_words name (first ++ 32 ∷ second) h ∙ ap (λ (ws : List (List ℕ)). name ∷ ws) (two_words first second k l)
+joined : (words : List (List ℕ)) (two : List ℕ × List ℕ) → both words ≡ Some two
+    → join_with_byte 32 words ≡ two.0 ++ 32 ∷ two.1
+joined (name ∷ word ∷ []) two e = ap (λ t. t.0 ++ 32 ∷ t.1) (same_Some (name, word) two e)
+joined words two e = cc e
+
+pub read_two : (octets : List ℕ) (two : List ℕ × List ℕ) → two_words octets ≡ Some two
+    → octets ≡ two.0 ++ 32 ∷ two.1
+unfolding two_words
+read_two octets two e = sym (join_with_byte-slice_split 32 octets) ∙ joined (words_in octets) two e
+
+-- what a line begins with stands before the rest
+pub begins : (words line rest : List ℕ) → rest_after words line ≡ Some rest → line ≡ words ++ rest
+unfolding rest_after
+begins words line rest e =
+    let found = chosen (bytes_eq (take (length words) line) words) (drop (length words) line) rest e in
+    sym (take-append-drop (length words) line)
+    ∙ ap (λ front. front ++ drop (length words) line)
+    ((bytes_eq-Decides (take (length words) line) words).0 found.0)
+    ∙ ap (λ back. words ++ back) found.1
 
 -- ---- numbers and octets are words
 

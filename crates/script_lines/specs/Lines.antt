@@ -1,5 +1,5 @@
 -- What each line of a script says.
-use Rattle.std.specs.Prelude.{◌≤◌, ℕ, max, ◌==◌, ◌&&◌, if◌then◌else◌, List, [], ◌∷◌, codes, Option}
+use Rattle.std.specs.Prelude.{◌≤◌, ℕ, max, ◌==◌, if◌then◌else◌, List, [], ◌∷◌, codes, Option}
 use Rattle.std.specs.Prelude.{Some, None, option_map, option_and_then, unwrap_or}
 use Rattle.std.specs.Map.{lookup}
 use Rattle.std.specs.Option.{option_or}
@@ -7,15 +7,16 @@ use Rattle.std.specs.Str.{bytes_eq}
 use denote.Bor.{Bor}
 use Rattle.cop1.specs.declared.vocabulary.Directive.TheVariants.{InitWithoutCheck, InitWithCheck}
 use Rattle.cop1.specs.declared.vocabulary.Directive.TheVariants.{InitUnlock, InitSetVr, Terminate}
-use Rattle.cop1.specs.declared.vocabulary.Directive.TheVariants.{SetVs}
-use Rattle.cop1.specs.declared.vocabulary.Directive.TheVariants.{SetWindow, SetLimit, SetTimer}
+use Rattle.cop1.specs.declared.vocabulary.Directive.TheVariants.{SetVs, SetWindow, SetLimit}
+use Rattle.cop1.specs.declared.vocabulary.Directive.TheVariants.{SetTimer}
 use Rattle.nodes.specs.declared.parameter.Parameter.{Parameter}
 use Rattle.nodes.specs.Parameters.{row_of, parameter_named}
 use Rattle.nodes.specs.declared.event.Event.{Event}
 use Rattle.nodes.specs.declared.event.Event.TheVariants as events
 use Rattle.script_lines.specs.declared.line.Line as code
 use Rattle.script_lines.specs.declared.line.Line.TheVariants as lines
-use Rattle.script_lines.specs.Words.{words_in, number_in_word, octets_in_word}
+use Rattle.script_lines.specs.Words.{number_in_word, octets_in_word, two_words, rest_after}
+use Rattle.script_lines.specs.Words.{after_words}
 
 pub data ScriptLine : Type 0 where
   -- it is empty, or a note
@@ -51,70 +52,76 @@ plain_events =
     ∷ (codes "takebypass", events.TakeBypass)
     ∷ []
 
-abbrev pub plain_line : List ℕ → Option ScriptLine
-plain_line line =
-    if bytes_eq line (codes "show") then Some Showing
-    else option_map Happening (lookup (bytes_eq line) plain_events)
+-- ---- lines that begin with words and go on with a number or octets
 
--- ---- lines of two words and of three
+-- how a line goes on after its words, and the event that it says
+pub data Form : Type 0 where
+  -- a number up to the greatest one
+  Number : (most : ℕ) → (ℕ → Event) → Form
+  Octets : (Bor (List ℕ) → Event) → Form
+  -- the number of a MAP, and octets
+  Submission : (ℕ → Bor (List ℕ) → Event) → Form
 
-abbrev pub line_of_two_words : List ℕ → List ℕ → Option ScriptLine
-line_of_two_words name word =
-    if bytes_eq name (codes "vs") then option_map
-    (λ x. Happening (events.Directive (SetVs x))) (number_in_word 255 word)
-    else if bytes_eq name (codes "window") then option_map
-    (λ x. Happening (events.Directive (SetWindow x))) (number_in_word 255 word)
-    else if bytes_eq name (codes "limit") then option_map
-    (λ x. Happening (events.Directive (SetLimit x))) (number_in_word 255 word)
-    else if bytes_eq name (codes "timer") then option_map
-    (λ x. Happening (events.Directive (SetTimer x))) (number_in_word 65535 word)
-    else if bytes_eq name (codes "resume") then option_map
-    (λ x. Happening (events.Resume x)) (number_in_word 255 word)
-    else if bytes_eq name (codes "telemetry") then option_map
-    (λ octets. Happening (events.Telemetry (borrow_of octets))) (octets_in_word word)
-    else None
+abbrev pub numbered_events : List (List ℕ × Form)
+numbered_events =
+    (codes "init set ", Number 255 (λ x. events.Directive (InitSetVr x)))
+    ∷ (codes "vs ", Number 255 (λ x. events.Directive (SetVs x)))
+    ∷ (codes "window ", Number 255 (λ x. events.Directive (SetWindow x)))
+    ∷ (codes "limit ", Number 255 (λ x. events.Directive (SetLimit x)))
+    ∷ (codes "timer ", Number 65535 (λ x. events.Directive (SetTimer x)))
+    ∷ (codes "resume ", Number 255 events.Resume)
+    ∷ []
 
--- a submission, by sequence control or past it
-abbrev pub submission_line : (ℕ → Bor (List ℕ) → Event) → List ℕ → List ℕ → Option ScriptLine
-submission_line event map word =
-    option_and_then (λ m. option_map (λ octets. Happening (event m (borrow_of octets)))
-    (octets_in_word word)) (number_in_word 255 map)
+abbrev pub worded_events : List (List ℕ × Form)
+worded_events =
+    (codes "submit ", Submission events.Submit)
+    ∷ (codes "bypass ", Submission events.Bypass)
+    ∷ (codes "up damage ", Octets events.UpDamage)
+    ∷ (codes "down damage ", Octets events.DownDamage)
+    ∷ (codes "telemetry ", Octets events.Telemetry)
+    ∷ numbered_events
+
+abbrev pub event_of_octets : (Bor (List ℕ) → Event) → List ℕ → Option Event
+event_of_octets event word = option_map (λ octets. event (borrow_of octets)) (octets_in_word word)
+
+-- the event of what stands after the words
+abbrev pub event_after : Form → List ℕ → Option Event
+event_after (Number most event) rest = option_map event (number_in_word most rest)
+event_after (Octets event) rest = event_of_octets event rest
+event_after (Submission event) rest =
+    option_and_then (λ two. option_and_then (λ map. event_of_octets (event map) two.1)
+    (number_in_word 255 two.0)) (two_words rest)
+
+-- the event of the first row with whose words a line begins
+abbrev pub event_by : List (List ℕ × Form) → List ℕ → Option Event
+event_by [] line = None
+event_by (row ∷ more) line =
+    after_words (event_after row.1) (rest_after row.0 line) (event_by more line)
+
+abbrev pub event_in : List ℕ → Option Event
+event_in line =
+    option_or (lookup (bytes_eq line) plain_events) (event_by worded_events line)
+
+-- ---- settings
 
 -- the greatest number that is readable for a parameter: 65,542, or the most of its range where
 -- that is more
 abbrev pub most_for : Parameter → ℕ
 most_for parameter = max (row_of parameter).most 65542
 
-abbrev pub setting_line : List ℕ → List ℕ → Option ScriptLine
-setting_line name word =
-    option_and_then (λ parameter. option_map (λ n. Setting parameter n)
-    (number_in_word (most_for parameter) word)) (parameter_named name)
-
-abbrev pub line_of_three_words : List ℕ → List ℕ → List ℕ → Option ScriptLine
-line_of_three_words name first second =
-    if bytes_eq name (codes "config") then setting_line first second
-    else if bytes_eq name (codes "submit") then submission_line events.Submit first second
-    else if bytes_eq name (codes "bypass") then submission_line events.Bypass first second
-    else if bytes_eq name (codes "init")
-    && bytes_eq first (codes "set") then option_map
-    (λ x. Happening (events.Directive (InitSetVr x))) (number_in_word 255 second)
-    else if bytes_eq name (codes "up")
-    && bytes_eq first (codes "damage") then option_map
-    (λ octets. Happening (events.UpDamage (borrow_of octets))) (octets_in_word second)
-    else if bytes_eq name (codes "down")
-    && bytes_eq first (codes "damage") then option_map
-    (λ octets. Happening (events.DownDamage (borrow_of octets))) (octets_in_word second)
-    else None
-
-abbrev pub line_of_words : List (List ℕ) → Option ScriptLine
-line_of_words (name ∷ word ∷ []) = line_of_two_words name word
-line_of_words (name ∷ first ∷ second ∷ []) = line_of_three_words name first second
-line_of_words words = None
+-- a parameter's name and its value
+abbrev pub setting_in : List ℕ → Option ScriptLine
+setting_in rest =
+    option_and_then (λ two. option_and_then (λ parameter. option_map (λ n. Setting parameter n)
+    (number_in_word (most_for parameter) two.1)) (parameter_named two.0)) (two_words rest)
 
 -- ---- a line
 
 abbrev pub readable_line : List ℕ → Option ScriptLine
-readable_line line = option_or (plain_line line) (line_of_words (words_in line))
+readable_line line =
+    if bytes_eq line (codes "show") then Some Showing
+    else after_words setting_in (rest_after (codes "config ") line)
+    (option_map Happening (event_in line))
 
 abbrev pub line_in : List ℕ → ScriptLine
 line_in [] = Skipped

@@ -1,14 +1,13 @@
 -- How each line of a script is spelled.
 use Rattle.std.specs.Prelude.{◌≡◌, ◌≤◌, ◌<◌, ◌/◌, ◌%◌, ◌⊎◌, ℕ, List, [], ◌∷◌, ◌++◌, codes}
 use Rattle.std.specs.Prelude.{decimal, slice_index}
+use denote.Bor.{Bor}
 use Rattle.std.specs.List.{Contains}
-use Rattle.cop1.specs.declared.vocabulary.Directive.TheVariants as directives
 use Rattle.nodes.specs.declared.parameter.Parameter.{Parameter}
 use Rattle.nodes.specs.Parameters.{row_of}
 use Rattle.nodes.specs.declared.event.Event.{Event}
-use Rattle.nodes.specs.declared.event.Event.TheVariants as events
 use Rattle.script_lines.specs.Lines.{ScriptLine, Skipped, Setting, Happening, Showing, borrow_of}
-use Rattle.script_lines.specs.Lines.{plain_events}
+use Rattle.script_lines.specs.Lines.{Form, Number, Octets, Submission, plain_events, worded_events}
 
 -- ---- HEX
 
@@ -33,40 +32,27 @@ pub data IsHex : List ℕ → List ℕ → Type 0 where
 
 -- ---- lines
 
--- The lines that say a thing. Numbers are spelled as they are printed; each parameter has those up
--- to 65,542 and those of its range.
+-- what stands after a line's words, by its form, where the line says this event. Numbers are
+-- spelled as they are printed.
+pub data Follows : Form → Event → List ℕ → Type 0 where
+  number : {most : ℕ} {event : ℕ → Event} (x : ℕ) → x ≤ most
+      → Follows (Number most event) (event x) (decimal x)
+  octets : {event : Bor (List ℕ) → Event} (octets hex : List ℕ) → IsHex octets hex
+      → Follows (Octets event) (event (borrow_of octets)) hex
+  submission : {event : ℕ → Bor (List ℕ) → Event} {said : Event} {rest : List ℕ} (map : ℕ)
+      → map ≤ 255 → Follows (Octets (event map)) said rest
+      → Follows (Submission event) said (decimal map ++ (codes " " ++ rest))
+
+-- The lines that say a thing. Each parameter has the numbers up to 65,542 and those of its range.
 pub data Spells : ScriptLine → List ℕ → Type 0 where
   empty : Spells Skipped []
   note : (text : List ℕ) → Spells Skipped (codes "#" ++ text)
   show : Spells Showing (codes "show")
   plain : (event : Event) (line : List ℕ) → Contains plain_events (line, event)
       → Spells (Happening event) line
+  worded : (words : List ℕ) (form : Form) (event : Event) (rest : List ℕ)
+      → Contains worded_events (words, form) → Follows form event rest
+      → Spells (Happening event) (words ++ rest)
   config : (parameter : Parameter) (n : ℕ) → (n ≤ 65542) ⊎ (n ≤ (row_of parameter).most)
       → Spells (Setting parameter n)
       (codes "config " ++ ((row_of parameter).name ++ (codes " " ++ decimal n)))
-  submit : (map : ℕ) (octets hex : List ℕ) → map ≤ 255 → IsHex octets hex
-      → Spells (Happening (events.Submit map (borrow_of octets)))
-      (codes "submit " ++ (decimal map ++ (codes " " ++ hex)))
-  bypass : (map : ℕ) (octets hex : List ℕ) → map ≤ 255 → IsHex octets hex
-      → Spells (Happening (events.Bypass map (borrow_of octets)))
-      (codes "bypass " ++ (decimal map ++ (codes " " ++ hex)))
-  telemetry : (octets hex : List ℕ) → IsHex octets hex
-      → Spells (Happening (events.Telemetry (borrow_of octets))) (codes "telemetry " ++ hex)
-  init_set : (x : ℕ) → x ≤ 255
-      → Spells (Happening (events.Directive (directives.InitSetVr x)))
-      (codes "init set " ++ decimal x)
-  vs : (x : ℕ) → x ≤ 255
-      → Spells (Happening (events.Directive (directives.SetVs x))) (codes "vs " ++ decimal x)
-  window : (x : ℕ) → x ≤ 255
-      → Spells (Happening (events.Directive (directives.SetWindow x)))
-      (codes "window " ++ decimal x)
-  limit : (x : ℕ) → x ≤ 255
-      → Spells (Happening (events.Directive (directives.SetLimit x))) (codes "limit " ++ decimal x)
-  timer : (x : ℕ) → x ≤ 65535
-      → Spells (Happening (events.Directive (directives.SetTimer x))) (codes "timer " ++ decimal x)
-  resume : (x : ℕ) → x ≤ 255
-      → Spells (Happening (events.Resume x)) (codes "resume " ++ decimal x)
-  up_damage : (octets hex : List ℕ) → IsHex octets hex
-      → Spells (Happening (events.UpDamage (borrow_of octets))) (codes "up damage " ++ hex)
-  down_damage : (octets hex : List ℕ) → IsHex octets hex
-      → Spells (Happening (events.DownDamage (borrow_of octets))) (codes "down damage " ++ hex)

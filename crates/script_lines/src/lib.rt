@@ -16,4 +16,4 @@ pub use line::{Line, Rest, digits_of};
 pub use pieces::cut;
 pub use reader::read_line;
 pub use scripts::{Reading, read_script};
-pub use words::{is, is_octets, number_in_word, octets_in_word, octets_of_digits};
+pub use words::{is, is_octets, number_in_word, octets_in_word, octets_of_digits, rest_after};

@@ -1,11 +1,13 @@
 // A line of a script.
 
-ghost use Rattle.std.specs.Prelude.{◌≡◌, map, option_map};
+ghost use Rattle.std.specs.Prelude.{◌≡◌, map, option_map, Some};
 ghost use Rattle.std.specs.Map.{lookup};
 ghost use Rattle.std.specs.Str.{bytes_eq};
-ghost use Rattle.script_lines.specs.Lines.{digits_of, event_said, plain_events};
+ghost use Rattle.script_lines.specs.Lines.{digits_of, event_by, event_in, event_said, numbered_events, plain_events, with_octets, worded_events};
+ghost use Rattle.script_lines.specs.Words.{number_in_word, octets_in_word};
 
-use crate::words::is;
+use crate::pieces::two_words;
+use crate::words::{is, is_octets, number_in_word, rest_after};
 use cop1::Directive;
 use nodes::{Event, Parameter};
 use std::mem::size_of;
@@ -54,8 +56,8 @@ fn beside(text: &[u8], events: &[(&str, Event<'static>)]) -> Option<Event<'stati
     Some(event)
 }
 
-/// The event of a line with neither a number nor octets.
-pub(crate) fn plain_event(line: &[u8]) -> Option<Event<'static>>
+// The event of a line with neither a number nor octets.
+fn plain_event(line: &[u8]) -> Option<Event<'static>>
     ensures { option_map event_said result ≡ lookup (bytes_eq line.now) plain_events }
 {
     let events = [
@@ -75,4 +77,82 @@ pub(crate) fn plain_event(line: &[u8]) -> Option<Event<'static>>
         ("takebypass", Event::TakeBypass),
     ];
     beside(line, &events)
+}
+
+fn byte_in(word: &[u8]) -> Option<u8>
+    ensures { result ≡ number_in_word 255 word.now }
+{
+    let number = number_in_word(word, 255)?;
+    Some(number as u8)
+}
+
+// The event of a line that ends in a number.
+fn numbered_event(line: &[u8]) -> Option<Event<'static>>
+    ensures { option_map event_said result ≡ event_by numbered_events line.now }
+{
+    if let Some(word) = rest_after(line, "init set ") {
+        return Some(Event::Directive(Directive::InitSetVr(byte_in(word)?)));
+    }
+    if let Some(word) = rest_after(line, "vs ") {
+        return Some(Event::Directive(Directive::SetVs(byte_in(word)?)));
+    }
+    if let Some(word) = rest_after(line, "window ") {
+        return Some(Event::Directive(Directive::SetWindow(byte_in(word)?)));
+    }
+    if let Some(word) = rest_after(line, "limit ") {
+        return Some(Event::Directive(Directive::SetLimit(byte_in(word)?)));
+    }
+    if let Some(word) = rest_after(line, "timer ") {
+        let ticks = number_in_word(word, 65535)?;
+        return Some(Event::Directive(Directive::SetTimer(ticks as u16)));
+    }
+    if let Some(word) = rest_after(line, "resume ") {
+        return Some(Event::Resume(byte_in(word)?));
+    }
+    None
+}
+
+// An event that carries octets, if what stands in place of them is their digits.
+fn carrying(event: Event<'_>) -> Option<Event<'_>>
+    ensures { option_map event_said result
+        ≡ option_map (λ octets. with_octets event.entry octets) (octets_in_word (digits_of event.entry)) }
+{
+    if !is_octets(digits_of(event)) {
+        return None;
+    }
+    Some(event)
+}
+
+// The event of a line that ends in octets or in a number.
+fn worded_event(line: &[u8]) -> Option<Event<'_>>
+    ensures { option_map event_said result ≡ event_by worded_events line.now }
+{
+    if let Some(rest) = rest_after(line, "submit ") {
+        let (map, digits) = two_words(rest)?;
+        return carrying(Event::Submit(byte_in(map)?, digits));
+    }
+    if let Some(rest) = rest_after(line, "bypass ") {
+        let (map, digits) = two_words(rest)?;
+        return carrying(Event::Bypass(byte_in(map)?, digits));
+    }
+    if let Some(digits) = rest_after(line, "up damage ") {
+        return carrying(Event::UpDamage(digits));
+    }
+    if let Some(digits) = rest_after(line, "down damage ") {
+        return carrying(Event::DownDamage(digits));
+    }
+    if let Some(digits) = rest_after(line, "telemetry ") {
+        return carrying(Event::Telemetry(digits));
+    }
+    numbered_event(line)
+}
+
+/// The event that a line says.
+pub(crate) fn event_in(line: &[u8]) -> Option<Event<'_>>
+    ensures { option_map event_said result ≡ event_in line.now }
+{
+    match plain_event(line) {
+        Some(event) => Some(event),
+        None => worded_event(line),
+    }
 }

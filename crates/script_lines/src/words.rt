@@ -1,12 +1,12 @@
 // Numbers and octets as words.
 
-ghost use Rattle.std.specs.Prelude.{◌≡◌, ◌≤◌, ◌<◌, ◌^◌, true, is_some, option_map, Ok, None, IfOk, IfSome, SomeIff};
+ghost use Rattle.std.specs.Prelude.{◌≡◌, ◌≤◌, ◌<◌, ◌^◌, true, is_some, option_copied, option_map, Ok, None, IfOk, IfSome, SomeIff};
 ghost use Rattle.std.specs.Result.{result_ok};
 ghost use Rattle.std.specs.Str.{bytes_eq};
 ghost use Rattle.std.specs.Str.Parse.{digits_value};
 ghost use Rattle.hex.specs.Hex.{is_hex_digit, decode_of};
 ghost use Rattle.script_lines.specs.Lines.{octets_of_digits};
-ghost use Rattle.script_lines.specs.Words.{starts_well, is_numeral, number_in_word, octets_in_word};
+ghost use Rattle.script_lines.specs.Words.{starts_well, is_numeral, number_in_word, octets_in_word, rest_after};
 
 use std::alloc::{AllocError, Global};
 use std::str;
@@ -16,6 +16,14 @@ pub fn is(word: &[u8], text: &str) -> bool
     ensures { result ≡ bytes_eq word.now text.now }
 {
     word == text.as_bytes()
+}
+
+/// What stands after these words, where a line begins with them.
+#[tactic(auto, unfolding(crate::specs::Words::rest_after))]
+pub fn rest_after<'a>(line: &'a [u8], words: &str) -> Option<&'a [u8]>
+    ensures { option_copied result ≡ rest_after words.now line.now }
+{
+    line.strip_prefix(words.as_bytes())
 }
 
 // Whether a word is not empty and, but for a single one, begins with no zero.

@@ -30,7 +30,7 @@ use Rattle.nodes.specs.Packets.{PacketOn, put_on_map}
 use Rattle.nodes.specs.Spacecraft.{SpacecraftEvent, Receive, Take, TakeBypass, Report, spacecraft_step, after_farm}
 use Rattle.nodes.specs.Spacecraft.{Telemetry as Queue, is_accepted, assemble_step, spacecraft_take}
 use Rattle.nodes.specs.Spacecraft.{spacecraft_take_bypass}
-use Rattle.tc_link.specs.Configured.{AreAlike, made_of, ground_with, ground_outcome_with, spacecraft_with}
+use Rattle.tc_link.specs.Configured.{made_of, seen_on_board, ground_with, ground_outcome_with, spacecraft_with}
 use Rattle.tc_link.specs.Configured.{spacecraft_outcome_with, IsSpacecraftAs, AlikeIsAsOne}
 use Rattle.nodes.specs.Fates.{whole_with}
 use Rattle.tc_link.proofs.Refilled.{refilled_keeps}
@@ -43,9 +43,9 @@ either f false same other = other
 
 -- ---- the ground reads neither of the slots on board
 
-module _ (g : Config) (ready bypass : ℕ) where
+module _ (g b : Config) where
   abbrev c : Config
-  c = record g { ready_slots = ready; bypass_slots = bypass }
+  c = made_of g b
 
   moved_as : (s : GroundState) (waiting : Option SegmentView) (pending : List SegmentView)
       → after_moving_up (ground_with g s) waiting pending
@@ -152,9 +152,9 @@ module _ (g : Config) (ready bypass : ℕ) where
 
 -- ---- the spacecraft reads nothing of what the sender and cutting keep to
 
-module _ (b : Config) (window limit timer part queue_slots : ℕ) where
+module _ (g b : Config) where
   abbrev d : Config
-  d = record b { window = window; limit = limit; timer = timer; part = part; queue_slots = queue_slots }
+  d = seen_on_board g b
 
   cell_as : (flags : SegmentFlags) (before : Option (List ℕ)) (octets : List ℕ)
       → cell (limits_of b) flags before octets ≡ cell (limits_of d) flags before octets
@@ -245,29 +245,15 @@ module _ (b : Config) (window limit timer part queue_slots : ℕ) where
 
 -- ---- both
 
-module _ (g b : Config) (k : AreAlike g b) where
-  -- one configuration, as the spacecraft's with the ground's values of what the spacecraft does not read
-  abbrev as_board : Config
-  as_board = d b g.window g.limit g.timer g.part g.queue_slots
-
-  is_board : as_board ≡ made_of g b
-  is_board = rw (k.scid, k.vcid, k.tm_vcid, k.width, k.max_packet, k.maps, k.frame_length, k.blocking) refl
-
-  board : IsSpacecraftAs b as_board
-  board = record {
-    new = refl;
-    steps = spacecraft_as b g.window g.limit g.timer g.part g.queue_slots;
-  }
-
-  made_ranges : IsConfig g → IsConfig b → IsConfig (made_of g b)
-  made_ranges up on_board =
-      let ready_slots = on_board.ready_slots in
-      let bypass_slots = on_board.bypass_slots in
-      assumption (ready_slots, bypass_slots, up)
+made_ranges : (g b : Config) → IsConfig g → IsConfig b → IsConfig (made_of g b)
+made_ranges g b up on_board =
+    let ready_slots = on_board.ready_slots in
+    let bypass_slots = on_board.bypass_slots in
+    assumption (ready_slots, bypass_slots, up)
 
 pub alike_is_as_one : AlikeIsAsOne
-alike_is_as_one g b k = record {
-  ranges = made_ranges g b k;
-  as_ground = record { new = refl; steps = ground_as g b.ready_slots b.bypass_slots };
-  as_spacecraft = subst (IsSpacecraftAs b) (is_board g b k) (board g b k);
+alike_is_as_one g b alike = record {
+  ranges = made_ranges g b;
+  as_ground = record { new = refl; steps = ground_as g b };
+  as_spacecraft = subst (IsSpacecraftAs b) alike (record { new = refl; steps = spacecraft_as g b });
 }

@@ -1,22 +1,21 @@
 -- The ground's account of the submissions of a session is that of the records.
 use Rattle.tc_link.proofs.Common.{◌≡◌, ℕ, ◌+◌, ◌%◌, ◌/◌, ◌<◌, ◌≤◌, ◌⊎◌, inl, inr, true, false, List, [], ◌∷◌, ◌++◌}
-use Rattle.tc_link.proofs.Common.{length, map, Option, Some, None, Result, Ok, Err, refl, ap, sym, subst, ◌∙◌, arith}
+use Rattle.tc_link.proofs.Common.{length, map, Option, Some, None, Result, Ok, refl, ap, sym, subst, ◌∙◌, arith}
 use Rattle.tc_link.proofs.Common.{length-append, length-map, AllByRecursion, SegmentView, CopFault, Alert, Directive}
 use Rattle.tc_link.proofs.Common.{InitWithoutCheck, InitWithCheck, InitUnlock, InitSetVr, directive_step, FopState}
-use Rattle.tc_link.proofs.Common.{FopOutcome, FopMode, is_initiation, is_closed, Config, GroundState, refill_step}
+use Rattle.tc_link.proofs.Common.{FopOutcome, is_initiation, is_closed, Config, GroundState, refill_step}
 use Rattle.tc_link.proofs.Common.{with_fop, directive_outcome, segments_on, segments_of, after_submission, clcw_step}
 use Rattle.tc_link.proofs.Common.{submitting, ahead_by, PacketOn, Event, World, WorldOutcome, world_step, world_run}
 use Rattle.tc_link.proofs.Common.{KeepsSession, world_after_directive, BeginsNoSession, IsIdle, IsSettled, IsEvent}
 use Rattle.tc_link.proofs.Common.{accepted, directive_of, option_map, Opening, IsChecking, closed_is, HasPlainHistory}
-use Rattle.tc_link.proofs.Common.{obeyed, begun, packet_on}
+use Rattle.tc_link.proofs.Common.{obeyed, begun, packet_on, after_alert}
+use Rattle.cop1.proofs.Cases.{obeyed_set}
 use Rattle.tc_link.specs.Confirmation.{IsChecked}
-use Rattle.std.specs.Prelude.{◌^◌, ◌==◌}
+use Rattle.std.specs.Prelude.{◌^◌, ◌==◌, ◌≢◌}
 use Rattle.std.specs.List.{flat_map}
-use Rattle.cop1.specs.declared.vocabulary.Directive.TheVariants.{Terminate, SetVs, SetWindow, SetLimit, SetTimer}
-use Rattle.cop1.specs.declared.vocabulary.FopMode.TheVariants.{S6}
-use Rattle.cop1.specs.declared.fault.CopFault.TheVariants.{WrongState}
+use Rattle.cop1.specs.declared.vocabulary.Directive.TheVariants.{Terminate, SetVs}
+use Rattle.cop1.specs.declared.vocabulary.Alert.TheVariants.{Terminated}
 use Rattle.cop1.specs.Accepted.{accepted_beyond}
-use Rattle.cop1.specs.FopDirective.{from_S6, refuses}
 use Rattle.nodes.specs.Fates.{Fates, left_after, whole_within, whole_with, new_fates, with_submission}
 use Rattle.nodes.specs.Fates.{after_acknowledging, after_obeying, kept_after, submitted as submissions_of}
 use Rattle.nodes.specs.Ground.{moved_by, after_report, after_directive, known_on_board, sent_beyond}
@@ -122,10 +121,9 @@ with_report s f =
 
 -- ---- a directive that begins no session, and sets no number
 
-off_refused : (s : FopState SegmentView) (m : FopMode) (next : FopState SegmentView) → is_closed m ≡ false
-    → from_S6 s m next ≡ refuses s WrongState
-off_refused s S6 next on = absurd cc
-off_refused s _ next on = refl
+counts_on : (d : Directive) → is_initiation d ≡ false → ((x : ℕ) → d ≢ SetVs x) → kept_after d ≡ None
+counts_on (SetVs x) plain other = absurd (other x refl)
+counts_on _ plain other = cc plain
 
 abbrev KeepsAccount : World → WorldOutcome → Type 0
 KeepsAccount w o =
@@ -134,32 +132,30 @@ KeepsAccount w o =
 
 module _ (w : World) where
   obeyed_keeps : (d : Directive) → kept_after d ≡ None → is_initiation d ≡ false
-      → (r : Result (Option Alert) CopFault) (f : FopState SegmentView)
-      → KeepsAccount w (world_after_directive w d (record { answer = r; after = after_directive w.ground_node d r f }))
-  obeyed_keeps d none plain (Err fault) f = (refl, refl, refl)
-  obeyed_keeps d none plain (Ok alert) f =
+      → (alert : Option Alert) (f : FopState SegmentView)
+      → KeepsAccount w (world_after_directive w d
+      (record { answer = Ok alert; after = after_directive w.ground_node d (Ok alert) f }))
+  obeyed_keeps d none plain alert f =
       let fates : after_obeying w.ground_node.fates d ≡ w.ground_node.fates = rw none refl in (
         with_fates (record w.ground_node { fates = after_obeying w.ground_node.fates d }) f ∙ fates,
         rw plain refl,
         rw plain refl,
       )
 
-  refused_keeps : (d : Directive) → directive_step w.ground_node.fop d ≡ refuses w.ground_node.fop WrongState
-      → KeepsAccount w (world_after_directive w d
-      (directive_outcome w.ground_node d (directive_step w.ground_node.fop d)))
-  refused_keeps d is =
-      subst (λ o. KeepsAccount w (world_after_directive w d (directive_outcome w.ground_node d o))) (sym is)
-      (refl, refl, refl)
+  abbrev Keeps : Directive → FopOutcome SegmentView (Result (Option Alert) CopFault) → Type 0
+  Keeps d o =
+      BeginsNoSession w (events.Directive d) → SetsNoNumber w (events.Directive d)
+      → KeepsAccount w (world_after_directive w d (directive_outcome w.ground_node d o))
 
-  directive_keeps : (d : Directive) → BeginsNoSession w (events.Directive d) → SetsNoNumber w (events.Directive d)
-      → KeepsAccount w (world_step w (events.Directive d))
-  directive_keeps (SetVs x) goes quiet =
-      refused_keeps (SetVs x) (off_refused _ w.ground_node.fop.state _ (quiet x refl))
-  directive_keeps Terminate goes quiet = obeyed_keeps Terminate refl refl _ _
-  directive_keeps (SetWindow x) goes quiet = obeyed_keeps (SetWindow x) refl refl _ _
-  directive_keeps (SetLimit x) goes quiet = obeyed_keeps (SetLimit x) refl refl _ _
-  directive_keeps (SetTimer x) goes quiet = obeyed_keeps (SetTimer x) refl refl _ _
-  directive_keeps d goes quiet = refused_keeps d (off_refused _ w.ground_node.fop.state _ (goes refl))
+  directive_keeps : (d : Directive) → Keeps d (directive_step w.ground_node.fop d)
+  directive_keeps = obeyed_set w.ground_node.fop Keeps (record {
+    refused = λ d fault on goes quiet. (refl, refl, refl);
+    begins = λ d is off goes quiet. absurd (cc (goes is, off));
+    terminated = λ goes quiet. obeyed_keeps Terminate refl refl (Some Terminated) (after_alert w.ground_node.fop);
+    numbers = λ x off goes quiet. absurd (cc (quiet x refl, off));
+    sets = λ d k n ticks plain set goes quiet. obeyed_keeps d (counts_on d plain set.plain) plain None
+        (record w.ground_node.fop { window = k; limit = n; timer = ticks });
+  })
 
 -- ---- one event
 

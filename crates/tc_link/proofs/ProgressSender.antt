@@ -15,18 +15,17 @@ use Rattle.tc_link.proofs.Common.{after_count, due_again, begun, InitWithoutChec
 use Rattle.tc_link.proofs.Common.{Open, Wait, FarmState, FlagsAgree, state_of, after_unlock, after_set_vr}
 use Rattle.tc_link.proofs.Common.{after_release, Verdict, Accepted, NoBuffer, verdict_of}
 use Rattle.tc_link.proofs.Common.{SpacecraftState, body_outcome, sequence_outcome, bypass_outcome, is_free, is_kept}
-use Rattle.tc_link.proofs.Common.{limits_of, Unlock, SetVr, or_parts}
+use Rattle.cop1.proofs.Cases.{obeyed_set}
+use Rattle.tc_link.proofs.Common.{limits_of, Unlock, SetVr}
 use Rattle.std.proofs.lemmas.Bool.{not-true}
-use Rattle.std.specs.Prelude.{IsSome, ◌&&◌, ◌||◌, nat_le, ◌/◌}
+use Rattle.std.specs.Prelude.{IsSome, ◌&&◌, nat_le, ◌/◌}
 use Rattle.std.proofs.Math.Seq.{drop-nil}
 use Rattle.cop1.specs.declared.vocabulary.Alert.TheVariants as alarms
 use Rattle.cop1.specs.declared.vocabulary.Alert.TheVariants.{Clcw as ClcwAlert, Limit, Timer}
 use Rattle.cop1.specs.FopReport.{nothing_new, move_on, ask_for_others, ask_for_all, goes_back_again, ticks_for}
 use Rattle.cop1.specs.FopTick.{tick_with, timer_ended, while_below}
 use Rattle.cop1.specs.FopWords.{is_outside, after_gone}
-use Rattle.cop1.specs.declared.vocabulary.Directive.TheVariants.{Terminate, SetWindow, SetLimit, SetTimer}
 use Rattle.cop1.specs.Farm.{ad_verdict, place_at}
-use Rattle.cop1.specs.FopDirective.{obeys, from_S6, terminate_in}
 use Rattle.cop1.specs.Units.{is_none_sent}
 use Rattle.nodes.specs.declared.event.Event.TheVariants as events
 use Rattle.nodes.specs.Packets.{put_on_map}
@@ -538,30 +537,15 @@ module _ (s : FopState SegmentView) (k : Timed s) where
   begun_timed (InitSetVr x) = timed_empty (begun s (InitSetVr x)) refl (λ e. tt) k.timer (omega arith) k.window
   begun_timed _ = k
 
-  from_timed : (m : FopMode) (next : FopState SegmentView) → Timed next → Times (from_S6 s m next)
-  from_timed S6 next is = is
-  from_timed _ next is = k
-
-  terminated_timed : (m : FopMode) → Times (terminate_in s m)
-  terminated_timed S6 = k
-  terminated_timed _ = gives_up s refl k.count refl
-
   directive_timed : (d : Directive) → Times (directive_step s d)
-  directive_timed Terminate = terminated_timed s.state
-  directive_timed (SetVs x) =
-      from_timed s.state (record s { vs = x; nn = x })
-      (same_as (record s { vs = x; nn = x }) refl refl refl refl refl k.timer k.window)
-  directive_timed (SetWindow n) =
-      cond_both ((n == 0) || nat_lt s.room n) _ (obeys (record s { window = n })) (λ o. Times o) (λ t. k)
-      (λ t. same_as (record s { window = n }) refl refl refl refl refl k.timer
-      (omega (arith, eqb-false n 0 (or_parts (n == 0) (nat_lt s.room n) t).0)))
-  directive_timed (SetLimit n) =
-      cond_both (n == 0) _ (obeys (record s { limit = n })) (λ o. Times o) (λ t. k)
-      (λ t. same_as (record s { limit = n }) refl refl refl refl refl k.timer k.window)
-  directive_timed (SetTimer n) =
-      cond_both (n == 0) _ (obeys (record s { timer = n })) (λ o. Times o) (λ t. k)
-      (λ t. same_as (record s { timer = n }) refl refl refl refl refl (omega (arith, eqb-false n 0 t)) k.window)
-  directive_timed d = from_timed s.state (begun s d) (begun_timed d)
+  directive_timed = obeyed_set s (λ d o. Times o) (record {
+    refused = λ d fault on. k;
+    begins = λ d is off. begun_timed d;
+    terminated = gives_up s refl k.count refl;
+    numbers = λ x off. same_as (record s { vs = x; nn = x }) refl refl refl refl refl k.timer k.window;
+    sets = λ d size n ticks plain set. same_as (record s { window = size; limit = n; timer = ticks }) refl refl refl
+        refl refl (omega (arith, set.timer, k.timer)) (omega (arith, set.window, k.window));
+  })
 
 -- whatever waits
 queued_timed : (f : FopState SegmentView) (waiting : Option SegmentView) (bypass : List SegmentView) → Timed f

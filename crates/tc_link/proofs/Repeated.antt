@@ -1,25 +1,25 @@
 -- A report that comes again, and no other since, changes nothing.
 use Rattle.tc_link.proofs.Common.{◌≡◌, ◌≢◌, ◌≤◌, ◌<◌, ℕ, Bool, true, false, List, [], ◌∷◌, Option, Some, None, refl}
 use Rattle.tc_link.proofs.Common.{Result, Ok, Err, Idle, not, ◌+◌, ◌%◌, ◌∙◌, sym, ap, subst, arith, cond_both, eqb-true}
-use Rattle.tc_link.proofs.Common.{eq-eqb, ne_eqb, not-false, ltb-true, nat_lt, ◌==◌, ◌||◌, Clcw, ClcwFault, SegmentView}
+use Rattle.tc_link.proofs.Common.{eq-eqb, ne_eqb, not-false, ltb-true, nat_lt, ◌==◌, Clcw, ClcwFault, SegmentView}
 use Rattle.tc_link.proofs.Common.{Directive, InitWithoutCheck, InitWithCheck, InitUnlock, InitSetVr, S1, S2, S3, S4, S5}
 use Rattle.tc_link.proofs.Common.{S6, FopMode, FopState, FopOutcome, Alert, CopFault, IsActive, NnR, Synch, Limit}
 use Rattle.tc_link.proofs.Common.{locks, waits, asks, confirms, clcw_step, report_in, report_while_active}
 use Rattle.tc_link.proofs.Common.{after_new_value, retransmits, goes_on, alerts, after_alert, ahead_by, ticked}
+use Rattle.cop1.proofs.Cases.{obeyed_set}
 use Rattle.tc_link.proofs.Common.{pulled_out, heard_active, obeyed, begun, is_initiation, tick_step, pull_step}
 use Rattle.tc_link.proofs.Common.{directive_step, Config, IsConfig, GroundState, GroundOutcome, is_closed}
 use Rattle.tc_link.proofs.Common.{telemetry_outcome, obeying, acknowledging, and_parts, extract_step}
-use Rattle.tc_link.proofs.Common.{refill_step}
+use Rattle.tc_link.proofs.Common.{refill_step, inl, inr}
 use Rattle.tc_link.proofs.Common.{after_extraction, TmFault, Fates, after_report, with_submission}
 use Rattle.std.specs.Prelude.{◌&&◌, ◌/◌, IfOk, slice_index}
 use Rattle.std.proofs.lemmas.Bool.{not-true}
 use Rattle.octets.specs.Number.{IsOctets}
 use Rattle.clcw.specs.Decoding.{clcw_at}
-use Rattle.cop1.specs.FopDirective.{from_S6, terminate_in}
 use Rattle.cop1.specs.FopReport.{nothing_new, move_on, ask_for_others, ask_for_all, goes_back_again}
 use Rattle.cop1.specs.FopWords.{is_outside, after_gone}
 use Rattle.cop1.specs.declared.vocabulary.Alert.TheVariants.{Lockout, Clcw as ClcwAlert}
-use Rattle.cop1.specs.declared.vocabulary.Directive.TheVariants.{Terminate, SetVs, SetWindow, SetLimit, SetTimer}
+use Rattle.cop1.specs.declared.vocabulary.Directive.TheVariants.{SetVs, SetLimit}
 use Rattle.tm_link.specs.Decoding.{frame_at}
 use Rattle.simulated_link.proofs.Counted.{reported}
 use Rattle.tm_link.specs.Layout.{FrameView}
@@ -372,39 +372,26 @@ module _ (r : Clcw) (octet : r.value < 256) (s : FopState SegmentView) (usual : 
   tick_known : KnownTo (tick_step s).after r
   tick_known = ticked s (λ o. KnownTo o.after r) (assumption k)
 
-  -- a directive in S6, which does not begin a session
-  set_known : (x : ℕ) (m : FopMode) → s.state ≡ m
-      → KnownTo (from_S6 s m (record s { vs = x; nn = x })).after r
-  set_known x S6 is = rw is tt
-  set_known x _ is = k
-
-  not_begun : (m : FopMode) (next : FopState SegmentView) → is_closed m ≡ false → KnownTo (from_S6 s m next).after r
-  not_begun S6 next on = absurd cc
-  not_begun _ next on = k
-
-  ended_known : (m : FopMode) → KnownTo (terminate_in s m).after r
-  ended_known S6 = k
-  ended_known _ = tt
-
   limited : (n : ℕ) (m : FopMode) → (n == 1) ≡ false → Known m s.vs s.nn s.limit r → Known m s.vs s.nn n r
   limited n S2 several k = assumption (several, k)
   limited n S3 several k = assumption (several, k)
   limited n _ several k = k
 
-  direct_known : (d : Directive) → (is_initiation d ≡ true → is_closed s.state ≡ false) → d ≢ SetLimit 1
-      → KnownTo (directive_step s d).after r
-  direct_known Terminate on other = ended_known s.state
-  direct_known (SetVs x) on other = set_known x s.state refl
-  direct_known (SetWindow n) on other =
-      cond_both ((n == 0) || nat_lt s.room n) _ _ (λ (o : FopOutcome SegmentView (Result (Option Alert) CopFault)).
-      KnownTo o.after r) (λ t. k) (λ t. k)
-  direct_known (SetLimit n) on other =
-      cond_both (n == 0) _ _ (λ (o : FopOutcome SegmentView (Result (Option Alert) CopFault)). KnownTo o.after r)
-      (λ t. k) (λ t. limited n s.state (ne_eqb n 1 (λ e. other (ap SetLimit e))) k)
-  direct_known (SetTimer n) on other =
-      cond_both (n == 0) _ _ (λ (o : FopOutcome SegmentView (Result (Option Alert) CopFault)). KnownTo o.after r)
-      (λ t. k) (λ t. k)
-  direct_known _ on other = not_begun s.state _ (on refl)
+  -- a directive that begins no session, and does not set the limit to 1
+  abbrev Calmly : Directive → FopOutcome SegmentView (Result (Option Alert) CopFault) → Type 0
+  Calmly d o = (is_initiation d ≡ true → is_closed s.state ≡ false) → d ≢ SetLimit 1 → KnownTo o.after r
+
+  direct_known : (d : Directive) → Calmly d (directive_step s d)
+  direct_known = obeyed_set s Calmly (record {
+    refused = λ d fault goes on other. k;
+    begins = λ d is off on other. absurd (cc (on is, off));
+    terminated = λ on other. tt;
+    numbers = λ x off on other. rw off tt;
+    sets = λ d size n ticks plain set on other. elim set.limit [
+      | inl same ↦ rw same k
+      | inr is ↦ limited n s.state (ne_eqb n 1 (λ e. other (is ∙ ap SetLimit e))) k
+    ];
+  })
 
 -- ---- the ground
 

@@ -6,17 +6,6 @@ use Rattle.nodes.specs.Parameters.{IsConfig}
 use Rattle.nodes.specs.Spacecraft.{SpacecraftState, SpacecraftOutcome, SpacecraftEvent}
 use Rattle.nodes.specs.Spacecraft.{new_spacecraft, spacecraft_step}
 
--- the configurations of both nodes agree in the fields that both read
-pub record AreAlike (at_ground on_board : Config) : Type 0 where
-  pub scid : at_ground.scid ≡ on_board.scid
-  pub vcid : at_ground.vcid ≡ on_board.vcid
-  pub tm_vcid : at_ground.tm_vcid ≡ on_board.tm_vcid
-  pub width : at_ground.width ≡ on_board.width
-  pub max_packet : at_ground.max_packet ≡ on_board.max_packet
-  pub maps : at_ground.maps ≡ on_board.maps
-  pub frame_length : at_ground.frame_length ≡ on_board.frame_length
-  pub blocking : at_ground.blocking ≡ on_board.blocking
-
 -- one configuration, made of both: the slots on board are the spacecraft's, and all else is the
 -- ground's
 abbrev pub made_of : Config → Config → Config
@@ -24,6 +13,20 @@ made_of at_ground on_board = record at_ground {
   ready_slots = on_board.ready_slots;
   bypass_slots = on_board.bypass_slots;
 }
+
+-- the spacecraft's configuration, with the ground's values of what the ground alone reads
+abbrev pub seen_on_board : Config → Config → Config
+seen_on_board at_ground on_board = record on_board {
+  window = at_ground.window;
+  limit = at_ground.limit;
+  timer = at_ground.timer;
+  part = at_ground.part;
+  queue_slots = at_ground.queue_slots;
+}
+
+-- the configurations of both nodes agree in the fields that both read, which are all others
+abbrev pub AreAlike : Config → Config → Type 0
+AreAlike at_ground on_board = seen_on_board at_ground on_board ≡ made_of at_ground on_board
 
 -- a node with another configuration, and what it answers then
 abbrev pub ground_with : Config → GroundState → GroundState

@@ -114,11 +114,9 @@ pub fn law_of_repetition()
     ensures frames { RepeatsNothingOfFrames }
 {}
 
-/// Two nodes need not have one configuration. Where those of the ground and of the spacecraft have the
-/// same `scid`, `vcid`, `tm_vcid`, `width`, `max_packet`, `maps`, `frame_length` and `blocking`, each node
-/// answers each call as with one configuration that is made of both, and is left the same but for its
-/// own. The ground does not read `ready_slots` and `bypass_slots`; the spacecraft does not read `window`,
-/// `limit`, `timer`, `part` and `queue_slots`.
+/// Two nodes need not have one configuration. Where those of the ground and of the spacecraft have the same
+/// values of the fields that both read (`AreAlike`), each node answers each call as with one configuration
+/// that is made of both (`made_of`), and is left the same but for its own.
 pub fn law_of_configurations()
     ensures { AlikeIsAsOne }
 {}

@@ -83,9 +83,8 @@ impl Sim {
     /// start too, as a clean one had; and what is delivered there is, without blocking, the packets all
     /// of whose segments were accepted (`from_idle`). In any session the node that a frame is on its way
     /// to can read it. docs/PROMISES.md states each of these.
-    /// Faults: 7 NothingInTransit, then 8 NotDetectable, then 6 Memory. Memory: yes; none for losing,
-    /// damaging, a CLCW by itself, ticks, directives, resuming and taking. Cost: that of the nodes' calls;
-    /// where a session begins also the records released.
+    /// Faults: 7 NothingInTransit, then 8 NotDetectable, then 6 Memory. Memory: as of `World::step`. Cost:
+    /// that of the nodes' calls; where a session begins also the records released.
     pub fn step(&mut self, event: Event<'_>) -> Result<Reply, SimFault>
         ensures reply { IfOk result (IsReplyTo self.old.world event.entry) }
         ensures after { OnOk result
