@@ -1,6 +1,6 @@
 // The simulated link by the lines of scripts (docs/PROFILE.md, "Scripts of the simulated link"): lines are read here and
 // answered in the words of `tctool sim`. What happens is the library's.
-import { defaults as DEFAULTS, numbers as n } from './calls.mjs';
+import { defaults as DEFAULTS, lines, numbers as n } from './calls.mjs';
 
 export { DEFAULTS };
 const NONE = new Uint8Array(0);
@@ -22,48 +22,19 @@ function numberOf(digits, most) {
     return Number(digits);
 }
 
-// The words before a number, with the directive that has it, and the most that it may be.
-const NUMBERED = {
-    'init set': [n.SEDGE_INIT_SET_VR, 255], vs: [n.SEDGE_SET_VS, 255], window: [n.SEDGE_SET_WINDOW, 255],
-    limit: [n.SEDGE_SET_LIMIT, 255], timer: [n.SEDGE_SET_TIMER, 65535],
-};
-// The words before octets.
-const WITH_OCTETS = {
-    'up damage': n.SEDGE_EVENT_UP_DAMAGE, 'down damage': n.SEDGE_EVENT_DOWN_DAMAGE, telemetry: n.SEDGE_EVENT_TELEMETRY,
-};
-const WITH_MAP = { submit: n.SEDGE_EVENT_SUBMIT, bypass: n.SEDGE_EVENT_BYPASS };
-// Lines without a number or octets: those of directives, and one for each event that has neither, by its name.
-const WITH_MORE = [
-    n.SEDGE_EVENT_DIRECTIVE, n.SEDGE_EVENT_RESUME, ...Object.values(WITH_OCTETS), ...Object.values(WITH_MAP),
-];
-const PLAIN = {
-    show: { kind: 0 },
-    terminate: { kind: n.SEDGE_EVENT_DIRECTIVE, directive: n.SEDGE_TERMINATE },
-    'init none': { kind: n.SEDGE_EVENT_DIRECTIVE, directive: n.SEDGE_INIT_WITHOUT_CHECK },
-    'init check': { kind: n.SEDGE_EVENT_DIRECTIVE, directive: n.SEDGE_INIT_WITH_CHECK },
-    'init unlock': { kind: n.SEDGE_EVENT_DIRECTIVE, directive: n.SEDGE_INIT_UNLOCK },
-};
-for (const [name, kind] of Object.entries(n)) {
-    const own = name.match(/^SEDGE_EVENT_(UP_|DOWN_)?(\w+)$/)?.slice(1).map((it = '') => it.toLowerCase());
-    if (own && !WITH_MORE.includes(kind)) PLAIN[own[0].replace('_', ' ') + own[1].replaceAll('_', '')] = { kind };
-}
-
 // The event of a line; null where it is unreadable.
 export function eventOf(line) {
-    if (Object.hasOwn(PLAIN, line)) return { octets: NONE, ...PLAIN[line] };
-    const words = line.split(' '), last = words.pop(), first = words.join(' ');
-    if (Object.hasOwn(NUMBERED, first)) {
-        const [directive, most] = NUMBERED[first], value = numberOf(last, most);
-        return value === null ? null : { kind: n.SEDGE_EVENT_DIRECTIVE, directive, value, octets: NONE };
+    if (line === 'show') return { kind: 0, octets: NONE };
+    for (const [words, kind, directive, form, most] of lines) {
+        if (form === '' && line === words) return { kind, directive, octets: NONE };
+        if (form === '' || !line.startsWith(`${words} `)) continue;
+        const rest = line.slice(words.length + 1).split(' '), last = rest.pop();
+        const map = form === 'Submission' ? numberOf(rest.shift(), 255) : 0;
+        const value = form === 'Number' ? numberOf(last, most) : 0, octets = form === 'Number' ? NONE : octetsOf(last);
+        const isReadable = rest.length === 0 && map !== null && value !== null && octets !== null;
+        return isReadable ? { kind, directive, value, map, octets } : null;
     }
-    if (first === 'resume') {
-        const value = numberOf(last, 255);
-        return value === null ? null : { kind: n.SEDGE_EVENT_RESUME, value, octets: NONE };
-    }
-    const octets = octetsOf(last);
-    if (Object.hasOwn(WITH_OCTETS, first)) return octets && { kind: WITH_OCTETS[first], octets };
-    const map = words.length === 2 && Object.hasOwn(WITH_MAP, words[0]) ? numberOf(words[1], 255) : null;
-    return map === null ? null : octets && { kind: WITH_MAP[words[0]], map, octets };
+    return null;
 }
 
 // A script: its managed parameters, and its lines with their events. An Error says which line is unreadable.
