@@ -1,4 +1,4 @@
-use Rattle.std.proofs.Common.{refl, arith}
+use Rattle.std.proofs.Common.{refl}
 use Rattle.octets.specs.Check.{check_of, remainder}
 use Rattle.octets.specs.Records.{records_of, rest_of}
 use Rattle.space_packet.specs.Decoding.{extent_at, packet_at}
@@ -6,6 +6,7 @@ use Rattle.clcw.specs.Decoding.{clcw_at}
 use Rattle.tc_frame.specs.Decoding as tc
 use Rattle.map_service.specs.Cutting.{groups_of, pieces_of}
 use Rattle.tm_link.specs.Decoding as tm
+use Rattle.nodes.proofs.InRange.{config_is}
 use Rattle.tc_link.proofs.premises.law_of_premises.Goals as goal
 
 -- the runs, computed
@@ -54,20 +55,4 @@ pub returns-clause-outage : goal.returns-clause-outage
 returns-clause-outage = runs.8
 
 pub returns-clause-ranges : goal.returns-clause-ranges
-returns-clause-ranges c = record {
-  scid = omega arith;
-  vcid = omega arith;
-  tm_vcid = omega arith;
-  even = refl;
-  width = (omega arith, omega arith);
-  window = (omega arith, omega arith);
-  limit = (omega arith, omega arith);
-  timer = (omega arith, omega arith);
-  part = (omega arith, omega arith);
-  max_packet = (omega arith, omega arith);
-  ready_slots = (omega arith, omega arith);
-  bypass_slots = (omega arith, omega arith);
-  queue_slots = (omega arith, omega arith);
-  frame_length = (omega arith, omega arith);
-  blocking = omega arith;
-}
+returns-clause-ranges c = config_is _ refl
