@@ -7,7 +7,7 @@ import typing
 
 from exports import camel, snake, structs
 from items import text_of
-from made import parameter_rows
+from made import Refused, parameter_rows
 from meanings import enumerations, meanings
 
 INLINE = re.compile(r"^static inline [\w ]+ \*?sedge_(\w+)\(", re.M)
@@ -115,6 +115,14 @@ def directives(headers):
                         faults[int(number)])
 
 
+def in_place(place, made, text):
+    """A text with what is made in the first place of this kind, which it has."""
+    text, count = re.subn(place, made, text, count=1, flags=re.M | re.S)
+    if count == 0:
+        raise Refused(f"there is no place for what is made: {place}")
+    return text
+
+
 def comment_lines(text, indent, mark=""):
     lines = textwrap.wrap(text, WIDE - len(indent) - len(mark), break_on_hyphens=False)
     return "".join(f"{indent}{mark}{it}\n" for it in lines)
@@ -133,8 +141,7 @@ def rust_directives(text, headers):
             + comment_lines(f"Refused with {it.refused.replace('NAME', fault)}.", indent, mark)
             + f"{indent}pub fn {it.name}(&mut self{taken}) -> Result<(), CopFault> {{\n"
             + f"{indent}    self.direct($crate::directives::SEDGE_{it.name.upper()}, {given})\n{indent}}}\n")
-    listed = r"(?<=^    \(\) => \{\n)        /// The directive to .*?(?=^    \};$)"
-    return re.sub(listed, lambda _: "\n".join(made), text, flags=re.M | re.S)
+    return in_place(r"(?<=^    \(\) => \{\n)        /// .*?(?=^    \};$)", lambda _: "\n".join(made), text)
 
 
 def python_directives(text, headers):
@@ -146,8 +153,7 @@ def python_directives(text, headers):
         given = [f'"{it.name}"', *([f'"{it.value}"', it.value] if it.value else []), *["c_uint16"] * (it.bits == "16")]
         made.append(f"    def {it.name}(self{taken}) -> None:\n" + comment_lines(said, " " * 8)
                     + f"        self._direct({', '.join(given)})\n")
-    listed = r"(?<=\n\n)    def init_\w+\(self.*?(?=^\S)"
-    return re.sub(listed, lambda _: "\n".join(made) + "\n\n", text, count=1, flags=re.M | re.S)
+    return in_place(r"(?<=\n\n)    def init_\w+\(self.*?(?=^\S)", lambda _: "\n".join(made) + "\n\n", text)
 
 
 # ---- The managed parameters. ----
@@ -161,7 +167,7 @@ def noted_parameters():
 
 def with_list(text, before, made, after):
     """A text with this in place of what stands between two others."""
-    return re.sub(rf"({before}).*?(?={after})", lambda it: it[1] + made, text, count=1, flags=re.S)
+    return in_place(rf"({before}).*?(?={after})", lambda it: it[1] + made, text)
 
 
 def rust_config(text):

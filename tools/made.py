@@ -7,6 +7,10 @@ import sys
 from items import text_of
 
 
+class Refused(Exception):
+    """What the files lack."""
+
+
 def parameter_rows():
     """The managed parameters of the table: of each its name, and its least, greatest and default value."""
     number = r"(\d+|\(2 \^ 64 - 1\))"
