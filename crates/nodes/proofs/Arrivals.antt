@@ -10,7 +10,6 @@ use Rattle.cop1.specs.declared.farm.Verdict.TheVariants.{Accepted}
 use Rattle.nodes.specs.Arrival.{segment_in_body, segment_in_frame, segment_to_accept}
 use Rattle.nodes.specs.BypassSegments.{is_kept}
 use Rattle.nodes.specs.Packets.{PacketOn, packet_on}
-use Rattle.nodes.specs.Parameters.{limits_of}
 use Rattle.nodes.specs.Spacecraft.{SpacecraftState, SpacecraftOutcome, is_free, is_own_frame, is_accepted, after_farm}
 use Rattle.nodes.specs.Spacecraft.{after_segment, packets_kept, command_event, sequence_outcome, bypass_outcome}
 use Rattle.nodes.specs.Spacecraft.{body_outcome, frame_outcome, spacecraft_receive}
@@ -44,7 +43,7 @@ module _ (s : SpacecraftState) (P : Option SegmentView → SpacecraftState → T
 
   pub body_comes : (f : BodyView) → P (segment_in_body s f) (body_outcome s f).after
   body_comes (Ad n u) = sequence_comes n u (verdict_of s.farm n (is_free s))
-  body_comes (Bd u) = bypass_comes u (is_kept (limits_of s.config) u)
+  body_comes (Bd u) = bypass_comes u (is_kept s.config u)
   body_comes (Bc command) = each.steps (command_event command)
 
   own_or_not : (frame : FrameView) (own : Bool) → let foreign : SpacecraftOutcome Received =

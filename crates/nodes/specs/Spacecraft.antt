@@ -140,7 +140,7 @@ bypass_outcome s segment true = record {
 bypass_outcome s segment false = record { answer = Bypass false; after = after_farm s BdArrives }
 
 abbrev pub receive_bypass_step : SpacecraftState → SegmentView → SpacecraftOutcome Received
-receive_bypass_step s segment = bypass_outcome s segment (is_kept (limits_of s.config) segment)
+receive_bypass_step s segment = bypass_outcome s segment (is_kept s.config segment)
 
 -- ---- octets arrive
 
@@ -172,7 +172,7 @@ spacecraft_receive s octets = frame_outcome s (frame_at On octets)
 -- a frame's data are handed on: it is of Type-AD and accepted, or of Type-BD and kept
 abbrev pub hands_on : SpacecraftState → BodyView → Bool
 hands_on s (Ad n segment) = is_accepted (verdict_of s.farm n (is_free s))
-hands_on s (Bd segment) = is_kept (limits_of s.config) segment
+hands_on s (Bd segment) = is_kept s.config segment
 hands_on s (Bc command) = false
 
 -- nothing is handed on of octets that arrive: they are no frame, or one of another spacecraft or

@@ -4,15 +4,16 @@ ghost use Rattle.std.specs.Prelude.{◌≡◌};
 ghost use Rattle.tc_frame.specs.Layout.{segment_view};
 ghost use Rattle.nodes.specs.BypassSegments.{is_alone, is_kept};
 
-use map_service::Limits;
+use crate::config::Config;
 use space_packet::is_packet;
 use tc_frame::{Segment, SegmentFlags};
 
 // Whether a segment is kept: its MAP is open, it stands alone, and it is one packet that is not too
 // long.
-pub(crate) fn is_kept(limits: &Limits, segment: &Segment<'_>) -> bool
-    ensures { result ≡ is_kept limits.now (segment_view segment.now) }
+pub(crate) fn is_kept(config: &Config, segment: &Segment<'_>) -> bool
+    ensures { result ≡ is_kept config.now (segment_view segment.now) }
 {
+    let limits = config.limits();
     limits.is_open(segment.header.map)
         && is_alone(segment.header.flags)
         && !limits.is_too_long(segment.payload.len())

@@ -9,7 +9,7 @@ use Rattle.tc_link.proofs.Common.{append_assoc, append-nil, map-append, cond_bot
 use Rattle.tc_link.proofs.Common.{BodyView, Ad, Bd, Bc, PulledUnit, pull_step, pulled_out, Config, FitsFrame, frame_of}
 use Rattle.tc_link.proofs.Common.{frame_to_send, bypass_fault, after_bypass, PacketOn, SpacecraftState}
 use Rattle.tc_link.proofs.Common.{SpacecraftOutcome, frame_outcome, body_outcome, bypass_outcome, is_own_frame, is_kept}
-use Rattle.tc_link.proofs.Common.{verdict_of, is_free, limits_of, spacecraft_take_bypass, Heard, Event, World}
+use Rattle.tc_link.proofs.Common.{verdict_of, is_free, spacecraft_take_bypass, Heard, Event, World}
 use Rattle.tc_link.proofs.Common.{WorldOutcome, world_step, world_after_pull, world_after_take, active_on}
 use Rattle.std.proofs.lemmas.List.Concat.{flat_map-append}
 use Rattle.std.specs.List.{flat_map}
@@ -156,7 +156,7 @@ module _ (s : SpacecraftState) where
       cond_both (is_accepted (verdict_of s.farm n (is_free s))) _ _
       (λ (o : SpacecraftOutcome Received). Keeps_of [] o.after.bypass) (λ t. some_first s.bypass [])
       (λ t. some_first s.bypass [])
-  body_kept (Bd u) = bypass_kept u (is_kept (limits_of s.config) u)
+  body_kept (Bd u) = bypass_kept u (is_kept s.config u)
   body_kept (Bc command) = some_first s.bypass []
 
   frame_kept : (r : Result FrameView TcFault) → Keeps_of (in_frame packet_in r) (frame_outcome s r).after.bypass

@@ -213,7 +213,7 @@ module _ (g b : Config) where
       → body_outcome (spacecraft_with b s) body
       ≡ spacecraft_outcome_with b (body_outcome (spacecraft_with d s) body)
   body_as s (Ad n segment) = accepts_as s n segment (verdict_of s.farm n (is_free (spacecraft_with b s)))
-  body_as s (Bd segment) = bypassed_as s segment (is_kept (limits_of b) segment)
+  body_as s (Bd segment) = bypassed_as s segment (is_kept b segment)
   body_as s (Bc command) = refl
 
   received_as : (s : SpacecraftState) (r : Result FrameView TcFault)
@@ -246,10 +246,7 @@ module _ (g b : Config) where
 -- ---- both
 
 made_ranges : (g b : Config) → IsConfig g → IsConfig b → IsConfig (made_of g b)
-made_ranges g b up on_board =
-    let ready_slots = on_board.ready_slots in
-    let bypass_slots = on_board.bypass_slots in
-    assumption (ready_slots, bypass_slots, up)
+made_ranges g b up on_board = assumption (on_board, up)
 
 pub alike_is_as_one : AlikeIsAsOne
 alike_is_as_one g b alike = record {

@@ -12,7 +12,7 @@ use Rattle.tc_link.proofs.Common.{FopState, FopOutcome, tick_step, TmFault, Even
 use Rattle.tc_link.proofs.Common.{spacecraft_take, spacecraft_take_bypass, spacecraft_telemetry, GroundOutcome}
 use Rattle.tc_link.proofs.Common.{submit_fault, after_submission, bypass_fault, after_bypass, unless_refused, Down}
 use Rattle.tc_link.proofs.Common.{WorldOutcome, world_step, down_deliver_step, IsChecked, replied_alert, obeyed, ticked}
-use Rattle.tc_link.proofs.Common.{cond_both, FarmMode, Open, after_release, is_kept, limits_of, body_outcome}
+use Rattle.tc_link.proofs.Common.{cond_both, FarmMode, Open, after_release, is_kept, body_outcome}
 use Rattle.tc_link.proofs.Common.{is_initiation, session_begun_by, session_after_directive, up_deliver_step}
 use Rattle.tc_link.proofs.Common.{directive_of, ConfirmsExactly, HasNoFalseAlarm, IsEvent, SetVs, InitUnlock}
 use Rattle.std.specs.Prelude.{flat_map}
@@ -509,7 +509,7 @@ module _ (c : Config) (d : Directive) (base : ℕ) (w : World) (k : Sound c w) w
       → (body_outcome w.spacecraft f).after.farm.lockout ≡ false
   body_by (Ad n u) fs up is = elim up [ ]
   body_by (Bd u) fs up is =
-      (bypass_eases d base true w.spacecraft u (is_kept (limits_of w.spacecraft.config) u)).lockout is
+      (bypass_eases d base true w.spacecraft u (is_kept w.spacecraft.config u)).lockout is
   body_by (Bc command) fs up is = (control_eases d base true w.spacecraft command up.0 up.1).lockout is
 
   delivered_by : (bs : List (List ℕ)) (fs : List BodyView) → Carries c bs fs → UpIs d base true fs []

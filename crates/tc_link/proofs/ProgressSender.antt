@@ -16,7 +16,7 @@ use Rattle.tc_link.proofs.Common.{Open, Wait, FarmState, FlagsAgree, state_of, a
 use Rattle.tc_link.proofs.Common.{after_release, Verdict, Accepted, NoBuffer, verdict_of}
 use Rattle.tc_link.proofs.Common.{SpacecraftState, body_outcome, sequence_outcome, bypass_outcome, is_free, is_kept}
 use Rattle.cop1.proofs.Cases.{obeyed_set}
-use Rattle.tc_link.proofs.Common.{limits_of, Unlock, SetVr}
+use Rattle.tc_link.proofs.Common.{Unlock, SetVr}
 use Rattle.std.proofs.lemmas.Bool.{not-true}
 use Rattle.std.specs.Prelude.{IsSome, ◌&&◌, nat_le, ◌/◌}
 use Rattle.std.proofs.Math.Seq.{drop-nil}
@@ -617,7 +617,7 @@ module _ (s : SpacecraftState) (flags : FlagsAgree s.farm) (k : WaitsFull s) whe
 
   pub body_full : (f : BodyView) → WaitsFull (body_outcome s f).after
   body_full (Ad n u) = sequence_full n u (verdict_of s.farm n (is_free s)) refl
-  body_full (Bd u) = bypass_full u (is_kept (limits_of s.config) u)
+  body_full (Bd u) = bypass_full u (is_kept s.config u)
   body_full (Bc Unlock) = unlock_full s.farm.state
   body_full (Bc (SetVr x)) = set_full x s.farm.state
 

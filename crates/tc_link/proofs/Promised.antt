@@ -8,7 +8,7 @@ use Rattle.tc_link.proofs.Common.{IsConfig, IsPromised, IsPromisedOf, AllReadabl
 use Rattle.tc_link.proofs.Common.{new_world, world_run, IsClean, IsIdle, directive_of, IsChecking, HasNoFalseAlarm}
 use Rattle.tc_link.proofs.Common.{TcFault, On, SegmentView, BodyView, Ad, Bd, Bc, Verdict, Accepted, TmFault, clcw_step}
 use Rattle.tc_link.proofs.Common.{GroundState, SpacecraftState, SpacecraftOutcome, frame_outcome, body_outcome}
-use Rattle.tc_link.proofs.Common.{sequence_outcome, bypass_outcome, verdict_of, is_free, is_kept, limits_of}
+use Rattle.tc_link.proofs.Common.{sequence_outcome, bypass_outcome, verdict_of, is_free, is_kept}
 use Rattle.tc_link.proofs.Common.{is_own_frame, telemetry_outcome, FarmState, FarmEvent, AdArrives, farm_step}
 use Rattle.tc_link.proofs.Common.{after_verdict, after_report, acknowledging, length-take-le, length-map}
 use Rattle.tc_link.proofs.Common.{segment_octets, IsNear, number_of, numbered, PlainLink, PlainRun, AtMostOneStep}
@@ -387,7 +387,7 @@ module _ (c : Config) (w : World) (h : Holding c w) where
 
   body_holds : (f : BodyView) → Receives_well (body_outcome w.spacecraft f)
   body_holds (Ad n u) = sequence_holds n u (verdict_of w.spacecraft.farm n (is_free w.spacecraft)) refl
-  body_holds (Bd u) = bypass_holds u (is_kept (limits_of w.spacecraft.config) u)
+  body_holds (Bd u) = bypass_holds u (is_kept w.spacecraft.config u)
   body_holds (Bc command) = board_holds _ (body_comes w.spacecraft _ arrives (Bc command))
 
   received_holds : (r : Result FrameView TcFault) → Receives_well (frame_outcome w.spacecraft r)

@@ -13,7 +13,7 @@ use Rattle.tc_link.proofs.Common.{with_fop, directive_outcome, submit_fault, aft
 use Rattle.tc_link.proofs.Common.{segments_fit, closed_not, active_on, SetVs, obeying, submitting, ◌+◌, ◌%◌}
 use Rattle.tc_link.proofs.Common.{if◌then◌else◌, Err, PulledUnit, frame_to_send, Event, AllReadable, World, world_step}
 use Rattle.tc_link.proofs.Common.{world_after_pull, IsEvent, ◌<◌, map, cond_both, TcFault, segment_octets, FopMode}
-use Rattle.tc_link.proofs.Common.{report_in, IsActive, is_kept, limits_of, SpacecraftState, frame_outcome, body_outcome}
+use Rattle.tc_link.proofs.Common.{report_in, IsActive, is_kept, SpacecraftState, frame_outcome, body_outcome}
 use Rattle.tc_link.proofs.Common.{is_own_frame, number_in, in_frame, world_after_directive, BeginsNoSession, accepted}
 use Rattle.tc_link.proofs.Common.{oldest_marked}
 use Rattle.std.proofs.lemmas.Bool.{lt-ltb, le-leb}
@@ -391,7 +391,7 @@ heard_in f r m is off = rw is off
 module _ (s : SpacecraftState) where
   body_same : (f : BodyView) → number_in f ≡ [] → (body_outcome s f).after.accepted ≡ s.accepted
   body_same (Ad n u) none = absurd cc
-  body_same (Bd u) none = bypass_same s u (is_kept (limits_of s.config) u)
+  body_same (Bd u) none = bypass_same s u (is_kept s.config u)
   body_same (Bc command) none = refl
 
   arrived_same : (r : Result FrameView TcFault) → numbers_in r ≡ [] → (frame_outcome s r).after.accepted ≡ s.accepted

@@ -6,7 +6,7 @@ use Rattle.tc_link.proofs.Common.{body_outcome, bypass_outcome, ◌+◌, ◌-◌
 use Rattle.tc_link.proofs.Common.{cond_both, eqb-true, eqb-false, ltb-true, ltb-false, ahead_by, verdict_of, Verdict}
 use Rattle.tc_link.proofs.Common.{Accepted, Ahead, NoBuffer, Outside, ◌*◌, max, List, [], ◌∷◌, ◌++◌, take, drop, Some}
 use Rattle.tc_link.proofs.Common.{Result, Ok, ap, sym, subst, slice_get, eq-eqb, drop-append-le, TcFault, On, BodyView}
-use Rattle.tc_link.proofs.Common.{Ad, Bd, after_verdict, Config, limits_of, is_kept, frame_outcome, sequence_outcome}
+use Rattle.tc_link.proofs.Common.{Ad, Bd, after_verdict, Config, is_kept, frame_outcome, sequence_outcome}
 use Rattle.tc_link.proofs.Common.{is_free, frame_of, World, up_deliver_step, Rises, length, farm_step, BufferReleased}
 use Rattle.tc_link.proofs.Common.{PacketOn, map, option_to_list, AllByRecursion, ne_eqb, append-nil, map-append}
 use Rattle.tc_link.proofs.Common.{length-take-le, segment_octets, Control, Idle, Due, Sent, FopMode, S5, units_of}
@@ -361,7 +361,7 @@ module _ (early : Bool) (c : Config) (d : Directive) (base : ℕ) (w : World) (k
         → Fits (c.width / 2) g.plain.n g.plain.units g.plain.r qs
         → Next early c d base g.plain (record w { up = bs; spacecraft = (body_outcome w.spacecraft f).after })
     body_keeps bs fs rest (Bd s) qs also up fit =
-        let kept = is_kept (limits_of w.spacecraft.config) s in
+        let kept = is_kept w.spacecraft.config s in
         other_keeps early c d base w k g bs fs rest (bypass_outcome w.spacecraft s kept).after (rw also up)
         (bypass_same w.spacecraft s kept) (bypass_eases d base g.front w.spacecraft s kept)
     body_keeps bs fs rest (Bc command) qs also up fit =

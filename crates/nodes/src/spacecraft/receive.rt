@@ -198,7 +198,7 @@ impl Spacecraft {
         let mut farm = self.farm;
         farm.bd();
         let mut kept = None;
-        if is_kept(&self.config.limits(), &segment) {
+        if is_kept(&self.config, &segment) {
             let Ok(packet) = Vec::from_slice(self.alloc, segment.payload) else {
                 return Err(LinkFault::Memory);
             };
