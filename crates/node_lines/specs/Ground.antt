@@ -10,6 +10,7 @@ use Rattle.cop1.specs.declared.vocabulary.Alert.{Alert}
 use Rattle.cop1.specs.Faults as cop
 use Rattle.cop1.specs.Units.{due_units}
 use Rattle.nodes.specs.declared.fault.LinkFault.{LinkFault}
+use Rattle.nodes.specs.declared.heard.HeardClcw.{HeardClcw}
 use Rattle.nodes.specs.Faults as link
 use Rattle.nodes.specs.Fates.{submitted, whole_with}
 use Rattle.nodes.specs.Ground.{GroundState, GroundEvent, GroundAnswer, ground_step, new_ground}
@@ -42,22 +43,13 @@ abbrev pub taken_text : Option (List ℕ) → List ℕ
 taken_text (Some packet) = codes "packet " ++ encode_upper packet
 taken_text None = codes "nothing"
 
-abbrev pub ground_text : (event : GroundEvent) → GroundAnswer event → List ℕ
-ground_text (calls.Submit m octets) answer = done_text answer
-ground_text (calls.Bypass m octets) answer = done_text answer
-ground_text (calls.Direct directive) answer = obeyed_text answer
-ground_text (calls.Resume value) answer = resumed_text answer
-ground_text calls.Pull answer = pulled_text answer
-ground_text calls.Tick answer = tick_text answer
-ground_text (calls.Telemetry octets) answer = heard_text answer
-ground_text (calls.ControlWord octets) answer = reported_text answer.report answer.alert
-ground_text calls.TakeTelemetry answer = taken_text answer
-ground_text calls.ForgetTelemetry answer = codes "ok"
+abbrev pub word_text : HeardClcw → List ℕ
+word_text heard = reported_text heard.report heard.alert
 
--- a call of the ground
-abbrev pub ground_call : GroundEvent → GroundState → Turn GroundState
-ground_call event s = record {
-  answer = ground_text event (ground_step s event).answer;
+-- a call of the ground, and its answer as a text
+abbrev pub ground_call : (event : GroundEvent) → (GroundAnswer event → List ℕ) → GroundState → Turn GroundState
+ground_call event text s = record {
+  answer = text (ground_step s event).answer;
   after = (ground_step s event).after;
 }
 
@@ -98,16 +90,16 @@ ground_show s = sender_text s ++ (count_text s ++ (queues_text s ++ submissions_
 -- ---- what is asked of a ground; a control word has four octets
 
 abbrev pub ground_asked : Ask → Option (GroundState → Turn GroundState)
-ground_asked (Submit m octets) = Some (ground_call (calls.Submit m octets))
-ground_asked (Bypass m octets) = Some (ground_call (calls.Bypass m octets))
-ground_asked (Direct directive) = Some (ground_call (calls.Direct directive))
-ground_asked Send = Some (ground_call calls.Pull)
-ground_asked Tick = Some (ground_call calls.Tick)
-ground_asked Take = Some (ground_call calls.TakeTelemetry)
-ground_asked (Telemetry octets) = Some (ground_call (calls.Telemetry octets))
+ground_asked (Submit m octets) = Some (ground_call (calls.Submit m octets) done_text)
+ground_asked (Bypass m octets) = Some (ground_call (calls.Bypass m octets) done_text)
+ground_asked (Direct directive) = Some (ground_call (calls.Direct directive) obeyed_text)
+ground_asked Send = Some (ground_call calls.Pull pulled_text)
+ground_asked Tick = Some (ground_call calls.Tick tick_text)
+ground_asked Take = Some (ground_call calls.TakeTelemetry taken_text)
+ground_asked (Telemetry octets) = Some (ground_call (calls.Telemetry octets) heard_text)
 ground_asked (ControlWord octets) =
-    if length octets == 4 then Some (ground_call (calls.ControlWord octets)) else None
-ground_asked (Resume value) = Some (ground_call (calls.Resume value))
+    if length octets == 4 then Some (ground_call (calls.ControlWord octets) word_text) else None
+ground_asked (Resume value) = Some (ground_call (calls.Resume value) resumed_text)
 ground_asked Show = Some (told ground_show)
 ground_asked _ = None
 

@@ -5,6 +5,7 @@ use Rattle.clcw.specs.Encoding.{encode_answer}
 use Rattle.cop1.specs.Farm.{FarmState}
 use Rattle.cop1.specs.Report.{report_of}
 use Rattle.tm_link.specs.declared.fault.TmFault.{TmFault}
+use Rattle.tm_link.specs.Layout.{FrameView}
 use Rattle.tm_link.specs.Encoding.{spelling}
 use Rattle.tm_link.specs.Faults as tm
 use Rattle.nodes.specs.Packets.{PacketOn}
@@ -28,17 +29,14 @@ abbrev pub queued_text : Result (Unit {0}) TmFault → List ℕ
 queued_text (Ok done) = codes "ok"
 queued_text (Err fault) = fault_text (codes "refused") (tm.fault_row fault)
 
-abbrev pub spacecraft_text : (event : SpacecraftEvent) → SpacecraftAnswer event → List ℕ
-spacecraft_text (calls.Receive octets) answer = received_text answer
-spacecraft_text calls.Take answer = handed_text answer
-spacecraft_text calls.TakeBypass answer = handed_text answer
-spacecraft_text (calls.Telemetry packet) answer = queued_text answer
-spacecraft_text calls.Report answer = sent_text (spelling answer)
+abbrev pub telemetry_text : FrameView → List ℕ
+telemetry_text frame = sent_text (spelling frame)
 
--- a call of the spacecraft
-abbrev pub spacecraft_call : SpacecraftEvent → SpacecraftState → Turn SpacecraftState
-spacecraft_call event s = record {
-  answer = spacecraft_text event (spacecraft_step s event).answer;
+-- a call of the spacecraft, and its answer as a text
+abbrev pub spacecraft_call : (event : SpacecraftEvent) → (SpacecraftAnswer event → List ℕ) → SpacecraftState
+    → Turn SpacecraftState
+spacecraft_call event text s = record {
+  answer = text (spacecraft_step s event).answer;
   after = (spacecraft_step s event).after;
 }
 
@@ -71,12 +69,12 @@ spacecraft_show s = receiver_text s.farm ++ (farm_flags_text s.farm ++ waiting_t
 -- ---- what is asked of a spacecraft
 
 abbrev pub spacecraft_asked : Ask → Option (SpacecraftState → Turn SpacecraftState)
-spacecraft_asked (Frame octets) = Some (spacecraft_call (calls.Receive octets))
-spacecraft_asked (Telemetry packet) = Some (spacecraft_call (calls.Telemetry packet))
-spacecraft_asked Send = Some (spacecraft_call calls.Report)
+spacecraft_asked (Frame octets) = Some (spacecraft_call (calls.Receive octets) received_text)
+spacecraft_asked (Telemetry packet) = Some (spacecraft_call (calls.Telemetry packet) queued_text)
+spacecraft_asked Send = Some (spacecraft_call calls.Report telemetry_text)
 spacecraft_asked Report = Some (told word_text)
-spacecraft_asked Take = Some (spacecraft_call calls.Take)
-spacecraft_asked TakeBypass = Some (spacecraft_call calls.TakeBypass)
+spacecraft_asked Take = Some (spacecraft_call calls.Take handed_text)
+spacecraft_asked TakeBypass = Some (spacecraft_call calls.TakeBypass handed_text)
 spacecraft_asked Show = Some (told spacecraft_show)
 spacecraft_asked _ = None
 

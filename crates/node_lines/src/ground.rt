@@ -5,9 +5,9 @@ ghost use Rattle.octets.specs.Beginning.{Appends};
 ghost use Rattle.nodes.specs.Ground as calls;
 ghost use Rattle.nodes.specs.declared.fault.LinkFault.{LinkFault as Fault};
 ghost use Rattle.nodes.specs.Faults as link;
-ghost use Rattle.node_answers.specs.Answers.{fault_text};
+ghost use Rattle.node_answers.specs.Answers.{fault_text, heard_text};
 ghost use Rattle.node_lines.specs.Asks.{ControlWord, Takes, turned};
-ghost use Rattle.node_lines.specs.Ground.{count_text, ground_rules, ground_asked, ground_call, ground_show, queues_text, sender_text, submissions_text, taken_text, timer_text};
+ghost use Rattle.node_lines.specs.Ground.{count_text, done_text, ground_rules, ground_asked, ground_call, ground_show, obeyed_text, pulled_text, queues_text, resumed_text, sender_text, submissions_text, taken_text, timer_text};
 
 use crate::ask::Ask;
 use crate::node::Node;
@@ -68,7 +68,7 @@ fn push_refusal(text: &mut String, fault: LinkFault) -> Result<(), AllocError>
 }
 
 fn submit(node: &mut Ground, text: &mut String, map: u8, octets: &[u8]) -> Result<(), AllocError>
-    ensures { Takes (ground_call (calls.Submit map octets.now) node.old) result
+    ensures { Takes (ground_call (calls.Submit map octets.now) done_text node.old) result
         text.old text.new node.new }
 {
     match node.submit(map, octets) {
@@ -78,7 +78,7 @@ fn submit(node: &mut Ground, text: &mut String, map: u8, octets: &[u8]) -> Resul
 }
 
 fn bypass(node: &mut Ground, text: &mut String, map: u8, octets: &[u8]) -> Result<(), AllocError>
-    ensures { Takes (ground_call (calls.Bypass map octets.now) node.old) result
+    ensures { Takes (ground_call (calls.Bypass map octets.now) done_text node.old) result
         text.old text.new node.new }
 {
     match node.bypass(map, octets) {
@@ -88,7 +88,7 @@ fn bypass(node: &mut Ground, text: &mut String, map: u8, octets: &[u8]) -> Resul
 }
 
 fn direct(node: &mut Ground, text: &mut String, directive: Directive) -> Result<(), AllocError>
-    ensures { Takes (ground_call (calls.Direct directive) node.old) result
+    ensures { Takes (ground_call (calls.Direct directive) obeyed_text node.old) result
         text.old text.new node.new }
 {
     match node.directive(directive) {
@@ -98,7 +98,7 @@ fn direct(node: &mut Ground, text: &mut String, directive: Directive) -> Result<
 }
 
 fn resume(node: &mut Ground, text: &mut String, value: u8) -> Result<(), AllocError>
-    ensures { Takes (ground_call (calls.Resume value) node.old) result
+    ensures { Takes (ground_call (calls.Resume value) resumed_text node.old) result
         text.old text.new node.new }
 {
     match node.resume(value) {
@@ -108,7 +108,7 @@ fn resume(node: &mut Ground, text: &mut String, value: u8) -> Result<(), AllocEr
 }
 
 fn send(node: &mut Ground, alloc: Global, text: &mut String) -> Result<(), AllocError>
-    ensures { Takes (ground_call calls.Pull node.old) result text.old text.new node.new }
+    ensures { Takes (ground_call calls.Pull pulled_text node.old) result text.old text.new node.new }
 {
     let mut frame = [0u8; 1024];
     match node.pull(&mut frame) {
@@ -118,7 +118,7 @@ fn send(node: &mut Ground, alloc: Global, text: &mut String) -> Result<(), Alloc
 }
 
 fn take(node: &mut Ground, alloc: Global, text: &mut String) -> Result<(), AllocError>
-    ensures { Takes (ground_call calls.TakeTelemetry node.old) result text.old text.new node.new }
+    ensures { Takes (ground_call calls.TakeTelemetry taken_text node.old) result text.old text.new node.new }
 {
     match node.take_telemetry() {
         Some(packet) => push_taken(text, alloc, packet.as_slice()),
@@ -134,7 +134,7 @@ fn push_taken(text: &mut String, alloc: Global, packet: &[u8]) -> Result<(), All
 }
 
 fn telemetry(node: &mut Ground, text: &mut String, octets: &[u8]) -> Result<(), AllocError>
-    ensures { Takes (ground_call (calls.Telemetry octets.now) node.old) result
+    ensures { Takes (ground_call (calls.Telemetry octets.now) heard_text node.old) result
         text.old text.new node.new }
 {
     match node.telemetry(octets) {

@@ -7,8 +7,9 @@ ghost use Rattle.listings.specs.Text.{flag_number};
 ghost use Rattle.octets.specs.Beginning.{Appends};
 ghost use Rattle.listings.specs.FarmLines.{state_word};
 ghost use Rattle.nodes.specs.Spacecraft as calls;
+ghost use Rattle.node_answers.specs.Answers.{received_text};
 ghost use Rattle.node_lines.specs.Asks.{Takes};
-ghost use Rattle.node_lines.specs.Spacecraft.{spacecraft_rules, spacecraft_call, spacecraft_show, word_text, receiver_text, farm_flags_text, waiting_text};
+ghost use Rattle.node_lines.specs.Spacecraft.{handed_text, queued_text, spacecraft_rules, spacecraft_call, spacecraft_show, telemetry_text, word_text, receiver_text, farm_flags_text, waiting_text};
 
 use crate::ask::Ask;
 use crate::node::Node;
@@ -56,7 +57,7 @@ impl Node for Spacecraft {
 }
 
 fn receive(node: &mut Spacecraft, text: &mut String, octets: &[u8]) -> Result<(), AllocError>
-    ensures { Takes (spacecraft_call (calls.Receive octets.now) node.old) result
+    ensures { Takes (spacecraft_call (calls.Receive octets.now) received_text node.old) result
         text.old text.new node.new }
 {
     match node.receive(octets) {
@@ -66,7 +67,7 @@ fn receive(node: &mut Spacecraft, text: &mut String, octets: &[u8]) -> Result<()
 }
 
 fn queue(node: &mut Spacecraft, text: &mut String, packet: &[u8]) -> Result<(), AllocError>
-    ensures { Takes (spacecraft_call (calls.Telemetry packet.now) node.old) result
+    ensures { Takes (spacecraft_call (calls.Telemetry packet.now) queued_text node.old) result
         text.old text.new node.new }
 {
     match node.telemetry(packet) {
@@ -77,7 +78,7 @@ fn queue(node: &mut Spacecraft, text: &mut String, packet: &[u8]) -> Result<(), 
 }
 
 fn send(node: &mut Spacecraft, alloc: Global, text: &mut String) -> Result<(), AllocError>
-    ensures { Takes (spacecraft_call calls.Report node.old) result text.old text.new node.new }
+    ensures { Takes (spacecraft_call calls.Report telemetry_text node.old) result text.old text.new node.new }
 {
     let mut frame = [0u8; 2048];
     let count = node.report(&mut frame);
@@ -85,7 +86,7 @@ fn send(node: &mut Spacecraft, alloc: Global, text: &mut String) -> Result<(), A
 }
 
 fn take(node: &mut Spacecraft, alloc: Global, text: &mut String) -> Result<(), AllocError>
-    ensures { Takes (spacecraft_call calls.Take node.old) result text.old text.new node.new }
+    ensures { Takes (spacecraft_call calls.Take handed_text node.old) result text.old text.new node.new }
 {
     match node.take() {
         Some((map, packet)) => push_packet(text, alloc, map, packet.as_slice()),
@@ -94,7 +95,7 @@ fn take(node: &mut Spacecraft, alloc: Global, text: &mut String) -> Result<(), A
 }
 
 fn take_bypass(node: &mut Spacecraft, alloc: Global, text: &mut String) -> Result<(), AllocError>
-    ensures { Takes (spacecraft_call calls.TakeBypass node.old) result text.old text.new node.new }
+    ensures { Takes (spacecraft_call calls.TakeBypass handed_text node.old) result text.old text.new node.new }
 {
     match node.take_bypass() {
         Some((map, packet)) => push_packet(text, alloc, map, packet.as_slice()),

@@ -9,7 +9,7 @@ use Rattle.simulated_link.proofs.Common.{LinkFault, ◌≢◌, IfSome, ap, sym, 
 use Rattle.simulated_link.proofs.Common.{◌==◌, ◌+◌, length, Bool, if◌then◌else◌, is_closed, ◌++◌, append-nil}
 use Rattle.simulated_link.proofs.Common.{SpacecraftState, Report, spacecraft_step, PacketOn, packet_on, Directive}
 use Rattle.simulated_link.proofs.Common.{after_submission, unless_refused, clcw_step}
-use Rattle.std.proofs.Common.{IsOkUnless, IsSome, IfErr}
+use Rattle.std.proofs.Common.{IsOkUnless, IsSome, IfErr, IfOk}
 use Rattle.std.specs.Borrow.{Bor}
 use Rattle.std.specs.Prelude.{nat_lt}
 use Rattle.tc_frame.specs.Layout.{FrameView}
@@ -25,7 +25,7 @@ use Rattle.tm_link.specs.Decoding as telemetry_reading
 use Rattle.nodes.specs.Ground.{report_outcome, can_resume, is_over_slots, bypass_fault}
 use Rattle.nodes.specs.declared.fault.LinkFault.TheVariants.{NotKnown}
 use Rattle.nodes.specs.Ground as ground
-use Rattle.nodes.specs.Spacecraft.{spacecraft_receive, spacecraft_take, spacecraft_take_bypass}
+use Rattle.nodes.specs.Spacecraft.{spacecraft_receive, spacecraft_take, spacecraft_take_bypass, spacecraft_telemetry}
 use Rattle.nodes.specs.declared.heard.Heard.TheVariants as heard_cases
 use Rattle.nodes.specs.declared.received.Received.TheVariants as received_cases
 use Rattle.nodes.specs.declared.event.Event.TheVariants as events
@@ -33,6 +33,7 @@ use Rattle.nodes.specs.CommandPackets.{are_commands}
 use Rattle.nodes.specs.declared.fault.LinkFault.TheVariants as faults
 use Rattle.simulated_link.specs.declared.fault.SimFault.TheVariants.{NothingInTransit, Memory}
 use Rattle.simulated_link.specs.Replies.{ReplyView, Nothing, Lost, Refused, Resumed, answer_to_refusal}
+use Rattle.simulated_link.specs.Replies.{reply_to_submission, reply_to_taking, reply_to_telemetry}
 use Rattle.simulated_link.specs.World.{world_after_word, down_word_outcome, down_clcw_step, world_after_resuming}
 use Rattle.simulated_link.specs.World.{resumed, directed, world_after_submission, world_after_bypass, world_after_take}
 use Rattle.simulated_link.specs.World.{world_after_queueing, session_after_report, BeginsNoSession, Session}
@@ -166,6 +167,11 @@ BringsReport events.DownDeliver = Unit {0}
 BringsReport events.DownClcw = Unit {0}
 BringsReport _ = ⊥
 
+-- packets that went past the sequence control are taken
+abbrev pub TakesBypass : Event → Type 0
+TakesBypass events.TakeBypass = Unit {0}
+TakesBypass _ = ⊥
+
 -- the first frame on its way down arrived, and the ground is another
 abbrev pub with_heard : World → GroundState → List (List ℕ) → World
 with_heard w t down =
@@ -187,7 +193,7 @@ pub record AtEachStep (w : World) (e : Event) (P : World → Type 0) : Type 0 wh
       → P (record w {
         spacecraft = record w.spacecraft { ready = left; farm = farm_step w.spacecraft.farm BufferReleased };
       })
-  pub passes : e ≡ events.TakeBypass → (left : List PacketOn)
+  pub passes : TakesBypass e → (left : List PacketOn)
       → P (record w { spacecraft = record w.spacecraft { bypass = left } })
   pub queues : (octets : Bor (List ℕ)) → e ≡ events.Telemetry octets
       → P (record w { spacecraft = record w.spacecraft { builder = after_queue w.spacecraft.builder octets.now } })
@@ -248,7 +254,7 @@ module _ (w : World) (P : World → Type 0) where
   passed : (ps : List PacketOn) → AtEachStep w events.TakeBypass P
       → After (world_after_take w (spacecraft_take_bypass w.spacecraft ps))
   passed [] each = each.same
-  passed (p ∷ left) each = each.passes refl left
+  passed (p ∷ left) each = each.passes tt left
 
   left_up : (e : Event) → AtEachStep w e P → (b : List ℕ) (bs : List (List ℕ)) → w.up ≡ b ∷ bs
       → (r : Result FrameView TcFault) → After (up_damage_outcome w bs r)
@@ -307,7 +313,7 @@ pub record AtEachStepOnBoard (w : World) (e : Event) (P : SpacecraftState → Ty
       → P (record w.spacecraft { ready = left })
   pub releases : e ≡ events.Take → (left : List PacketOn) → nat_lt (length left) w.spacecraft.config.ready_slots ≡ true
       → P (record w.spacecraft { ready = left; farm = farm_step w.spacecraft.farm BufferReleased })
-  pub passes : e ≡ events.TakeBypass → (left : List PacketOn) → P (record w.spacecraft { bypass = left })
+  pub passes : TakesBypass e → (left : List PacketOn) → P (record w.spacecraft { bypass = left })
   pub queues : (octets : Bor (List ℕ)) → e ≡ events.Telemetry octets
       → P (record w.spacecraft { builder = after_queue w.spacecraft.builder octets.now })
 
@@ -370,6 +376,51 @@ down_after w P e other same gone =
     let told : (b : List ℕ) (bs : List (List ℕ)) → w.down ≡ b ∷ bs → BringsReport e → (x : ExtractorState)
     (packets : List (List ℕ)) (r : Clcw) → P bs = λ b bs is t x packets r. gone (brings_down e t) b bs is in
     stepped w (λ new. P new.down) e (assumption (reports, lost, heard, told, same))
+
+-- Which events answer no alert.
+
+-- a directive, a tick, and a report that is heard may answer one
+abbrev pub MayAlert : Event → Type 0
+MayAlert (events.Directive d) = Unit {0}
+MayAlert events.Tick = Unit {0}
+MayAlert e = BringsReport e
+
+abbrev IsSilent : WorldOutcome → Type 0
+IsSilent o = IfOk o.answer (λ reply. replied_alert reply ≡ None)
+
+submission_silent : (r : Result (Unit {0}) LinkFault) → replied_alert (reply_to_submission r) ≡ None
+submission_silent (Ok done) = refl
+submission_silent (Err fault) = refl
+
+taking_silent : (r : Option PacketOn) → replied_alert (reply_to_taking r) ≡ None
+taking_silent None = refl
+taking_silent (Some packet) = refl
+
+queueing_silent : (r : Result (Unit {0}) TmFault) → replied_alert (reply_to_telemetry r) ≡ None
+queueing_silent (Ok done) = refl
+queueing_silent (Err fault) = refl
+
+pub silent : (w : World) (e : Event) → (MayAlert e → ⊥) → IsSilent (world_step w e)
+silent w (events.Submit m octets) other = submission_silent (unless_refused (submit_fault w.ground_node m octets.now)
+    w.ground_node (after_submission w.ground_node m octets.now)).answer
+silent w (events.Bypass m octets) other = submission_silent (unless_refused (bypass_fault w.ground_node m octets.now)
+    w.ground_node (ground.after_bypass w.ground_node m octets.now)).answer
+silent w (events.Directive d) other = absurd (other tt)
+silent w (events.Resume value) other = resumes w value IsSilent refl (λ whole can. refl)
+silent w events.Send other = pulled w IsSilent (λ reply up sent none. none)
+silent w events.UpDeliver other = up_arrives w IsSilent tt (λ b bs is. refl)
+silent w events.Report other = refl
+silent w events.DownDeliver other = absurd (other tt)
+silent w events.DownClcw other = absurd (other tt)
+silent w events.Tick other = absurd (other tt)
+silent w events.Take other = taking_silent (spacecraft_take w.spacecraft w.spacecraft.ready).answer
+silent w events.TakeBypass other = taking_silent (spacecraft_take_bypass w.spacecraft w.spacecraft.bypass).answer
+silent w (events.Telemetry octets) other = queueing_silent (spacecraft_telemetry w.spacecraft octets.now).answer
+silent w e other = lost w IsSilent (record {
+  refused = λ fault. tt;
+  up = λ b bs is reply none. none;
+  down = λ b bs is reply none. none;
+}) e tt
 
 -- where no session begins, the ground does not resume
 pub not_restarted : {A : Type 0} (w : World) (e : Event) → BeginsNoSession w e → (value : ℕ) → e ≡ events.Resume value

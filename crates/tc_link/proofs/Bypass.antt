@@ -30,7 +30,7 @@ use Rattle.nodes.specs.declared.heard.Heard.TheVariants as heard_cases
 use Rattle.nodes.specs.declared.event.Event.TheVariants as events
 use Rattle.simulated_link.specs.World.{world_after_bypass, directed}
 use Rattle.simulated_link.proofs.Counted.{reported, report_seen, frame_seen}
-use Rattle.simulated_link.proofs.Unchanged.{up_arrives, board_after, ground_after, up_after}
+use Rattle.simulated_link.proofs.Unchanged.{up_arrives, board_after, ground_after, up_after, TakesBypass}
 use Rattle.tc_link.specs.Telemetry.{none, one, without}
 use Rattle.tc_link.specs.AnyPast.{LinkStep, Happens, TakeTelemetry, Receives, Hears, HearsReport, ForgetTelemetry}
 use Rattle.tc_link.specs.AnyPast.{NewGround, NewSpacecraft, IsLinkStep, link_step, link_run, after_report}
@@ -302,7 +302,7 @@ module _ (c : Config) (w : World) (h : Holding c w) where
   -- ---- all events
 
   -- no other event passes any on
-  others : (e : Event) → e ≢ events.Send → e ≢ events.UpDeliver → e ≢ events.TakeBypass
+  others : (e : Event) → e ≢ events.Send → e ≢ events.UpDeliver → (TakesBypass e → ⊥)
       → ((m : ℕ) (octets : Bor (List ℕ)) → e ≢ events.Bypass m octets) → Passes w [] [] (world_step w e).after
   others e not_sent not_come not_taken not_given =
       let s = w.ground_node in
@@ -341,7 +341,7 @@ module _ (c : Config) (w : World) (h : Holding c w) where
       up_arrives w (Passes_on events.UpDeliver) same
       (λ b bs is. arrived b bs is _ (frame_kept w.spacecraft (command.frame_at On b)))
   event_passes events.TakeBypass = take_event w.spacecraft.bypass refl
-  event_passes e = others e (λ is. cc is) (λ is. cc is) (λ is. cc is) (λ m octets is. cc is)
+  event_passes e = others e (λ is. cc is) (λ is. cc is) (λ is. is) (λ m octets is. cc is)
 
   -- ---- the other steps
 

@@ -8,14 +8,13 @@ use Rattle.tc_link.proofs.Common.{Directive, InitSetVr, Config, is_closed, World
 use Rattle.tc_link.proofs.Common.{number_in, in_frame, report_carried, Rises, active_on, ◌*◌, ◌⊎◌, Option, None, Result}
 use Rattle.tc_link.proofs.Common.{Ok, Err, eqb-false, CopFault, Alert, NnR, Synch, Limit, InitWithCheck, FopMode, S4}
 use Rattle.tc_link.proofs.Common.{S5, S6, directive_step, locks, waits, asks, clcw_step, report_in, report_while_active}
-use Rattle.tc_link.proofs.Common.{FopState, FopOutcome, tick_step, TmFault, Event, LinkFault, Heard, PacketOn}
-use Rattle.tc_link.proofs.Common.{spacecraft_take, spacecraft_take_bypass, spacecraft_telemetry, GroundOutcome}
-use Rattle.tc_link.proofs.Common.{submit_fault, after_submission, bypass_fault, after_bypass, unless_refused, Down}
-use Rattle.tc_link.proofs.Common.{WorldOutcome, world_step, down_deliver_step, IsChecked, replied_alert, obeyed, ticked}
+use Rattle.tc_link.proofs.Common.{FopState, FopOutcome, tick_step, Event, Heard, GroundOutcome, Down, SimFault}
+use Rattle.tc_link.proofs.Common.{world_step, down_deliver_step, IsChecked, replied_alert, obeyed, ticked}
 use Rattle.tc_link.proofs.Common.{cond_both, FarmMode, Open, after_release, is_kept, body_outcome}
 use Rattle.tc_link.proofs.Common.{is_initiation, session_begun_by, session_after_directive, up_deliver_step}
 use Rattle.tc_link.proofs.Common.{directive_of, ConfirmsExactly, HasNoFalseAlarm, IsEvent, SetVs, InitUnlock}
 use Rattle.std.specs.Prelude.{flat_map}
+use Rattle.std.proofs.Common.{IfOk}
 use Rattle.std.proofs.lemmas.Bool.{cases_lt}
 use Rattle.tc_frame.specs.Decoding.{frame_at}
 use Rattle.cop1.specs.declared.farm.FarmMode.TheVariants.{Lockout}
@@ -23,12 +22,10 @@ use Rattle.cop1.specs.declared.vocabulary.Alert.TheVariants as alarms
 use Rattle.cop1.specs.declared.vocabulary.Alert.TheVariants.{Clcw as ClcwAlert, Timer, Terminated}
 use Rattle.nodes.specs.declared.event.Event.TheVariants as events
 use Rattle.nodes.specs.Ground.{ground_directive}
-use Rattle.simulated_link.specs.Replies.{reply_to_submission, reply_to_directive, reply_to_alert, reply_to_taking}
-use Rattle.simulated_link.specs.Replies.{reply_to_telemetry}
+use Rattle.simulated_link.specs.Replies.{ReplyView, reply_to_directive, reply_to_alert}
 use Rattle.simulated_link.specs.World.{directed}
 use Rattle.simulated_link.proofs.Counted.{IsCause, reported}
-use Rattle.simulated_link.proofs.Unchanged.{AtEachLoss, lost, pulled, up_arrives, resumes, ground_after}
-use Rattle.simulated_link.proofs.Unchanged.{BringsReport, board_after}
+use Rattle.simulated_link.proofs.Unchanged.{ground_after, BringsReport, board_after, silent}
 use Rattle.tc_link.specs.Confirmation.{LeavesVr, IsConfirmedExactly}
 use Rattle.tc_link.specs.InTransit.{command_in, unit_in, report_read, report_of_frame, reports_down, IsInWindow}
 use Rattle.tc_link.specs.InTransit.{IsRising, KeepsToWindow}
@@ -278,37 +275,14 @@ is_confirmed_exactly c w k s =
 
 -- ---- answers without an alert
 
-abbrev Silent : Option Alert → Type 0
-Silent o = o ≡ None
-
-submission_silent : (r : Result (Unit {0}) LinkFault) → Silent (replied_alert (reply_to_submission r))
-submission_silent (Ok done) = refl
-submission_silent (Err fault) = refl
-
-taking_silent : (r : Option PacketOn) → Silent (replied_alert (reply_to_taking r))
-taking_silent None = refl
-taking_silent (Some packet) = refl
-
-queueing_silent : (r : Result (Unit {0}) TmFault) → Silent (replied_alert (reply_to_telemetry r))
-queueing_silent (Ok done) = refl
-queueing_silent (Err fault) = refl
-
 alert_replied : (o : Option Alert) → replied_alert (reply_to_alert o) ≡ o
 alert_replied None = refl
 alert_replied (Some alert) = refl
 
-abbrev IsSilent : WorldOutcome → Type 0
-IsSilent o = Silent (alert_in o.answer)
-
-silences : (w : World) → AtEachLoss w IsSilent
-silences w = record {
-  refused = λ fault. refl;
-  up = λ b bs is reply silent. silent;
-  down = λ b bs is reply silent. silent;
-}
-
-none_some : {P : Type 0} (o : Option Alert) (alert : Alert) → o ≡ None → o ≡ Some alert → P
-none_some o alert silent is = absurd (cc (silent, is))
+none_told : {P : Type 0} (r : Result ReplyView SimFault) (alert : Alert) → IfOk r (λ reply. replied_alert reply ≡ None)
+    → alert_in r ≡ Some alert → P
+none_told (Ok reply) alert none is = absurd (cc (none, is))
+none_told (Err fault) alert none is = absurd cc
 
 -- ---- a tick and a directive
 
@@ -461,30 +435,14 @@ module _ (c : Config) (d : Directive) (base : ℕ) (w : World) (k : Sound c w) (
 
   pub cause : Begun c d base w ⊎ Late c d base w → (e : Event) → (alert : Alert)
       → alert_in (world_step w e).answer ≡ Some alert → HasCause w e alert
-  cause s (events.Submit m octets) alert is =
-      none_some _ alert (submission_silent (unless_refused (submit_fault w.ground_node m octets.now) w.ground_node
-      (after_submission w.ground_node m octets.now)).answer) is
-  cause s (events.Bypass m octets) alert is =
-      none_some _ alert (submission_silent (unless_refused (bypass_fault w.ground_node m octets.now) w.ground_node
-      (after_bypass w.ground_node m octets.now)).answer) is
   cause s (events.Directive e) alert is = directive_cause w.ground_node.fop w e alert is
-  cause s events.Send alert is = none_some _ alert (pulled w IsSilent (λ reply up sent silent. silent)) is
-  cause s events.UpDeliver alert is = none_some _ alert (up_arrives w IsSilent refl (λ b bs same. refl)) is
-  cause s events.Report alert is = absurd cc
   cause s events.DownDeliver alert is = cause_heard s alert is
   cause s events.DownClcw alert is = cause_word s alert is
-  cause s (events.Resume value) alert is = none_some _ alert (resumes w value IsSilent refl (λ whole can. refl)) is
   cause s events.Tick alert is =
       let only : alert ≡ Timer =
       tick_only w.ground_node.fop alert
       (sym (alert_replied (tick_step w.ground_node.fop).answer) ∙ is) in rw only refl
-  cause s events.Take alert is =
-      none_some _ alert (taking_silent (spacecraft_take w.spacecraft w.spacecraft.ready).answer) is
-  cause s events.TakeBypass alert is =
-      none_some _ alert (taking_silent (spacecraft_take_bypass w.spacecraft w.spacecraft.bypass).answer) is
-  cause s (events.Telemetry octets) alert is =
-      none_some _ alert (queueing_silent (spacecraft_telemetry w.spacecraft octets.now).answer) is
-  cause s e alert is = none_some _ alert (lost w IsSilent (silences w) e tt) is
+  cause s e alert is = none_told (world_step w e).answer alert (silent w e (λ may. may)) is
 
 -- The receiver doesn't enter Lockout, and a confirmation is exact, in a session that had an idle start,
 -- by check, Unlock or Set V(R).
