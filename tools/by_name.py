@@ -222,8 +222,13 @@ def python_config(text):
 
 
 def parameter_numbers(text):
-    """The header with the numbers of the parameters anew."""
-    names = [f"PARAMETER_{name.upper()}" for name, *_ in parameter_rows()]
-    lines = ",\n".join(f"    SEDGE_{it} = {at}" for at, it in enumerate(["NO_PARAMETER", *names]))
-    return with_list(text, r"\nenum sedge_parameter \{\n", f"{lines}\n", r"\};")
+    """The header with the numbers of the parameters anew, and with the cases of the call that sets one by its number."""
+    names = [name for name, *_ in parameter_rows()]
+    marks = ["NO_PARAMETER", *(f"PARAMETER_{it.upper()}" for it in names)]
+    lines = ",\n".join(f"    SEDGE_{it} = {at}" for at, it in enumerate(marks))
+    text = with_list(text, r"\nenum sedge_parameter \{\n", f"{lines}\n", r"\};")
+    wide = {it.name for one in structs() if one.own == "config" for it in one.fields() if it.type == "u64"}
+    cases = "".join(f"    case SEDGE_PARAMETER_{it.upper()}: {'wide' if it in wide else 'field'} = &config->{it}; break;\n"
+                    for it in names)
+    return with_list(text, r"sedge_config_set\([^}]*?switch \(number\) \{\n", cases, "    default:")
 

@@ -95,6 +95,35 @@ enum sedge_parameter {
 /* Writes the default of each parameter. A program begins with these, and sets what its mission has otherwise. */
 void sedge_config_default(struct sedge_config *config);
 
+/* Sets a parameter by its number, of sedge_parameter. Returns false, and sets nothing, where there is none of this
+ * number, or where its field does not hold the value. */
+static inline bool sedge_config_set(struct sedge_config *config, uint8_t number, uint64_t value) {
+    uint32_t *field = NULL;
+    uint64_t *wide = NULL;
+    switch (number) {
+    case SEDGE_PARAMETER_SCID: field = &config->scid; break;
+    case SEDGE_PARAMETER_VCID: field = &config->vcid; break;
+    case SEDGE_PARAMETER_TM_VCID: field = &config->tm_vcid; break;
+    case SEDGE_PARAMETER_WIDTH: field = &config->width; break;
+    case SEDGE_PARAMETER_WINDOW: field = &config->window; break;
+    case SEDGE_PARAMETER_LIMIT: field = &config->limit; break;
+    case SEDGE_PARAMETER_TIMER: field = &config->timer; break;
+    case SEDGE_PARAMETER_PART: field = &config->part; break;
+    case SEDGE_PARAMETER_MAX_PACKET: field = &config->max_packet; break;
+    case SEDGE_PARAMETER_MAPS: wide = &config->maps; break;
+    case SEDGE_PARAMETER_READY_SLOTS: field = &config->ready_slots; break;
+    case SEDGE_PARAMETER_BYPASS_SLOTS: field = &config->bypass_slots; break;
+    case SEDGE_PARAMETER_QUEUE_SLOTS: field = &config->queue_slots; break;
+    case SEDGE_PARAMETER_FRAME_LENGTH: field = &config->frame_length; break;
+    case SEDGE_PARAMETER_BLOCKING: field = &config->blocking; break;
+    default: break;
+    }
+    if (wide != NULL) *wide = value;
+    else if (field != NULL && value <= UINT32_MAX) *field = (uint32_t)value;
+    else return false;
+    return true;
+}
+
 /* Returns the first parameter that is out of its range, of sedge_parameter; SEDGE_NO_PARAMETER for none. A width is
  * also out of its range where it is odd, and a window where it is more than half of that. */
 uint8_t sedge_config_fault(const struct sedge_config *config);

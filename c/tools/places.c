@@ -146,13 +146,6 @@ static void print_board(const struct sedge_config *config, const struct traffic 
     print_place(config->frame_length, 1, 1, "a telemetry frame");
 }
 
-/* The field of a parameter. They stand in the order of the numbers, and all but the maps have 32 bits. */
-static uint32_t *field(struct sedge_config *config, size_t number) {
-    size_t after = offsetof(struct sedge_config, ready_slots) / 4;
-    size_t at = number < SEDGE_PARAMETER_MAPS ? number - 1 : after + number - SEDGE_PARAMETER_READY_SLOTS;
-    return (uint32_t *)(void *)config + at;
-}
-
 /* Sets what a word names. */
 static bool set(struct sedge_config *config, struct traffic *traffic, const char *word) {
     uint32_t *others[] = {&traffic->packets, &traffic->segments, &traffic->bypass, &traffic->telemetry,
@@ -168,13 +161,9 @@ static bool set(struct sedge_config *config, struct traffic *traffic, const char
     errno = 0;
     value = strtoull(at + 1, &end, 0);
     if (errno != 0 || *end != 0) return false;
-    for (number = 1; *(name = sedge_parameter_name(number)).text != '?'; number++) {
-        if (strlen(name.text) != count || strncmp(name.text, word, count) != 0) continue;
-        if (number == SEDGE_PARAMETER_MAPS) config->maps = value;
-        else if (value > UINT32_MAX) return false;
-        else *field(config, number) = (uint32_t)value;
-        return true;
-    }
+    for (number = 1; *(name = sedge_parameter_name(number)).text != '?'; number++)
+        if (strlen(name.text) == count && strncmp(name.text, word, count) == 0)
+            return sedge_config_set(config, number, value);
     for (k = 0; k < sizeof names / sizeof *names; k++)
         if (strlen(names[k]) == count && strncmp(names[k], word, count) == 0 && value < 65536) {
             *others[k] = (uint32_t)value;

@@ -81,14 +81,10 @@ static size_t octets_of(const char *digits) {
     return count;
 }
 
-/* The fields stand in the order of the numbers, and all but the maps have 32 bits. */
 static void configures(const char *name, const char *value) {
-    size_t number = 1, after = offsetof(struct sedge_config, ready_slots) / 4, at;
-    while (number < 255 && strcmp(sedge_parameter_name((uint8_t)number).text, name) != 0) number++;
-    if (number == 255) give_up("there is no such parameter");
-    at = number < SEDGE_PARAMETER_MAPS ? number - 1 : after + number - SEDGE_PARAMETER_READY_SLOTS;
-    if (number == SEDGE_PARAMETER_MAPS) config.maps = strtoull(value, NULL, 10);
-    else ((uint32_t *)(void *)&config)[at] = (uint32_t)strtoul(value, NULL, 10);
+    uint8_t number = 1;
+    while (number < 255 && strcmp(sedge_parameter_name(number).text, name) != 0) number++;
+    if (!sedge_config_set(&config, number, strtoull(value, NULL, 10))) give_up("there is no such parameter");
 }
 
 /* Reads the script: each event's words, of which those that it lacks are "". */
