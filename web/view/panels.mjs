@@ -59,7 +59,7 @@ function fopRow(row, { fop, rules }) {
     const [book, here] = fop[row?.event] ?? [], rule = rules[row?.part]?.[row.rule - 1];
     if (!row) return make('p', 'none', 'No event of the sender.');
     return make('div', 'row', book ? worded(row.event, book) : '',
-        rule ? worded(`Rule ${row.rule} of ${row.part}`, rule) : worded('Here', here));
+        rule ? worded(`Rule ${row.rule} of ${row.part}`, rule) : here ? worded('Here', here) : '');
 }
 
 // The event of FARM-1, and its row, with the cell of the state in which it was taken.
