@@ -47,7 +47,8 @@ abbrev pub word_text : HeardClcw → List ℕ
 word_text heard = reported_text heard.report heard.alert
 
 -- a call of the ground, and its answer as a text
-abbrev pub ground_call : (event : GroundEvent) → (GroundAnswer event → List ℕ) → GroundState → Turn GroundState
+abbrev pub ground_call : (event : GroundEvent) → (GroundAnswer event → List ℕ) → GroundState
+    → Turn GroundState
 ground_call event text s = record {
   answer = text (ground_step s event).answer;
   after = (ground_step s event).after;

@@ -33,8 +33,8 @@ abbrev pub telemetry_text : FrameView → List ℕ
 telemetry_text frame = sent_text (spelling frame)
 
 -- a call of the spacecraft, and its answer as a text
-abbrev pub spacecraft_call : (event : SpacecraftEvent) → (SpacecraftAnswer event → List ℕ) → SpacecraftState
-    → Turn SpacecraftState
+abbrev pub spacecraft_call : (event : SpacecraftEvent) → (SpacecraftAnswer event → List ℕ)
+    → SpacecraftState → Turn SpacecraftState
 spacecraft_call event text s = record {
   answer = text (spacecraft_step s event).answer;
   after = (spacecraft_step s event).after;
