@@ -5,7 +5,7 @@ use Rattle.std.specs.Option.{option_or}
 use Rattle.tc_frame.specs.declared.frame.Check.{Check}
 use Rattle.script_lines.specs.Words.{words_in}
 use Rattle.line_stream.specs.Lines.{lines_of}
-use Rattle.line_stream.specs.Playing.{Playing}
+use Rattle.line_stream.specs.Player.{Playing}
 use Rattle.encode_lines.specs.Fields.{without_number}
 use Rattle.encode_lines.specs.Frames.{frame_in, frame_octets}
 use Rattle.encode_lines.specs.Packets.{packet_in, packet_octets}

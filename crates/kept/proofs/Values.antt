@@ -31,7 +31,7 @@ use Rattle.std.specs.Ptr.{points_to}
 use Rattle.std.specs.declared.alloc.Global.{Global}
 use Rattle.std.specs.contracts.impls.GlobalAllocator.TheImpl.{ghosts}
 use Rattle.std.proofs.GlobalToken.{dealloc_token-Testable}
-use Rattle.kept.specs.Keeping.{kept_owns}
+use Rattle.kept.specs.KeptBox.{kept_owns}
 use Rattle.kept.specs.contracts.Kept as kept
 
 abbrev pub both : Val → Val → Val

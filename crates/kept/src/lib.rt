@@ -3,7 +3,7 @@
 
 ghost use Rattle.std.specs.Prelude.{◌≡◌, Option, Some, None, is_some, true, option_map, MatchOption};
 ghost use Rattle.std.specs.Coded.{coded_option};
-ghost use Rattle.kept.specs.Keeping.{kept_owns};
+ghost use Rattle.kept.specs.KeptBox.{kept_owns};
 
 use std::alloc::{Allocator, Global};
 use std::marker::Model;

@@ -14,8 +14,8 @@ use Rattle.octets.specs.Beginning.{IsBeginning}
 use Rattle.listings.specs.Devices.{gained}
 use Rattle.listings.proofs.Listed.{gained_more, gained_whole, gained_none, begins_more}
 use Rattle.line_stream.specs.Lines.{parts_of, all_but_last, last_part, ended_lines, left_of, line_left}
-use Rattle.line_stream.specs.Playing.{joined, Playing, Standing, answers, after_lines, are_good, played, fed}
-use Rattle.line_stream.specs.Playing.{answers_of, answers_so_far, after_text, is_all_good}
+use Rattle.line_stream.specs.Player.{joined, Playing, Standing, answers, after_lines, are_good, played, fed}
+use Rattle.line_stream.specs.Player.{answers_of, answers_so_far, after_text, is_all_good}
 
 -- Where a text is cut at its line feeds.
 

@@ -2,7 +2,7 @@
 
 ghost use Rattle.std.specs.Prelude.{◌≡◌, ◌++◌, [], List, ℕ, OnOk, IfOk, string_bytes};
 ghost use Rattle.octets.specs.Beginning.{Appends};
-ghost use Rattle.line_stream.specs.Playing.{Playing};
+ghost use Rattle.line_stream.specs.Player.{Playing};
 
 use std::alloc::{AllocError, Global};
 

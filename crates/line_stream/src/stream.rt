@@ -4,8 +4,8 @@ ghost use Rattle.std.specs.Prelude.{◌≡◌, ◌⊎◌, ◌+◌, ◌&&◌, ◌
 ghost use Rattle.listings.specs.Devices.{HasEnded, gained, writes_failed_in, Writes, BeginsToWrite};
 ghost use Rattle.listings.specs.Streams.{Reads, WritesText};
 ghost use Rattle.line_stream.specs.Lines.{line_left};
-ghost use Rattle.line_stream.specs.Playing.{after_lines, after_text, answers, answers_of, answers_so_far, are_good, is_all_good};
-ghost use Rattle.line_stream.specs.Playing.{fed, fresh, played, standing, HasPlayed};
+ghost use Rattle.line_stream.specs.Player.{after_lines, after_text, answers, answers_of, answers_so_far, are_good, is_all_good};
+ghost use Rattle.line_stream.specs.Player.{fed, fresh, played, standing, HasPlayed};
 
 use crate::parts::cut;
 use crate::player::{Gathered, Player, Responder};

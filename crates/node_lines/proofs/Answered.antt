@@ -18,7 +18,7 @@ use Rattle.node_answers.specs.Answers.{sent_text, fault_text}
 use Rattle.node_lines.specs.declared.player.NodePlayer.{NodePlayer}
 use Rattle.node_lines.specs.declared.player.NodePlayer.TheVariants.{Configured, Made}
 use Rattle.node_lines.specs.Asks.{Turn, NodeRules, turned, Takes}
-use Rattle.node_lines.specs.Playing.{LineOutcome, asked_step, made_step, answered}
+use Rattle.node_lines.specs.Player.{LineOutcome, asked_step, made_step, answered}
 use Rattle.node_lines.specs.Ground.{pulled_text, done_text}
 
 -- What comes of what a node may be asked.

@@ -1,4 +1,4 @@
 pub mod Asks
 pub mod Ground
 pub mod Spacecraft
-pub mod Playing
+pub mod Player

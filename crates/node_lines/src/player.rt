@@ -23,7 +23,7 @@ pub enum NodePlayer<N> {
 
 impl<N: Node + Drop> NodePlayer<N> {
     ghost use Rattle.node_lines.specs.Asks.{ask_said};
-    ghost use Rattle.node_lines.specs.Playing.{fresh_player, set_step, asked_step};
+    ghost use Rattle.node_lines.specs.Player.{fresh_player, set_step, asked_step};
 
     /// A player of the default configuration, whose node is not made.
     pub fn new() -> NodePlayer<N>
@@ -99,7 +99,7 @@ impl<N: Node + Drop> NodePlayer<N> {
 }
 
 impl<N: Node + Drop> Player for NodePlayer<N> {
-    ghost use Rattle.node_lines.specs.Playing.{node_playing};
+    ghost use Rattle.node_lines.specs.Player.{node_playing};
 
     ghost playing = { node_playing N.rules };
 

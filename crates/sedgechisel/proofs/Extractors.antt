@@ -31,7 +31,7 @@ use Rattle.sedgechisel.specs.Extractors.{is_cut_off, front_of, came_from, first_
 use Rattle.sedgechisel.specs.Extractors.{came_of, record_of, Run}
 use Rattle.sedgechisel.specs.Extractors.{is_end, nothing, before, run_from, packets_by, state_by}
 use Rattle.sedgechisel.specs.declared.extracted_frames.Came.{Came}
-use Rattle.sedgechisel.proofs.Following.{stands_at, none_at, none_past}
+use Rattle.sedgechisel.proofs.Pieces.{stands_at, none_at, none_past}
 
 -- ---- packets one after another
 

@@ -2,4 +2,4 @@ mod SenderFields
 mod Described
 mod Builders
 mod Extractors
-mod Following
+mod Pieces

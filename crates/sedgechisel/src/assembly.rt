@@ -207,7 +207,7 @@ pub(crate) fn add(count: usize, octets: &[u8], memory: &mut [u8]) -> usize
 
 /// Goes on to the packet after this part of the octets; begin with `{0, 0}`. Returns true, and the part is that packet;
 /// or false, with nothing written, if there is none.
-#[tactic(auto, using(crate::proofs::Following::stands_at, crate::proofs::Following::none_at, crate::proofs::Following::none_past))]
+#[tactic(auto, using(crate::proofs::Pieces::stands_at, crate::proofs::Pieces::none_at, crate::proofs::Pieces::none_past))]
 #[unsafe(no_mangle)]
 #[must_use]
 pub extern "C" fn sedge_map_packet(octets: &[u8], packet: &mut Part) -> bool

@@ -149,7 +149,7 @@ pub extern "C" fn sedge_tc_frames(
 }
 
 // How many octets the frame has that octets begin with, and 0 where they begin with no whole one.
-#[tactic(auto, using(crate::proofs::Following::few_octets))]
+#[tactic(auto, using(crate::proofs::Pieces::few_octets))]
 fn whole_len(octets: &[u8], checked: bool) -> usize
     ensures count { result ≡ whole_len checked octets.now }
     ensures within { result ≤ length octets.now }

@@ -124,7 +124,7 @@ fn place_in(octets: &[u8], part: usize, k: usize) -> Option<Place>
 }
 
 // Part k of the packets that have this many octets from a place on, where there is one.
-#[tactic(auto, using(crate::proofs::Following::part_stands))]
+#[tactic(auto, using(crate::proofs::Pieces::part_stands))]
 fn place_of(octets: &[u8], from: usize, len: usize, part: usize, k: usize) -> Place
     requires some_octet { 1 ≤ len }
     requires some_part { 1 ≤ part }

@@ -38,7 +38,7 @@ use Rattle.std.specs.contracts.impls.GlobalAllocator.TheImpl.{ghosts}
 use Rattle.std.proofs.cell.Inside.{Good, one}
 use Rattle.std.proofs.raw_atomic.Walks.{proved_at, leaves}
 use Rattle.std.proofs.ResultValues.{and_tt}
-use Rattle.kept.specs.Keeping.{kept_owns, heap_token}
+use Rattle.kept.specs.KeptBox.{kept_owns, heap_token}
 use Rattle.kept.proofs.Values.{both, both_tt, ptr_good, kept_good, Kept, kept_opens, kept_closes}
 use Rattle.std.specs.contracts.alloc.Global as heap
 use Rattle.std.proofs.alloc.Global.TheLaws as heap_laws

@@ -1,7 +1,7 @@
 // The handles of a program in C, which are opened and closed.
 
 ghost use Rattle.std.specs.Prelude.{◌≡◌, Option, None};
-ghost use Rattle.kept.specs.Keeping.{kept_owns, heap_token};
+ghost use Rattle.kept.specs.KeptBox.{kept_owns, heap_token};
 ghost use Rattle.nodes.specs.Ground.{GroundState, new_ground};
 ghost use Rattle.nodes.specs.Spacecraft.{SpacecraftState, new_spacecraft, restarted_spacecraft};
 ghost use Rattle.nodes.specs.contracts.ground_node.Ground as ground_node;

@@ -12,10 +12,10 @@ use Rattle.listings.specs.declared.fault.ListingFault.{ListingFault}
 use Rattle.listings.specs.declared.fault.ListingFault.TheVariants.{Read}
 use Rattle.tc_frame.specs.Splitter.{check_if}
 use Rattle.encode_lines.specs.Octets.{octets_in, unreadable_in}
-use Rattle.line_stream.specs.Playing.{answers_of, answers_so_far, is_all_good}
+use Rattle.line_stream.specs.Player.{answers_of, answers_so_far, is_all_good}
 use Rattle.node_lines.specs.Ground.{ground_rules}
 use Rattle.node_lines.specs.Spacecraft.{spacecraft_rules}
-use Rattle.node_lines.specs.Playing.{node_playing, fresh_player}
+use Rattle.node_lines.specs.Player.{node_playing, fresh_player}
 
 -- how a script ends
 abbrev pub as_outcome : ends.Ending → OutcomeView

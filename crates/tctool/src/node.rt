@@ -1,10 +1,10 @@
 // `tctool ground` and `tctool spacecraft`: a node that is played line by line.
 
 ghost use Rattle.std.specs.Prelude.{◌≡◌, ◌++◌, Err, OnOk, IfOk};
-ghost use Rattle.line_stream.specs.Playing.{answers_of, answers_so_far, is_all_good};
+ghost use Rattle.line_stream.specs.Player.{answers_of, answers_so_far, is_all_good};
 ghost use Rattle.listings.specs.Devices.{HasEnded, gained};
 ghost use Rattle.listings.specs.Streams.{Reads, WritesText};
-ghost use Rattle.node_lines.specs.Playing.{node_playing, fresh_player};
+ghost use Rattle.node_lines.specs.Player.{node_playing, fresh_player};
 ghost use Rattle.stream_commands.specs.Outcome.{outcome_if};
 
 use line_stream::play_stream;

@@ -9,7 +9,7 @@ mod names;
 mod no_memory;
 mod packets;
 mod receiver;
-mod refusing;
+mod refusals;
 mod segments;
 mod sender;
 mod splitter;

@@ -1,6 +1,6 @@
 // The simulated link by its public calls.
 
-mod carrying;
+mod many_packets;
 mod twins;
 mod without_memory;
 

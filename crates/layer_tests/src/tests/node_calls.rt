@@ -4,7 +4,7 @@
 
 mod fates;
 mod ground;
-mod resuming;
+mod resume;
 mod spacecraft;
 mod telemetry;
 

@@ -3,7 +3,7 @@
 ghost use Rattle.std.specs.Prelude.{◌<◌};
 
 use super::equal::equal;
-use super::refusing::again;
+use super::refusals::again;
 use octets::Wire;
 use std::process::Abort;
 use tc_frame::*;

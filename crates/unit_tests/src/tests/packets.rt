@@ -4,7 +4,7 @@ ghost use Rattle.std.specs.Prelude.{◌≡◌, ◌<◌, ◌+◌, ◌%◌, Some, 
 ghost use Rattle.space_packet.specs.Counters.{gap_between};
 
 use super::equal::equal;
-use super::refusing::again;
+use super::refusals::again;
 use space_packet::*;
 use std::alloc::Global;
 use std::process::Abort;

@@ -1,7 +1,7 @@
 // Runs of the sender.
 
 use super::equal::equal;
-use super::refusing::{again, says_refused};
+use super::refusals::{again, says_refused};
 use bitflags::Flags;
 use clcw::{Clcw, ClcwFlags};
 use cop1::{

@@ -6,7 +6,7 @@ ghost use Rattle.std.proofs.lemmas.Grind.{common_steps};
 ghost use Rattle.unit_tests.specs.declared.tests.splitter.BlockFault.TheVariants.{Empty, Truncated, Memory};
 
 use super::equal::equal;
-use super::refusing::says_refused;
+use super::refusals::says_refused;
 use octets::{Splitter, Wire, remove_front};
 use std::process::Abort;
 

@@ -2,7 +2,7 @@
 
 use super::equal::equal;
 use super::packets::{are_packets, octets_of};
-use super::refusing::{again, says_refused};
+use super::refusals::{again, says_refused};
 use std::alloc::Global;
 use std::process::Abort;
 use tm_link::Gap::{First, Lost};

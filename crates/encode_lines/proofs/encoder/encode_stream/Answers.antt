@@ -2,7 +2,7 @@ use Rattle.std.proofs.Common.{◌≡◌, ◌∙◌, ◌++◌, List, ℕ, ap, sub
 use Rattle.octets.specs.Beginning.{IsBeginning}
 use Rattle.listings.specs.Devices.{gained}
 use Rattle.line_stream.specs.Lines.{lines_of}
-use Rattle.line_stream.specs.Playing.{answers_of, after_text}
+use Rattle.line_stream.specs.Player.{answers_of, after_text}
 use Rattle.encode_lines.specs.declared.encoder.Encoder.{Encoder}
 use Rattle.encode_lines.specs.Octets.{octets_in, encoding}
 use Rattle.encode_lines.proofs.Runs.{written, refused}

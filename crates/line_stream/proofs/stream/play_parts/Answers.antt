@@ -1,6 +1,6 @@
 use Rattle.std.proofs.Common.{◌≡◌, ◌∙◌, ◌∷◌, ap, option_copied}
 use Rattle.line_stream.specs.Lines.{parts_of, parts_from}
-use Rattle.line_stream.specs.Playing.{standing}
+use Rattle.line_stream.specs.Player.{standing}
 use Rattle.line_stream.proofs.Pieces.{fed_after}
 use Rattle.line_stream.proofs.stream.play_parts.Goals as goal
 

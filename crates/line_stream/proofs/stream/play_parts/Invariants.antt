@@ -1,5 +1,5 @@
 use Rattle.std.proofs.Common.{◌≡◌, length}
-use Rattle.line_stream.specs.Playing.{fed, standing}
+use Rattle.line_stream.specs.Player.{fed, standing}
 use Rattle.line_stream.proofs.stream.play_parts.Given as goal
 
 -- the octets from here on lead to where all octets lead

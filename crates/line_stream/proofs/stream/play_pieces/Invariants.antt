@@ -2,7 +2,7 @@ use Rattle.std.proofs.Common.{◌≡◌, ◌-◌, ◌≤◌, [], length}
 use Rattle.std.specs.Io.KnownBytes.{Consumes}
 use Rattle.listings.specs.Devices.{gained}
 use Rattle.listings.specs.declared.stream.TheConstants.{MOST_OCTETS}
-use Rattle.line_stream.specs.Playing.{standing}
+use Rattle.line_stream.specs.Player.{standing}
 use Rattle.line_stream.proofs.Pieces.{IsUpTo}
 use Rattle.line_stream.proofs.stream.play_pieces.Given as goal
 

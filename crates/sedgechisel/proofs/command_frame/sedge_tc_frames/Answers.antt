@@ -1,7 +1,7 @@
 use Rattle.std.proofs.Common.{◌≡◌, ◌<◌, ℕ, ◌+◌, ◌-◌, ◌/◌, Bool, List, ◌++◌, length, take, drop, sym, ap, ◌∙◌, arith}
 use Rattle.std.proofs.lemmas.List.{append_assoc}
 use Rattle.sedgechisel.specs.CommandFrames.{record_of, records_from}
-use Rattle.sedgechisel.proofs.Following.{record_octets, piece_is, frames_next, frames_none, later, all_done}
+use Rattle.sedgechisel.proofs.Pieces.{record_octets, piece_is, frames_next, frames_none, later, all_done}
 use Rattle.sedgechisel.proofs.command_frame.sedge_tc_frames.Goals as goal
 
 pub returns-then-count-eq0 : goal.returns-then-count-eq0

@@ -6,7 +6,7 @@ use Rattle.tc_frame.specs.Layout.{SegmentView}
 use Rattle.map_service.specs.Cutting.{parts_of, segments_of}
 use Rattle.map_service.proofs.Groups.{groups-cut, groups-none, none_from}
 use Rattle.sedgechisel.specs.Cuttings.{octets_before}
-use Rattle.sedgechisel.proofs.Following.{found_here, found_later, before_here, before_behind, placed}
+use Rattle.sedgechisel.proofs.Pieces.{found_here, found_later, before_here, before_behind, placed}
 use Rattle.sedgechisel.proofs.cutting.place_in.Goals as goal
 
 pub returns-then-left-count-clause-there : goal.returns-then-left-count-clause-there

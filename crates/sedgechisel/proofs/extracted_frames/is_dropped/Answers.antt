@@ -4,7 +4,7 @@ use Rattle.tm_link.specs.Extractor.{gap_of, is_any_lost}
 use Rattle.tm_link.specs.Layout.{FrameView}
 use Rattle.sedgechisel.specs.Extractors.{state_of, front_of}
 use Rattle.sedgechisel.specs.TelemetryFrames.{frame_described}
-use Rattle.sedgechisel.proofs.Following.{piece_is}
+use Rattle.sedgechisel.proofs.Pieces.{piece_is}
 use Rattle.sedgechisel.proofs.Extractors.{is_begun, dropped_by}
 use Rattle.sedgechisel.proofs.extracted_frames.is_dropped.Goals as goal
 

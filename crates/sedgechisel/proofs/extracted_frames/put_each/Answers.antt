@@ -2,7 +2,7 @@ use Rattle.std.proofs.Common.{◌≡◌, ℕ, ◌+◌, ◌-◌, List, ◌++◌, 
 use Rattle.std.specs.List.{concat}
 use Rattle.std.proofs.lemmas.List.{append_assoc}
 use Rattle.sedgechisel.specs.Extractors.{octets_at, handed_from}
-use Rattle.sedgechisel.proofs.Following.{piece_is, later}
+use Rattle.sedgechisel.proofs.Pieces.{piece_is, later}
 use Rattle.sedgechisel.proofs.extracted_frames.put_each.Goals as goal
 
 pub each-preserved : goal.each-preserved

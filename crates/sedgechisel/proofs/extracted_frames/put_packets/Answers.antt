@@ -1,5 +1,5 @@
 use Rattle.std.proofs.Common.{◌∙◌, arith, length-take}
-use Rattle.sedgechisel.proofs.Following.{later}
+use Rattle.sedgechisel.proofs.Pieces.{later}
 use Rattle.sedgechisel.proofs.Extractors.{few_handed, extracted_is}
 use Rattle.sedgechisel.proofs.extracted_frames.put_packets.Goals as goal
 

@@ -4,7 +4,7 @@ use Rattle.std.proofs.lemmas.List.{drop-drop}
 use Rattle.tm_link.specs.Extractor.{ExtractorState, Extracted}
 use Rattle.sedgechisel.specs.Extractors.{extractor_described, Run, is_end, run_from, before, record_of, packets_by}
 use Rattle.sedgechisel.specs.Extractors.{came_of, state_by}
-use Rattle.sedgechisel.proofs.Following.{piece_is, later, all_done}
+use Rattle.sedgechisel.proofs.Pieces.{piece_is, later, all_done}
 use Rattle.sedgechisel.proofs.Extractors.{IsNext, next_is, run_next, run_none, run_done, runs_on, end_is}
 use Rattle.sedgechisel.proofs.Extractors.{record_is, came_equal}
 use Rattle.sedgechisel.proofs.extracted_frames.sedge_tm_extractor_frames.Goals as goal

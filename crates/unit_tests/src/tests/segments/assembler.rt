@@ -3,7 +3,7 @@
 use super::*;
 use crate::tests::equal::equal;
 use crate::tests::packets::are_packets;
-use crate::tests::refusing::again;
+use crate::tests::refusals::again;
 use map_service::Dropped::{ClosedMap, Interrupted, NoBeginning, NotAPacket, TooLong};
 use tc_frame::SegmentFlags::{Alone, Continuing, First, Last};
 

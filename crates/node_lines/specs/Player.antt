@@ -4,7 +4,7 @@ use Rattle.std.specs.Prelude.{ℕ, List, [], ◌∷◌, ◌++◌, codes, Bool, t
 use Rattle.nodes.specs.declared.config.Config.{Config}
 use Rattle.nodes.specs.declared.parameter.Parameter.{Parameter}
 use Rattle.nodes.specs.Parameters.{default_config, with_value, config_fault}
-use Rattle.line_stream.specs.Playing.{Playing}
+use Rattle.line_stream.specs.Player.{Playing}
 use Rattle.node_lines.specs.declared.player.NodePlayer.{NodePlayer}
 use Rattle.node_lines.specs.declared.player.NodePlayer.TheVariants.{Configured, Made}
 use Rattle.node_lines.specs.Asks.{NodeLine, Skipped, Setting, Asking, Unreadable, node_line, Turn}
