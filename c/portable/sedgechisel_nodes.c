@@ -634,7 +634,7 @@ static const unsigned char constant_33[7] = {
 };
 
 /* Of nodes_config_Config_fault, sedge_config_fault_at. */
-static const unsigned char switch_table_sedge_config_fault_390[120] = {
+static const unsigned char switch_table_sedge_config_fault_391[120] = {
     4, 0, 0, 0, 0, 0, 0, 0, 4, 0, 0, 0, 0, 0, 0, 0, 7, 0, 0, 0, 0, 0, 0, 0, 5, 0, 0, 0, 0, 0, 0, 0, 6, 0, 0, 0, 0, 0,
     0, 0, 5, 0, 0, 0, 0, 0, 0, 0, 5, 0, 0, 0, 0, 0, 0, 0, 4, 0, 0, 0, 0, 0, 0, 0, 10, 0, 0, 0, 0, 0, 0, 0, 4, 0, 0, 0,
     0, 0, 0, 0, 11, 0, 0, 0, 0, 0, 0, 0, 12, 0, 0, 0, 0, 0, 0, 0, 11, 0, 0, 0, 0, 0, 0, 0, 12, 0, 0, 0, 0, 0, 0, 0, 8,
@@ -654,19 +654,19 @@ static const unsigned char switch_table_sedge_parameter_name[30] = {
 };
 
 /* Of sedge_parameter_name_at. */
-static const unsigned char switch_table_sedge_parameter_name_391[30] = {
+static const unsigned char switch_table_sedge_parameter_name_392[30] = {
     0, 0, 0, 0, 0, 0, 0, 0, 0, 0, 0, 0, 0, 0, 0, 0, 101, 116, 0, 0, 111, 116, 108, 111, 111, 116, 110, 103, 0, 0
 };
 
 /* Of sedge_parameter_name_at. */
-static const unsigned char switch_table_sedge_parameter_name_392[60] = {
+static const unsigned char switch_table_sedge_parameter_name_393[60] = {
     0, 0, 0, 0, 0, 0, 0, 0, 99, 105, 100, 0, 104, 0, 0, 0, 111, 119, 0, 0, 116, 0, 0, 0, 114, 0, 0, 0, 0, 0, 0, 0,
     112, 97, 99, 107, 0, 0, 0, 0, 121, 95, 115, 108, 115, 115, 95, 115, 101, 95, 115, 108, 101, 95, 108, 101, 107,
     105, 110, 103
 };
 
 /* Of sedge_parameter_name_at. */
-static const unsigned char switch_table_sedge_parameter_name_393[60] = {
+static const unsigned char switch_table_sedge_parameter_name_394[60] = {
     115, 99, 105, 100, 118, 99, 105, 100, 116, 109, 95, 118, 119, 105, 100, 116, 119, 105, 110, 100, 108, 105, 109,
     105, 116, 105, 109, 101, 112, 97, 114, 116, 109, 97, 120, 95, 109, 97, 112, 115, 114, 101, 97, 100, 98, 121, 112,
     97, 113, 117, 101, 117, 102, 114, 97, 109, 98, 108, 111, 99
@@ -913,7 +913,7 @@ l1:;
     v18 = 0;
     if ((v19 & 1) != 0) {
         v13 = (uint64_t)get8(v16) << 3;
-        v18 = get64(v13 + address(switch_table_sedge_config_fault_390));
+        v18 = get64(v13 + address(switch_table_sedge_config_fault_391));
         v17 = address(switch_table_sedge_config_fault[v13 / 8]);
         v13 = 1;
     }
@@ -8274,7 +8274,7 @@ static uint32_t sedge_config_fault_at(uint64_t config)
     do {
         v4 = get8(config + address(constant_0 + 15));
         v5 = ((uint64_t)v4 & 255) << 3;
-        if (v2 == get64(v5 + address(switch_table_sedge_config_fault_390))) {
+        if (v2 == get64(v5 + address(switch_table_sedge_config_fault_391))) {
             v5 = address(switch_table_sedge_config_fault[v5 / 8]);
             if (get8(v3) == get8(v5)) {
                 if ((get8(v3 + 1) & 255) == (get8(v5 + 1) & 255)) {
@@ -8378,10 +8378,10 @@ static uint64_t sedge_parameter_name_at(uint64_t result, uint32_t number)
     }
     v5 = (uint64_t)number & 255;
     v6 = v5 << 2;
-    number = get32(v6 + address(switch_table_sedge_parameter_name_393));
-    v4 = get32(v6 + address(switch_table_sedge_parameter_name_392));
+    number = get32(v6 + address(switch_table_sedge_parameter_name_394));
+    v4 = get32(v6 + address(switch_table_sedge_parameter_name_393));
     v5 = v5 << 1;
-    v3 = get16(v5 + address(switch_table_sedge_parameter_name_391));
+    v3 = get16(v5 + address(switch_table_sedge_parameter_name_392));
     v2 = get16(v5 + address(switch_table_sedge_parameter_name));
 l1:;
     put64(result + 12, 0);

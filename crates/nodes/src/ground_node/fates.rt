@@ -36,7 +36,7 @@ impl Ground {
     pub fn acknowledged_whole(&self) -> u64
         ensures { result ≡ whole_with 0 self.now.fates }
     {
-        self.whole_with(0)
+        self.acknowledged
     }
 
     /// How many of the session's submissions are known to be on board whole by a report of this value, the
