@@ -1,7 +1,7 @@
 -- Why packets that are to be submitted are refused, and what is known of those that are not.
 use Rattle.std.proofs.Common.{◌≡◌, ◌⊎◌, inl, inr, ℕ, List, Bool, true, false, not, if◌then◌else◌, refl, ◌∙◌, Option}
 use Rattle.std.proofs.Common.{Some, None, IfSome, Result, Ok, Err, IfErr, IsErrAnd, IsOkUnless, ◌≤◌, ◌<◌, ◌+◌, zero}
-use Rattle.std.proofs.Common.{suc, get_or, cond, [], ◌∷◌, length, sym, ap, subst, arith}
+use Rattle.std.proofs.Common.{is_some, suc, get_or, cond, [], ◌∷◌, length, sym, ap, subst, arith}
 use Rattle.std.specs.Prelude.{◌==◌}
 use Rattle.std.specs.List.{AllByRecursion, concat}
 use Rattle.std.proofs.lemmas.Bool.{ltb-true, ltb-false, and_parts, not-false}
@@ -141,6 +141,11 @@ is_accepted s m octets h =
       places = ltb-false _ _ over.0;
     }
 
+-- octets that are one segment have at most a part
+not_over : (over : Bool) (s : SegmentView) → not (is_some (if over then None else Some s)) ≡ false → over ≡ false
+not_over true s one = absurd (cc one)
+not_over false s one = refl
+
 pub bypass_fits : (s : GroundState) (m : ℕ) (octets : List ℕ) → IsConfig s.config → bypass_fault s m octets ≡ None
     → FitsFrame (segment_with Alone m octets)
 bypass_fits s m octets c h =
@@ -149,7 +154,7 @@ bypass_fits s m octets c h =
     let packet = passed _ _ _ command.1 in
     let part = passed _ _ _ packet.1 in
     let one = and_parts _ _ (not-false _ command.0) in
-    let fits : length octets ≤ s.config.part = ltb-false _ _ part.0 in
+    let fits : length octets ≤ s.config.part = ltb-false _ _ (not_over _ _ part.0) in
     record {
       map = below_64 (limits_of s.config) m open_map.0;
       least = some_octet octets one.0;

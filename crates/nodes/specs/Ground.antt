@@ -2,13 +2,14 @@
 use Rattle.std.specs.Prelude.{◌≡◌, ℕ, ◌+◌, List, [], ◌∷◌, ◌++◌, length, map, option_to_list, Bool}
 use Rattle.std.specs.Prelude.{true, false, not, ◌&&◌, ◌==◌, nat_lt, if◌then◌else◌, Option, Some}
 use Rattle.std.specs.Prelude.{None, option_map, IfSome, Result, Ok, Err, OnOk, OnErr, IsOkUnless}
+use Rattle.std.specs.Prelude.{is_some}
 use Rattle.clcw.specs.declared.word.Clcw.{Clcw}
 use Rattle.clcw.specs.declared.fault.ClcwFault.{ClcwFault}
 use Rattle.clcw.specs.Decoding.{clcw_at}
 use Rattle.tc_frame.specs.declared.frame.SegmentFlags.TheVariants.{Alone}
 use Rattle.tc_frame.specs.Layout.{SegmentView, BodyView, Ad, Bd, Bc, FrameView}
 use Rattle.map_service.specs.Assembly.{is_open, is_too_long}
-use Rattle.map_service.specs.Cutting.{segment_with, segments_of}
+use Rattle.map_service.specs.Cutting.{alone_segment, segment_with, segments_of}
 use Rattle.map_service.specs.Packets.{packets_in, is_some_over}
 use Rattle.cop1.specs.declared.fault.CopFault.{CopFault}
 use Rattle.cop1.specs.declared.vocabulary.FopMode.{FopMode}
@@ -153,7 +154,7 @@ bypass_fault s m octets =
     if not (is_open (limits_of s.config) m) then Some ClosedMap
     else if not (are_commands false octets) then Some NotCommand
     else if is_too_long (limits_of s.config) octets then Some TooLong
-    else if nat_lt s.config.part (length octets) then Some TooLong
+    else if not (is_some (alone_segment s.config.part m octets)) then Some TooLong
     else if nat_lt s.config.queue_slots (length s.fop.bypass + 1) then Some QueueFull
     else None
 

@@ -9,13 +9,14 @@ use Rattle.simulated_link.proofs.Common.{LinkFault, ◌≢◌, IfSome, ap, sym, 
 use Rattle.simulated_link.proofs.Common.{◌==◌, ◌+◌, length, Bool, if◌then◌else◌, is_closed, ◌++◌, append-nil}
 use Rattle.simulated_link.proofs.Common.{SpacecraftState, Report, spacecraft_step, PacketOn, packet_on, Directive}
 use Rattle.simulated_link.proofs.Common.{after_submission, unless_refused, clcw_step}
-use Rattle.std.proofs.Common.{IsOkUnless, IsSome, IfErr, IfOk}
+use Rattle.std.proofs.Common.{IsOkUnless, IsSome, IfErr, IfOk, is_some}
 use Rattle.std.specs.Borrow.{Bor}
 use Rattle.std.specs.Prelude.{nat_lt}
 use Rattle.tc_frame.specs.Layout.{FrameView}
 use Rattle.tc_frame.specs.Decoding as command
 use Rattle.clcw.specs.Decoding.{clcw_at}
 use Rattle.map_service.specs.Assembly.{is_open, is_too_long}
+use Rattle.map_service.specs.Cutting.{alone_segment}
 use Rattle.map_service.specs.Packets.{packets_in, is_some_over}
 use Rattle.cop1.specs.Farm.{farm_step, BufferReleased}
 use Rattle.tm_link.specs.Builder.{after_queue, is_to_send}
@@ -469,7 +470,7 @@ bypass_never s m octets =
     or_else (not (is_open (limits_of s.config) m)) faults.ClosedMap _ (λ is. cc is)
     (or_else (not (are_commands false octets)) faults.NotCommand _ (λ is. cc is)
     (or_else (is_too_long (limits_of s.config) octets) faults.TooLong _ (λ is. cc is)
-    (or_else (nat_lt s.config.part (length octets)) faults.TooLong _ (λ is. cc is)
+    (or_else (not (is_some (alone_segment s.config.part m octets))) faults.TooLong _ (λ is. cc is)
     (or_else (nat_lt s.config.queue_slots (length s.fop.bypass + 1)) faults.QueueFull None (λ is. cc is)
     (λ is. cc is)))))
 
