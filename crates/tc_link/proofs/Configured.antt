@@ -57,9 +57,9 @@ module _ (g b : Config) where
   refilled_as : (s : GroundState) → refill_step (ground_with g s) ≡ ground_with g (refill_step (ground_with c s))
   refilled_as s = either (ground_with g) (is_closed s.fop.state) refl (moved_as s s.fop.waiting s.pending)
 
-  settled_as : (s : GroundState) (f : FopState SegmentView)
+  refilled_with_as : (s : GroundState) (f : FopState SegmentView)
       → with_fop (ground_with g s) f ≡ ground_with g (with_fop (ground_with c s) f)
-  settled_as s f = refilled_as (record s { fop = f })
+  refilled_with_as s f = refilled_as (record s { fop = f })
 
   unless_as : (s next other : GroundState) (fault : Option LinkFault) → next ≡ ground_with g other
       → unless_refused fault (ground_with g s) next
@@ -69,7 +69,7 @@ module _ (g b : Config) where
 
   directed_as : (s : GroundState) (d : Directive) (answer : Result (Option Alert) CopFault) (f : FopState SegmentView)
       → after_directive (ground_with g s) d answer f ≡ ground_with g (after_directive (ground_with c s) d answer f)
-  directed_as s d (Ok alert) f = settled_as (obeying s d) f
+  directed_as s d (Ok alert) f = refilled_with_as (obeying s d) f
   directed_as s d (Err fault) f = refl
 
   directed_own : (s : GroundState) (d : Directive) (answer : Result (Option Alert) CopFault) (f : FopState SegmentView)
@@ -103,7 +103,7 @@ module _ (g b : Config) where
       either (ground_outcome_with g) (report.vcid == g.vcid)
       (ap (λ (after : GroundState).
       record { answer = record { report = Used; alert = (clcw_step s.fop report).answer }; after = after })
-      (settled_as (acknowledging s (clcw_step s.fop report).after) (clcw_step s.fop report).after))
+      (refilled_with_as (acknowledging s (clcw_step s.fop report).after) (clcw_step s.fop report).after))
       refl
 
   framed_as : (s : GroundState) (r : Result telemetry.FrameView TmFault)
@@ -141,10 +141,10 @@ module _ (g b : Config) where
       { answer = frame; after = with_fop (ground_with g s) (pull_step s.fop).after })
       (sends_as (pull_step s.fop).answer)
       ∙ ap (λ (after : GroundState). record { answer = frame_to_send c (pull_step s.fop).answer; after = after })
-      (settled_as s (pull_step s.fop).after)
+      (refilled_with_as s (pull_step s.fop).after)
   ground_as s Tick =
       ap (λ (after : GroundState). record { answer = (tick_step s.fop).answer; after = after })
-      (settled_as s (tick_step s.fop).after)
+      (refilled_with_as s (tick_step s.fop).after)
   ground_as s (Telemetry octets) = framed_as s (telemetry_reading.frame_at g.frame_length octets)
   ground_as s (ControlWord octets) = reported_as s (clcw_at octets)
   ground_as s TakeTelemetry = taken_as s s.telemetry

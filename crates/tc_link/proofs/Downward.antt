@@ -123,15 +123,15 @@ moved_apart : (s : GroundState) (x : ExtractorState) (packets : List (List ℕ))
     → after_moving_up (apart s x packets) waiting pending ≡ apart (after_moving_up s waiting pending) x packets
 moved_apart s x packets waiting pending = grind arith
 
-settled_apart : (s : GroundState) (f : FopState SegmentView) (x : ExtractorState) (packets : List (List ℕ))
+refilled_apart : (s : GroundState) (f : FopState SegmentView) (x : ExtractorState) (packets : List (List ℕ))
     → with_fop (apart s x packets) f ≡ apart (with_fop s f) x packets
-settled_apart s f x packets = settled (is_closed f.state) where
-  settled : (off : Bool) → (if off then record (apart s x packets) { fop = f; pending = [] }
+refilled_apart s f x packets = refilled (is_closed f.state) where
+  refilled : (off : Bool) → (if off then record (apart s x packets) { fop = f; pending = [] }
       else after_moving_up (record (apart s x packets) { fop = f }) f.waiting s.pending)
       ≡ apart (if off then record s { fop = f; pending = [] }
       else after_moving_up (record s { fop = f }) f.waiting s.pending) x packets
-  settled true = refl
-  settled false = moved_apart (record s { fop = f }) x packets f.waiting s.pending
+  refilled true = refl
+  refilled false = moved_apart (record s { fop = f }) x packets f.waiting s.pending
 
 module _ (c : Config) (w : World) (k : Sound c w) where
   module _ (b : List ℕ) (bs : List (List ℕ)) (r : Clcw) (t : Tells c b r) where
@@ -153,9 +153,9 @@ module _ (c : Config) (w : World) (k : Sound c w) where
         let s : GroundState = w.ground_node in
         let f : FopState SegmentView = (clcw_step s.fop r).after in
         ap (λ (o : WorldOutcome). o.after) word_is
-        ∙ ap (λ (g : GroundState). with_heard w g bs) (settled_apart (acknowledging s f) f s.extractor s.telemetry)
+        ∙ ap (λ (g : GroundState). with_heard w g bs) (refilled_apart (acknowledging s f) f s.extractor s.telemetry)
         ∙ sym (ap (λ (g : GroundState). with_telemetry_of w (with_heard w g bs))
-        (settled_apart (acknowledging s f) f extracted.after (s.telemetry ++ extracted.packets)))
+        (refilled_apart (acknowledging s f) f extracted.after (s.telemetry ++ extracted.packets)))
         ∙ sym (ap (λ (o : GroundOutcome Heard). with_telemetry_of w (with_heard w o.after bs)) whole_is)
 
     word_says : SaysAs (down_deliver_step w (b ∷ bs)).answer (down_clcw_step w (b ∷ bs)).answer
