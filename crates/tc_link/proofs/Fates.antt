@@ -5,10 +5,10 @@ use Rattle.tc_link.proofs.Common.{length-append, length-map, AllByRecursion, Seg
 use Rattle.tc_link.proofs.Common.{InitWithoutCheck, InitWithCheck, InitUnlock, InitSetVr, directive_step, FopState}
 use Rattle.tc_link.proofs.Common.{FopOutcome, is_initiation, is_closed, Config, GroundState, refill_step}
 use Rattle.tc_link.proofs.Common.{with_fop, directive_outcome, segments_on, segments_of, after_submission, clcw_step}
-use Rattle.tc_link.proofs.Common.{submitting, ahead_by, PacketOn, Event, World, WorldOutcome, world_step, world_run}
-use Rattle.tc_link.proofs.Common.{KeepsSession, world_after_directive, BeginsNoSession, IsIdle, IsSettled, IsEvent}
+use Rattle.tc_link.proofs.Common.{submitting, ahead_by, PacketOn, Event, World, WorldOutcome, world_step}
+use Rattle.tc_link.proofs.Common.{world_after_directive, BeginsNoSession, IsIdle, IsSettled, IsEvent}
 use Rattle.tc_link.proofs.Common.{accepted, directive_of, option_map, Opening, IsChecking, closed_is, HasPlainHistory}
-use Rattle.tc_link.proofs.Common.{obeyed, begun, packet_on, after_alert}
+use Rattle.tc_link.proofs.Common.{obeyed, begun, packet_on, after_alert, obeying}
 use Rattle.cop1.proofs.Cases.{obeyed_set}
 use Rattle.tc_link.specs.Confirmation.{IsChecked}
 use Rattle.std.specs.Prelude.{◌^◌, ◌==◌, ◌≢◌}
@@ -24,23 +24,30 @@ use Rattle.nodes.specs.declared.event.Event.TheVariants as events
 use Rattle.simulated_link.proofs.Unchanged.{ground_after, not_restarted}
 use Rattle.simulated_link.specs.World.{Session, session_after_report}
 use Rattle.tc_link.proofs.Promised.{past_holds, keeps_what_is_known, sent_count, accepted_count, promised_so}
-use Rattle.tc_link.proofs.InOrder.{has_plain_history, total, left_with, whole_still, whole_more}
-use Rattle.tc_link.proofs.Invariant.{Holding, idle_goes, opening_stays, step_holds, octet, began_at, begun_session}
+use Rattle.tc_link.proofs.Promised.{link_step_holds, still_idle, still_opening, CountsAs, counts_still}
+use Rattle.tc_link.proofs.Beside.{beside_so}
+use Rattle.tc_link.proofs.IdleStart.{in_session}
+use Rattle.tc_link.proofs.Linked.{holds_on}
+use Rattle.tc_link.proofs.InOrder.{sent_length, has_plain_history, total, left_with, whole_still, whole_more}
+use Rattle.tc_link.proofs.Invariant.{Holding, BeganAt, step_holds, octet, began_at, begun_session}
 use Rattle.tc_link.proofs.Refilled.{refilled_keeps}
 use Rattle.tc_link.specs.Accepted.{SaysWhatWasAccepted}
 use Rattle.std.proofs.lemmas.Bool.{cases_Bool, eqb-true, eqb-false}
-use Rattle.tc_link.specs.CountsOn.{SetsNone, CountsFrom}
-use Rattle.tc_link.specs.Fates.{whole_first, KnowsFates}
+use Rattle.tc_link.specs.AnyPast.{HasAnyPast, LinkStep, IsLinkStep, link_run, link_step}
+use Rattle.tc_link.specs.Beside.{LeavesSession, SessionLasts, LeavesNumbers, SetsNone}
+use Rattle.tc_link.specs.CountsOn.{CountsFrom}
+use Rattle.tc_link.specs.Taken.{BeginsSession}
+use Rattle.tc_link.specs.Fates.{whole_first, CountsSubmissions, KnowsFates}
 use Rattle.tc_link.specs.Whole.{segments_each}
 use Rattle.tc_link.specs.Known.{SetsNoNumber}
 
 -- ---- the segments of submissions
 
 module _ (c : Config) where
-  abbrev segments : PacketOn → List SegmentView
+  abbrev pub segments : PacketOn → List SegmentView
   segments p = segments_of c.part p.on_map p.octets
 
-  abbrev counts : List PacketOn → List ℕ
+  abbrev pub counts : List PacketOn → List ℕ
   counts ps = map (λ (p : PacketOn). length (segments p)) ps
 
   counts_total : (ps : List PacketOn) → length (flat_map segments ps) ≡ total (counts ps)
@@ -54,12 +61,12 @@ module _ (c : Config) where
 -- ---- the ground's account
 
 -- the ground's account is of these submissions, of whose segments so many are acknowledged
-record Accounts (c : Config) (fates : Fates) (submissions : List PacketOn) (a : ℕ) : Type 0 where
-  kept : fates.kept ≡ true
-  left : fates.left ≡ left_after a (counts c submissions)
-  acknowledged : fates.acknowledged ≡ whole_within a (counts c submissions) % 2 ^ 64
+pub record Accounts (c : Config) (fates : Fates) (submissions : List PacketOn) (a : ℕ) : Type 0 where
+  pub kept : fates.kept ≡ true
+  pub left : fates.left ≡ left_after a (counts c submissions)
+  pub acknowledged : fates.acknowledged ≡ whole_within a (counts c submissions) % 2 ^ 64
 
-abbrev AccountsAt : Config → World → Type 0
+abbrev pub AccountsAt : Config → World → Type 0
 AccountsAt c w = Accounts c w.ground_node.fates w.session.submissions w.session.acknowledged
 
 new_accounts : (c : Config) → Accounts c (new_fates true) [] 0
@@ -99,10 +106,10 @@ acknowledging c fates ps a k b is t =
 
 -- ---- the ground
 
-refilled_fates : (s : GroundState) → (refill_step s).fates ≡ s.fates
+pub refilled_fates : (s : GroundState) → (refill_step s).fates ≡ s.fates
 refilled_fates s = refilled_keeps (λ t. t.fates ≡ s.fates) s (λ waiting pending on closed. refl)
 
-with_fates : (s : GroundState) (f : FopState SegmentView) → (with_fop s f).fates ≡ s.fates
+pub with_fates : (s : GroundState) (f : FopState SegmentView) → (with_fop s f).fates ≡ s.fates
 with_fates s f = refilled_fates (record s { fop = f })
 
 -- a report acknowledges as many segments as NN(R) moves; telemetry without one leaves the account
@@ -245,25 +252,35 @@ module _ (c : Config) where
       omega (arith, p.is.acknowledged, p.is.order.0, p.is.order.1, p.is.order.2, ap length units)
 
   -- the session goes on, and the account with it
-  record Goes (o : Option Opening) (w : World) : Type 0 where
-    holds : Holding c w
-    idle : IsIdle w
-    opening : w.session.opening ≡ o
-    accounts : AccountsAt c w
+  pub record Goes (o : Option Opening) (base : ℕ) (w : World) : Type 0 where
+    pub holds : Holding c w
+    pub idle : IsIdle w
+    pub opening : w.session.opening ≡ o
+    pub counts : CountsAs c base w
+    pub accounts : AccountsAt c w
 
-  goes_on : (o : Option Opening) (w : World) → Goes o w → (es : List Event) → AllByRecursion IsEvent es
-      → KeepsSession w es → SetsNone w es → Goes o (world_run w es)
-  goes_on o w g [] fits keeps quiet = g
-  goes_on o w g (e ∷ es) fits keeps quiet =
+  accounts_still : (w : World) → Holding c w → IsIdle w → AccountsAt c w → (s : LinkStep) → LeavesSession w s
+      → LeavesNumbers w s → AccountsAt c (link_step w s)
+  accounts_still w h idle k s goes quiet = beside_so w (AccountsAt c) s goes (record {
+    happens = λ e is goes. step_accounts c w k h.sound.ground_node.config (acknowledged_most w h idle)
+        (octet c w h.sound (h.session idle)) e goes (subst (LeavesNumbers w) is quiet);
+    same = k;
+    takes = λ x packets. k;
+    passes = λ u kept. k;
+  })
+
+  goes_on : (o : Option Opening) (base : ℕ) (w : World) → Goes o base w → (steps : List LinkStep)
+      → AllByRecursion IsLinkStep steps → SessionLasts w steps → SetsNone w steps → Goes o base (link_run w steps)
+  goes_on o base w g [] fits lasts quiet = g
+  goes_on o base w g (s ∷ steps) fits lasts quiet =
       let h = g.holds in
-      let small = octet c w h.sound (h.session g.idle) in
-      goes_on o (world_step w e).after (record {
-        holds = step_holds c w h e fits.0;
-        idle = idle_goes w e g.idle keeps.0;
-        opening = opening_stays w e keeps.0 ∙ g.opening;
-        accounts = step_accounts c w g.accounts h.sound.ground_node.config (acknowledged_most w h g.idle) small e
-            keeps.0 quiet.0;
-      }) es fits.1 keeps.1 quiet.1
+      goes_on o base (link_step w s) (record {
+        holds = link_step_holds c w h s fits.0;
+        idle = still_idle w s g.idle lasts.0;
+        opening = still_opening w s lasts.0 ∙ g.opening;
+        counts = counts_still c w h base s fits.0 lasts.0 g.counts;
+        accounts = accounts_still w h g.idle g.accounts s lasts.0 quiet.0;
+      }) steps fits.1 lasts.1 quiet.1
 
   -- before the session is settled nothing is sent
   unchecked_or_not : (d : Directive) → is_initiation d ≡ true → (d ≡ InitWithoutCheck) ⊎ IsChecked d
@@ -373,30 +390,101 @@ module _ (c : Config) where
             ])
           ]
 
-pub knows_fates : KnowsFates
-knows_fates w e since r b keeps quiet fits idle =
+-- ---- since the session began
+
+module _ (w : World) where
+  abbrev StartsOn : Directive → FopOutcome SegmentView (Result (Option Alert) CopFault) → Type 0
+  StartsOn d o = is_initiation d ≡ true → is_closed w.ground_node.fop.state ≡ true
+      → is_closed (directive_outcome w.ground_node d o).after.fop.state ≡ false
+
+  begun_on : (f : FopState SegmentView) (d : Directive) → is_initiation d ≡ true → is_closed (begun f d).state ≡ false
+  begun_on f InitWithoutCheck is = refl
+  begun_on f InitWithCheck is = refl
+  begun_on f InitUnlock is = refl
+  begun_on f (InitSetVr x) is = refl
+  begun_on f _ is = absurd cc
+
+  -- it is not in S6 then
+  starts_on : (d : Directive) → StartsOn d (directive_step w.ground_node.fop d)
+  starts_on =
+      let s = w.ground_node.fop in
+      obeyed s StartsOn (record {
+        refused = λ d fault on is off. absurd (on is (closed_is s.state off));
+        begins = λ d is off so closed.
+            refilled_keeps (λ t. is_closed t.fop.state ≡ false) (record (obeying w.ground_node d) { fop = begun s d })
+            (λ waiting pending on none. begun_on s d is);
+        terminated = λ is off. absurd cc;
+        numbers = λ x same is off. absurd cc;
+        sets = λ d k n ticks plain most is off. absurd (cc (plain, is));
+      })
+
+-- what is known at a moment of such a session
+pub record Since (c : Config) (w now : World) (e : Event) : Type 0 where
+  pub at : BeganAt w e
+  pub goes : Goes c (world_step w e).after.session.opening (world_step w e).after.ground_node.fop.vs now
+  pub counts : CountsFrom (world_step w e).after.ground_node.fop.vs now
+
+pub since_begun : (w : World) (e : Event) (since : List LinkStep) → (r : HasAnyPast w) → BeginsSession w e
+    → SessionLasts (world_step w e).after since → SetsNone (world_step w e).after since → IsEvent e
+    → AllByRecursion IsLinkStep since → IsIdle (world_step w e).after
+    → Since r.config w (link_run (world_step w e).after since) e
+since_begun w e since r b lasts quiet fits numbers idle =
     let c : Config = r.config in
     let start : World = (world_step w e).after in
-    let h = step_holds c w (past_holds w r) e fits.0 in
+    let h = step_holds c w (past_holds w r) e fits in
     let at = began_at w e b in
     let s = begun_session w e at in
     let fates = subst (λ (x : World). x.ground_node.fates ≡ new_fates true) (sym at.is)
     (starts_account at.start at.directive at.initiates at.closed) in
+    let on = subst (λ (x : World). is_closed x.ground_node.fop.state ≡ false) (sym at.is)
+    (starts_on at.start at.directive at.initiates at.closed) in
     let k : AccountsAt c start = rw (fates, s) (new_accounts c) in
-    let goes : Goes c start.session.opening start =
-    record { holds = h; idle = idle; opening = refl; accounts = k } in
-    let on = goes_on c start.session.opening start goes since fits.1 keeps quiet in
-    let now : World = world_run start since in
-    let counts = keeps_what_is_known w e since r b keeps quiet fits idle in
-    let base : ℕ = start.ground_node.fop.vs in
-    let opened : directive_of now ≡ Some at.directive =
-    ap (λ (o : Option Opening). option_map (λ (o : Opening). o.directive) o)
-    (on.opening ∙ ap (λ (s : Session). s.opening) s) in
+    let t = h.session idle in
+    let none : length start.session.sent ≡ 0 = ap (λ (s : Session). length s.sent) s in
+    let base_is : t.base ≡ start.ground_node.fop.vs =
+    in_session t (λ early g. omega (
+      arith,
+      (holds_on g.linked on).vs_is,
+      none,
+      sent_length early c t.directive t.base start g h.sound,
+      g.linked.base_octet,
+    )) in
+    let goes : Goes c start.session.opening start.ground_node.fop.vs start = record {
+      holds = h;
+      idle = idle;
+      opening = refl;
+      counts = record { session = t; base_is = base_is };
+      accounts = k;
+    } in
     record {
-      submitted = submitted_is c now on.holds on.idle on.accounts;
-      sent = whole_is c now on.holds on.idle on.accounts (sent_beyond now.ground_node) (length now.session.sent)
-          (sent_is c now on.holds on.idle on.accounts base counts);
-      acknowledged = whole_is c now on.holds on.idle on.accounts 0 now.session.acknowledged (omega arith);
-      on_board = on_board c now on.holds on.idle on.accounts base counts (promised_so c now on.holds on.idle).says
-          (settled_or_none c now on.holds on.idle at.directive at.initiates opened);
+      at = at;
+      goes = goes_on c start.session.opening start.ground_node.fop.vs start goes since numbers lasts quiet;
+      counts = keeps_what_is_known w e since r b lasts quiet fits numbers idle;
     }
+
+module _ (c : Config) (w now : World) (e : Event) (t : Since c w now e) where
+  opened_now : directive_of now ≡ Some t.at.directive
+  opened_now =
+      ap (λ (o : Option Opening). option_map (λ (o : Opening). o.directive) o)
+      (t.goes.opening ∙ ap (λ (s : Session). s.opening) (begun_session w e t.at))
+
+  pub settled_now : IsSettled now ⊎ (length now.session.sent ≡ 0)
+  settled_now = settled_or_none c now t.goes.holds t.goes.idle t.at.directive t.at.initiates opened_now
+
+  pub counts_now : CountsSubmissions now
+  counts_now =
+      let on = t.goes in
+      let base : ℕ = (world_step w e).after.ground_node.fop.vs in
+      record {
+        submitted = submitted_is c now on.holds on.idle on.accounts;
+        sent = whole_is c now on.holds on.idle on.accounts (sent_beyond now.ground_node) (length now.session.sent)
+            (sent_is c now on.holds on.idle on.accounts base t.counts);
+        acknowledged = whole_is c now on.holds on.idle on.accounts 0 now.session.acknowledged (omega arith);
+        on_board = on_board c now on.holds on.idle on.accounts base t.counts
+            (promised_so c now on.holds on.idle).says settled_now;
+      }
+
+pub knows_fates : KnowsFates
+knows_fates w e since r b lasts quiet fits numbers idle =
+    counts_now r.config w (link_run (world_step w e).after since) e
+    (since_begun w e since r b lasts quiet fits numbers idle)

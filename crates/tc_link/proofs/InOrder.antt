@@ -352,13 +352,13 @@ whole_past k n ns some le = omega (arith, one_whole k n n ns (needs n some) le)
 
 -- ---- segments after which more of their group comes hand nothing out
 
-abbrev HasMore : SegmentFlags → Type 0
+abbrev pub HasMore : SegmentFlags → Type 0
 HasMore First = Unit {0}
 HasMore Continuing = Unit {0}
 HasMore Last = ⊥
 HasMore Alone = ⊥
 
-abbrev AllHaveMore : List SegmentView → Type 0
+abbrev pub AllHaveMore : List SegmentView → Type 0
 AllHaveMore segments = AllByRecursion (λ (s : SegmentView). HasMore s.header.flags) segments
 
 opens_only : (limits : Limits) (earlier : Option Dropped) (octets : List ℕ)
@@ -373,7 +373,7 @@ cell_none limits Continuing None octets more = refl
 cell_none limits Continuing (Some part) octets more = opens_only limits None (part ++ octets)
 cell_none limits _ _ octets more = elim more [ ]
 
-step_none : (limits : Limits) (part : Option (List ℕ)) (s : SegmentView) → HasMore s.header.flags
+pub step_none : (limits : Limits) (part : Option (List ℕ)) (s : SegmentView) → HasMore s.header.flags
     → (take_step limits part s).packets ≡ []
 step_none limits part s more =
     cond_both (is_open limits s.header.map) _ _ (λ (o : TakeOutcome). o.packets ≡ [])
@@ -415,16 +415,14 @@ only_group : (part m : ℕ) (groups : List (List (List ℕ))) → length groups 
 only_group part m (g ∷ []) one = (g, append-nil (parts_of part m (concat g)))
 only_group part m _ one = absurd (omega (arith, one))
 
-begun_none : (limits : Limits) (part m : ℕ) (p : PacketOn) (i : ℕ) → IsOneGroup part p
-    → i < length (segments_of part p.on_map p.octets) → (before : List SegmentView)
-    → assembled limits m (before ++ take i (segments_of part p.on_map p.octets)) ≡ assembled limits m before
-begun_none limits part m p i one lt before =
+begun_more : (part : ℕ) (p : PacketOn) (i : ℕ) → IsOneGroup part p → i < length (segments_of part p.on_map p.octets)
+    → AllHaveMore (take i (segments_of part p.on_map p.octets))
+begun_more part p i one lt =
     let t = only_group part p.on_map (groups_of part (packets_in p.octets)) one in
     let fewer : i < length (parts_of part p.on_map (concat t.0)) =
     subst (λ (ss : List SegmentView). i < length ss) t.1 lt in
-    all_none limits m before (take i (segments_of part p.on_map p.octets))
-    (subst (λ (ss : List SegmentView). AllHaveMore (take i ss)) (sym t.1)
-    (flagged_more First Alone p.on_map (pieces_of part (concat t.0)) i tt fewer))
+    subst (λ (ss : List SegmentView). AllHaveMore (take i ss)) (sym t.1)
+    (flagged_more First Alone p.on_map (pieces_of part (concat t.0)) i tt fewer)
 
 -- ---- submissions that were accepted
 
@@ -437,16 +435,16 @@ lone_group : (part : ℕ) (octets : List ℕ) → length (groups_of part (octets
 unfolding groups_of
 lone_group part octets = refl
 
-given_first : (c : Config) (j : ℕ) (ps : List PacketOn) → AllByRecursion (IsGiven c) ps
+pub given_first : (c : Config) (j : ℕ) (ps : List PacketOn) → AllByRecursion (IsGiven c) ps
     → AllByRecursion (IsGiven c) (take j ps)
 given_first c (suc j) (p ∷ ps) h = (h.0, given_first c j ps h.1)
 given_first c _ _ h = tt
 
-abbrev each : ℕ → List PacketOn → List ℕ
+abbrev pub each : ℕ → List PacketOn → List ℕ
 each part ps = map (λ (p : PacketOn). length (segments_of part p.on_map p.octets)) ps
 
 -- without blocking each is one packet
-all_single : (c : Config) → c.blocking ≢ 1 → (ps : List PacketOn) → AllByRecursion (IsGiven c) ps
+pub all_single : (c : Config) → c.blocking ≢ 1 → (ps : List PacketOn) → AllByRecursion (IsGiven c) ps
     → AllByRecursion (IsOneGroup c.part) ps
 all_single c without [] h = tt
 all_single c without (p ∷ ps) h =
@@ -457,17 +455,16 @@ all_single c without (p ∷ ps) h =
     (single, all_single c without ps h.1)
 
 -- The first k segments are those of the first whole submissions, and a part of the next one's.
-record CutAt (c : Config) (m k : ℕ) (ps : List PacketOn) : Type 0 where
-  whole : ℕ
-  whole_is : whole ≡ whole_within k (each c.part ps)
-  part : List SegmentView
-  taken : take k (units_of_all c ps) ≡ units_of_all c (take whole ps) ++ part
+pub record CutAt (c : Config) (k : ℕ) (ps : List PacketOn) : Type 0 where
+  pub whole : ℕ
+  pub whole_is : whole ≡ whole_within k (each c.part ps)
+  pub part : List SegmentView
+  pub taken : take k (units_of_all c ps) ≡ units_of_all c (take whole ps) ++ part
   rest : List SegmentView
   next : units_of_all c (take (suc whole) ps) ≡ take k (units_of_all c ps) ++ rest
-  none : AllByRecursion (IsOneGroup c.part) ps → (before : List SegmentView)
-      → assembled (limits_of c) m (before ++ part) ≡ assembled (limits_of c) m before
+  pub more : AllByRecursion (IsOneGroup c.part) ps → AllHaveMore part
 
-module _ (c : Config) (m : ℕ) (one : 1 ≤ c.part) where
+module _ (c : Config) (one : 1 ≤ c.part) where
   abbrev cut_of : PacketOn → List SegmentView
   cut_of p = segments_of c.part p.on_map p.octets
 
@@ -476,7 +473,7 @@ module _ (c : Config) (m : ℕ) (one : 1 ≤ c.part) where
       let cut = cuttable_from (limits_of c) p.octets h.cut in
       some_in (cut_of p) p.octets (segments-joined c.part p.on_map p.octets one cut.whole) cut.some
 
-  within_first : (k : ℕ) (p : PacketOn) (ps : List PacketOn) → k < length (cut_of p) → CutAt c m k (p ∷ ps)
+  within_first : (k : ℕ) (p : PacketOn) (ps : List PacketOn) → k < length (cut_of p) → CutAt c k (p ∷ ps)
   within_first k p ps lt =
       let beginning : take k (cut_of p ++ units_of_all c ps) ≡ take k (cut_of p) =
       take-append-le k (cut_of p) (units_of_all c ps) (omega (arith, lt)) in
@@ -488,11 +485,11 @@ module _ (c : Config) (m : ℕ) (one : 1 ≤ c.part) where
         rest = drop k (cut_of p);
         next = append-nil (cut_of p) ∙ sym (take-append-drop k (cut_of p))
             ∙ ap (λ (xs : List SegmentView). xs ++ drop k (cut_of p)) (sym beginning);
-        none = λ single. begun_none (limits_of c) c.part m p k single.0 lt;
+        more = λ single. begun_more c.part p k single.0 lt;
       }
 
   past_first : (k : ℕ) (p : PacketOn) (ps : List PacketOn) → 1 ≤ length (cut_of p) → length (cut_of p) ≤ k
-      → CutAt c m (k - length (cut_of p)) ps → CutAt c m k (p ∷ ps)
+      → CutAt c (k - length (cut_of p)) ps → CutAt c k (p ∷ ps)
   past_first k p ps some le t =
       let n = length (cut_of p) in
       let split : k ≡ n + (k - n) = omega (arith, le) in
@@ -509,10 +506,10 @@ module _ (c : Config) (m : ℕ) (one : 1 ≤ c.part) where
         next = ap (λ (xs : List SegmentView). cut_of p ++ xs) t.next
             ∙ sym (append_assoc (cut_of p) (take (k - n) (units_of_all c ps)) t.rest)
             ∙ ap (λ (xs : List SegmentView). xs ++ t.rest) (sym past);
-        none = λ single. t.none single.1;
+        more = λ single. t.more single.1;
       }
 
-  cut_at : (k : ℕ) (ps : List PacketOn) → AllByRecursion (IsGiven c) ps → CutAt c m k ps
+  cut_at : (k : ℕ) (ps : List PacketOn) → AllByRecursion (IsGiven c) ps → CutAt c k ps
   cut_at k [] h = record {
     whole = 0;
     whole_is = omega arith;
@@ -520,7 +517,7 @@ module _ (c : Config) (m : ℕ) (one : 1 ≤ c.part) where
     taken = take_all k [] (omega arith);
     rest = [];
     next = sym (append-nil (take k []) ∙ take_all k [] (omega arith));
-    none = λ single before. ap (assembled (limits_of c) m) (append-nil before);
+    more = λ single. tt;
   }
   cut_at k (p ∷ ps) h =
       elim (cases_lt k (length (cut_of p))) [
@@ -546,18 +543,18 @@ module _ (early : Bool) {Reached : PlainLink → Type 0} (c : Config) (d : Direc
       ap (λ (n : ℕ). whole_within n (segments_each w)) (accepted_length early c d base w g k)
       ∙ ap (λ (x : Config). whole_within plain.r (each x.part ps)) k.ground_node.config
 
+  pub cut : CutAt c plain.r ps
+  cut = cut_at c k.ranges.part.0 plain.r ps linked.given
+
+  pub is_cut : on_board w ≡ cut.whole
+  is_cut = board_is ∙ sym cut.whole_is
+
   module _ (m : ℕ) where
     abbrev lims : Limits
     lims = limits_of c
 
     abbrev olds : List SegmentView
     olds = take w.session.before w.spacecraft.accepted
-
-    cut : CutAt c m plain.r ps
-    cut = cut_at c m k.ranges.part.0 plain.r ps linked.given
-
-    is_cut : on_board w ≡ cut.whole
-    is_cut = board_is ∙ sym cut.whole_is
 
     -- the segments of the first submissions give their packets
     first_give : (j : ℕ) → assembled lims m (olds ++ units_of_all c (take j ps)) ≡ assembled lims m olds
@@ -576,7 +573,7 @@ module _ (early : Bool) {Reached : PlainLink → Type 0} (c : Config) (d : Direc
     delivers_exactly : AllByRecursion (IsOneGroup c.part) ps → delivered w m ≡ submitted_first (on_board w) w m
     delivers_exactly single =
         append_cancel_left (assembled lims m olds) (delivered w m) (submitted_first cut.whole w m)
-        (gives ∙ cut.none single front ∙ first_give cut.whole)
+        (gives ∙ all_none lims m front cut.part (cut.more single) ∙ first_give cut.whole)
         ∙ ap (λ (j : ℕ). submitted_first j w m) (sym is_cut)
 
     delivers_least : IsBeginning (submitted_first (on_board w) w m) (delivered w m)

@@ -2,6 +2,7 @@ pub mod Promised
 pub mod Locks
 pub mod Upward
 pub mod IdleStart
+pub mod Beside
 pub mod Bypass
 pub mod Readable
 pub mod Configured
@@ -11,6 +12,7 @@ pub mod Downward
 pub mod Fates
 pub mod Invariant
 pub mod Taken
+pub mod OctetsRead
 pub mod Outage
 pub mod ProgressNumbers
 pub mod ProgressSender
@@ -20,8 +22,12 @@ pub mod ProgressFirst
 pub mod Repeated
 pub mod Refilled
 pub mod Silence
+pub mod Silent
 pub mod Sound
 pub mod Telemetry
 pub mod Common
 pub mod Lists
 pub mod Resumed
+pub mod SeenCounts
+pub mod SeenGround
+pub mod Seen

@@ -2,7 +2,8 @@
 use Rattle.tc_link.proofs.Common.{◌≡◌, ◌≢◌, ◌<◌, ◌≤◌, ℕ, ◌+◌, false, List, ◌∷◌, ◌++◌, length, refl, ap, ◌∙◌, arith}
 use Rattle.tc_link.proofs.Common.{length-append, length-map, option_to_list, Clcw, SegmentView, ahead_by, FopState}
 use Rattle.tc_link.proofs.Common.{IsActive, units_of, extract_step, GroundState, with_fop, is_closed, unsent_segments}
-use Rattle.tc_link.proofs.Common.{World, world_step, down_deliver_step, IsReached, inr, zero, suc, [], PacketOn}
+use Rattle.tc_link.proofs.Common.{World, world_step, down_deliver_step, inr, zero, suc, [], PacketOn}
+use Rattle.tc_link.specs.Beside.{HasOctetPast}
 use Rattle.tc_link.proofs.Common.{spacecraft_take, up_deliver_step, active_on, AllByRecursion, ◌⊎◌, Option, Some, None}
 use Rattle.tc_link.proofs.Common.{Ok, Alert, Extracted, SpacecraftState, WorldOutcome, FopOutcome, subst, sym}
 use Rattle.tc_link.proofs.Common.{replicate, not, inl, true, cond_both, marked_unit, S1, S2, clcw_step, locks, waits}
@@ -104,7 +105,7 @@ pub record HasNumbers (w : World) : Type 0 where
   pub nn : w.ground_node.fop.nn < 256
   pub vr : w.spacecraft.farm.vr < 256
 
-pub has_numbers : (w : World) → IsReached w → IsActive w.ground_node.fop.state → HasNumbers w
+pub has_numbers : (w : World) → HasOctetPast w → IsActive w.ground_node.fop.state → HasNumbers w
 has_numbers w g active =
     let k = (known w g).octets in
     let numbered = k.sender.numbered (active_on w.ground_node.fop.state active) in
@@ -126,7 +127,7 @@ heard_is w b bs r is t =
     ∙ ap (world_after_telemetry w bs) (used_is w.ground_node.config w.ground_node b r refl t)
 
 -- whatever report is the oldest on its way
-pub oldest_heard : (P : WorldOutcome → Type 0) (w : World) → IsReached w → (b : List ℕ) (bs : List (List ℕ))
+pub oldest_heard : (P : WorldOutcome → Type 0) (w : World) → HasOctetPast w → (b : List ℕ) (bs : List (List ℕ))
     → w.down ≡ b ∷ bs
     → ((r : Clcw) (x : Extracted) → P (world_after_telemetry w bs (used w.ground_node x r)))
     → P (world_step w events.DownDeliver)
@@ -153,14 +154,15 @@ one_taken : (m : ℕ) (s : SpacecraftState) (ps : List PacketOn) → length ps �
 one_taken m s ps is = grind (arith, is)
 
 module _ (P : ℕ → World → Type 0) (taken : (n : ℕ) (w : World) → P n w → P n (world_step w events.Take).after) where
-  pub takes : (n : ℕ) (w : World) → IsReached w → P n w → Ends (Taken P n zero) w (all_taken w)
+  pub takes : (n : ℕ) (w : World) → HasOctetPast w → P n w → Ends (Taken P n zero) w (all_taken w)
   takes n w g p =
       ends_repeat (Taken P n) events.Take tt
       (λ m v h q. inr (taken n v q.0, one_taken m v.spacecraft v.spacecraft.ready q.1)) (length w.spacecraft.ready) w g
       (p, refl)
 
-  pub arrives : ((n : ℕ) (w : World) → IsReached w → Taken P (suc n) zero w → P n (world_step w events.UpDeliver).after)
-      → (w : World) → IsReached w → P (length w.up) w → Ends (P zero) w (all_arrived w)
+  pub arrives : ((n : ℕ) (w : World) → HasOctetPast w → Taken P (suc n) zero w
+      → P n (world_step w events.UpDeliver).after)
+      → (w : World) → HasOctetPast w → P (length w.up) w → Ends (P zero) w (all_arrived w)
   arrives arrived w g p =
       ends_times P (followed_by all_taken next_arrived)
       (λ n v h q. ends_then (Taken P (suc n) zero) (P n) all_taken next_arrived v (takes (suc n) v h q)
@@ -176,10 +178,10 @@ module _ (P : GroundState → Type 0) where
   up_first n w [] p is = absurd (omega (arith, is))
   up_first n w (b ∷ bs) p is = (p, omega (arith, is))
 
-  pub ground_arrives : (w : World) → IsReached w → P w.ground_node → Ends (Arrived zero) w (all_arrived w)
+  pub ground_arrives : (w : World) → HasOctetPast w → P w.ground_node → Ends (Arrived zero) w (all_arrived w)
   ground_arrives w g p = arrives Arrived (λ n v q. q) (λ n v h q. up_first n v v.up q.0.0 q.0.1) w g (p, refl)
 
-  pub ground_takes : (w : World) → IsReached w → Arrived zero w → Ends (Taken Arrived zero zero) w (all_taken w)
+  pub ground_takes : (w : World) → HasOctetPast w → Arrived zero w → Ends (Taken Arrived zero zero) w (all_taken w)
   ground_takes = takes Arrived (λ n v q. q) zero
 
 -- ---- the timer runs_out out
@@ -193,7 +195,7 @@ module _ (P Q : World → Type 0)
   Runs zero w = Q w
   Runs (suc n) w = P w × (w.ground_node.fop.ticks ≡ Some (suc n))
 
-  runs_out : (n : ℕ) (w : World) → IsReached w → Runs (suc n) w
+  runs_out : (n : ℕ) (w : World) → HasOctetPast w → Runs (suc n) w
       → IsSome (alert_in (world_step w events.Tick).answer) ⊎ Runs n (world_step w events.Tick).after
   runs_out zero w g p = ends w p.0 p.1
   runs_out (suc n) w g p =
@@ -202,7 +204,7 @@ module _ (P Q : World → Type 0)
       (record w { ground_node = with_fop w.ground_node o.after })) (sym (tick_on w.ground_node.fop n p.1))
       (goes w (suc n) p.0, same.ticks))
 
-  pub ends_ticks : (w : World) → IsReached w → P w → (ticks : Option ℕ) → w.ground_node.fop.ticks ≡ ticks
+  pub ends_ticks : (w : World) → HasOctetPast w → P w → (ticks : Option ℕ) → w.ground_node.fop.ticks ≡ ticks
       → Running ticks → Ends Q w (replicate (ticks_left ticks) events.Tick)
   ends_ticks w g p None is on = elim on [ ]
   ends_ticks w g p (Some zero) is on = absurd (omega (arith, on))
@@ -237,7 +239,7 @@ module _ (most k : ℕ) where
 
   -- ---- all is sent
 
-  sends : (w : World) → IsReached w → Bounded w → Ends Bounded w (all_sent w)
+  sends : (w : World) → HasOctetPast w → Bounded w → Ends Bounded w (all_sent w)
   sends w g b =
       ends_repeat (λ n. Bounded) events.Send tt
       (λ n v h p. inr (pulled v (λ (o : WorldOutcome). Bounded o.after) (λ reply up sent silent.
@@ -265,7 +267,7 @@ module _ (most k : ℕ) where
   abbrev Reports : World → Type 0
   Reports w = (n : ℕ) × ToHear n w
 
-  is_free : (w : World) → IsReached w → length w.spacecraft.ready ≡ 0 → w.spacecraft.farm.wait ≡ false
+  is_free : (w : World) → HasOctetPast w → length w.spacecraft.ready ≡ 0 → w.spacecraft.farm.wait ≡ false
   is_free w g none = false_from_ne_true w.spacecraft.farm.wait (λ waits.
       let known = known w g in
       let slots : 1 ≤ w.spacecraft.config.ready_slots =
@@ -274,7 +276,7 @@ module _ (most k : ℕ) where
       let no : 1 ≤ 0 = omega (arith, slots, full, none) in
       absurd (omega (arith, no)))
 
-  reports : (w : World) → IsReached w → Waits w → Ends Reports w (reported w)
+  reports : (w : World) → HasOctetPast w → Waits w → Ends Reports w (reported w)
   reports w g p =
       let h = known w g in
       ends_once Reports w events.Report tt g (inr (
@@ -321,7 +323,7 @@ module _ (most k : ℕ) where
       (or_on (heard_fresh w.ground_node.fop r active free) (λ o.
       or_on (report_holds w.ground_node.fop w.ground_node.pending active r) (λ h. inr (o, h))))
 
-  hears_last : (w : World) → IsReached w → ToHear zero w → Fresh (world_step w events.DownDeliver)
+  hears_last : (w : World) → HasOctetPast w → ToHear zero w → Fresh (world_step w events.DownDeliver)
   hears_last w g t =
       let r : Clcw = report_of w.spacecraft.farm w.spacecraft.config.vcid in
       let x = extract_step w.ground_node.extractor t.tells.frame in
@@ -330,8 +332,8 @@ module _ (most k : ℕ) where
       let only : w.down ≡ t.last ∷ [] = t.down ∙ ap (λ xs. xs ++ t.last ∷ []) (nil_from_length t.olds t.count) in
       let same = heard_is w t.last [] r only t.tells in
       let o : WorldOutcome = world_after_telemetry w [] (used w.ground_node x r) in
-      let going : IsReached o.after =
-      subst (λ (o : WorldOutcome). IsReached o.after) same (going_step w g events.DownDeliver tt) in
+      let going : HasOctetPast o.after =
+      subst (λ (o : WorldOutcome). HasOctetPast o.after) same (going_step w g events.DownDeliver tt) in
       subst Fresh (sym same) (or_on (obeys_last w t r refl) (λ p.
       let is = with_same s f in
       let bounds : IsBounded most k (with_fop s f) = bounded most k s f (assumption t.bounds) p.1 in
@@ -353,7 +355,7 @@ module _ (most k : ℕ) where
       )))
 
   -- one before it
-  module _ (n : ℕ) (w : World) (g : IsReached w) (t : ToHear (suc n) w) where
+  module _ (n : ℕ) (w : World) (g : HasOctetPast w) (t : ToHear (suc n) w) where
     abbrev More : WorldOutcome → Type 0
     More o = IsSome (alert_in o.answer) ⊎ ToHear n o.after
 
@@ -376,12 +378,12 @@ module _ (most k : ℕ) where
           tells = rw (with_config s f) t.tells;
         })))
 
-  hears : (n : ℕ) (w : World) → IsReached w → Hears (suc n) w
+  hears : (n : ℕ) (w : World) → HasOctetPast w → Hears (suc n) w
       → IsSome (alert_in (world_step w events.DownDeliver).answer) ⊎ Hears n (world_step w events.DownDeliver).after
   hears zero w g t = hears_last w g t
   hears (suc n) w g t = hears_one n w g t t.olds refl
 
-  heard_all : (w : World) → IsReached w → Reports w → Ends Heard w (all_heard w)
+  heard_all : (w : World) → HasOctetPast w → Reports w → Ends Heard w (all_heard w)
   heard_all w g p =
       let t = p.1 in
       let n : length w.down ≡ suc p.0 =
@@ -448,7 +450,7 @@ module _ (most k : ℕ) where
       let f : FopState SegmentView = record w.ground_node.fop { ticks = Some left } in
       (quiet_with w f p.0 refl refl refl, holds_same w f p.1 refl refl refl refl)
 
-  run_out : (w : World) → IsReached w → Heard w → Ends ReadyWith w (timer_run_out w)
+  run_out : (w : World) → HasOctetPast w → Heard w → Ends ReadyWith w (timer_run_out w)
   run_out w g p =
       let marked = are_marked w.ground_node.fop.sent in
       let waits = awaits_so w p.0 in
@@ -464,12 +466,12 @@ module _ (most k : ℕ) where
 
   -- ---- the whole exchange
 
-  pub first_round_trip : (w : World) → IsReached w → Bounded w → Ends Heard w (round_trip w)
+  pub first_round_trip : (w : World) → HasOctetPast w → Bounded w → Ends Heard w (round_trip w)
   first_round_trip w g b =
       ends_trip Bounded (Arrived (IsBounded most k) zero) Waits Reports Heard w (sends w g b)
       (ground_arrives (IsBounded most k)) (ground_takes (IsBounded most k)) reports heard_all
 
-  pub first_exchange : (w : World) → IsReached w → Bounded w → Ends ReadyWith w (exchange w)
+  pub first_exchange : (w : World) → HasOctetPast w → Bounded w → Ends ReadyWith w (exchange w)
   first_exchange w g b = ends_then Heard ReadyWith round_trip timer_run_out w (first_round_trip w g b) run_out
 
 -- The transmission count in an exchange, in any session.

@@ -11,7 +11,8 @@ use Rattle.tc_link.proofs.Common.{IsActive, clcw_step, after_verdict, report_of,
 use Rattle.tc_link.proofs.Common.{PacketOn, GroundState, with_fop, unsent_segments, after_extraction, extract_step}
 use Rattle.tc_link.proofs.Common.{SpacecraftState, SpacecraftOutcome, spacecraft_take, spacecraft_report, body_outcome}
 use Rattle.tc_link.proofs.Common.{is_free, World, WorldOutcome, world_step, world_after_pull, up_deliver_step, BodyView}
-use Rattle.tc_link.proofs.Common.{IsReached, active_on, acknowledging, ◌*◌, world_run}
+use Rattle.tc_link.proofs.Common.{active_on, acknowledging, ◌*◌, world_run}
+use Rattle.tc_link.specs.Beside.{HasOctetPast}
 use Rattle.std.specs.Prelude.{◌&&◌}
 use Rattle.std.proofs.lemmas.List.{drop_all, nil_from_length}
 use Rattle.std.proofs.lemmas.Bool.{lt-ltb, false_from_ne_true}
@@ -42,7 +43,7 @@ use Rattle.tc_link.proofs.ProgressFirst.{IsBounded, bounded, has_numbers, heard_
 use Rattle.tc_link.proofs.ProgressFirst.{first_exchange}
 use Rattle.tc_link.proofs.ProgressNumbers.{known, Ends, ends_then, ends_repeat, ends_once, ends_so, ends_trip}
 use Rattle.tc_link.proofs.ProgressNumbers.{idle_after, alerts_first, alerts_then, or_on, ends_times}
-use Rattle.tc_link.proofs.Promised.{promised, run_append}
+use Rattle.tc_link.proofs.Promised.{promised_so, run_append}
 
 -- What goes on the link next in an exchange, where what is not acknowledged is to be sent again: units with the
 -- numbers from NN(R) on, one after another; and how the receiver takes them.
@@ -200,7 +201,7 @@ module _ (most k : ℕ) where
   abbrev Sends : ℕ → World → Type 0
   Sends n w = Sending n w.ground_node w.spacecraft.farm w.up w.down
 
-  module _ (n : ℕ) (w : World) (g : IsReached w) (p : Sends (suc n) w) where
+  module _ (n : ℕ) (w : World) (g : HasOctetPast w) (p : Sends (suc n) w) where
     abbrev s : FopState SegmentView
     s = w.ground_node.fop
 
@@ -363,7 +364,7 @@ module _ (most k : ℕ) where
     clear : (w.spacecraft.farm.retransmit ≡ false) ⊎ ((w.spacecraft.farm.vr ≡ w.ground_node.fop.nn)
         × (w.spacecraft.farm.retransmit ≡ true → 1 ≤ length w.ground_node.fop.sent))
 
-  all_sent_so : (w : World) → IsReached w → Sends zero w → Coming (length w.up) w
+  all_sent_so : (w : World) → HasOctetPast w → Sends zero w → Coming (length w.up) w
   all_sent_so w g p =
       let s = w.ground_node.fop in
       let numbers = has_numbers w g p.bounds.active in
@@ -388,7 +389,7 @@ module _ (most k : ℕ) where
   abbrev ComesAll : World → Type 0
   ComesAll w = Coming (length w.up) w
 
-  sends_all : (w : World) → IsReached w → Ready w → IsBounded most k w.ground_node → Ends ComesAll w (all_sent w)
+  sends_all : (w : World) → HasOctetPast w → Ready w → IsBounded most k w.ground_node → Ends ComesAll w (all_sent w)
   sends_all w g r b =
       let s = w.ground_node.fop in
       let q = r.quiet in
@@ -437,7 +438,7 @@ module _ (most k : ℕ) where
       coming_as n w (spacecraft_take w.spacecraft w.spacecraft.ready).after
       (taken_farm w.spacecraft w.spacecraft.ready p.opened) p
 
-  module _ (n : ℕ) (w : World) (g : IsReached w) (p : Coming (suc n) w) (empty : length w.spacecraft.ready ≡ 0) where
+  module _ (n : ℕ) (w : World) (g : HasOctetPast w) (p : Coming (suc n) w) (empty : length w.spacecraft.ready ≡ 0) where
     abbrev craft : SpacecraftState
     craft = w.spacecraft
 
@@ -514,7 +515,7 @@ module _ (most k : ℕ) where
     down : w.down ≡ last ∷ []
     tells : Tells w.ground_node.config last (report_of w.spacecraft.farm w.spacecraft.config.vcid)
 
-  reports_all : (w : World) → IsReached w → Takes zero w → Ends Tells_all w (reported w)
+  reports_all : (w : World) → HasOctetPast w → Takes zero w → Ends Tells_all w (reported w)
   reports_all w g t =
       let h = known w g in
       let p = t.0 in
@@ -544,7 +545,7 @@ module _ (most k : ℕ) where
   abbrev pub Advanced : World → Type 0
   Advanced w = Ready w × IsBounded (most - k) k w.ground_node
 
-  acknowledges : (w : World) → IsReached w → (t : Tells_all w) → Advanced (world_step w events.DownDeliver).after
+  acknowledges : (w : World) → HasOctetPast w → (t : Tells_all w) → Advanced (world_step w events.DownDeliver).after
   acknowledges w g t =
       let r : Clcw = report_of w.spacecraft.farm w.spacecraft.config.vcid in
       let s : FopState SegmentView = w.ground_node.fop in
@@ -588,13 +589,13 @@ module _ (most k : ℕ) where
         },
       )
 
-  hears_all : (w : World) → IsReached w → Tells_all w → Ends Advanced w (all_heard w)
+  hears_all : (w : World) → HasOctetPast w → Tells_all w → Ends Advanced w (all_heard w)
   hears_all w g t =
       subst (λ m. Ends Advanced w (replicate m events.DownDeliver)) (sym (ap length t.down))
       (ends_once Advanced w events.DownDeliver tt g (inr (acknowledges w g t)))
 
   -- the sender does not wait
-  no_ticks : (w : World) → IsReached w → Advanced w → Ends Advanced w (timer_run_out w)
+  no_ticks : (w : World) → HasOctetPast w → Advanced w → Ends Advanced w (timer_run_out w)
   no_ticks w g p =
       let marked = p.0.marked in
       cond_both (awaits w.ground_node.fop.state (are_marked w.ground_node.fop.sent))
@@ -604,14 +605,14 @@ module _ (most k : ℕ) where
 
   -- ---- the whole exchange
 
-  pub next_round_trip : (w : World) → IsReached w → Ready w → IsBounded most k w.ground_node
+  pub next_round_trip : (w : World) → HasOctetPast w → Ready w → IsBounded most k w.ground_node
       → Ends Advanced w (round_trip w)
   next_round_trip w g r b =
       ends_trip ComesAll (Coming zero) (Takes zero) Tells_all Advanced w (sends_all w g r b)
       (arrives Coming one_taken (λ n w g p. arrives_first n w g p.0 p.1 w.up refl)) (takes Coming one_taken zero)
       reports_all hears_all
 
-  pub next_exchange : (w : World) → IsReached w → Ready w → IsBounded most k w.ground_node
+  pub next_exchange : (w : World) → HasOctetPast w → Ready w → IsBounded most k w.ground_node
       → Ends Advanced w (exchange w)
   next_exchange w g r b = ends_then Advanced Advanced round_trip timer_run_out w (next_round_trip w g r b) no_ticks
 
@@ -622,7 +623,7 @@ module _ (k : ℕ) where
   abbrev Within : ℕ → World → Type 0
   Within n w = Ready w × IsBounded (n * k) k w.ground_node
 
-  one_less : (n : ℕ) (w : World) → IsReached w → Within (suc n) w → Ends (Within n) w (exchange w)
+  one_less : (n : ℕ) (w : World) → HasOctetPast w → Within (suc n) w → Ends (Within n) w (exchange w)
   one_less n w g p =
       ends_so (λ v. Ready v × IsBounded (suc n * k - k) k v.ground_node) (Within n) w (exchange w)
       (next_exchange (suc n * k) k w g p.0 p.1)
@@ -632,7 +633,7 @@ module _ (k : ℕ) where
   abbrev AtRest : World → Type 0
   AtRest w = (w.ground_node.fop.state ≡ S1) × (outstanding w.ground_node ≡ [])
 
-  at_rest : (w : World) → IsReached w → Within zero w → AtRest w
+  at_rest : (w : World) → HasOctetPast w → Within zero w → AtRest w
   at_rest w g p =
       let none : size w.ground_node ≤ 0 = omega (arith, p.1.holds) in
       let active : w.ground_node.fop.state ≡ S1 = elim p.0.quiet.state [
@@ -641,7 +642,8 @@ module _ (k : ℕ) where
       ] in
       (active, nil_from_length (outstanding w.ground_node) (omega (arith, none)))
 
-  makes_progress : (w : World) → IsReached w → IsActive w.ground_node.fop.state → w.ground_node.fop.window ≡ k → (n : ℕ)
+  makes_progress : (w : World) → HasOctetPast w → IsActive w.ground_node.fop.state → w.ground_node.fop.window ≡ k
+      → (n : ℕ)
       → size w.ground_node ≤ n * k → Ends AtRest w (times (suc n) exchange w)
   makes_progress w g active window n most =
       ends_then (ReadyWith (n * k) k) AtRest exchange (times n exchange) w
@@ -656,7 +658,7 @@ each_makes_progress w g active n most =
       nothing = t.1.1;
       delivered = λ idle.
           let v = world_run w (times (suc n) exchange w) in
-          (promised v t.0 (idle_after (suc n) w idle)).in_order.complete t.1.0 t.1.1;
+          (promised_so t.0.config v (known v t.0).holds (idle_after (suc n) w idle)).in_order.complete t.1.0 t.1.1;
     }))
 
 -- two exchanges, one after the other

@@ -2,7 +2,7 @@
 use Rattle.tc_link.proofs.Common.{ap, ◌≡◌, ◌<◌, ◌≤◌, ℕ, ◌+◌, ◌%◌, Bool, true, false, List, [], ◌∷◌, ◌++◌, length, drop}
 use Rattle.tc_link.proofs.Common.{Option, Some, None, Ok, refl, sym, subst, ◌∙◌, arith, cond_both, ltb-true, ltb-false}
 use Rattle.tc_link.proofs.Common.{length-append, length-drop, AllByRecursion, Clcw, On, SegmentView, BodyView, Ad, Bd}
-use Rattle.tc_link.proofs.Common.{Bc, Command, Unlock, SetVr, Control, Idle, Due, Sent, ahead_by, Directive}
+use Rattle.tc_link.proofs.Common.{Bc, Command, SetVr, Control, Idle, Due, Sent, ahead_by, Directive}
 use Rattle.tc_link.proofs.Common.{InitWithoutCheck, InitWithCheck, InitUnlock, InitSetVr, is_initiation, begun, obeyed}
 use Rattle.tc_link.proofs.Common.{directive_step, FopState, FopOutcome, S1, S3, S6, clcw_step, report_while_active}
 use Rattle.tc_link.proofs.Common.{after_move_on, after_acknowledge, after_new_value, retransmits, heard_active}
@@ -13,7 +13,8 @@ use Rattle.tc_link.proofs.Common.{extract_step, IsDirective, IsEvent, Spacecraft
 use Rattle.tc_link.proofs.Common.{Event, World, WorldOutcome, new_world, world_step, world_after_pull, up_deliver_step}
 use Rattle.tc_link.proofs.Common.{down_deliver_step, closed_not, active_on, spacecraft_report, FlagsAgree}
 use Rattle.tc_link.proofs.Common.{acknowledging, SetVs, ◌≢◌, ◌⊎◌, inl, inr, zero, suc, replicate, world_run, IsIdle}
-use Rattle.tc_link.proofs.Common.{IsSettled, IsReached, BeginsNoSession, option_map, Opening, directive_of}
+use Rattle.tc_link.proofs.Common.{IsSettled, BeginsNoSession, option_map, Opening, directive_of}
+use Rattle.tc_link.specs.Beside.{HasOctetPast}
 use Rattle.std.specs.Prelude.{IsSome}
 use Rattle.tc_frame.specs.Decoding.{frame_at}
 use Rattle.tc_frame.specs.Encoding.{spelling}
@@ -38,17 +39,38 @@ use Rattle.tc_link.proofs.Linked.{Tells}
 use Rattle.tc_link.proofs.IdleStart.{tells_now}
 use Rattle.tc_link.proofs.ProgressSender.{with_kept, step_kept, without_length, marked_length, WaitsFull, body_full}
 use Rattle.tc_link.proofs.ProgressSender.{released, directed_kept, Timed, timed_empty, timed_step}
-use Rattle.tc_link.proofs.Sound.{Commanded, all_append}
-use Rattle.tc_link.proofs.Promised.{run_append, settled_goes, reached_step}
+use Rattle.tc_link.proofs.Sound.{Commanded, all_append, all_push}
+use Rattle.tc_link.proofs.Promised.{run_append, settled_goes, link_step_holds, link_push}
+use Rattle.tc_link.proofs.Beside.{with_telemetry, taken_beside}
+use Rattle.tc_link.proofs.Common.{IsConfig, ExtractorState}
+use Rattle.nodes.specs.Ground.{new_ground}
+use Rattle.tc_link.specs.AnyPast.{LinkStep, Happens, NewGround, NewSpacecraft, IsLinkStep, link_step, link_run}
+use Rattle.tc_link.specs.AnyPast.{with_nodes}
+use Rattle.tc_link.specs.AnyPast.{TakeTelemetry, Receives as ReceivesOctets, Hears, HearsReport, ForgetTelemetry}
+use Rattle.tc_link.specs.AnyPast.{after_receiving, heard, heard_word}
+use Rattle.tc_link.specs.Beside.{CarriesOctets}
+use Rattle.std.specs.Prelude.{IfOk, ◌==◌, Result, Err}
+use Rattle.tc_frame.specs.Layout.{FrameView}
+use Rattle.clcw.specs.Decoding.{clcw_at}
+use Rattle.cop1.specs.declared.farm.Verdict.TheVariants.{Behind, Discarded}
+use Rattle.tm_link.specs.Extractor.{new_extractor}
+use Rattle.tm_link.specs.Layout as telemetry
+use Rattle.tm_link.specs.Decoding as telemetry_reading
+use Rattle.nodes.specs.Ground.{report_outcome, is_own_telemetry, ground_take_telemetry}
+use Rattle.nodes.specs.declared.heard.Heard.{Heard}
+use Rattle.nodes.specs.declared.heard.HeardClcw.{HeardClcw}
+use Rattle.nodes.specs.declared.received.Received.TheVariants as received_cases
+use Rattle.tc_link.proofs.Common.{TcFault, TmFault, ClcwFault, GroundOutcome, frame_outcome, is_own_frame}
+use Rattle.tc_link.proofs.Common.{telemetry_outcome, after_report}
+use Rattle.tc_link.proofs.OctetsRead.{IsOctetIn, IsOctetBody, FineFrame, FineTelemetry, frame_fine, telemetry_fine}
+use Rattle.tc_link.proofs.Repeated.{word_octet}
+use Rattle.tc_link.proofs.Downward.{apart}
+use Rattle.tc_link.proofs.ProgressSender.{report_timed, queued_timed}
 
 -- The numbers of the sender, at every moment of a run, in any session: while it is on, those of the units that it sent
 -- are the ones from NN(R) to V(S) - 1; and all numbers are octets, those that are on their way too.
 
 -- ---- the sender
-
-abbrev pub IsOctetIn : Command → Type 0
-IsOctetIn Unlock = Unit {0}
-IsOctetIn (SetVr x) = x < 256
 
 abbrev pub IsOctetOf : Control → Type 0
 IsOctetOf Idle = Unit {0}
@@ -214,10 +236,6 @@ queued_numbers : (f : FopState SegmentView) (waiting : Option SegmentView) (bypa
 queued_numbers f waiting bypass k = assumption k
 
 -- ---- the receiver
-
-abbrev pub IsOctetBody : BodyView → Type 0
-IsOctetBody (Bc command) = IsOctetIn command
-IsOctetBody _ = Unit {0}
 
 module _ (s : SpacecraftState) (octet : s.farm.vr < 256) where
   body_octet : (f : BodyView) → IsOctetBody f → (body_outcome s f).after.farm.vr < 256
@@ -414,6 +432,9 @@ new_octets c = record {
   down = tt;
 }
 
+new_timed : (c : Config) → IsConfig c → Timed (new_ground c).fop
+new_timed c ranges = timed_empty _ refl (λ e. absurd cc) ranges.timer.0 (omega arith) ranges.window.0
+
 -- How schedules are put together: an alert comes in one of their parts, or each leads to what the next one starts from.
 
 -- ---- a session goes on
@@ -444,8 +465,18 @@ calm_goes w (events.Directive d) calm = elim calm [ ]
 calm_goes w (events.Resume value) calm = elim calm [ ]
 calm_goes w _ calm = tt
 
-pub going_step : (w : World) → IsReached w → (e : Event) → IsCalm e → IsReached (world_step w e).after
-going_step w g e calm = reached_step w e g (calm_fits e calm)
+octet_step : (w : World) (e : Event) → HasOctetPast w → IsEvent e → HasOctetPast (world_step w e).after
+octet_step w e r fits = record {
+  config = r.config;
+  ranges = r.ranges;
+  steps = r.steps ++ Happens e ∷ [];
+  numbers = all_push IsLinkStep r.steps (Happens e) r.numbers fits;
+  octets = all_push CarriesOctets r.steps (Happens e) r.octets tt;
+  led = link_push (new_world r.config) r.steps (Happens e) ∙ ap (λ (x : World). (world_step x e).after) r.led;
+}
+
+pub going_step : (w : World) → HasOctetPast w → (e : Event) → IsCalm e → HasOctetPast (world_step w e).after
+going_step w g e calm = octet_step w e g (calm_fits e calm)
 
 -- what is known of it, at every moment of a run
 pub record Known (c : Config) (w : World) : Type 0 where
@@ -453,20 +484,144 @@ pub record Known (c : Config) (w : World) : Type 0 where
   pub sender : Timed w.ground_node.fop
   pub octets : HasOctets c w
 
-run_known : (c : Config) (es : List Event) (w : World) → AllByRecursion IsEvent es → Known c w
-    → Known c (world_run w es)
-run_known c [] w fits k = k
-run_known c (e ∷ es) w fits k = run_known c es (world_step w e).after fits.1 (record {
-  holds = step_holds c w k.holds e fits.0;
-  sender = timed_step w k.sender e;
-  octets = step_octets c w k.holds k.octets e fits.0;
-})
+-- and of it but for its sessions
+record KnownOf (c : Config) (w : World) : Type 0 where
+  sender : Timed w.ground_node.fop
+  octets : HasOctets c w
 
-pub known : (w : World) → (r : IsReached w) → Known r.config w
+module _ (c : Config) (w : World) (k : Known c w) where
+  apart_known : (x : ExtractorState) (packets : List (List ℕ)) → KnownOf c (with_telemetry w x packets)
+  apart_known x packets = record { sender = k.sender; octets = assumption k.octets }
+
+  taken_known : (packets : List (List ℕ))
+      → KnownOf c (record w { ground_node = (ground_take_telemetry w.ground_node packets).after })
+  taken_known packets =
+      taken_beside w (KnownOf c) packets (record { sender = k.sender; octets = k.octets })
+      (apart_known w.ground_node.extractor)
+
+  -- ---- the spacecraft receives octets
+
+  abbrev board_octets : (after : SpacecraftState) → Receives after → HasOctets c (record w { spacecraft = after })
+  board_octets after receiver = record {
+    sender = k.octets.sender;
+    receiver = receiver;
+    up = k.octets.up;
+    down = k.octets.down;
+  }
+
+  board_known : (after : SpacecraftState) (answer : Received) → Receives after
+      → KnownOf c (after_receiving w after answer)
+  board_known after (received_cases.Invalid fault) receiver =
+      record { sender = k.sender; octets = assumption (board_octets after receiver) }
+  board_known after received_cases.Foreign receiver =
+      record { sender = k.sender; octets = assumption (board_octets after receiver) }
+  board_known after (received_cases.Bypass kept) receiver =
+      record { sender = k.sender; octets = assumption (board_octets after receiver) }
+  board_known after (received_cases.Sequence n Behind ready dropped) receiver =
+      record { sender = k.sender; octets = assumption (board_octets after receiver) }
+  board_known after (received_cases.Sequence n Discarded ready dropped) receiver =
+      record { sender = k.sender; octets = assumption (board_octets after receiver) }
+  board_known after _ receiver =
+      record { sender = k.sender; octets = assumption (board_octets after receiver) }
+
+  body_receives : (f : BodyView) → IsOctetBody f → Receives (body_outcome w.spacecraft f).after
+  body_receives f is = record {
+    vr = body_octet w.spacecraft k.octets.receiver.vr f is;
+    full = body_full w.spacecraft k.holds.sound.spacecraft.farm.flags k.octets.receiver.full f;
+  }
+
+  received_octets : (r : Result FrameView TcFault) → FineFrame r → Receives (frame_outcome w.spacecraft r).after
+  received_octets (Err fault) fine = k.octets.receiver
+  received_octets (Ok frame) fine =
+      cond_both (is_own_frame w.spacecraft.config frame) (body_outcome w.spacecraft frame.body) _
+      (λ (o : SpacecraftOutcome Received). Receives o.after) (λ t. body_receives frame.body fine)
+      (λ t. k.octets.receiver)
+
+  -- ---- the ground hears octets
+
+  used_known : (x : ExtractorState) (packets : List (List ℕ)) (report : Clcw) → report.value < 256
+      → KnownOf c (with_nodes w
+      (after_report (apart w.ground_node x packets) (clcw_step w.ground_node.fop report).after) w.spacecraft)
+  used_known x packets report octet =
+      let f : FopState SegmentView = (clcw_step w.ground_node.fop report).after in
+      let t = acknowledging (apart w.ground_node x packets) f in
+      record {
+        sender = with_kept Timed queued_timed t f (report_timed w.ground_node.fop k.sender report);
+        octets = record {
+          sender = with_kept Numbered queued_numbers t f
+              (report_numbers w.ground_node.fop k.octets.sender report octet);
+          receiver = k.octets.receiver;
+          up = k.octets.up;
+          down = k.octets.down;
+        };
+      }
+
+  word_known : (x : ExtractorState) (packets : List (List ℕ)) (r : Result Clcw ClcwFault) → IfOk r (λ r. r.value < 256)
+      → KnownOf c (heard_word w (report_outcome (apart w.ground_node x packets) r))
+  word_known x packets (Err fault) octet = apart_known x packets
+  word_known x packets (Ok report) octet =
+      cond_both (report.vcid == w.ground_node.config.vcid) _ _
+      (λ (o : GroundOutcome HeardClcw). KnownOf c (heard_word w o)) (λ t. used_known x packets report octet)
+      (λ t. apart_known x packets)
+
+  heard_known : (r : Result telemetry.FrameView TmFault) → FineTelemetry r
+      → KnownOf c (heard w (telemetry_outcome w.ground_node r))
+  heard_known (Err fault) fine = record { sender = k.sender; octets = k.octets }
+  heard_known (Ok frame) fine =
+      cond_both (is_own_telemetry w.ground_node.config frame) _ _ (λ (o : GroundOutcome Heard). KnownOf c (heard w o))
+      (λ t. word_known (extract_step w.ground_node.extractor frame).after _ (clcw_at frame.ocf)
+      (word_octet frame.ocf fine)) (λ t. record { sender = k.sender; octets = k.octets })
+
+  -- ---- each step
+
+  step_known : (step : LinkStep) → CarriesOctets step → IsLinkStep step → KnownOf c (link_step w step)
+  step_known (Happens e) octets fits =
+      record { sender = timed_step w k.sender e; octets = step_octets c w k.holds k.octets e fits }
+  step_known TakeTelemetry octets fits = taken_known w.ground_node.telemetry
+  step_known (ReceivesOctets octets) are fits =
+      let o = frame_outcome w.spacecraft (frame_at On octets) in
+      board_known o.after o.answer (received_octets (frame_at On octets) (frame_fine octets are))
+  step_known (Hears octets) are fits =
+      let total = w.ground_node.config.frame_length in
+      heard_known (telemetry_reading.frame_at total octets) (telemetry_fine total octets are)
+  step_known (HearsReport octets) are fits =
+      word_known w.ground_node.extractor w.ground_node.telemetry (clcw_at octets) (word_octet octets are)
+  step_known ForgetTelemetry octets fits = apart_known new_extractor w.ground_node.telemetry
+  step_known NewGround octets fits =
+      subst (λ (x : Config). KnownOf c (with_nodes w (new_ground x) w.spacecraft))
+      (sym k.holds.sound.ground_node.config)
+      (record {
+        sender = new_timed c k.holds.sound.ranges;
+        octets = record {
+          sender = (new_octets c).sender;
+          receiver = k.octets.receiver;
+          up = k.octets.up;
+          down = k.octets.down;
+        };
+      })
+  step_known (NewSpacecraft kept) octets fits = record {
+    sender = k.sender;
+    octets = record {
+      sender = k.octets.sender;
+      receiver = record { vr = fits.vr; full = λ waits. absurd cc };
+      up = k.octets.up;
+      down = k.octets.down;
+    };
+  }
+
+run_known : (c : Config) (steps : List LinkStep) (w : World) → AllByRecursion IsLinkStep steps
+    → AllByRecursion CarriesOctets steps → Known c w → Known c (link_run w steps)
+run_known c [] w fits octets k = k
+run_known c (s ∷ steps) w fits octets k =
+    let t = step_known c w k s octets.0 fits.0 in
+    run_known c steps (link_step w s) fits.1 octets.1
+    (record { holds = link_step_holds c w k.holds s fits.0; sender = t.sender; octets = t.octets })
+
+pub known : (w : World) → (r : HasOctetPast w) → Known r.config w
 known w r =
-    subst (Known r.config) r.led (run_known r.config r.events (new_world r.config) r.octets (record {
+    subst (Known r.config) r.led (run_known r.config r.steps (new_world r.config) r.numbers r.octets (record {
       holds = new_holds r.config r.ranges;
-      sender = timed_empty _ refl (λ e. absurd cc) r.ranges.timer.0 (omega arith) r.ranges.window.0;
+      sender = new_timed r.config r.ranges;
       octets = new_octets r.config;
     }))
 
@@ -479,7 +634,7 @@ pub directive_stays : (w : World) (e : Event) → IsCalm e → directive_of (wor
 directive_stays w e calm =
     ap (λ o. option_map (λ (o : Opening). o.directive) o) (opening_stays w e (calm_goes w e calm))
 
-pub settled_step : (w : World) → IsReached w → (e : Event) → IsCalm e → IsIdle w → IsSettled w
+pub settled_step : (w : World) → HasOctetPast w → (e : Event) → IsCalm e → IsIdle w → IsSettled w
     → IsSettled (world_step w e).after
 settled_step w g e calm idle settled =
     let h = (known w g).holds in
@@ -505,26 +660,26 @@ alerts_then w (e ∷ es) fs a = inr (alerts_then (world_step w e).after es fs a)
 
 -- an alert is answered, or the session goes on and this holds
 abbrev pub Ends : (World → Type 0) → World → List Event → Type 0
-Ends P w es = AlertsIn w es ⊎ (IsReached (world_run w es) × P (world_run w es))
+Ends P w es = AlertsIn w es ⊎ (HasOctetPast (world_run w es) × P (world_run w es))
 
 module _ (P Q : World → Type 0) where
   pub ends_then : (first next : Schedule) (w : World) → Ends P w (first w)
-      → ((v : World) → IsReached v → P v → Ends Q v (next v)) → Ends Q w (followed_by first next w)
+      → ((v : World) → HasOctetPast v → P v → Ends Q v (next v)) → Ends Q w (followed_by first next w)
   ends_then first next w start more = elim start [
     | inl a ↦ inl (alerts_first w (first w) (next (world_run w (first w))) a)
     | inr s ↦ (
         let v = world_run w (first w) in
         elim (more v s.0 s.1) [
           | inl a ↦ inl (alerts_then w (first w) (next v) a)
-          | inr t ↦ inr (subst (λ (x : World). IsReached x × Q x) (sym (run_append w (first w) (next v))) t)
+          | inr t ↦ inr (subst (λ (x : World). HasOctetPast x × Q x) (sym (run_append w (first w) (next v))) t)
         ])
   ]
 
 -- one event, so many times
 module _ (P : ℕ → World → Type 0) (e : Event) (calm : IsCalm e)
-    (each : (n : ℕ) (w : World) → IsReached w → P (suc n) w
+    (each : (n : ℕ) (w : World) → HasOctetPast w → P (suc n) w
     → IsSome (alert_in (world_step w e).answer) ⊎ P n (world_step w e).after) where
-  pub ends_repeat : (n : ℕ) (w : World) → IsReached w → P n w → Ends (P zero) w (replicate n e)
+  pub ends_repeat : (n : ℕ) (w : World) → HasOctetPast w → P n w → Ends (P zero) w (replicate n e)
   ends_repeat zero w g p = inr (g, p)
   ends_repeat (suc n) w g p = elim (each n w g p) [
     | inl a ↦ inl (inl a)
@@ -536,14 +691,14 @@ module _ (P : ℕ → World → Type 0) (e : Event) (calm : IsCalm e)
 
 -- a schedule, so many times
 module _ (P : ℕ → World → Type 0) (schedule : Schedule)
-    (each : (n : ℕ) (w : World) → IsReached w → P (suc n) w → Ends (P n) w (schedule w)) where
-  pub ends_times : (n : ℕ) (w : World) → IsReached w → P n w → Ends (P zero) w (times n schedule w)
+    (each : (n : ℕ) (w : World) → HasOctetPast w → P (suc n) w → Ends (P n) w (schedule w)) where
+  pub ends_times : (n : ℕ) (w : World) → HasOctetPast w → P n w → Ends (P zero) w (times n schedule w)
   ends_times zero w g p = inr (g, p)
   ends_times (suc n) w g p =
       ends_then (P n) (P zero) schedule (times n schedule) w (each n w g p) (λ v h q. ends_times n v h q)
 
 -- one event
-pub ends_once : (P : World → Type 0) (w : World) (e : Event) → IsCalm e → IsReached w
+pub ends_once : (P : World → Type 0) (w : World) (e : Event) → IsCalm e → HasOctetPast w
     → IsSome (alert_in (world_step w e).answer) ⊎ P (world_step w e).after → Ends P w (e ∷ [])
 ends_once P w e calm g one = elim one [
   | inl a ↦ inl (inl a)
@@ -552,15 +707,15 @@ ends_once P w e calm g one = elim one [
 
 -- what holds then says more
 pub ends_so : (P Q : World → Type 0) (w : World) (es : List Event) → Ends P w es
-    → ((v : World) → IsReached v → P v → Q v) → Ends Q w es
+    → ((v : World) → HasOctetPast v → P v → Q v) → Ends Q w es
 ends_so P Q w es ends says = or_on ends (λ t. inr (t.0, says (world_run w es) t.0 t.1))
 
 -- a round trip: all is sent, arrives and is taken, and a report is made and heard
 pub ends_trip : (A B C D Q : World → Type 0) (w : World) → Ends A w (all_sent w)
-    → ((v : World) → IsReached v → A v → Ends B v (all_arrived v))
-    → ((v : World) → IsReached v → B v → Ends C v (all_taken v))
-    → ((v : World) → IsReached v → C v → Ends D v (reported v))
-    → ((v : World) → IsReached v → D v → Ends Q v (all_heard v)) → Ends Q w (round_trip w)
+    → ((v : World) → HasOctetPast v → A v → Ends B v (all_arrived v))
+    → ((v : World) → HasOctetPast v → B v → Ends C v (all_taken v))
+    → ((v : World) → HasOctetPast v → C v → Ends D v (reported v))
+    → ((v : World) → HasOctetPast v → D v → Ends Q v (all_heard v)) → Ends Q w (round_trip w)
 ends_trip A B C D Q w sent arrive take report hear =
     let after_taking = followed_by reported all_heard in
     let after_arriving = followed_by all_taken after_taking in

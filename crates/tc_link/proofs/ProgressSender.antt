@@ -454,7 +454,7 @@ module _ (s : FopState SegmentView) (k : Timed s) where
       all_again = λ asking. again_timed;
     })
 
-  report_timed : (r : Clcw) → Times (clcw_step s r)
+  pub report_timed : (r : Clcw) → Times (clcw_step s r)
   report_timed r = reported s r (λ o. Times o) (record {
     active = λ active. active_timed r active;
     alerted = λ is x cause. gives_up s refl k.count refl;
@@ -548,7 +548,7 @@ module _ (s : FopState SegmentView) (k : Timed s) where
   })
 
 -- whatever waits
-queued_timed : (f : FopState SegmentView) (waiting : Option SegmentView) (bypass : List SegmentView) → Timed f
+pub queued_timed : (f : FopState SegmentView) (waiting : Option SegmentView) (bypass : List SegmentView) → Timed f
     → Timed (record f { waiting = waiting; bypass = bypass })
 queued_timed f waiting bypass k = assumption k
 

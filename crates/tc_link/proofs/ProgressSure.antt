@@ -1,5 +1,6 @@
 -- Exchanges while a session is not confirmed yet, and exchanges in which no alert comes.
-use Rattle.tc_link.proofs.Common.{IsIdle, is_closed, ◌*◌, zero, S6, false, IsReached, ◌≡◌, ◌<◌, ◌≤◌, ◌⊎◌, inl, inr, ℕ}
+use Rattle.tc_link.proofs.Common.{IsIdle, is_closed, ◌*◌, zero, S6, false, ◌≡◌, ◌<◌, ◌≤◌, ◌⊎◌, inl, inr, ℕ}
+use Rattle.tc_link.specs.Beside.{HasOctetPast}
 use Rattle.tc_link.proofs.Common.{suc, ◌+◌, ◌-◌, true, List, [], ◌∷◌, ◌++◌, length, Option, Some, None, refl, ap, sym}
 use Rattle.tc_link.proofs.Common.{subst, ◌∙◌, arith, length-append, cond_both, replicate, nat_lt, not, ◌==◌, Clcw}
 use Rattle.tc_link.proofs.Common.{SegmentView, Alert, NnR, Synch, Control, Idle, Due, Sent, FopState, FopOutcome}
@@ -33,8 +34,7 @@ use Rattle.tc_link.proofs.ProgressNumbers.{ends_once, alerts_first, alerts_then,
 use Rattle.tc_link.proofs.ProgressNumbers.{talks_calm, trip_talks, timer_calm, going_step, IsCalm, calm_fits}
 use Rattle.tc_link.proofs.ProgressNumbers.{directive_stays, idle_step, settled_step}
 use Rattle.tc_link.proofs.Linked.{early_off}
-use Rattle.tc_link.proofs.Invariant.{reached_holds}
-use Rattle.tc_link.proofs.Promised.{promised_of, run_append}
+use Rattle.tc_link.proofs.Promised.{promised_of_so, run_append}
 
 -- Exchanges while a session is not confirmed yet, in S4 and S5: each ends with an alert or with the sender Active,
 -- or one transmission less is left.
@@ -176,7 +176,7 @@ module _ (count limit : ℕ) where
   abbrev ReadyNow : World → Type 0
   ReadyNow w = IsReady w.ground_node
 
-  sends : (w : World) → IsReached w → Begins w.ground_node → Ends ReadyNow w (all_sent w)
+  sends : (w : World) → HasOctetPast w → Begins w.ground_node → Ends ReadyNow w (all_sent w)
   sends w g b =
       let most : ℕ = length w.ground_node.fop.bypass + length (outstanding w.ground_node) in
       ends_so (Sends most zero) ReadyNow w (all_sent w)
@@ -189,7 +189,7 @@ module _ (count limit : ℕ) where
   abbrev Hears : ℕ → World → Type 0
   Hears n w = (length w.down ≡ n) × (Active w ⊎ (ReadyNow w × ((w.ground_node.fop.state ≡ S5) ⊎ (1 ≤ n))))
 
-  reports : (w : World) → IsReached w → ReadyNow w → Ends (λ v. (n : ℕ) × Hears (suc n) v) w (reported w)
+  reports : (w : World) → HasOctetPast w → ReadyNow w → Ends (λ v. (n : ℕ) × Hears (suc n) v) w (reported w)
   reports w g b =
       ends_once (λ v. (n : ℕ) × Hears (suc n) v) w events.Report tt g (inr (
         length w.down,
@@ -202,7 +202,7 @@ module _ (count limit : ℕ) where
         ),
       ))
 
-  module _ (n : ℕ) (w : World) (g : IsReached w) (p : Hears (suc n) w) where
+  module _ (n : ℕ) (w : World) (g : HasOctetPast w) (p : Hears (suc n) w) where
     abbrev HeardOne : WorldOutcome → Type 0
     HeardOne o = IsSome (alert_in o.answer) ⊎ Hears n o.after
 
@@ -238,7 +238,7 @@ module _ (count limit : ℕ) where
   abbrev Asked : World → Type 0
   Asked w = Active w ⊎ (ReadyNow w × (w.ground_node.fop.state ≡ S5))
 
-  heard_all : (w : World) → IsReached w → (n : ℕ) × Hears (suc n) w → Ends Asked w (all_heard w)
+  heard_all : (w : World) → HasOctetPast w → (n : ℕ) × Hears (suc n) w → Ends Asked w (all_heard w)
   heard_all w g p =
       ends_so (Hears zero) Asked w (all_heard w)
       (ends_repeat Hears events.DownDeliver tt (λ n v h q. hears_one n v h q v.down refl) (length w.down) w g
@@ -258,7 +258,7 @@ module _ (count limit : ℕ) where
   abbrev Begun : World → Type 0
   Begun w = Active w ⊎ Again w
 
-  active_ticks : (n : ℕ) (w : World) → IsReached w → Active w → Ends Begun w (replicate n events.Tick)
+  active_ticks : (n : ℕ) (w : World) → HasOctetPast w → Active w → Ends Begun w (replicate n events.Tick)
   active_ticks n w g active =
       ends_so Active Begun w (replicate n events.Tick)
       (ends_repeat (λ n. Active) events.Tick tt (λ n v h on. elim (tick_active v.ground_node.fop on) [
@@ -294,7 +294,7 @@ module _ (count limit : ℕ) where
         (with_same w.ground_node f).state ∙ p.1,
       )
 
-  run_out : (w : World) → IsReached w → Asked w → Ends Begun w (timer_run_out w)
+  run_out : (w : World) → HasOctetPast w → Asked w → Ends Begun w (timer_run_out w)
   run_out w g p =
       let s = w.ground_node.fop in
       let ticks : ℕ = ticks_left s.ticks in
@@ -311,7 +311,7 @@ module _ (count limit : ℕ) where
             (λ e. ends_ticks Repeats Begun runs ends w g (t.0.0, t.1) s.ticks refl on) (λ e. absurd (cc (e, waits))))
       ]
 
-  exchange_begins : (w : World) → IsReached w → Begins w.ground_node → Ends Begun w (exchange w)
+  exchange_begins : (w : World) → HasOctetPast w → Begins w.ground_node → Ends Begun w (exchange w)
   exchange_begins w g b =
       ends_then Asked Begun round_trip timer_run_out w
       (ends_trip ReadyNow (Arrived IsReady zero) (Taken (Arrived IsReady) zero zero) (λ v. (n : ℕ) × Hears (suc n) v)
@@ -334,10 +334,10 @@ one_first Q w m so =
 -- an alert comes, or the sender is Active, or one transmission less is left, and the next exchange begins
 module _ (Leads : ℕ → World → ℕ → Type 0)
     (alert : (most : ℕ) (w : World) → AlertsIn w (exchange w) → Leads (suc most) w 1)
-    (active : (most : ℕ) (w : World) → IsReached w → Active w → (m : ℕ) × Leads most w m)
+    (active : (most : ℕ) (w : World) → HasOctetPast w → Active w → (m : ℕ) × Leads most w m)
     (later : (most : ℕ) (w : World) (m : ℕ) → Leads most (world_run w (exchange w)) m → Leads (suc most) w (suc m))
   where
-    leads : (most : ℕ) (w : World) → IsReached w → IsBeginning w.ground_node.fop.state
+    leads : (most : ℕ) (w : World) → HasOctetPast w → IsBeginning w.ground_node.fop.state
         → w.ground_node.fop.limit - w.ground_node.fop.count < most → (m : ℕ) × Leads most w m
     leads zero w g begins few = absurd (omega (arith, few))
     leads (suc most) w g begins few =
@@ -390,7 +390,7 @@ no_less zero k one = omega arith
 no_less (suc n) k one = omega (arith, no_less n k one, one)
 
 -- while it is Active
-ends_active : (w : World) → IsReached w → Active w → (m : ℕ) × Done w m
+ends_active : (w : World) → HasOctetPast w → Active w → (m : ℕ) × Done w m
 ends_active w reached active =
     let n = length (outstanding w.ground_node) in
     let window = (known w reached).sender.window in
@@ -427,7 +427,7 @@ alerts_parted (e ∷ es) fs w a = elim a [
 
 -- a session that was confirmed, in which units may be sent more than once
 record Steady (w : World) : Type 0 where
-  going : IsReached w
+  going : HasOctetPast w
   idle : IsIdle w
   settled : IsSettled w
   checking : IsChecking (directive_of w)
@@ -467,7 +467,7 @@ module _ (w : World) (k : Steady w) where
   silent e talk None is some = cc
   silent e talk (Some x) is some =
       let g = k.going in
-      let promises = promised_of w e g (calm_fits e talk.0) k.idle in
+      let promises = promised_of_so g.config w (known w g).holds e (calm_fits e talk.0) k.idle in
       let none = promises.no_false_alarm k.checking in
       no_cause e talk x (none.alerts x is)
 
@@ -586,7 +586,7 @@ trip_fine =
 
 -- where no alert comes, what holds then does
 sure : (P : World → Type 0) (w : World) (es : List Event) → (AlertsIn w es → ⊥) → Ends P w es
-    → IsReached (world_run w es) × P (world_run w es)
+    → HasOctetPast (world_run w es) × P (world_run w es)
 sure P w es none ends = elim ends [ inl a ↦ absurd (none a) | inr t ↦ t ]
 
 exchange_silent : (w : World) → Steady w
@@ -618,10 +618,10 @@ times_silent (suc n) most w k r b a =
     ]
 
 -- such a session is confirmed while the sender is Active
-settled_of : (w : World) → IsReached w → IsIdle w → IsActive w.ground_node.fop.state → IsChecking (directive_of w)
+settled_of : (w : World) → HasOctetPast w → IsIdle w → IsActive w.ground_node.fop.state → IsChecking (directive_of w)
     → IsSettled w
 settled_of w reached idle active checking =
-    let s = (reached_holds w reached).session idle in
+    let s = (known w reached).holds.session idle in
     elim s.session [
       | inl g ↦ absurd (early_off s.directive w.ground_node.fop.state g.stage.early active)
       | inr g ↦ (

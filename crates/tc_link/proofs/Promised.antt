@@ -14,7 +14,7 @@ use Rattle.tc_link.proofs.Common.{after_verdict, after_report, acknowledging, le
 use Rattle.tc_link.proofs.Common.{segment_octets, IsNear, number_of, numbered, PlainLink, PlainRun, AtMostOneStep}
 use Rattle.tc_link.proofs.Common.{new_link, more, KeepsSession, accepted, Option, CopFault, Alert, directive_step}
 use Rattle.tc_link.proofs.Common.{FopState, FopOutcome, begun, obeyed, is_initiation, directive_outcome, closed_is}
-use Rattle.tc_link.proofs.Common.{obeying}
+use Rattle.tc_link.proofs.Common.{obeying, Opening, option_map}
 use Rattle.std.proofs.Common.{OnErr}
 use Rattle.std.proofs.lemmas.List.{take_more}
 use Rattle.tc_frame.specs.Layout.{FrameView}
@@ -41,13 +41,16 @@ use Rattle.tc_link.specs.AnyPast.{EachGoesOnAsKept, heard_word, link_step, link_
 use Rattle.tc_link.specs.AnyPast.{HoldsAfterAnyPast, RunsAsEvents}
 use Rattle.tc_link.specs.OneLink.{HistoriesAre, HasOneLink, IsUnsent, EachHasOneLink, EachGoesOnAsOne}
 use Rattle.tc_link.specs.PlainLink.{PlainStep, none}
-use Rattle.tc_link.specs.CountsOn.{SetsNone, CountsFrom, KeepsWhatIsKnown}
+use Rattle.tc_link.specs.Beside.{LeavesSession, SessionLasts, LeavesNumbers, SetsNone}
+use Rattle.tc_link.specs.CountsOn.{CountsFrom, KeepsWhatIsKnown}
 use Rattle.tc_link.specs.Known.{MovesWithRecords}
+use Rattle.tc_link.proofs.Beside.{with_telemetry, with_bypass, taken_beside, beside_so}
 use Rattle.tc_link.proofs.IdleStart.{InSession, in_session}
 use Rattle.tc_link.proofs.InOrder.{is_history, unsettled, ends_as, said_is, were_accepted, accepted_length, settled_as}
 use Rattle.tc_link.proofs.InOrder.{is_in_order, has_plain_history, delivers_whole}
 use Rattle.tc_link.proofs.Invariant.{late_step, Holding, reached_holds, moves_with_records, new_holds, step_holds}
-use Rattle.tc_link.proofs.Invariant.{run_holds, idle_goes, with_same, octet, began_at, begun_session}
+use Rattle.tc_link.proofs.Invariant.{early_step, opened, session_stays, run_holds, idle_goes, with_same, octet}
+use Rattle.tc_link.proofs.Invariant.{began_at, begun_session}
 use Rattle.tc_link.proofs.Linked.{Next, In, kept_of, DownIs, rises_to, beside, run_to}
 use Rattle.tc_link.proofs.Sound.{step_sound, Sound, all_push, refilled_so, report_so, arrives_so, new_sound}
 use Rattle.tc_link.proofs.Sound.{GroundNodeSteady, SpacecraftSteady}
@@ -160,7 +163,7 @@ module _ (c : Config) (w : World) (h : Holding c w) where
         says = in_session s (λ early g. says c w h.sound early s.directive s.base g);
       }
 
-  promised_of_so : (e : Event) → IsEvent e → IsIdle w → IsPromisedOf w e
+  pub promised_of_so : (e : Event) → IsEvent e → IsIdle w → IsPromisedOf w e
   promised_of_so e fits is =
       let s = h.session is in
       record {
@@ -283,10 +286,6 @@ one_more events i d lt all is =
 
 -- ---- the session goes on
 
--- with another extractor, and other packets of telemetry
-abbrev with_telemetry : World → ExtractorState → List (List ℕ) → World
-with_telemetry w extractor packets = record w { ground_node = apart w.ground_node extractor packets }
-
 session_to : (c : Config) (w new : World)
     → ((early : Bool) (d : Directive) (base : ℕ) → In early c d base w → In early c d base new) → InSession c w
     → InSession c new
@@ -316,7 +315,13 @@ module _ (c : Config) (w : World) (x : ExtractorState) (packets : List (List ℕ
 -- where a Type-BD frame arrived
 module _ (c : Config) (w : World) (h : Holding c w) (u : SegmentView) (kept : Bool) where
   abbrev bypassed : World
-  bypassed = record w { spacecraft = (bypass_outcome w.spacecraft u kept).after }
+  bypassed = with_bypass w u kept
+
+  -- the session, with the same beginning
+  bypassed_in : (early : Bool) (d : Directive) (base : ℕ) → In early c d base w → In early c d base bypassed
+  bypassed_in early d base g =
+      run_to g (eases_keep early c d base w h.sound g (bypass_outcome w.spacecraft u kept).after
+      (bypass_same w.spacecraft u kept) (bypass_eases d base g.front w.spacecraft u kept))
 
   bypassed_holds : Holding c bypassed
   bypassed_holds = record {
@@ -330,9 +335,7 @@ module _ (c : Config) (w : World) (h : Holding c w) (u : SegmentView) (kept : Bo
     reports = h.reports;
     carried = record { frames = h.carried.frames; carries = h.carried.carries; fits = h.carried.fits };
     clean = h.clean;
-    session = λ is. session_to c w bypassed (λ early d base g.
-        run_to g (eases_keep early c d base w h.sound g (bypass_outcome w.spacecraft u kept).after
-        (bypass_same w.spacecraft u kept) (bypass_eases d base g.front w.spacecraft u kept))) (h.session is);
+    session = λ is. session_to c w bypassed bypassed_in (h.session is);
   }
 
 -- ---- each step
@@ -340,8 +343,7 @@ module _ (c : Config) (w : World) (h : Holding c w) (u : SegmentView) (kept : Bo
 module _ (c : Config) (w : World) (h : Holding c w) where
   take_holds : (packets : List (List ℕ))
       → Holding c (record w { ground_node = (ground_take_telemetry w.ground_node packets).after })
-  take_holds [] = h
-  take_holds (packet ∷ left) = telemetry_holds c w w.ground_node.extractor left h
+  take_holds packets = taken_beside w (Holding c) packets h (λ left. telemetry_holds c w w.ground_node.extractor left h)
 
   -- no session goes on with these nodes
   nodes_hold : (ground_node : GroundState) (spacecraft : SpacecraftState) → GroundNodeSteady c ground_node
@@ -458,7 +460,12 @@ module _ (c : Config) (w : World) (h : Holding c w) where
 
 -- ---- a run
 
-link_run_holds : (c : Config) (steps : List LinkStep) (w : World) → AllByRecursion IsLinkStep steps → Holding c w
+pub link_push : (w : World) (steps : List LinkStep) (s : LinkStep)
+    → link_run w (steps ++ s ∷ []) ≡ link_step (link_run w steps) s
+link_push w [] s = refl
+link_push w (x ∷ xs) s = link_push (link_step w x) xs s
+
+pub link_run_holds : (c : Config) (steps : List LinkStep) (w : World) → AllByRecursion IsLinkStep steps → Holding c w
     → Holding c (link_run w steps)
 link_run_holds c [] w fits h = h
 link_run_holds c (s ∷ steps) w fits h = link_run_holds c steps (link_step w s) fits.1 (link_step_holds c w h s fits.0)
@@ -467,6 +474,89 @@ pub past_holds : (w : World) → (p : HasAnyPast w) → Holding p.config w
 past_holds w p =
     subst (Holding p.config) p.led
     (link_run_holds p.config p.steps (new_world p.config) p.numbers (new_holds p.config p.ranges))
+
+-- ---- a session that goes on
+
+idle_of_opening : (w new : World) → new.session.opening ≡ w.session.opening → IsIdle w → IsIdle new
+idle_of_opening w new same idle =
+    ap (λ (o : Option Opening). option_map (λ (x : Opening). x.idle) o) same ∙ idle
+
+-- it is still the one that began so
+pub session_still : (w : World) (s : LinkStep) → LeavesSession w s
+    → opened (link_step w s).session ≡ opened w.session
+session_still w s goes = beside_so w (λ new. opened new.session ≡ opened w.session) s goes (record {
+  happens = λ e is goes. session_stays w e goes;
+  same = refl;
+  takes = λ x packets. refl;
+  passes = λ u kept. refl;
+})
+
+pub still_opening : (w : World) (s : LinkStep) → LeavesSession w s
+    → (link_step w s).session.opening ≡ w.session.opening
+still_opening w s goes = ap (λ (o : Option Opening × ℕ). o.0) (session_still w s goes)
+
+-- and so it had an idle start
+pub still_idle : (w : World) (s : LinkStep) → IsIdle w → LeavesSession w s → IsIdle (link_step w s)
+still_idle w s idle goes = idle_of_opening w (link_step w s) (still_opening w s goes) idle
+
+pub run_idle : (w : World) (steps : List LinkStep) → IsIdle w → SessionLasts w steps → IsIdle (link_run w steps)
+run_idle w [] idle lasts = idle
+run_idle w (s ∷ steps) idle lasts = run_idle (link_step w s) steps (still_idle w s idle lasts.0) lasts.1
+
+-- with the number from which it counts
+pub record CountsAs (c : Config) (base : ℕ) (w : World) : Type 0 where
+  pub session : InSession c w
+  pub base_is : session.base ≡ base
+
+module _ (c : Config) (base : ℕ) (w new : World) where
+  counts_to : ((early : Bool) (d : Directive) (base : ℕ) → In early c d base w → In early c d base new)
+      → CountsAs c base w → CountsAs c base new
+  counts_to goes t = record {
+    session = record {
+      directive = t.session.directive;
+      base = t.session.base;
+      session = elim t.session.session [
+        | inl g ↦ inl (goes true t.session.directive t.session.base g)
+        | inr g ↦ inr (goes false t.session.directive t.session.base g)
+      ];
+    };
+    base_is = t.base_is;
+  }
+
+module _ (c : Config) (w : World) (h : Holding c w) where
+  pub counts_still : (base : ℕ) (s : LinkStep) → IsLinkStep s → LeavesSession w s → CountsAs c base w
+      → CountsAs c base (link_step w s)
+  counts_still base s fits goes t = beside_so w (CountsAs c base) s goes (record {
+    happens = λ e is goes.
+        let d = t.session.directive in
+        let b = t.session.base in
+        let event : IsEvent e = subst IsLinkStep is fits in
+        record {
+          session = record {
+            directive = d;
+            base = b;
+            session = elim t.session.session [
+              | inl g ↦ early_step c d b w h.sound g e event goes
+              | inr g ↦ inr (run_to g (late_step c d b w h.sound g e event goes))
+            ];
+          };
+          base_is = t.base_is;
+        };
+    same = t;
+    takes = λ x packets. counts_to c base w (with_telemetry w x packets) (heard_in c w x packets) t;
+    passes = λ u kept. counts_to c base w (with_bypass w u kept) (bypassed_in c w h u kept) t;
+  })
+
+  -- V(S) and NN(R) change with the records alone
+  pub moves_still : (s : LinkStep) → IsLinkStep s → IsIdle w → LeavesSession w s → LeavesNumbers w s
+      → MovesWithRecords w (link_step w s)
+  moves_still s fits idle goes quiet = beside_so w (MovesWithRecords w) s goes (record {
+    happens = λ e is goes. moves_with_records c w h e (subst IsLinkStep is fits) idle goes
+        (subst (LeavesNumbers w) is quiet);
+    same = record { vs = refl; nn = refl };
+    takes = λ x packets. record { vs = refl; nn = refl };
+    passes = λ u kept. record { vs = refl; nn = refl };
+  })
 
 pub holds_after_any_past : HoldsAfterAnyPast
 holds_after_any_past c steps event ranges all fits =
@@ -700,22 +790,22 @@ module _ (c : Config) (base : ℕ) where
             omega (arith, equal, t.vs, t.nn, n, p.is.acknowledged, p.is.order.0, p.is.order.1, p.is.window, half);
       }
 
-  count_on : (w : World) → Holding c w → IsIdle w → Counts base w → (es : List Event) → AllByRecursion IsEvent es
-      → KeepsSession w es → SetsNone w es → CountsFrom base (world_run w es)
-  count_on w h idle t [] fits keeps quiet = all_of w h idle t
-  count_on w h idle t (e ∷ es) fits keeps quiet =
-      let new : World = (world_step w e).after in
-      let after = step_holds c w h e fits.0 in
-      let still = idle_goes w e idle keeps.0 in
-      let moved = moves_with_records c w h e fits.0 idle keeps.0 quiet.0 in
+  count_on : (w : World) → Holding c w → IsIdle w → Counts base w → (steps : List LinkStep)
+      → AllByRecursion IsLinkStep steps → SessionLasts w steps → SetsNone w steps → CountsFrom base (link_run w steps)
+  count_on w h idle t [] fits lasts quiet = all_of w h idle t
+  count_on w h idle t (s ∷ steps) fits lasts quiet =
+      let new : World = link_step w s in
+      let after = link_step_holds c w h s fits.0 in
+      let still = still_idle w s idle lasts.0 in
+      let moved = moves_still c w h s fits.0 idle lasts.0 quiet.0 in
       let octet_nn = octet c new after.sound (after.session still) in
-      count_on new after still (counts_on base w new t moved after.sound.ground_node.fop.vs_octet octet_nn) es fits.1
-      keeps.1 quiet.1
+      count_on new after still (counts_on base w new t moved after.sound.ground_node.fop.vs_octet octet_nn) steps fits.1
+      lasts.1 quiet.1
 
 pub keeps_what_is_known : KeepsWhatIsKnown
-keeps_what_is_known w e since r b keeps quiet fits idle =
+keeps_what_is_known w e since r b lasts quiet fits numbers idle =
     let start : World = (world_step w e).after in
-    let h = step_holds r.config w (past_holds w r) e fits.0 in
+    let h = step_holds r.config w (past_holds w r) e fits in
     let f = start.ground_node.fop in
     let at = began_at w e b in
     let s = begun_session w e at in
@@ -728,4 +818,4 @@ keeps_what_is_known w e since r b keeps quiet fits idle =
     count_on r.config f.vs start h idle (record {
       vs = omega (arith, small, sent);
       nn = omega (arith, small, acked, equal);
-    }) since fits.1 keeps quiet
+    }) since numbers lasts quiet

@@ -6,12 +6,17 @@ use Rattle.tc_link.proofs.Common.{unsent_segments, refill_step, with_fop, IsChec
 use Rattle.tc_link.proofs.Common.{Ok, Err, ap, eq-eqb, Alert, CopFault, tick_step, pull_step, directive_step, LinkFault}
 use Rattle.tc_link.proofs.Common.{GroundOutcome, unless_refused, submit_fault, bypass_fault, after_submission, subst}
 use Rattle.tc_link.proofs.Common.{after_bypass, after_acknowledging, obeying, moved_by, ExtractorState, clcw_step}
-use Rattle.tc_link.proofs.Common.{with_submission}
+use Rattle.tc_link.proofs.Common.{with_submission, ClcwFault, TmFault, telemetry_outcome, extract_step, ◌==◌}
+use Rattle.tm_link.specs.Layout as telemetry
+use Rattle.nodes.specs.Ground.{report_outcome, is_own_telemetry}
+use Rattle.nodes.specs.declared.heard.Heard.{Heard}
+use Rattle.nodes.specs.declared.heard.HeardClcw.{HeardClcw}
 use Rattle.std.specs.Prelude.{◌^◌}
 use Rattle.nodes.specs.Ground.{after_moving_up, GroundEvent, Submit, Bypass, Direct, Resume, Pull, Tick, Telemetry}
 use Rattle.nodes.specs.Ground.{ControlWord, TakeTelemetry, ForgetTelemetry, ground_step, ground_take_telemetry}
 use Rattle.nodes.specs.Ground.{can_resume, after_directive, after_report, after_resuming, ground_directive}
 use Rattle.nodes.specs.Fates.{whole_with, kept_after, counted_from}
+use Rattle.tc_link.specs.Beside.{IsUnused, BringsNone}
 use Rattle.tc_link.specs.Repeated.{BringsNoReport}
 use Rattle.tc_link.proofs.Linked.{IsEarly, ControlFits, In, Held, Kept, Next, SessionBy, WithSender, Calm, beside}
 use Rattle.tc_link.proofs.Linked.{IsLate, asked, Ranks, bit, ranks_lower}
@@ -235,15 +240,59 @@ module _ (s : GroundState) (P : GroundState → Type 0) where
   called ForgetTelemetry each = each.takes new_extractor s.telemetry
 
 -- a call that brings none, and begins no session
-pub none_heard : {A : Type 0} (s : GroundState) (e : GroundEvent) → BringsNoReport s e → IsHeard e → A
-none_heard s (Telemetry octets) goes heard = elim goes [ ]
-none_heard s (ControlWord octets) goes heard = elim goes [ ]
-none_heard s _ goes heard = elim heard [ ]
-
-pub none_resumed : {A : Type 0} (s : GroundState) (e : GroundEvent) → BringsNoReport s e → (value : ℕ)
+none_resumed : {A : Type 0} (s : GroundState) (e : GroundEvent) → BringsNoReport s e → (value : ℕ)
     → e ≡ Resume value → can_resume s value ≡ true → A
 none_resumed s e goes value is can =
     absurd (let refused : can_resume s value ≡ false = subst (BringsNoReport s) is goes in cc (can, refused))
+
+-- what it may do: telemetry may be another, and nothing else comes of octets that arrive
+pub record AtEachQuietCall (s : GroundState) (e : GroundEvent) (P : GroundState → Type 0) : Type 0 where
+  pub same : P s
+  pub submits : (pending : List SegmentView) (n : ℕ)
+      → P (refill_step (record s { pending = pending; fates = with_submission n s.fates }))
+  pub bypasses : (us : List SegmentView) → P (record s { fop = record s.fop { bypass = us } })
+  pub directs : (d : Directive) → e ≡ Direct d
+      → P (refill_step (record (obeying s d) { fop = (directive_step s.fop d).after }))
+  pub pulls : P (refill_step (record s { fop = (pull_step s.fop).after }))
+  pub ticks : P (refill_step (record s { fop = (tick_step s.fop).after }))
+  pub takes : (x : ExtractorState) (packets : List (List ℕ)) → P (record s { extractor = x; telemetry = packets })
+
+module _ (s : GroundState) (P : GroundState → Type 0)
+    (takes : (x : ExtractorState) (packets : List (List ℕ)) → P (record s { extractor = x; telemetry = packets })) where
+  word_unused : (x : ExtractorState) (packets : List (List ℕ)) (r : Result Clcw ClcwFault)
+      → let o = report_outcome (record s { extractor = x; telemetry = packets }) r in
+      IsUnused o.answer.report → P o.after
+  word_unused x packets (Err fault) = λ unused. takes x packets
+  word_unused x packets (Ok report) =
+      cond_both (report.vcid == s.config.vcid) _ _
+      (λ (o : GroundOutcome HeardClcw). IsUnused o.answer.report → P o.after) (λ t unused. elim unused [ ])
+      (λ t unused. takes x packets)
+
+  frame_unused : (r : Result telemetry.FrameView TmFault)
+      → let o = telemetry_outcome s r in BringsNone o.answer → P o.after
+  frame_unused (Err fault) = λ none. takes s.extractor s.telemetry
+  frame_unused (Ok frame) =
+      cond_both (is_own_telemetry s.config frame) _ _ (λ (o : GroundOutcome Heard). BringsNone o.answer → P o.after)
+      (λ t. let x = extract_step s.extractor frame in
+      word_unused x.after (s.telemetry ++ x.packets) (clcw_at frame.ocf)) (λ t none. takes s.extractor s.telemetry)
+
+pub called_quietly : (s : GroundState) (P : GroundState → Type 0) (e : GroundEvent) → BringsNoReport s e
+    → AtEachQuietCall s e P → P (ground_step s e).after
+called_quietly s P (Telemetry octets) goes each =
+    frame_unused s P each.takes (frame_at s.config.frame_length octets) goes
+called_quietly s P (ControlWord octets) goes each =
+    word_unused s P each.takes s.extractor s.telemetry (clcw_at octets) goes
+called_quietly s P e goes each = called s P e (record {
+  same = each.same;
+  submits = each.submits;
+  bypasses = each.bypasses;
+  directs = each.directs;
+  resumes = λ value is can. none_resumed s e goes value is can;
+  pulls = each.pulls;
+  ticks = each.ticks;
+  takes = each.takes;
+  hears = λ heard. elim heard [ ];
+})
 
 module _ (s : GroundState) (k : Counts s.fates) where
   counted_anew : (o : Option Bool) → Counts (counted_from o s.fates)
@@ -251,15 +300,13 @@ module _ (s : GroundState) (k : Counts s.fates) where
   counted_anew (Some kept) = omega arith
 
   pub step_counts : (e : GroundEvent) → BringsNoReport s e → Counts (ground_step s e).after.fates
-  step_counts e goes = called s (λ g. Counts g.fates) e (record {
+  step_counts e goes = called_quietly s (λ g. Counts g.fates) e goes (record {
     same = k;
     submits = λ pending n. refilled_counts _ k;
     bypasses = λ us. k;
     directs = λ d is. refilled_counts (record (obeying s d) { fop = (directive_step s.fop d).after })
         (counted_anew (kept_after d));
-    resumes = λ value is can. none_resumed s e goes value is can;
     pulls = refilled_counts (record s { fop = (pull_step s.fop).after }) k;
     ticks = refilled_counts (record s { fop = (tick_step s.fop).after }) k;
     takes = λ x packets. k;
-    hears = λ heard x packets r. none_heard s e goes heard;
   })

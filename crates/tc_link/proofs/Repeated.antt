@@ -33,7 +33,7 @@ use Rattle.nodes.specs.Ground.{ground_directive}
 use Rattle.tc_link.specs.Repeated.{ground_run, BringsNoReport, BringNoReport, repeated_outcome, RepeatsNothing}
 use Rattle.tc_link.specs.Repeated.{RepeatsNothingOfFrames, word_of}
 use Rattle.tc_link.proofs.Refilled.{refilled_keeps, Counts, counted_same, refilled_counts, step_counts, called}
-use Rattle.tc_link.proofs.Refilled.{directed_so, none_heard, none_resumed}
+use Rattle.tc_link.proofs.Refilled.{directed_so, called_quietly}
 
 -- ---- the numbers of a sender, as far as they matter here
 
@@ -463,30 +463,26 @@ module _ (r : Clcw) (octet : r.value < 256) where
 
   module _ (s : GroundState) (h : IsKnown r s) where
     step_known : (e : GroundEvent) → BringsNoReport s e → KnownTo (ground_step s e).after.fop r
-    step_known e goes = called s (λ g. KnownTo g.fop r) e (record {
+    step_known e goes = called_quietly s (λ g. KnownTo g.fop r) e goes (record {
       same = h.known;
       submits = λ pending n. refilled_known _ h.known;
       bypasses = λ us. h.known;
       directs = λ d is. let calm = subst (BringsNoReport s) is goes in
           refilled_known _ (direct_known r octet s.fop h.usual h.known d calm.0 calm.1);
-      resumes = λ value is can. none_resumed s e goes value is can;
       pulls = refilled_known _ (pull_known r octet s.fop h.usual h.known);
       ticks = refilled_known _ (tick_known r octet s.fop h.usual h.known);
       takes = λ x packets. h.known;
-      hears = λ heard x packets r. none_heard s e goes heard;
     })
 
     step_filled : (e : GroundEvent) → BringsNoReport s e → Filled (ground_step s e).after
-    step_filled e goes = called s Filled e (record {
+    step_filled e goes = called_quietly s Filled e goes (record {
       same = h.filled;
       submits = λ pending n. refill_filled (record s { pending = pending; fates = with_submission n s.fates });
       bypasses = λ us. assumption h.filled;
       directs = λ d is. refill_filled (record (obeying s d) { fop = (directive_step s.fop d).after });
-      resumes = λ value is can. none_resumed s e goes value is can;
       pulls = refill_filled (record s { fop = (pull_step s.fop).after });
       ticks = refill_filled (record s { fop = (tick_step s.fop).after });
       takes = λ x packets. assumption h.filled;
-      hears = λ heard x packets r. none_heard s e goes heard;
     })
 
     step_heard : (e : GroundEvent) → BringsNoReport s e → IsKnown r (ground_step s e).after
@@ -564,10 +560,10 @@ module _ (r : Clcw) (octet : r.value < 256) where
     report_again : Repeats (report_outcome s (Ok r))
     report_again = cond_both (r.vcid == s.config.vcid) (using s) (others s) Repeats used_again other_again
 
-abbrev Fits : Result Clcw ClcwFault → Type 0
+abbrev pub Fits : Result Clcw ClcwFault → Type 0
 Fits word = IfOk word (λ r. r.value < 256)
 
-word_octet : (octets : List ℕ) → IsOctets octets → Fits (clcw_at octets)
+pub word_octet : (octets : List ℕ) → IsOctets octets → Fits (clcw_at octets)
 unfolding clcw_at
 word_octet octets are =
     cond_both (not (slice_index octets 0 / 128 == 0)) _ _ Fits (λ t. tt)

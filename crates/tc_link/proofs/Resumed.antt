@@ -1,15 +1,15 @@
 -- A program that resumes after each alert has a prefix of what it wants delivered.
 use Rattle.tc_link.proofs.Common.{◌≡◌, ℕ, ◌+◌, ◌%◌, ◌<◌, ◌≤◌, true, List, [], ◌∷◌, ◌++◌, length, take, drop, Some}
-use Rattle.tc_link.proofs.Common.{Result, Ok, refl, ap, sym, subst, ◌∙◌, arith, length-append, length-map}
+use Rattle.tc_link.proofs.Common.{Result, Ok, Err, refl, ap, sym, subst, ◌∙◌, arith, length-append, length-map}
 use Rattle.tc_link.proofs.Common.{take-append-drop, AllByRecursion, inl, inr, Opening, length-drop, option_map, SetVs}
 use Rattle.tc_link.proofs.Common.{InitUnlock, is_closed, Config, GroundState, PacketOn, Event, World, world_step}
-use Rattle.tc_link.proofs.Common.{world_run, KeepsSession, BeginsNoSession, IsIdle, IsEvent, session_begun_by}
-use Rattle.tc_link.proofs.Common.{delivered, ahead_by}
+use Rattle.tc_link.proofs.Common.{IsIdle, IsEvent, session_begun_by}
+use Rattle.tc_link.proofs.Common.{delivered, accepted, ahead_by, false, ◌/◌, IsSettled, FopState, SegmentView}
 use Rattle.std.specs.Prelude.{◌^◌, ◌==◌, ◌&&◌, nat_lt}
 use Rattle.std.specs.List.{flat_map, filter, list_all}
-use Rattle.std.proofs.lemmas.Bool.{cases_Bool, and_parts, not-true, ltb-false, eqb-true}
+use Rattle.std.proofs.lemmas.Bool.{cases_Bool, and_parts, not-true, ltb-false, eqb-true, le-ltb}
 use Rattle.std.proofs.Math.Seq.{take-add}
-use Rattle.std.proofs.lemmas.List.{take-append-le}
+use Rattle.std.proofs.lemmas.List.{take-append-le, nil_from_length}
 use Rattle.std.proofs.lemmas.List.Concat.{flat_map-append}
 use Rattle.std.proofs.lemmas.List.Elements.{filter-append}
 use Rattle.octets.specs.Beginning.{IsBeginning}
@@ -19,19 +19,29 @@ use Rattle.nodes.specs.Ground.{ground_step, Resume, can_resume, known_on_board, 
 use Rattle.nodes.specs.declared.fault.LinkFault.{LinkFault}
 use Rattle.nodes.specs.declared.event.Event.TheVariants as events
 use Rattle.simulated_link.specs.World.{Session, is_idle, is_none, reports_as, report_now, world_after_resuming}
-use Rattle.tc_link.proofs.Promised.{past_holds, promised_so, run_append}
-use Rattle.tc_link.proofs.Fates.{knows_fates}
-use Rattle.tc_link.proofs.Invariant.{Holding, idle_goes, octet, began_at, begun_session, can_off}
+use Rattle.tc_link.proofs.Promised.{past_holds, promised_so, run_idle, link_push, link_run_holds}
+use Rattle.tc_link.proofs.Promised.{sent_count, accepted_count}
+use Rattle.std.proofs.Math.Seq.{drop-length}
+use Rattle.tc_link.proofs.Common.{append-nil, segment_octets}
+use Rattle.simulated_link.specs.World.{assembled_on}
+use Rattle.tc_link.proofs.Fates.{knows_fates, Since, since_begun, settled_now, counts_now as counts_since}
+use Rattle.tc_link.proofs.IdleStart.{in_session}
+use Rattle.tc_link.proofs.InOrder.{is_history, sent_length, has_plain_history}
+use Rattle.tc_link.proofs.Invariant.{Holding, step_holds, octet, began_at, begun_session, can_off}
 use Rattle.tc_link.proofs.Sound.{all_push}
 use Rattle.tc_link.specs.AnyPast.{HasAnyPast, LinkStep, Happens, IsLinkStep, link_run, link_step}
-use Rattle.tc_link.specs.CountsOn.{SetsNone}
+use Rattle.tc_link.specs.Beside.{LeavesSession, SessionLasts, LeavesNumbers, SetsNone}
 use Rattle.tc_link.specs.Fates.{CountsSubmissions}
-use Rattle.tc_link.specs.Known.{SetsNoNumber}
-use Rattle.tc_link.specs.Resumed.{packets_on_map, Sessions, first, goes_on, resumes, ResumesInOrder, ResumesSo}
+use Rattle.tc_link.specs.Fates.{whole_first}
+use Rattle.tc_link.specs.Resumed.{IsResumable, AnswersResuming, EachAnswersResuming}
+use Rattle.tc_link.specs.Resumed.{packets_on_map, Sessions, first, goes_on, resumes, begins_anew, ResumesInOrder}
+use Rattle.tc_link.specs.Resumed.{ResumesSo}
 use Rattle.tc_link.specs.Taken.{BeginsSession}
 use Rattle.tc_link.specs.Whole.{on_board, IsOneGroup, AreSingle, DeliversWhole}
 use Rattle.tm_link.specs.Decoding as telemetry_reading
-use Rattle.simulated_link.specs.Replies.{Resumed}
+use Rattle.simulated_link.specs.Replies.{Resumed, Refused}
+use Rattle.simulated_link.specs.declared.reply.NodeFault.TheVariants.{Link}
+use Rattle.nodes.specs.declared.fault.LinkFault.TheVariants.{NotKnown}
 use Rattle.map_service.proofs.Groups.{behind-each}
 
 -- ---- lists of submissions
@@ -49,101 +59,112 @@ all_of_front P (x ∷ xs) ys all = (all.0, all_of_front P xs ys all.1)
 
 -- ---- a run with one event more
 
-keeps_push : (w : World) (es : List Event) (e : Event) → KeepsSession w es → BeginsNoSession (world_run w es) e
-    → KeepsSession w (es ++ e ∷ [])
-keeps_push w [] e keeps goes = (goes, tt)
-keeps_push w (x ∷ xs) e keeps goes = (keeps.0, keeps_push (world_step w x).after xs e keeps.1 goes)
+lasts_push : (w : World) (steps : List LinkStep) (s : LinkStep) → SessionLasts w steps
+    → LeavesSession (link_run w steps) s → SessionLasts w (steps ++ s ∷ [])
+lasts_push w [] s lasts goes = (goes, tt)
+lasts_push w (x ∷ xs) s lasts goes = (lasts.0, lasts_push (link_step w x) xs s lasts.1 goes)
 
-sets_push : (w : World) (es : List Event) (e : Event) → SetsNone w es → SetsNoNumber (world_run w es) e
-    → SetsNone w (es ++ e ∷ [])
-sets_push w [] e quiet goes = (goes, tt)
-sets_push w (x ∷ xs) e quiet goes = (quiet.0, sets_push (world_step w x).after xs e quiet.1 goes)
+sets_push : (w : World) (steps : List LinkStep) (s : LinkStep) → SetsNone w steps
+    → LeavesNumbers (link_run w steps) s → SetsNone w (steps ++ s ∷ [])
+sets_push w [] s quiet goes = (goes, tt)
+sets_push w (x ∷ xs) s quiet goes = (quiet.0, sets_push (link_step w x) xs s quiet.1 goes)
 
-link_push : (w : World) (steps : List LinkStep) (s : LinkStep)
-    → link_run w (steps ++ s ∷ []) ≡ link_step (link_run w steps) s
-link_push w [] s = refl
-link_push w (x ∷ xs) s = link_push (link_step w x) xs s
-
-past_push : (c : Config) (w : World) (p : HasAnyPast w) → p.config ≡ c → (e : Event) → IsEvent e
-    → (q : HasAnyPast (world_step w e).after) × (q.config ≡ c)
-past_push c w p is e fits = (
+pub past_push : (c : Config) (w : World) (p : HasAnyPast w) → p.config ≡ c → (s : LinkStep) → IsLinkStep s
+    → (q : HasAnyPast (link_step w s)) × (q.config ≡ c)
+past_push c w p is s fits = (
   record {
     config = p.config;
     ranges = p.ranges;
-    steps = p.steps ++ Happens e ∷ [];
-    numbers = all_push IsLinkStep p.steps (Happens e) p.numbers fits;
-    led = link_push _ p.steps (Happens e) ∙ ap (λ (x : World). (world_step x e).after) p.led;
+    steps = p.steps ++ s ∷ [];
+    numbers = all_push IsLinkStep p.steps s p.numbers fits;
+    led = link_push _ p.steps s ∙ ap (λ (x : World). link_step x s) p.led;
   },
   is,
 )
 
-past_run : (c : Config) (w : World) (p : HasAnyPast w) → p.config ≡ c → (es : List Event) → AllByRecursion IsEvent es
-    → (q : HasAnyPast (world_run w es)) × (q.config ≡ c)
+past_run : (c : Config) (w : World) (p : HasAnyPast w) → p.config ≡ c → (steps : List LinkStep)
+    → AllByRecursion IsLinkStep steps → (q : HasAnyPast (link_run w steps)) × (q.config ≡ c)
 past_run c w p is [] fits = (p, is)
-past_run c w p is (e ∷ es) fits =
-    let q = past_push c w p is e fits.0 in past_run c (world_step w e).after q.0 q.1 es fits.1
+past_run c w p is (s ∷ steps) fits =
+    let q = past_push c w p is s fits.0 in past_run c (link_step w s) q.0 q.1 steps fits.1
 
--- ---- a session that goes on, which has submitted what is wanted next
+-- ---- a session that goes on
 
-record Leads (c : Config) (wanted : List PacketOn) (w : World) (done : ℕ) : Type 0 where
+pub record Began (c : Config) (w : World) : Type 0 where
   start : World
   initiation : Event
-  since : List Event
+  since : List LinkStep
   past : HasAnyPast start
   config : past.config ≡ c
   begins : BeginsSession start initiation
-  keeps : KeepsSession (world_step start initiation).after since
+  lasts : SessionLasts (world_step start initiation).after since
   quiet : SetsNone (world_step start initiation).after since
-  fits : AllByRecursion IsEvent (initiation ∷ since)
+  fits : IsEvent initiation
+  numbers : AllByRecursion IsLinkStep since
   idle : IsIdle (world_step start initiation).after
-  led : world_run (world_step start initiation).after since ≡ w
-  submits : IsBeginning w.session.submissions (drop done wanted)
+  led : link_run (world_step start initiation).after since ≡ w
 
-idle_run : (w : World) (es : List Event) → IsIdle w → KeepsSession w es → IsIdle (world_run w es)
-idle_run w [] idle keeps = idle
-idle_run w (e ∷ es) idle keeps = idle_run (world_step w e).after es (idle_goes w e idle keeps.0) keeps.1
+-- and has submitted what is wanted next
+pub record Leads (c : Config) (wanted : List PacketOn) (w : World) (done : ℕ) : Type 0 where
+  pub began : Began c w
+  pub submits : IsBeginning w.session.submissions (drop done wanted)
 
-module _ (c : Config) (wanted : List PacketOn) (w : World) (done : ℕ) (l : Leads c wanted w done) where
+module _ (c : Config) (w : World) (l : Began c w) where
   past_now : (q : HasAnyPast w) × (q.config ≡ c)
   past_now =
-      let p = past_push c l.start l.past l.config l.initiation l.fits.0 in
-      let q = past_run c (world_step l.start l.initiation).after p.0 p.1 l.since l.fits.1 in
+      let p = past_push c l.start l.past l.config (Happens l.initiation) l.fits in
+      let q = past_run c (world_step l.start l.initiation).after p.0 p.1 l.since l.numbers in
       subst (λ (x : World). (q : HasAnyPast x) × (q.config ≡ c)) l.led q
 
   holds_now : Holding c w
   holds_now = subst (λ (x : Config). Holding x w) past_now.1 (past_holds w past_now.0)
 
-  idle_now : IsIdle w
-  idle_now = subst IsIdle l.led (idle_run (world_step l.start l.initiation).after l.since l.idle l.keeps)
+  pub idle_now : IsIdle w
+  idle_now = subst IsIdle l.led (run_idle (world_step l.start l.initiation).after l.since l.idle l.lasts)
 
   counts_now : CountsSubmissions w
   counts_now =
       subst CountsSubmissions l.led
-      (knows_fates l.start l.initiation l.since l.past l.begins l.keeps l.quiet l.fits l.idle)
+      (knows_fates l.start l.initiation l.since l.past l.begins l.lasts l.quiet l.fits l.numbers l.idle)
 
   config_now : w.ground_node.config ≡ c
   config_now = holds_now.sound.ground_node.config
 
-  -- with one event more
-  leads_on : (e : Event) → BeginsNoSession w e → SetsNoNumber w e → IsEvent e
-      → IsBeginning (world_step w e).after.session.submissions (drop done wanted)
-      → Leads c wanted (world_step w e).after done
-  leads_on e goes quiet fits submits =
+  -- with one step more
+  pub began_on : (s : LinkStep) → LeavesSession w s → LeavesNumbers w s → IsLinkStep s → Began c (link_step w s)
+  began_on s goes quiet fits =
       let at : World = (world_step l.start l.initiation).after in
       record {
         start = l.start;
         initiation = l.initiation;
-        since = l.since ++ e ∷ [];
+        since = l.since ++ s ∷ [];
         past = l.past;
         config = l.config;
         begins = l.begins;
-        keeps = keeps_push at l.since e l.keeps (subst (λ (x : World). BeginsNoSession x e) (sym l.led) goes);
-        quiet = sets_push at l.since e l.quiet (subst (λ (x : World). SetsNoNumber x e) (sym l.led) quiet);
-        fits = (l.fits.0, all_push IsEvent l.since e l.fits.1 fits);
+        lasts = lasts_push at l.since s l.lasts (subst (λ (x : World). LeavesSession x s) (sym l.led) goes);
+        quiet = sets_push at l.since s l.quiet (subst (λ (x : World). LeavesNumbers x s) (sym l.led) quiet);
+        fits = l.fits;
+        numbers = all_push IsLinkStep l.since s l.numbers fits;
         idle = l.idle;
-        led = run_append at l.since (e ∷ []) ∙ ap (λ (x : World). (world_step x e).after) l.led;
-        submits = submits;
+        led = link_push at l.since s ∙ ap (λ (x : World). link_step x s) l.led;
       }
+
+pub began_first : (c : Config) (w : World) (p : HasAnyPast w) → p.config ≡ c → (e : Event) → BeginsSession w e
+    → IsEvent e → IsIdle (world_step w e).after → Began c (world_step w e).after
+began_first c w p is e begins fits idle = record {
+  start = w;
+  initiation = e;
+  since = [];
+  past = p;
+  config = is;
+  begins = begins;
+  lasts = tt;
+  quiet = tt;
+  fits = fits;
+  numbers = tt;
+  idle = idle;
+  led = refl;
+}
 
 -- ---- the ground resumes
 
@@ -181,36 +202,45 @@ known_by s value octet can =
       | inr two ↦ rw (kept, two, inside) refl
     ]
 
+-- it answers what it knows
+answer_is : (s : GroundState) (value more : ℕ) → s.fop.nn < 256 → (ground_resume s value).answer ≡ Ok more
+    → known_on_board s value ≡ Some more
+answer_is s value more octet answered =
+    let r = ground_resumes s value more answered in
+    known_by s value octet r.0 ∙ ap (λ (k : ℕ). Some k) (sym r.1)
+
+-- it does not refuse then
+answered_ok : (s : GroundState) (value : ℕ) → can_resume s value ≡ true → (r : Result ℕ LinkFault)
+    → (ground_resume s value).answer ≡ r → (more : ℕ) × (r ≡ Ok more)
+answered_ok s value may (Ok more) is = (more, refl)
+answered_ok s value may (Err fault) is = absurd (grind (arith, may, is))
+
 module _ (c : Config) (wanted : List PacketOn) (w : World) (done : ℕ) (l : Leads c wanted w done)
     (small : length wanted < 2 ^ 64) where
   few : length w.session.submissions < 2 ^ 64
   few =
       omega (arith, ap length l.submits.1, length-append w.session.submissions l.submits.0, length-drop done wanted)
 
-  board_most : on_board w ≤ length w.session.submissions
+  pub board_most : on_board w ≤ length w.session.submissions
   board_most =
       omega (arith, length-map {A = PacketOn} {B = ℕ})
 
   -- as many more as are on board
-  more_is : (value more : ℕ) → value ≡ w.spacecraft.farm.vr
+  pub more_is : (value more : ℕ) → value ≡ w.spacecraft.farm.vr
       → (ground_step w.ground_node (Resume value)).answer ≡ Ok more → more ≡ on_board w
   more_is value more is answered =
-      let r = ground_resumes w.ground_node value more answered in
-      let h = holds_now c wanted w done l in
-      let small_nn = octet c w h.sound (h.session (idle_now c wanted w done l)) in
-      let known = known_by w.ground_node value small_nn r.0 in
-      let said = (counts_now c wanted w done l).on_board in
-      let same : Some (whole_with (ahead_by value w.ground_node.fop.nn) w.ground_node.fates)
-      ≡ Some (on_board w % 2 ^ 64) =
-      sym known ∙ ap (known_on_board w.ground_node) is ∙ said in
-      let counted : whole_with (ahead_by value w.ground_node.fop.nn) w.ground_node.fates ≡ on_board w % 2 ^ 64 =
-      cc same in
-      omega (arith, r.1, counted, few, board_most)
+      let h = holds_now c w l.began in
+      let small_nn = octet c w h.sound (h.session (idle_now c w l.began)) in
+      let said = (counts_now c w l.began).on_board in
+      let same : Some more ≡ Some (on_board w % 2 ^ 64) =
+      sym (answer_is w.ground_node value more small_nn answered) ∙ ap (known_on_board w.ground_node) is ∙ said in
+      let counted : more ≡ on_board w % 2 ^ 64 = cc same in
+      omega (arith, counted, few, board_most)
 
   module _ (single : AllByRecursion (IsOneGroup c.part) wanted) (whole : DeliversWhole w) where
     single_now : AreSingle w
     single_now =
-        rw (config_now c wanted w done l)
+        rw (config_now c w l.began)
         (all_of_front (IsOneGroup c.part) w.session.submissions l.submits.0
         (subst (AllByRecursion (IsOneGroup c.part)) l.submits.1 (behind-each (IsOneGroup c.part) done wanted single)))
 
@@ -242,6 +272,17 @@ module _ (c : Config) (wanted : List PacketOn) (w : World) (done : ℕ) (l : Lea
 
 -- ---- the next session
 
+-- with V(S) set to an octet the link is as idle
+pub set_idle : (c : Config) (w : World) → Holding c w → (value : ℕ) → value < 256 → is_idle w ≡ true
+    → is_idle (world_step w (events.Directive (SetVs value))).after ≡ true
+set_idle c w h value octet_is quiet =
+    let set : World = (world_step w (events.Directive (SetVs value))).after in
+    let config : set.ground_node.config ≡ w.ground_node.config =
+    (step_holds c w h (events.Directive (SetVs value)) octet_is).sound.ground_node.config
+    ∙ sym h.sound.ground_node.config in
+    ap (λ (x : Config). is_none w.up && list_all (λ (octets : List ℕ). reports_as (report_now w)
+    (telemetry_reading.frame_at x.frame_length octets)) w.down) config ∙ quiet
+
 module _ (c : Config) (wanted : List PacketOn) (w : World) (done : ℕ) (l : Leads c wanted w done) (value more : ℕ)
     (quiet : is_idle w ≡ true) (octet_is : value < 256)
     (answered : (ground_step w.ground_node (Resume value)).answer ≡ Ok more) where
@@ -250,15 +291,6 @@ module _ (c : Config) (wanted : List PacketOn) (w : World) (done : ℕ) (l : Lea
 
   abbrev set : World
   set = (world_step w (events.Directive (SetVs value))).after
-
-  set_idle : is_idle set ≡ true
-  set_idle =
-      let p = past_now c wanted w done l in
-      let q = past_push c w p.0 p.1 (events.Directive (SetVs value)) octet_is in
-      let config : set.ground_node.config ≡ w.ground_node.config =
-      (past_holds set q.0).sound.ground_node.config ∙ q.1 ∙ sym (config_now c wanted w done l) in
-      ap (λ (x : Config). is_none w.up && list_all (λ (octets : List ℕ). reports_as (report_now w)
-      (telemetry_reading.frame_at x.frame_length octets)) w.down) config ∙ quiet
 
   begun_so : (world_step w (events.Resume value)).after.session ≡ session_begun_by set InitUnlock
   begun_so = begun_session w (events.Resume value) (record {
@@ -271,23 +303,64 @@ module _ (c : Config) (wanted : List PacketOn) (w : World) (done : ℕ) (l : Lea
 
   leads_resumed : Leads c wanted (world_step w (events.Resume value)).after (done + more)
   leads_resumed =
-      let p = past_now c wanted w done l in
+      let p = past_now c w l.began in
+      let idle : IsIdle (world_step w (events.Resume value)).after =
+      ap (λ (s : Session). option_map (λ (o : Opening). o.idle) s.opening) begun_so
+      ∙ ap Some (set_idle c w (holds_now c w l.began) value octet_is quiet) in
       record {
-        start = w;
-        initiation = events.Resume value;
-        since = [];
-        past = p.0;
-        config = p.1;
-        begins = can;
-        keeps = tt;
-        quiet = tt;
-        fits = (octet_is, tt);
-        idle = ap (λ (s : Session). option_map (λ (o : Opening). o.idle) s.opening) begun_so ∙ ap Some set_idle;
-        led = refl;
+        began = began_first c w p.0 p.1 (events.Resume value) can octet_is idle;
         submits = (
           drop (done + more) wanted,
           sym (ap (λ (s : Session). s.submissions ++ drop (done + more) wanted) begun_so),
         );
+      }
+
+-- ---- another session, where nothing of this one was sent
+
+module _ (c : Config) (w : World) (h : Holding c w) (idle : IsIdle w) (none : w.session.sent ≡ []) (m : ℕ) where
+  -- nothing of it was accepted
+  none_accepted : drop w.session.before w.spacecraft.accepted ≡ []
+  none_accepted =
+      let p = has_plain_history c w h.sound (h.session idle) in
+      nil_from_length (drop w.session.before w.spacecraft.accepted)
+      (omega (
+        arith,
+        ap length none,
+        sent_count w p.base p.plain p.is,
+        accepted_count w p.base p.plain p.is,
+        length-map (drop w.session.before w.spacecraft.accepted) segment_octets,
+        p.is.order.1,
+      ))
+
+  none_delivered : delivered w m ≡ []
+  none_delivered =
+      let all = w.spacecraft.accepted in
+      let same : take w.session.before all ≡ all =
+      sym (append-nil (take w.session.before all))
+      ∙ ap (λ xs. take w.session.before all ++ xs) (sym none_accepted)
+      ∙ take-append-drop w.session.before all in
+      ap (λ xs. drop (length (assembled_on w m xs)) (assembled_on w m all)) same ∙ drop-length (assembled_on w m all)
+
+module _ (c : Config) (wanted : List PacketOn) (w : World) (done : ℕ) (l : Leads c wanted w done)
+    (since : List LinkStep) (numbers : AllByRecursion IsLinkStep since) where
+  abbrev later : World
+  later = link_run w since
+
+  later_holds : Holding c later
+  later_holds = link_run_holds c since w numbers (holds_now c w l.began)
+
+  later_idle : SessionLasts w since → IsIdle later
+  later_idle lasts = run_idle w since (idle_now c w l.began) lasts
+
+  leads_anew : (initiation : Event) → BeginsSession later initiation → IsEvent initiation
+      → IsIdle (world_step later initiation).after → Leads c wanted (world_step later initiation).after done
+  leads_anew initiation begins fits idle =
+      let p = past_now c w l.began in
+      let q = past_run c w p.0 p.1 since numbers in
+      let s = begun_session later initiation (began_at later initiation begins) in
+      record {
+        began = began_first c later q.0 q.1 initiation begins fits idle;
+        submits = (drop done wanted, sym (ap (λ (s : Session). s.submissions ++ drop done wanted) s));
       }
 
 -- ---- all sessions
@@ -295,55 +368,162 @@ module _ (c : Config) (wanted : List PacketOn) (w : World) (done : ℕ) (l : Lea
 abbrev config_of : {wanted : List PacketOn} {w : World} {done : ℕ} {before : ℕ → List (List ℕ)}
     → Sessions wanted w done before → Config
 config_of (first initiation past begins fits idle) = past.config
-config_of (goes_on event s goes quiet fits submits) = config_of s
+config_of (goes_on step s goes quiet fits submits) = config_of s
 config_of (resumes value more s quiet small_value is answered) = config_of s
+config_of (begins_anew since initiation s lasts numbers none begins fits idle) = config_of s
 
 leads : {wanted : List PacketOn} {w : World} {done : ℕ} {before : ℕ → List (List ℕ)}
     (s : Sessions wanted w done before) → Leads (config_of s) wanted w done
 leads {wanted} (first {w} initiation past begins fits idle) = record {
-  start = w;
-  initiation = initiation;
-  since = [];
-  past = past;
-  config = refl;
-  begins = begins;
-  keeps = tt;
-  quiet = tt;
-  fits = (fits, tt);
-  idle = idle;
-  led = refl;
+  began = began_first past.config w past refl initiation begins fits idle;
   submits =
       let s = begun_session w initiation (began_at w initiation begins) in
       (wanted, sym (ap (λ (s : Session). s.submissions ++ wanted) s));
 }
-leads {wanted} (goes_on {w} {done} event s goes quiet fits submits) =
-    leads_on (config_of s) wanted w done (leads s) event goes quiet fits submits
+leads {wanted} (goes_on {w} {done} step s goes quiet fits submits) =
+    record { began = began_on (config_of s) w (leads s).began step goes quiet fits; submits = submits }
 leads {wanted} (resumes {w} {done} value more s quiet small_value is answered) =
     leads_resumed (config_of s) wanted w done (leads s) value more quiet small_value
     (answered_by w value more (ground_step w.ground_node (Resume value)).answer answered)
+leads {wanted} (begins_anew {w} {done} since initiation s lasts numbers none begins fits idle) =
+    leads_anew (config_of s) wanted w done (leads s) since numbers initiation begins fits idle
 
 module _ (wanted : List PacketOn) (small : length wanted < 2 ^ 64) (m : ℕ) where
   whole_now : {w : World} {done : ℕ} {before : ℕ → List (List ℕ)} (s : Sessions wanted w done before) → DeliversWhole w
   whole_now {w} {done} s =
       let l = leads s in
       let c : Config = config_of s in
-      (promised_so c w (holds_now c wanted w done l) (idle_now c wanted w done l)).whole
+      (promised_so c w (holds_now c w l.began) (idle_now c w l.began)).whole
 
   given : {w : World} {done : ℕ} {before : ℕ → List (List ℕ)} (s : Sessions wanted w done before)
       → AllByRecursion (IsOneGroup (config_of s).part) wanted → before m ≡ packets_on_map (take done wanted) m
   given (first initiation past begins fits idle) single = refl
-  given (goes_on event s goes quiet fits submits) single = given s single
+  given (goes_on step s goes quiet fits submits) single = given s single
   given (resumes {w} {done} {before} value more s quiet small_value is answered) single =
       let c : Config = config_of s in
       let count = more_is c wanted w done (leads s) small value more is
       (answered_by w value more (ground_step w.ground_node (Resume value)).answer answered) in
       given_on c wanted w done (leads s) small single (whole_now s) before m (given s single)
       ∙ ap (λ (k : ℕ). packets_on_map (take (done + k) wanted) m) (sym count)
+  given (begins_anew {w} {done} {before} since initiation s lasts numbers none begins fits idle) single =
+      let c : Config = config_of s in
+      let l = leads s in
+      ap (λ ps. before m ++ ps)
+      (none_delivered c (link_run w since) (later_holds c wanted w done l since numbers)
+      (later_idle c wanted w done l since numbers lasts) none m)
+      ∙ append-nil (before m) ∙ given s single
 
 pub resumes_in_order : ResumesInOrder
 resumes_in_order wanted w done before m s small single =
     let c : Config = config_of s in
     let l = leads s in
     let own : AllByRecursion (IsOneGroup c.part) wanted =
-    subst (λ (x : Config). AllByRecursion (IsOneGroup x.part) wanted) (config_now c wanted w done l) single in
+    subst (λ (x : Config). AllByRecursion (IsOneGroup x.part) wanted) (config_now c w l.began) single in
     prefix c wanted w done l small own (whole_now wanted small m s) before m (given wanted small m s own)
+
+-- ---- whether it resumes
+
+module _ (c : Config) (w now : World) (e : Event) (t : Since c w now e) where
+  abbrev f : FopState SegmentView
+  f = now.ground_node.fop
+
+  abbrev vr : ℕ
+  vr = now.spacecraft.farm.vr
+
+  -- V(R) lies from NN(R) to V(S)
+  record Lies : Type 0 where
+    within : ahead_by vr f.nn ≤ ahead_by f.vs f.nn
+    same : f.vs ≡ f.nn → vr ≡ f.vs
+
+  settled_lies : IsSettled now → Lies
+  settled_lies settled =
+      let h = t.goes.holds in
+      let s = t.goes.counts.session in
+      let base_is = t.goes.counts.base_is in
+      let most : c.width / 2 ≤ 127 = omega (arith, h.sound.ranges.width) in
+      in_session s (λ early g.
+      let k = is_history early c s.directive s.base now g h.sound in
+      let l = g.linked in
+      let sent = sent_length early c s.directive s.base now g h.sound in
+      let vr_is = k.vr settled in
+      record {
+        within = omega (arith, vr_is, base_is, t.counts.vs, t.counts.nn, sent, l.acked_is, l.a_r, l.r_n, l.n_a, most);
+        same = λ one.
+            omega (arith, one, vr_is, base_is, t.counts.vs, t.counts.nn, sent, l.acked_is, l.a_r, l.r_n, l.n_a, most);
+      })
+
+  -- as many are acknowledged as were sent, or fewer
+  acked_most : now.session.acknowledged ≤ length now.session.sent
+  acked_most =
+      let h = t.goes.holds in
+      let s = t.goes.counts.session in
+      in_session s (λ early g. let l = g.linked in
+      omega (arith, sent_length early c s.directive s.base now g h.sound, l.acked_is, l.a_r, l.r_n))
+
+  none_same : length now.session.sent ≡ 0 → f.vs ≡ f.nn
+  none_same none = omega (arith, none, acked_most, t.counts.vs, t.counts.nn)
+
+  unsettled_none : (IsSettled now → ⊥) → length now.session.sent ≡ 0
+  unsettled_none other = elim (settled_now c w now e t) [
+    | inl settled ↦ absurd (other settled)
+    | inr none ↦ none
+  ]
+
+  inside : IsResumable now → ahead_by vr f.nn ≤ ahead_by f.vs f.nn
+  inside is = elim is [
+    | inl settled ↦ (settled_lies settled).within
+    | inr one ↦ omega (arith, one)
+  ]
+
+  module _ (off : is_closed f.state ≡ true) where
+    can_by : nat_lt (ahead_by f.vs f.nn) (ahead_by vr f.nn) ≡ false → can_resume now.ground_node vr ≡ true
+    can_by in_range = rw (off, t.goes.accounts.kept, in_range) refl
+
+    can_now : IsResumable now → can_resume now.ground_node vr ≡ true
+    can_now is = can_by (le-ltb (ahead_by f.vs f.nn) (ahead_by vr f.nn) (inside is))
+
+    answers : IsResumable now
+        → (world_step now (events.Resume vr)).answer ≡ Ok (Resumed (whole_first now (length (accepted now))))
+    answers is =
+        let h = t.goes.holds in
+        let octet_nn = octet c now h.sound (h.session t.goes.idle) in
+        let s = now.ground_node in
+        let more = answered_ok s vr (can_now is) (ground_resume s vr).answer refl in
+        let same : Some more.0 ≡ Some (whole_first now (length (accepted now))) =
+        sym (answer_is s vr more.0 octet_nn more.1) ∙ (counts_since c w now e t).on_board in
+        let whole : more.0 ≡ whole_first now (length (accepted now)) = cc same in
+        ap (λ (r : Result ℕ LinkFault). (world_after_resuming now vr r).answer) more.1
+        ∙ ap (λ (k : ℕ). Ok (Resumed k)) whole
+
+    refuses : (IsResumable now → ⊥) → vr < 256
+        → (world_step now (events.Resume vr)).answer ≡ Ok (Refused (Link NotKnown))
+    refuses other small =
+        let none : length now.session.sent ≡ 0 = unsettled_none (λ settled. other (inl settled)) in
+        elim (cases_Bool (can_resume now.ground_node vr)) [
+          | inl may ↦ absurd (
+              let both = and_parts (is_closed f.state && now.ground_node.fates.kept) _ may in
+              let in_range = not-true (nat_lt (ahead_by f.vs f.nn) (ahead_by vr f.nn)) both.1 in
+              let within = ltb-false (ahead_by f.vs f.nn) (ahead_by vr f.nn) in_range in
+              let h = t.goes.holds in
+              let octet_nn = octet c now h.sound (h.session t.goes.idle) in
+              let one : vr ≡ f.vs = omega (arith, within, none_same none, octet_nn, small) in
+              other (inr one))
+          | inr never ↦ rw never refl
+        ]
+
+    answers_resuming : AnswersResuming now
+    answers_resuming = record {
+      accepted_so = answers;
+      refused_so = refuses;
+      nothing_sent = λ other. nil_from_length now.session.sent (unsettled_none (λ settled. other (inl settled)));
+      apart = λ two. elim (settled_now c w now e t) [
+        | inl settled ↦ settled
+        | inr none ↦ absurd (two (none_same none))
+      ];
+      same = λ settled. (settled_lies settled).same;
+    }
+
+pub each_answers_resuming : EachAnswersResuming
+each_answers_resuming w e since r b lasts quiet fits numbers idle off =
+    let now : World = link_run (world_step w e).after since in
+    answers_resuming r.config w now e (since_begun w e since r b lasts quiet fits numbers idle) off

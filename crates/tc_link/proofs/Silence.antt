@@ -26,45 +26,45 @@ use Rattle.tc_link.proofs.IdleStart.{tells_now}
 -- ---- the frames on their way down
 
 -- octets are read as a frame that reports so
-abbrev Report_so : Clcw → ℕ → List ℕ → Type 0
+abbrev pub Report_so : Clcw → ℕ → List ℕ → Type 0
 Report_so now total b = reports_as now (frame_at total b) ≡ true
 
 -- each after the first k does
-abbrev AllLater : Clcw → ℕ → ℕ → List (List ℕ) → Type 0
+abbrev pub AllLater : Clcw → ℕ → ℕ → List (List ℕ) → Type 0
 AllLater now total k [] = Unit {0}
 AllLater now total zero (b ∷ bs) = Report_so now total b × AllLater now total zero bs
 AllLater now total (suc k) (b ∷ bs) = AllLater now total k bs
 
-abbrev less : ℕ → ℕ
+abbrev pub less : ℕ → ℕ
 less zero = zero
 less (suc k) = k
 
-less_is : (k : ℕ) → less k ≤ k - 1
+pub less_is : (k : ℕ) → less k ≡ k - 1
 less_is k = grind arith
 
 module _ (now : Clcw) (total : ℕ) where
-  none_later : (bs : List (List ℕ)) → AllLater now total (length bs) bs
+  pub none_later : (bs : List (List ℕ)) → AllLater now total (length bs) bs
   none_later [] = tt
   none_later (b ∷ bs) = none_later bs
 
-  later_gone : (k : ℕ) (b : List ℕ) (bs : List (List ℕ)) → AllLater now total k (b ∷ bs)
+  pub later_gone : (k : ℕ) (b : List ℕ) (bs : List (List ℕ)) → AllLater now total k (b ∷ bs)
       → AllLater now total (less k) bs
   later_gone zero b bs all = all.1
   later_gone (suc k) b bs all = all
 
-  later_push : (k : ℕ) (bs : List (List ℕ)) (b : List ℕ) → AllLater now total k bs → Report_so now total b
+  pub later_push : (k : ℕ) (bs : List (List ℕ)) (b : List ℕ) → AllLater now total k bs → Report_so now total b
       → AllLater now total k (bs ++ b ∷ [])
   later_push zero [] b all so = (so, tt)
   later_push (suc k) [] b all so = tt
   later_push zero (x ∷ xs) b all so = (all.0, later_push zero xs b all.1 so)
   later_push (suc k) (x ∷ xs) b all so = later_push k xs b all so
 
-  all_later : (bs : List (List ℕ)) → AllLater now total zero bs
+  pub all_later : (bs : List (List ℕ)) → AllLater now total zero bs
       → list_all (λ (b : List ℕ). reports_as now (frame_at total b)) bs ≡ true
   all_later [] all = refl
   all_later (b ∷ bs) all = rw all.0 (all_later bs all.1)
 
-tells_so : (c : Config) (b : List ℕ) (now : Clcw) → Tells c b now → Report_so now c.frame_length b
+pub tells_so : (c : Config) (b : List ℕ) (now : Clcw) → Tells c b now → Report_so now c.frame_length b
 tells_so c b now t =
     let value : now.value == now.value ≡ true = eq-eqb now.value now.value refl in
     let flags : flags_number now.flags == flags_number now.flags ≡ true = eq-eqb _ _ refl in
@@ -114,7 +114,7 @@ module _ (c : Config) (w : World) (h : Holding c w) (k : ℕ) (q : Quiet c k w) 
           up_none = up ∙ q.up_none;
           later = rw (board, down) (later_gone (report_now w) c.frame_length k b bs later);
         };
-        most = less_is k;
+        most = omega (arith, less_is k);
       }
 
   -- ---- on board

@@ -1,11 +1,12 @@
 -- What is taken on board since a session began is what it has delivered.
-use Rattle.tc_link.proofs.Common.{◌≡◌, ◌≤◌, ℕ, Bool, List, [], ◌∷◌, ◌++◌, Option, take, drop, refl, ap, sym, subst, ◌∙◌}
+use Rattle.tc_link.proofs.Common.{true, false, ◌≡◌, ◌≤◌, ℕ, Bool, List, [], ◌∷◌, ◌++◌, Option, take, drop, refl, ap}
+use Rattle.tc_link.proofs.Common.{sym, subst, ◌∙◌}
 use Rattle.tc_link.proofs.Common.{append-nil, ◌≢◌, append_assoc, map-append, take-append-drop, option_to_list}
 use Rattle.tc_link.proofs.Common.{AllByRecursion, SegmentView, Limits, assembled, assembled-push, segments_of, Config}
 use Rattle.tc_link.proofs.Common.{PacketOn, limits_of, SpacecraftState, segment_to_accept, spacecraft_step, length, map}
 use Rattle.tc_link.proofs.Common.{filter, eqb, option_map, filter-append, assembled-other, spacecraft_take, Event}
-use Rattle.tc_link.proofs.Common.{Opening, KeepsSession, World, WorldOutcome, IsIdle, delivered, world_step, world_run}
-use Rattle.tc_link.proofs.Common.{run_answers, world_after_take, S1, take_all, Directive, PlainLink}
+use Rattle.tc_link.proofs.Common.{Opening, World, WorldOutcome, IsIdle, delivered, world_step, bypass_outcome}
+use Rattle.tc_link.proofs.Common.{world_after_take, S1, take_all, Directive, PlainLink}
 use Rattle.std.specs.List.{flat_map}
 use Rattle.std.proofs.lemmas.List.{append_cancel_left}
 use Rattle.std.proofs.Math.Seq.{take-append_seam, drop-append_seam}
@@ -26,14 +27,18 @@ use Rattle.nodes.proofs.Delivery.{delivers}
 use Rattle.simulated_link.specs.World.{Session}
 use Rattle.simulated_link.proofs.Gained.{accepts_segment, config_stays}
 use Rattle.simulated_link.proofs.Unchanged.{board_after}
-use Rattle.tc_link.specs.Taken.{BeginsSession, handed_out, taken, taken_since, ready_on, HandsOutWhatIsDelivered}
+use Rattle.tc_link.specs.AnyPast.{LinkStep, Happens, link_step, link_run}
+use Rattle.tc_link.specs.Beside.{LeavesSession, SessionLasts}
+use Rattle.tc_link.proofs.Beside.{beside_so}
+use Rattle.tc_link.specs.Taken.{BeginsSession, handed_out, handed_by, taken, taken_since, ready_on}
+use Rattle.tc_link.specs.Taken.{HandsOutWhatIsDelivered}
 use Rattle.tc_link.specs.Taken.{HandsOutWhatIsSubmitted, HandsOutAsSubmitted, all_submitted}
 use Rattle.tc_link.proofs.Linked.{IsGiven, units_of_all, In}
 use Rattle.tc_link.proofs.Sound.{Sound}
 use Rattle.tc_link.proofs.IdleStart.{in_session}
 use Rattle.tc_link.proofs.InOrder.{is_in_order, all_accepted}
-use Rattle.tc_link.proofs.Promised.{past_holds}
-use Rattle.tc_link.proofs.Invariant.{opened, session_stays, begun_is, step_holds, run_holds, began_at}
+use Rattle.tc_link.proofs.Promised.{past_holds, link_run_holds, session_still}
+use Rattle.tc_link.proofs.Invariant.{opened, begun_is, step_holds, began_at}
 
 -- The packets that segments make ready, each with its MAP, in the order in which they do.
 
@@ -116,14 +121,14 @@ module _ (c : Config) (one : 1 ≤ c.part) where
 -- What is taken on board since a session began is what it has delivered.
 
 -- from the one state to the other these packets were handed out, and some more were made ready
-record Passes (old : SpacecraftState) (out : List PacketOn) (new : SpacecraftState) : Type 0 where
-  config : new.config ≡ old.config
-  segments : List SegmentView
-  accepted : new.accepted ≡ old.accepted ++ segments
-  more : List PacketOn
-  made_is : more ≡ made (limits_of old.config) old.accepted segments
-  ready : out ++ new.ready ≡ old.ready ++ more
-  delivered : (m : ℕ) → delivered_on m new ≡ delivered_on m old ++ packets_of_map m more
+pub record Passes (old : SpacecraftState) (out : List PacketOn) (new : SpacecraftState) : Type 0 where
+  pub config : new.config ≡ old.config
+  pub segments : List SegmentView
+  pub accepted : new.accepted ≡ old.accepted ++ segments
+  pub more : List PacketOn
+  pub made_is : more ≡ made (limits_of old.config) old.accepted segments
+  pub ready : out ++ new.ready ≡ old.ready ++ more
+  pub delivered : (m : ℕ) → delivered_on m new ≡ delivered_on m old ++ packets_of_map m more
 
 of_both : (m : ℕ) (xs ys : List PacketOn) → packets_of_map m (xs ++ ys) ≡ packets_of_map m xs ++ packets_of_map m ys
 of_both m xs ys =
@@ -193,7 +198,7 @@ module _ (w : World) where
     queues = λ octets is. passes_none w.spacecraft _ [] refl refl refl;
   })
 
-  passes : (e : Event)
+  pub passes : (e : Event)
       → Passes w.spacecraft (handed_out e (world_step w e).answer) (world_step w e).after.spacecraft
   passes events.Take = takes w.spacecraft.ready refl
   passes e = hands_out_none e (λ is. cc is)
@@ -204,16 +209,29 @@ record Since (old : World) (out : List PacketOn) (new : World) : Type 0 where
   passes : Passes old.spacecraft out new.spacecraft
   same : opened new.session ≡ opened old.session
 
-since_then : (w : World) (events : List Event) → KeepsSession w events
-    → Since w (taken events (run_answers w events)) (world_run w events)
-since_then w [] keeps = record { passes = stays w; same = refl }
-since_then w (e ∷ es) keeps =
-    let rest = since_then (world_step w e).after es keeps.1 in
+-- a Type-BD frame hands out none
+bypass_passes : (s : SpacecraftState) (u : SegmentView) (kept : Bool) → Passes s [] (bypass_outcome s u kept).after
+bypass_passes s u true = passes_none s _ [] refl refl refl
+bypass_passes s u false = passes_none s _ [] refl refl refl
+
+step_passes : (w : World) (s : LinkStep) → LeavesSession w s
+    → Passes w.spacecraft (handed_by w s) (link_step w s).spacecraft
+step_passes w (Happens e) goes = passes w e
+step_passes w s goes = beside_so w (λ new. Passes w.spacecraft [] new.spacecraft) s goes (record {
+  happens = λ e is. absurd (cc is);
+  same = stays w;
+  takes = λ x packets. stays w;
+  passes = λ u kept. bypass_passes w.spacecraft u kept;
+})
+
+since_then : (w : World) (steps : List LinkStep) → SessionLasts w steps → Since w (taken w steps) (link_run w steps)
+since_then w [] lasts = record { passes = stays w; same = refl }
+since_then w (s ∷ steps) lasts =
+    let rest = since_then (link_step w s) steps lasts.1 in
     record {
-      passes = passes_both w.spacecraft (world_step w e).after.spacecraft
-          (world_run (world_step w e).after es).spacecraft (handed_out e (world_step w e).answer)
-          (taken es (run_answers (world_step w e).after es)) (passes w e) rest.passes;
-      same = rest.same ∙ session_stays w e keeps.0;
+      passes = passes_both w.spacecraft (link_step w s).spacecraft (link_run (link_step w s) steps).spacecraft
+          (handed_by w s) (taken (link_step w s) steps) (step_passes w s lasts.0) rest.passes;
+      same = rest.same ∙ session_still w s lasts.0;
     }
 
 module _ (old new : World) (out : List PacketOn) (m : ℕ) (s : Since old out new)
@@ -240,23 +258,23 @@ begins_there w e b =
     (ap (λ (s : Session). s.before) (begun_is at.start at.directive at.initiates at.closed))
 
 pub hands_out_what_is_delivered : HandsOutWhatIsDelivered
-hands_out_what_is_delivered w e since m b keeps =
+hands_out_what_is_delivered w e since m b lasts =
     let start : World = (world_step w e).after in
-    hands_out start (world_run start since) (taken since (run_answers start since)) m (since_then start since keeps)
+    hands_out start (link_run start since) (taken start since) m (since_then start since lasts)
     (begins_there w e b)
 
 pub hands_out_what_is_submitted : HandsOutWhatIsSubmitted
-hands_out_what_is_submitted w e since m r b keeps fits idle =
+hands_out_what_is_submitted w e since m r b lasts fits numbers idle =
     let start : World = (world_step w e).after in
-    let new : World = world_run start since in
-    let s = since_then start since keeps in
-    let h = run_holds r.config since start fits.1 (step_holds r.config w (past_holds w r) e fits.0) in
+    let new : World = link_run start since in
+    let s = since_then start since lasts in
+    let h = link_run_holds r.config since start numbers (step_holds r.config w (past_holds w r) e fits) in
     let still : IsIdle new = ap (λ (o : Option Opening × ℕ). option_map (λ (x : Opening). x.idle) o.0) s.same ∙ idle in
     let order = (is_in_order r.config new h.sound (h.session still)).in_order m in (
       ready_on new m ++ order.0,
       ap (λ d. ready_on start m ++ d) order.1
           ∙ sym (append_assoc (ready_on start m) (delivered new m) order.0)
-          ∙ ap (λ d. d ++ order.0) (sym (hands_out_what_is_delivered w e since m b keeps))
+          ∙ ap (λ d. d ++ order.0) (sym (hands_out_what_is_delivered w e since m b lasts))
           ∙ append_assoc (taken_since start since m) (ready_on new m) order.0,
     )
 
@@ -304,13 +322,13 @@ module _ (old new : World) (out : List PacketOn) (s : Since old out new)
         ∙ units_made
 
 pub hands_out_as_submitted : HandsOutAsSubmitted
-hands_out_as_submitted w e since r b keeps fits idle =
+hands_out_as_submitted w e since r b lasts fits numbers idle =
     let start : World = (world_step w e).after in
-    let new : World = world_run start since in
-    let out = taken since (run_answers start since) in
-    let s = since_then start since keeps in
+    let new : World = link_run start since in
+    let out = taken start since in
+    let s = since_then start since lasts in
     let begins = begins_there w e b in
-    let h = run_holds r.config since start fits.1 (step_holds r.config w (past_holds w r) e fits.0) in
+    let h = link_run_holds r.config since start numbers (step_holds r.config w (past_holds w r) e fits) in
     let still : IsIdle new = ap (λ (o : Option Opening × ℕ). option_map (λ (x : Opening). x.idle) o.0) s.same ∙ idle in
     let t = h.session still in
     let k = h.sound in

@@ -1,17 +1,12 @@
 -- In a session V(S) and NN(R) count on from what V(S) was when it began.
-use Rattle.std.specs.Prelude.{◌≡◌, ℕ, ◌+◌, ◌%◌, List, [], ◌∷◌, length}
+use Rattle.std.specs.Prelude.{◌≡◌, ℕ, ◌+◌, ◌%◌, List, length}
 use Rattle.std.specs.List.{AllByRecursion}
 use Rattle.nodes.specs.declared.event.Event.{Event}
-use Rattle.tc_link.specs.AnyPast.{HasAnyPast}
-use Rattle.tc_link.specs.Known.{SetsNoNumber}
+use Rattle.tc_link.specs.AnyPast.{HasAnyPast, LinkStep, IsLinkStep, link_run}
+use Rattle.tc_link.specs.Beside.{SessionLasts, SetsNone}
 use Rattle.tc_link.specs.Reached.{IsEvent}
 use Rattle.tc_link.specs.Taken.{BeginsSession}
-use Rattle.simulated_link.specs.World.{World, KeepsSession, IsIdle, world_step, world_run}
-
--- no event of a list sets V(S)
-abbrev pub SetsNone : World → List Event → Type 0
-SetsNone w [] = Unit {0}
-SetsNone w (event ∷ more) = SetsNoNumber w event × SetsNone (world_step w event).after more
+use Rattle.simulated_link.specs.World.{World, IsIdle, world_step}
 
 -- V(S) is this number plus the number of segments that were sent, and NN(R) this number plus the
 -- number of those that are acknowledged, modulo 256. So the two are equal only where all that was
@@ -26,9 +21,9 @@ pub record CountsFrom (base : ℕ) (w : World) : Type 0 where
 -- each alert, while no directive sets V(S).
 abbrev pub KeepsWhatIsKnown : Type 0
 KeepsWhatIsKnown =
-    (w : World) (initiation : Event) (since : List Event) → HasAnyPast w
-    → BeginsSession w initiation → KeepsSession (world_step w initiation).after since
-    → SetsNone (world_step w initiation).after since
-    → AllByRecursion IsEvent (initiation ∷ since) → IsIdle (world_step w initiation).after
+    (w : World) (initiation : Event) (since : List LinkStep) → HasAnyPast w
+    → BeginsSession w initiation → SessionLasts (world_step w initiation).after since
+    → SetsNone (world_step w initiation).after since → IsEvent initiation
+    → AllByRecursion IsLinkStep since → IsIdle (world_step w initiation).after
     → CountsFrom (world_step w initiation).after.ground_node.fop.vs
-    (world_run (world_step w initiation).after since)
+    (link_run (world_step w initiation).after since)

@@ -1,13 +1,12 @@
 -- How far the submissions of a session have come, and what the ground says of it.
-use Rattle.std.specs.Prelude.{◌≡◌, ℕ, ◌%◌, ◌^◌, List, ◌∷◌, length, Some}
+use Rattle.std.specs.Prelude.{◌≡◌, ℕ, ◌%◌, ◌^◌, List, length, Some}
 use Rattle.std.specs.List.{AllByRecursion}
 use Rattle.nodes.specs.Fates.{whole_within, whole_with, submitted as submissions_of}
 use Rattle.nodes.specs.Ground.{known_on_board, sent_beyond}
 use Rattle.nodes.specs.declared.event.Event.{Event}
-use Rattle.simulated_link.specs.World.{World, KeepsSession, IsIdle, accepted, world_step}
-use Rattle.simulated_link.specs.World.{world_run}
-use Rattle.tc_link.specs.AnyPast.{HasAnyPast}
-use Rattle.tc_link.specs.CountsOn.{SetsNone}
+use Rattle.simulated_link.specs.World.{World, IsIdle, accepted, world_step}
+use Rattle.tc_link.specs.AnyPast.{HasAnyPast, LinkStep, IsLinkStep, link_run}
+use Rattle.tc_link.specs.Beside.{SessionLasts, SetsNone}
 use Rattle.tc_link.specs.Reached.{IsEvent}
 use Rattle.tc_link.specs.Taken.{BeginsSession}
 use Rattle.tc_link.specs.Whole.{segments_each}
@@ -31,8 +30,8 @@ pub record CountsSubmissions (w : World) : Type 0 where
 -- after each alert, while no directive sets V(S).
 abbrev pub KnowsFates : Type 0
 KnowsFates =
-    (w : World) (initiation : Event) (since : List Event) → HasAnyPast w
-    → BeginsSession w initiation → KeepsSession (world_step w initiation).after since
-    → SetsNone (world_step w initiation).after since
-    → AllByRecursion IsEvent (initiation ∷ since) → IsIdle (world_step w initiation).after
-    → CountsSubmissions (world_run (world_step w initiation).after since)
+    (w : World) (initiation : Event) (since : List LinkStep) → HasAnyPast w
+    → BeginsSession w initiation → SessionLasts (world_step w initiation).after since
+    → SetsNone (world_step w initiation).after since → IsEvent initiation
+    → AllByRecursion IsLinkStep since → IsIdle (world_step w initiation).after
+    → CountsSubmissions (link_run (world_step w initiation).after since)

@@ -1,5 +1,6 @@
 pub mod Accepted
 pub mod AnyPast
+pub mod Beside
 pub mod Bypass
 pub mod Configured
 pub mod Confirmation
@@ -19,7 +20,9 @@ pub mod Promises
 pub mod Reached
 pub mod Readable
 pub mod Repeated
+pub mod Seen
 pub mod Silence
+pub mod Silent
 pub mod SimFields
 pub mod Simulation
 pub mod Taken

@@ -16,7 +16,7 @@ use Rattle.simulated_link.specs.World.{directive_of, is_initialising}
 use Rattle.simulated_link.specs.World as records
 use Rattle.tc_link.specs.Confirmation.{IsChecking}
 use Rattle.tc_link.specs.FalseAlarms.{alert_in}
-use Rattle.tc_link.specs.Reached.{IsReached}
+use Rattle.tc_link.specs.Beside.{HasOctetPast}
 
 -- ---- a schedule: the events that are to come, by the world in which they begin
 
@@ -114,13 +114,14 @@ MakesProgress w =
 
 -- wherever a run leads, in any session, while the sender is Active
 abbrev pub EachMakesProgress : Type 0
-EachMakesProgress = (w : World) → IsReached w → IsActive w.ground_node.fop.state → MakesProgress w
+EachMakesProgress =
+    (w : World) → HasOctetPast w → IsActive w.ground_node.fop.state → MakesProgress w
 
 -- Each exchange after the first one acknowledges as many units as the window has room for, or all
 -- that the ground holds.
 abbrev pub EachAcknowledges : Type 0
 EachAcknowledges =
-    (w : World) → IsReached w → IsActive w.ground_node.fop.state
+    (w : World) → HasOctetPast w → IsActive w.ground_node.fop.state
     → AlertsIn w (times 2 exchange w)
     ⊎ (length (outstanding (world_run w (times 2 exchange w)).ground_node)
     ≤ length (outstanding (world_run w (times 1 exchange w)).ground_node)
@@ -130,7 +131,7 @@ EachAcknowledges =
 -- Set V(R), where what is not acknowledged may be sent once more; so all is delivered.
 abbrev pub EachIsDelivered : Type 0
 EachIsDelivered =
-    (w : World) → IsReached w → IsIdle w → IsActive w.ground_node.fop.state
+    (w : World) → HasOctetPast w → IsIdle w → IsActive w.ground_node.fop.state
     → IsChecking (directive_of w) → w.ground_node.fop.count < w.ground_node.fop.limit
     → (n : ℕ) → length (outstanding w.ground_node) ≤ n * w.ground_node.fop.window
     → (AlertsIn w (times (suc n) exchange w) → ⊥)
@@ -140,7 +141,7 @@ EachIsDelivered =
 -- are left, end with an alert, or the sender is Active.
 abbrev pub EachBegins : Type 0
 EachBegins =
-    (w : World) → IsReached w → is_initialising w.ground_node.fop.state ≡ true
+    (w : World) → HasOctetPast w → is_initialising w.ground_node.fop.state ≡ true
     → (m : ℕ) × (m ≤ suc (w.ground_node.fop.limit - w.ground_node.fop.count))
     × (AlertsIn w (times m exchange w)
     ⊎ IsActive (world_run w (times m exchange w)).ground_node.fop.state)
@@ -148,5 +149,5 @@ EachBegins =
 -- So in any state but S6 exchanges end with an alert, or all is done.
 abbrev pub EachEnds : Type 0
 EachEnds =
-    (w : World) → IsReached w → is_closed w.ground_node.fop.state ≡ false
+    (w : World) → HasOctetPast w → is_closed w.ground_node.fop.state ≡ false
     → (m : ℕ) × (AlertsIn w (times m exchange w) ⊎ IsDone w (world_run w (times m exchange w)))

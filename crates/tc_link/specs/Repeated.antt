@@ -14,19 +14,22 @@ use Rattle.nodes.specs.Parameters.{IsConfig}
 use Rattle.nodes.specs.Ground.{GroundState, GroundOutcome, GroundEvent, Direct}
 use Rattle.nodes.specs.Ground.{Resume, Telemetry, ControlWord}
 use Rattle.nodes.specs.Ground.{new_ground, ground_step, can_resume, is_closed, is_own_telemetry}
+use Rattle.tc_link.specs.Beside.{IsUnused, BringsNone}
 
 -- the ground after these calls
 abbrev pub ground_run : GroundState → List GroundEvent → GroundState
 ground_run s [] = s
 ground_run s (event ∷ more) = ground_run (ground_step s event).after more
 
--- a call brings no report, begins no session, and does not set the transmission limit to 1
+-- a call brings no report that is used, begins no session, and does not set the transmission limit
+-- to 1
 abbrev pub BringsNoReport : GroundState → GroundEvent → Type 0
 BringsNoReport s (Direct directive) =
     (is_initiation directive ≡ true → is_closed s.fop.state ≡ false) × (directive ≢ SetLimit 1)
 BringsNoReport s (Resume value) = can_resume s value ≡ false
-BringsNoReport s (Telemetry octets) = ⊥
-BringsNoReport s (ControlWord octets) = ⊥
+BringsNoReport s (Telemetry octets) = BringsNone (ground_step s (Telemetry octets)).answer
+BringsNoReport s (ControlWord octets) =
+    IsUnused (ground_step s (ControlWord octets)).answer.report
 BringsNoReport s _ = Unit {0}
 
 -- so does each of these calls
@@ -44,7 +47,7 @@ repeated_outcome s once = record {
 }
 
 -- After any calls of the ground: a control word that it was given by itself changes nothing when it
--- comes again, as long as no other report came and no session began.
+-- comes again, as long as no other report was used and no session began.
 abbrev pub RepeatsNothing : Type 0
 RepeatsNothing =
     (c : Config) (before since : List GroundEvent) (octets : List ℕ) → IsConfig c → IsOctets octets

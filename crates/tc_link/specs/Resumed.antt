@@ -1,19 +1,25 @@
 -- A program that goes on by `Ground::resume` after each alert: session after session it submits
 -- what it wants delivered, from where the session before has got to.
-use Rattle.std.specs.Prelude.{◌≡◌, ◌<◌, ℕ, ◌+◌, ◌^◌, List, [], ◌++◌, length, drop, flat_map, filter}
+use Rattle.std.specs.Prelude.{◌≡◌, ◌≢◌, ◌⊎◌, ◌<◌, ℕ, ◌+◌, ◌^◌, List, [], ◌++◌, length, drop}
+use Rattle.std.specs.Prelude.{flat_map}
+use Rattle.std.specs.Prelude.{filter}
 use Rattle.std.specs.Prelude.{◌==◌, true, Ok}
 use Rattle.std.specs.List.{AllByRecursion}
 use Rattle.octets.specs.Beginning.{IsBeginning}
 use Rattle.map_service.specs.Packets.{packets_in}
-use Rattle.nodes.specs.Ground.{ground_step, Resume}
+use Rattle.nodes.specs.Ground.{ground_step, Resume, is_closed}
+use Rattle.nodes.specs.declared.fault.LinkFault.TheVariants.{NotKnown}
 use Rattle.nodes.specs.Packets.{PacketOn}
 use Rattle.nodes.specs.declared.event.Event.{Event}
 use Rattle.nodes.specs.declared.event.Event.TheVariants as events
-use Rattle.simulated_link.specs.Replies.{Resumed}
-use Rattle.simulated_link.specs.World.{World, IsIdle, BeginsNoSession, is_idle, delivered, resumed}
+use Rattle.simulated_link.specs.Replies.{Resumed, Refused}
+use Rattle.simulated_link.specs.declared.reply.NodeFault.TheVariants.{Link}
+use Rattle.simulated_link.specs.World.{World, IsIdle, IsSettled, is_idle, accepted, delivered}
+use Rattle.simulated_link.specs.World.{resumed}
 use Rattle.simulated_link.specs.World.{world_step}
-use Rattle.tc_link.specs.AnyPast.{HasAnyPast}
-use Rattle.tc_link.specs.Known.{SetsNoNumber}
+use Rattle.tc_link.specs.AnyPast.{HasAnyPast, LinkStep, IsLinkStep, link_step, link_run}
+use Rattle.tc_link.specs.Beside.{LeavesSession, SessionLasts, LeavesNumbers, SetsNone}
+use Rattle.tc_link.specs.Fates.{whole_first}
 use Rattle.tc_link.specs.Reached.{IsEvent}
 use Rattle.tc_link.specs.Taken.{BeginsSession}
 use Rattle.tc_link.specs.Whole.{IsOneGroup}
@@ -32,12 +38,12 @@ pub data Sessions (wanted : List PacketOn) : World → ℕ → (ℕ → List (Li
   first : {w : World} (initiation : Event) → HasAnyPast w → BeginsSession w initiation
       → IsEvent initiation → IsIdle (world_step w initiation).after
       → Sessions wanted (world_step w initiation).after 0 (λ m. [])
-  -- an event of the session happens; all that was submitted in it is wanted next, in its order
-  goes_on : {w : World} {done : ℕ} {before : ℕ → List (List ℕ)} (event : Event)
-      → Sessions wanted w done before → BeginsNoSession w event → SetsNoNumber w event
-      → IsEvent event
-      → IsBeginning (world_step w event).after.session.submissions (drop done wanted)
-      → Sessions wanted (world_step w event).after done before
+  -- the session goes on with a step of the link; all that was submitted in it is wanted next, in
+  -- its order
+  goes_on : {w : World} {done : ℕ} {before : ℕ → List (List ℕ)} (step : LinkStep)
+      → Sessions wanted w done before → LeavesSession w step → LeavesNumbers w step
+      → IsLinkStep step → IsBeginning (link_step w step).session.submissions (drop done wanted)
+      → Sessions wanted (link_step w step) done before
   -- with nothing on its way up, and on its way down no report but such as are made now, the program
   -- resumes by the value of one, and goes on after as many more as `resume` answers
   resumes : {w : World} {done : ℕ} {before : ℕ → List (List ℕ)} (value more : ℕ)
@@ -46,6 +52,15 @@ pub data Sessions (wanted : List PacketOn) : World → ℕ → (ℕ → List (Li
       → (world_step w (events.Resume value)).answer ≡ Ok (Resumed more)
       → Sessions wanted (world_step w (events.Resume value)).after (done + more)
       (λ m. before m ++ delivered w m)
+  -- nothing of the session was sent, as where `resume` refuses in S6: another begins by an idle
+  -- start, and goes on from the same submission; meanwhile V(S) may be set
+  begins_anew : {w : World} {done : ℕ} {before : ℕ → List (List ℕ)} (since : List LinkStep)
+      (initiation : Event) → Sessions wanted w done before → SessionLasts w since
+      → AllByRecursion IsLinkStep since → (link_run w since).session.sent ≡ []
+      → BeginsSession (link_run w since) initiation → IsEvent initiation
+      → IsIdle (world_step (link_run w since) initiation).after
+      → Sessions wanted (world_step (link_run w since) initiation).after done
+      (λ m. before m ++ delivered (link_run w since) m)
 
 -- Over all its sessions together it has on each MAP a prefix of what it wants, each packet once.
 abbrev pub ResumesInOrder : Type 0
@@ -65,3 +80,36 @@ abbrev pub ResumesSo : Type 0
 ResumesSo =
     (w : World) (value more : ℕ) → (ground_step w.ground_node (Resume value)).answer ≡ Ok more
     → ResumesAs w value more
+
+-- ---- whether `resume` is accepted
+
+-- the session was settled, or V(R) is V(S)
+abbrev pub IsResumable : World → Type 0
+IsResumable w = IsSettled w ⊎ (w.spacecraft.farm.vr ≡ w.ground_node.fop.vs)
+
+-- By the value of a report that is made now, where the sender is in S6.
+pub record AnswersResuming (w : World) : Type 0 where
+  -- in a settled session, and where V(R) is V(S), `resume` answers how many submissions are on
+  -- board whole
+  pub accepted_so : IsResumable w
+      → (world_step w (events.Resume w.spacecraft.farm.vr)).answer
+      ≡ Ok (Resumed (whole_first w (length (accepted w))))
+  -- in any other it refuses: the session was never confirmed, and nothing of it was sent
+  pub refused_so : (IsResumable w → ⊥) → w.spacecraft.farm.vr < 256
+      → (world_step w (events.Resume w.spacecraft.farm.vr)).answer ≡ Ok (Refused (Link NotKnown))
+  pub nothing_sent : (IsResumable w → ⊥) → w.session.sent ≡ []
+  -- by what the ground knows: it does so where V(S) is not NN(R), or is V(R), and nowhere else
+  pub apart : w.ground_node.fop.vs ≢ w.ground_node.fop.nn → IsSettled w
+  pub same : IsSettled w → w.ground_node.fop.vs ≡ w.ground_node.fop.nn
+      → w.spacecraft.farm.vr ≡ w.ground_node.fop.vs
+
+-- So it does since a session with an idle start began, whatever came before it, after each alert,
+-- while no directive sets V(S).
+abbrev pub EachAnswersResuming : Type 0
+EachAnswersResuming =
+    (w : World) (initiation : Event) (since : List LinkStep) → HasAnyPast w
+    → BeginsSession w initiation → SessionLasts (world_step w initiation).after since
+    → SetsNone (world_step w initiation).after since → IsEvent initiation
+    → AllByRecursion IsLinkStep since → IsIdle (world_step w initiation).after
+    → let now : World = link_run (world_step w initiation).after since in
+    is_closed now.ground_node.fop.state ≡ true → AnswersResuming now

@@ -11,11 +11,11 @@ use Rattle.nodes.specs.Packets.{PacketOn, put_on_map}
 use Rattle.nodes.specs.declared.event.Event.{Event}
 use Rattle.nodes.specs.declared.event.Event.TheVariants as events
 use Rattle.simulated_link.specs.declared.fault.SimFault.{SimFault}
-use Rattle.tc_link.specs.AnyPast.{HasAnyPast}
+use Rattle.tc_link.specs.AnyPast.{HasAnyPast, LinkStep, Happens, IsLinkStep, link_step, link_run}
+use Rattle.tc_link.specs.Beside.{SessionLasts}
 use Rattle.tc_link.specs.Reached.{IsEvent}
 use Rattle.simulated_link.specs.Replies.{ReplyView, Packet}
-use Rattle.simulated_link.specs.World.{World, KeepsSession, IsIdle, submitted, delivered}
-use Rattle.simulated_link.specs.World.{world_step, world_run, run_answers}
+use Rattle.simulated_link.specs.World.{World, IsIdle, submitted, delivered, world_step}
 
 -- a session begins with an event: it is an initiation, and comes while the sender is in S6; or it
 -- is a resumption that is not refused
@@ -30,15 +30,18 @@ abbrev pub handed_out : Event → Result ReplyView SimFault → List PacketOn
 handed_out events.Take (Ok (Packet packet)) = packet ∷ []
 handed_out _ _ = []
 
--- the packets that these events handed out with these answers, in order
-abbrev pub taken : List Event → List (Result ReplyView SimFault) → List PacketOn
-taken [] answers = []
-taken (event ∷ more) [] = []
-taken (event ∷ more) (answer ∷ answers) = handed_out event answer ++ taken more answers
+-- the packets that a step of the link hands out, and these steps, in order
+abbrev pub handed_by : World → LinkStep → List PacketOn
+handed_by w (Happens event) = handed_out event (world_step w event).answer
+handed_by w _ = []
+
+abbrev pub taken : World → List LinkStep → List PacketOn
+taken w [] = []
+taken w (step ∷ more) = handed_by w step ++ taken (link_step w step) more
 
 -- those that were taken since this moment on a MAP, in order
-abbrev pub taken_since : World → List Event → ℕ → List (List ℕ)
-taken_since w since m = packets_of_map m (taken since (run_answers w since))
+abbrev pub taken_since : World → List LinkStep → ℕ → List (List ℕ)
+taken_since w since m = packets_of_map m (taken w since)
 
 -- those that wait to be taken on a MAP, the oldest first
 abbrev pub ready_on : World → ℕ → List (List ℕ)
@@ -46,30 +49,31 @@ ready_on w m = packets_of_map m w.spacecraft.ready
 
 -- On a MAP the packets that were taken since this moment, followed by those that are ready, are
 -- those that were ready then, followed by those that the session has delivered.
-abbrev pub HandsOut : World → List Event → ℕ → Type 0
+abbrev pub HandsOut : World → List LinkStep → ℕ → Type 0
 HandsOut w since m =
-    taken_since w since m ++ ready_on (world_run w since) m
-    ≡ ready_on w m ++ delivered (world_run w since) m
+    taken_since w since m ++ ready_on (link_run w since) m
+    ≡ ready_on w m ++ delivered (link_run w since) m
 
 -- so it is on each MAP since the moment at which a session began, whatever came before
 abbrev pub HandsOutWhatIsDelivered : Type 0
 HandsOutWhatIsDelivered =
-    (w : World) (initiation : Event) (since : List Event) (m : ℕ) → BeginsSession w initiation
-    → KeepsSession (world_step w initiation).after since
+    (w : World) (initiation : Event) (since : List LinkStep) (m : ℕ) → BeginsSession w initiation
+    → SessionLasts (world_step w initiation).after since
     → HandsOut (world_step w initiation).after since m
 
 -- The packets on a MAP that were taken since this moment are a prefix of those that were ready
 -- then, followed by those that were submitted in the session.
-abbrev pub HandsOutInOrder : World → List Event → ℕ → Type 0
+abbrev pub HandsOutInOrder : World → List LinkStep → ℕ → Type 0
 HandsOutInOrder w since m =
-    IsBeginning (taken_since w since m) (ready_on w m ++ submitted (world_run w since) m)
+    IsBeginning (taken_since w since m) (ready_on w m ++ submitted (link_run w since) m)
 
 -- so it is after any past, where the session had an idle start
 abbrev pub HandsOutWhatIsSubmitted : Type 0
 HandsOutWhatIsSubmitted =
-    (w : World) (initiation : Event) (since : List Event) (m : ℕ) → HasAnyPast w
-    → BeginsSession w initiation → KeepsSession (world_step w initiation).after since
-    → AllByRecursion IsEvent (initiation ∷ since) → IsIdle (world_step w initiation).after
+    (w : World) (initiation : Event) (since : List LinkStep) (m : ℕ) → HasAnyPast w
+    → BeginsSession w initiation → SessionLasts (world_step w initiation).after since
+    → IsEvent initiation → AllByRecursion IsLinkStep since
+    → IsIdle (world_step w initiation).after
     → HandsOutInOrder (world_step w initiation).after since m
 
 -- the packets of what was submitted in the session, each with its MAP, in the order of submission
@@ -81,19 +85,20 @@ all_submitted w =
 -- Over all MAPs the packets that were taken since this moment, followed by those that are ready,
 -- are those that were ready then, followed by the first ones of those that were submitted; in S1,
 -- with nothing outstanding, by all of them.
-pub record HandsOutInOneOrder (w : World) (since : List Event) : Type 0 where
+pub record HandsOutInOneOrder (w : World) (since : List LinkStep) : Type 0 where
   pub passed : List PacketOn
-  pub order : taken since (run_answers w since) ++ (world_run w since).spacecraft.ready
+  pub order : taken w since ++ (link_run w since).spacecraft.ready
       ≡ w.spacecraft.ready ++ passed
-  pub begins : IsBeginning passed (all_submitted (world_run w since))
-  pub complete : (world_run w since).ground_node.fop.state ≡ S1
-      → outstanding (world_run w since).ground_node ≡ []
-      → passed ≡ all_submitted (world_run w since)
+  pub begins : IsBeginning passed (all_submitted (link_run w since))
+  pub complete : (link_run w since).ground_node.fop.state ≡ S1
+      → outstanding (link_run w since).ground_node ≡ []
+      → passed ≡ all_submitted (link_run w since)
 
 -- so it is after any past, where the session had an idle start
 abbrev pub HandsOutAsSubmitted : Type 0
 HandsOutAsSubmitted =
-    (w : World) (initiation : Event) (since : List Event) → HasAnyPast w
-    → BeginsSession w initiation → KeepsSession (world_step w initiation).after since
-    → AllByRecursion IsEvent (initiation ∷ since) → IsIdle (world_step w initiation).after
+    (w : World) (initiation : Event) (since : List LinkStep) → HasAnyPast w
+    → BeginsSession w initiation → SessionLasts (world_step w initiation).after since
+    → IsEvent initiation → AllByRecursion IsLinkStep since
+    → IsIdle (world_step w initiation).after
     → HandsOutInOneOrder (world_step w initiation).after since

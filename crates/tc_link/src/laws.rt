@@ -10,8 +10,10 @@ ghost use Rattle.tc_link.specs.Progress.{EachAcknowledges, EachBegins, EachEnds,
 ghost use Rattle.tc_link.specs.Progress.{EachMakesProgress};
 ghost use Rattle.tc_link.specs.Promises.{HoldsOfAllRuns};
 ghost use Rattle.tc_link.specs.Repeated.{RepeatsNothing, RepeatsNothingOfFrames};
-ghost use Rattle.tc_link.specs.Resumed.{ResumesInOrder, ResumesSo};
+ghost use Rattle.tc_link.specs.Resumed.{EachAnswersResuming, ResumesInOrder, ResumesSo};
+ghost use Rattle.tc_link.specs.Seen.{EachIsSeen};
 ghost use Rattle.tc_link.specs.Silence.{SilenceIsIdle};
+ghost use Rattle.tc_link.specs.Silent.{GivesUpAloud, HoldsWhatIsNotAcknowledged};
 ghost use Rattle.tc_link.specs.Taken.{HandsOutAsSubmitted, HandsOutWhatIsDelivered, HandsOutWhatIsSubmitted};
 
 /// For each configuration in its ranges and each list of events, what `run` promises of each event holds
@@ -37,14 +39,16 @@ pub fn law_of_any_past()
     ensures restarts { EachGoesOnAsKept }
 {}
 
-/// Since a session began, on each MAP: the packets that `take` has handed out, followed by those
-/// that are ready, are those that were ready then, followed by those that the session has
-/// delivered. So it is in each run, whatever came before the session, until the next one begins
-/// (`delivered`). In a session that had an idle start, what `take` hands out on a MAP after the
-/// packets that were ready is therefore a prefix of what is submitted on it (`submitted`). Over all
-/// MAPs too: in such a session what `take` hands out, each packet with its MAP, followed by what is
-/// ready, is what was ready then, followed by a prefix of what is submitted, in the order of
-/// submission; by all of it in S1 with nothing outstanding (`order`).
+/// Since a session began, on each MAP: the packets that `take` has handed out, followed by those that are
+/// ready, are those that were ready then, followed by those that the session has delivered. So it is in each
+/// run, whatever came before the session, until the next one begins. Beside events of the link, telemetry
+/// may be taken, and octets may come from outside the link that leave the session as it is: noise, frames of
+/// another channel, a report that is not used, Type-BD frames, and Type-AD frames that the receiver leaves
+/// as behind or discards (`delivered`). In a session that had an idle start, what `take` hands out on a MAP
+/// after the packets that were ready is therefore a prefix of what is submitted on it (`submitted`). Over
+/// all MAPs too: in such a session what `take` hands out, each packet with its MAP, followed by what is
+/// ready, is what was ready then, followed by a prefix of what is submitted, in the order of submission; by
+/// all of it in S1 with nothing outstanding (`order`).
 pub fn law_of_taking()
     ensures delivered { HandsOutWhatIsDelivered }
     ensures submitted { HandsOutWhatIsSubmitted }
@@ -62,19 +66,20 @@ pub fn law_of_plain_links()
 /// Since a session with an idle start began, whatever came before it, and until a directive sets
 /// V(S): V(S) is what it was then plus the number of segments sent since, and NN(R) is that plus the
 /// number of those that are acknowledged, modulo 256. So an alert keeps what is known: in S6 V(S) is
-/// NN(R) only where all that was sent is acknowledged.
+/// NN(R) only where all that was sent is acknowledged. Meanwhile may happen what `law_of_taking` names.
 pub fn law_of_numbers()
     ensures { KeepsWhatIsKnown }
 {}
 
-/// There is no deadlock, in any session. Wherever a run leads while the sender is Active, exchanges in
-/// which nothing is lost end with an alert, or with nothing outstanding; in a session that had an idle
-/// start all that was submitted is delivered then. One exchange more than the window needs for what
-/// the ground holds is enough (`progress`): each after the first acknowledges as many units as the
-/// window has room for, or all (`acknowledges`). No alert comes in a session that had an idle start by
-/// CLCW check, Unlock or Set V(R), where the transmission count is below its limit (`delivered`).
-/// Before the confirmation such exchanges end with an alert, or the sender is Active (`begins`). So
-/// from any state but S6 they end with an alert or with nothing outstanding (`ends`).
+/// There is no deadlock, in any session. Wherever a run leads while the sender is Active, exchanges in which
+/// nothing is lost end with an alert, or with nothing outstanding; in a session that had an idle start all
+/// that was submitted is delivered then. The run is as in `law_of_any_past`: any octets may have come from
+/// outside the link, and new nodes may have taken the place of others. One exchange more than the window
+/// needs for what the ground holds is enough (`progress`): each after the first acknowledges as many units
+/// as the window has room for, or all (`acknowledges`). No alert comes in a session that had an idle start
+/// by CLCW check, Unlock or Set V(R), where the transmission count is below its limit (`delivered`). Before
+/// the confirmation such exchanges end with an alert, or the sender is Active (`begins`). So from any state
+/// but S6 they end with an alert or with nothing outstanding (`ends`).
 pub fn law_of_progress()
     ensures progress { EachMakesProgress }
     ensures acknowledges { EachAcknowledges }
@@ -105,7 +110,8 @@ pub fn law_of_bypass()
 
 /// A CLCW that comes again, and no other since, changes nothing. Of every ground, whatever it was called
 /// with: `clcw` is given four octets, and is given them again after other calls. Between the two no other
-/// report comes, no session begins, and the transmission limit is not set to 1. Then the second call leaves
+/// report is used, no session begins, and the transmission limit is not set to 1; telemetry may come whose
+/// report is not used, as noise or of another channel. Then the second call leaves
 /// the ground as it was, raises no alert, and answers the same of the report (`words`). So it is where they
 /// came at first in a telemetry frame of the ground's channel (`frames`). So a front end that hands on its
 /// last CLCW again, until there is another, does no harm to a session.
@@ -125,18 +131,45 @@ pub fn law_of_configurations()
 /// before it, and until a directive sets V(S), in each state and after each alert: the numbers of
 /// submissions, of those that were sent whole and of those that are acknowledged whole are those of the
 /// records, modulo 2^64; and by the value of a report that is made now, so is that of those that are on
-/// board whole.
+/// board whole. Meanwhile may happen what `law_of_taking` names.
 pub fn law_of_submissions()
     ensures { KnowsFates }
 {}
 
 /// One way on after an alert. A program that resumes after each alert, by the value of a report that is made
 /// when nothing is on its way up, and submits again exactly the submissions from the one on that `resume`
-/// answers, session after session, has on each MAP over all its sessions together a prefix of what it
-/// wants delivered, each packet once (`in_order`). Each of its submissions is one packet, or packets that
-/// fit into one segment together. What `resume` leaves is the ground once V(S) is set to the value and
-/// Unlock begins a session, and so it is with the event Resume of the link and its records (`ground`).
+/// answers, session after session, has on each MAP over all its sessions together a prefix of what it wants
+/// delivered, each packet once. So it is where nothing of a session was sent, as where `resume` refuses, and
+/// it begins another by an idle start from the same submission (`in_order`). Each of its submissions is one
+/// packet, or packets that fit into one segment together. Meanwhile may happen what `law_of_taking` names.
+/// What `resume` leaves is the ground once V(S) is set to the value and Unlock begins a session, and so it
+/// is with the event Resume of the link and its records (`ground`). In S6, since a session with an idle
+/// start began and until a directive sets V(S), `resume` is accepted by the value of a report that is made
+/// now where the session was confirmed or begun without a check, and where V(R) is V(S), and answers how
+/// many submissions are on board whole. In any other case it is refused, and nothing of the session was
+/// sent: V(S) is NN(R) then, and is not V(R) (`answers`).
 pub fn law_of_resuming()
     ensures in_order { ResumesInOrder }
     ensures ground { ResumesSo }
+    ensures answers { EachAnswersResuming }
+{}
+
+/// Loss is never silent. After any past, in a session with an idle start, from its initiation until an alert
+/// leads to S6: what the ground holds outstanding is exactly what was submitted, but for what is
+/// acknowledged, in the order of submission (`held`). S6 comes only with an alert that the call answers, of
+/// each ground, whatever it was called with, and of each link (`aloud`).
+pub fn law_of_loss()
+    ensures held { HoldsWhatIsNotAcknowledged }
+    ensures aloud { GivesUpAloud }
+{}
+
+/// What a program takes on board, by what it sees alone: the events of a run, and what each was answered. In
+/// a run without blocking, each session begins by CLCW check, Unlock, Set V(R) or `resume`, after a silence
+/// that is counted: no frame is on its way up, and each that is on its way down was sent since none is, and
+/// since a packet was taken. Then what `take` hands out over all MAPs is a prefix of D1 ++ .. ++ Dk, each Di
+/// a prefix of what session i submitted. Where each session but the first is resumed, by the value of a
+/// report that is made since no frame is on its way up, and submits what is wanted next, what `take` hands
+/// out is a prefix of what is wanted, over all MAPs too.
+pub fn law_of_seen()
+    ensures { EachIsSeen }
 {}

@@ -4,6 +4,7 @@ ghost use Rattle.std.specs.Prelude.{◌≡◌, None, IfOk, OnOk, IsOkUnless};
 ghost use Rattle.nodes.specs.Parameters.{config_fault};
 ghost use Rattle.tc_link.specs.Promises.{IsPromised, HoldsThroughout};
 ghost use Rattle.tc_link.specs.Readable.{AllReadable};
+ghost use Rattle.tc_link.specs.Seen.{seen, IsPromisedOfSeen};
 ghost use Rattle.tc_link.specs.Simulation.{sim_run, refused_field};
 ghost use Rattle.simulated_link.specs.World.{IsClean, IsIdle};
 
@@ -27,6 +28,7 @@ pub fn run(alloc: Global, config: Config, events: &[Event<'_>]) -> Result<Sim, S
     ensures from_idle { IfOk result (λ sim. IsIdle sim.world → IsPromised sim.world) }
     ensures clean { IfOk result (λ sim. IsClean sim.world → IsIdle sim.world) }
     ensures readable { IfOk result (λ sim. AllReadable sim.world) }
+    ensures seen { IfOk result (λ sim. IsPromisedOfSeen config.blocking (seen events.now sim.answers)) }
 {
     let mut sim = Sim::new(alloc, config)?;
     'events: for event in events {

@@ -1,4 +1,4 @@
-use Rattle.tc_link.proofs.Resumed.{resumes_in_order, resumes_so}
+use Rattle.tc_link.proofs.Resumed.{resumes_in_order, resumes_so, each_answers_resuming}
 use Rattle.tc_link.proofs.laws.law_of_resuming.Goals as goal
 
 pub returns-clause-in_order : goal.returns-clause-in_order
@@ -6,3 +6,6 @@ returns-clause-in_order c = resumes_in_order
 
 pub returns-clause-ground : goal.returns-clause-ground
 returns-clause-ground c = resumes_so
+
+pub returns-clause-answers : goal.returns-clause-answers
+returns-clause-answers c = each_answers_resuming

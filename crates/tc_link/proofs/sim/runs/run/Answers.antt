@@ -10,6 +10,8 @@ use Rattle.tc_link.specs.Simulation.{record_step, refused_field, field_of}
 use Rattle.std.proofs.lemmas.Grind.{common_steps}
 use Rattle.nodes.proofs.InRange.{config_is}
 use Rattle.tc_link.proofs.Promised.{readable_of, idle_of, promised, holds_throughout, one_more, reached_by}
+use Rattle.tc_link.specs.Seen.{seen, IsPromisedOfSeen}
+use Rattle.tc_link.proofs.Seen.{each_is_seen}
 use Rattle.tc_link.proofs.sim.runs.run.Goals as goal
 
 -- A run with its answers, from steps that record theirs.
@@ -69,6 +71,13 @@ returns-clause-readable c = readable_of c.events.sim.world (reached c)
 pub returns-clause-throughout : goal.returns-clause-throughout
 returns-clause-throughout c =
     holds_throughout c.args.config c.args.events.now (config_is c.args.config (sym c.in_ok-sim.ensures.range)) (fits c)
+
+pub returns-clause-seen : goal.returns-clause-seen
+returns-clause-seen c =
+    let config : Config = c.args.config in
+    let events : List Event = c.args.events.now in
+    subst (λ (s : SimState). IsPromisedOfSeen config.blocking (seen events s.answers)) (sym (returns-clause-ran c))
+    (each_is_seen config events (config_is config (sym c.in_ok-sim.ensures.range)) (fits c))
 
 -- what a step was refused for is handed on
 refused_alike : {A : Type 0} (r : Result A SimFault) (e : SimFault) → IsErrAnd r (λ it. it ≡ e) → e ≡ Memory

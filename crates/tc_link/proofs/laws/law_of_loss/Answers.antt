@@ -1,0 +1,8 @@
+use Rattle.tc_link.proofs.Silent.{holds_what_is_not_acknowledged, gives_up_aloud}
+use Rattle.tc_link.proofs.laws.law_of_loss.Goals as goal
+
+pub returns-clause-held : goal.returns-clause-held
+returns-clause-held c = holds_what_is_not_acknowledged
+
+pub returns-clause-aloud : goal.returns-clause-aloud
+returns-clause-aloud c = gives_up_aloud

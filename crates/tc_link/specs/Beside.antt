@@ -1,0 +1,89 @@
+-- What happens on a link while a session goes on: the events that begin none, and what leaves the
+-- session as it is.
+use Rattle.std.specs.Prelude.{◌≡◌, List, [], ◌∷◌}
+use Rattle.std.specs.List.{AllByRecursion}
+use Rattle.octets.specs.Number.{IsOctets}
+use Rattle.cop1.specs.declared.farm.Verdict.TheVariants.{Behind, Discarded}
+use Rattle.nodes.specs.declared.config.Config.{Config}
+use Rattle.nodes.specs.Ground.{ground_step}
+use Rattle.nodes.specs.Ground as ground_calls
+use Rattle.nodes.specs.Parameters.{IsConfig}
+use Rattle.nodes.specs.Spacecraft.{spacecraft_step}
+use Rattle.nodes.specs.Spacecraft as spacecraft_calls
+use Rattle.nodes.specs.declared.heard.Heard.{Heard}
+use Rattle.nodes.specs.declared.heard.Heard.TheVariants as heard_cases
+use Rattle.nodes.specs.declared.heard.HeardReport.{HeardReport}
+use Rattle.nodes.specs.declared.heard.HeardReport.TheVariants.{Used}
+use Rattle.nodes.specs.declared.received.Received.{Received}
+use Rattle.nodes.specs.declared.received.Received.TheVariants as received_cases
+use Rattle.simulated_link.specs.World.{World, BeginsNoSession, new_world}
+use Rattle.tc_link.specs.AnyPast.{LinkStep, Happens, TakeTelemetry, Receives, Hears, HearsReport}
+use Rattle.tc_link.specs.AnyPast.{ForgetTelemetry, NewGround, NewSpacecraft, IsLinkStep, link_step}
+use Rattle.tc_link.specs.AnyPast.{link_run, word_step}
+use Rattle.tc_link.specs.Known.{SetsNoNumber}
+
+-- octets that reach the spacecraft are no frame, or one for another, one of Type-BD, or one of
+-- Type-AD that the receiver leaves as behind or discards
+abbrev pub IsLeft : Received → Type 0
+IsLeft (received_cases.Invalid fault) = Unit {0}
+IsLeft received_cases.Foreign = Unit {0}
+IsLeft (received_cases.Bypass kept) = Unit {0}
+IsLeft (received_cases.Sequence n Behind ready dropped) = Unit {0}
+IsLeft (received_cases.Sequence n Discarded ready dropped) = Unit {0}
+IsLeft _ = ⊥
+
+-- a report does not reach the sender
+abbrev pub IsUnused : HeardReport → Type 0
+IsUnused Used = ⊥
+IsUnused _ = Unit {0}
+
+-- octets that reach the ground are no frame, or one of another channel, or one with such a report
+abbrev pub BringsNone : Heard → Type 0
+BringsNone (heard_cases.Frame gap packets report alert) = IsUnused report
+BringsNone _ = Unit {0}
+
+-- the session goes on with a step: it is an event that begins none, or it takes telemetry or begins
+-- anew to; or such octets come from outside the link
+abbrev pub LeavesSession : World → LinkStep → Type 0
+LeavesSession w (Happens event) = BeginsNoSession w event
+LeavesSession w TakeTelemetry = Unit {0}
+LeavesSession w ForgetTelemetry = Unit {0}
+LeavesSession w (Receives octets) =
+    IsLeft (spacecraft_step w.spacecraft (spacecraft_calls.Receive octets)).answer
+LeavesSession w (Hears octets) =
+    BringsNone (ground_step w.ground_node (ground_calls.Telemetry octets)).answer
+LeavesSession w (HearsReport octets) = IsUnused (word_step w octets).answer.report
+LeavesSession w NewGround = ⊥
+LeavesSession w (NewSpacecraft kept) = ⊥
+
+-- so it does with each of these
+abbrev pub SessionLasts : World → List LinkStep → Type 0
+SessionLasts w [] = Unit {0}
+SessionLasts w (step ∷ more) = LeavesSession w step × SessionLasts (link_step w step) more
+
+-- a step sets no V(S), and none of these does
+abbrev pub LeavesNumbers : World → LinkStep → Type 0
+LeavesNumbers w (Happens event) = SetsNoNumber w event
+LeavesNumbers w _ = Unit {0}
+
+abbrev pub SetsNone : World → List LinkStep → Type 0
+SetsNone w [] = Unit {0}
+SetsNone w (step ∷ more) = LeavesNumbers w step × SetsNone (link_step w step) more
+
+-- ---- a run in which octets from outside the link are octets
+
+-- octets that come from outside are whole numbers from 0 to 255
+abbrev pub CarriesOctets : LinkStep → Type 0
+CarriesOctets (Receives octets) = IsOctets octets
+CarriesOctets (Hears octets) = IsOctets octets
+CarriesOctets (HearsReport octets) = IsOctets octets
+CarriesOctets _ = Unit {0}
+
+-- such a run leads from a new world to this one
+pub record HasOctetPast (w : World) : Type 0 where
+  pub config : Config
+  pub ranges : IsConfig config
+  pub steps : List LinkStep
+  pub numbers : AllByRecursion IsLinkStep steps
+  pub octets : AllByRecursion CarriesOctets steps
+  pub led : link_run (new_world config) steps ≡ w
