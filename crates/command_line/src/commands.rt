@@ -72,10 +72,13 @@ impl<'a> Described<'a> {
     }
 }
 
-// Whether the words have `--vr first`.
+// Whether the words have `--vr first`. What stands behind `--` is a file.
 fn is_from_first(words: &[&str]) -> bool {
     let mut before = "";
     for word in words {
+        if *word == "--" {
+            return false;
+        }
         if *word == "--vr=first" || (before == "--vr" && *word == FIRST) {
             return true;
         }
