@@ -554,7 +554,8 @@ def _structs_of(many: Any, records: bytes, size: int, begun: int) -> Any:
 def _frames_in(cls: Type[TcFrame], octets: bytes,
                checked: bool) -> Iterator[Iterable[Tuple[Union[TcFrame, TcFault], bytes]]]:
     """The frames in octets, those of a piece together, and what is left of these."""
-    total, out, begun, many = c_size_t(), ctypes.create_string_buffer(_MOST * _FOUND), 0, cls * _MOST
+    total, begun, many = c_size_t(), 0, cls * _MOST
+    out: Any = ctypes.create_string_buffer(_MOST * _FOUND)  # its slices are bytes, which Debian's mypy 1.0.1 does not know
     check, control, number = 2 if checked else 0, Kind.BC.value, _places_of([c_uint16], 0)
     while found := _tc_frames(piece := octets[begun:begun + _PIECE], len(piece), checked, out, len(out), total):
         records, end = out[:found * _FOUND], 0
@@ -799,8 +800,8 @@ class TmExtractor(Single):
         octets, length = _octets_of("octets", octets), _frame_length_of(length)
         answers: List[Tuple[Union[TmFrame, TmFault], List[bytes], Optional[int]]] = []
         most = min(_PIECE, len(octets)) // length + 1
-        out = ctypes.create_string_buffer(most * _TAKEN.size)
-        place = ctypes.create_string_buffer(len(self._memory) + most * length)
+        out: Any = ctypes.create_string_buffer(most * _TAKEN.size)
+        place: Any = ctypes.create_string_buffer(len(self._memory) + most * length)
         with self._lock:
             begun, total, piece = 0, c_size_t(), octets
             while found := _tm_extractor_frames(

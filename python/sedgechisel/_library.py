@@ -93,6 +93,8 @@ def octets_of(name: str, value: Any) -> bytes:
         return value
     if isinstance(value, bytes):
         return bytes(value)
+    if isinstance(value, ctypes.Structure):  # it lends its memory, which is not what it is on the link
+        raise TypeError(f"{name}: {value!r} is not bytes; `encode` gives them")
     try:
         return bytes(memoryview(value))
     except TypeError:

@@ -115,6 +115,12 @@ class Handle(Single):
             raise ConfigFault(_config_fault(config))
         LinkFault._look_at(answer)
 
+    def __setattr__(self, name: str, value: Any) -> None:
+        """Nothing is set on a node by its name: `set_timer` and the like are the directives."""
+        if not name.startswith("_") and not hasattr(type(self), name):
+            raise AttributeError(f"{type(self).__name__} has no field {name}")
+        super().__setattr__(name, value)
+
     def _open(self, config: Config) -> int:
         return type(self)._opens(config, self._handle)
 
@@ -409,8 +415,8 @@ class Ground(Directives, Handle):
 
     @property
     def submitted(self) -> int:
-        """How many submissions the session has; they are numbered from 0, in order. This and the two below: after an
-        alert too, and 0 once V(S) is set."""
+        """How many submissions the session has; they are numbered from 0, in order. This, `sent_whole` and
+        `acknowledged_whole`: after an alert too, and 0 once V(S) is set."""
         return int(self._read().submitted)
 
     @property
@@ -454,12 +460,12 @@ class Ground(Directives, Handle):
 
     @property
     def unsent(self) -> int:
-        """How many of them wait to be sent for the first time."""
+        """How many of the segments that are outstanding wait to be sent for the first time."""
         return int(self._read().unsent)
 
     @property
     def due(self) -> int:
-        """How many of them are to be sent again."""
+        """How many of the segments that are outstanding are to be sent again."""
         return int(self._read().due)
 
     @property
