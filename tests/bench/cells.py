@@ -65,7 +65,8 @@ class Cell:
         self.fields = [(column, words[column][row[column]]) for column in words]
 
     def __str__(self):
-        return f"line {self.line}, {self.row['event']} ({self.row['what']}) in {self.row['before']}"
+        own = "; the profile departs from the book here" if self.row["profile_says"] == "otherwise" else ""
+        return f"line {self.line}, {self.row['event']} ({self.row['what']}) in {self.row['before']}{own}"
 
     def wrong(self, before, after, x, answer):
         """What of this cell is not so, or None."""

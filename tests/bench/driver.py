@@ -74,12 +74,14 @@ class Play:
         self.bench, self.node = bench, bench.model()
         self.program = Program(bench.command)
         self.lines, self.waiting, self.octets, self.same = [], [], 0, True
+        self.last = None  # the cell of the last event, which a `show` after it shows
 
     def line(self, line):
         """Gives a line to the model, and later to the program; whether all is the same so far."""
         self.bench.watch.cell = None
         answer = self.node.answer(line)
-        self.waiting.append((line, answer, self.bench.watch.cell))
+        self.last = self.bench.watch.cell or (self.last if line == "show" else None)
+        self.waiting.append((line, answer, self.last))
         self.octets += len(line) + 1
         return self.octets < PIECE or self.compare()
 
@@ -92,7 +94,7 @@ class Play:
         for line, answer, cell in self.waiting:
             self.lines.append(line)
             if answer is not None:
-                if got[at] != answer:
+                if self.bench.plain(got[at]) != self.bench.plain(answer):
                     self.waiting, self.same = [], False
                     self.bench.differs(self.lines, cell, got[at], answer)
                     return False
@@ -114,11 +116,16 @@ class Play:
 class Bench:
     """What is played, against which program, and what came of it."""
 
-    def __init__(self, node, command, most, whole):
+    def __init__(self, node, command, most, whole, ignored=()):
         self.most, self.whole, self.differing = most, whole, []
+        self.ignored = tuple(f"{it}=" for it in ignored if it)
         self.command, self.ground = shlex.split(command), node == "ground"
         self.watch = cells.watch_fop() if self.ground else cells.watch_farm()
         self.differences, self.events, self.met = 0, 0, set()
+
+    def plain(self, answer):
+        """An answer without the fields that are not compared, of a program that cannot show them."""
+        return " ".join(it for it in answer.split(" ") if not (self.ignored and it.startswith(self.ignored)))
 
     def model(self):
         node, watch = (Ground if self.ground else Spacecraft)(), self.watch
@@ -161,7 +168,7 @@ class Bench:
         node, program = self.model(), Program(self.command)
         wanted = [it for it in map(node.answer, lines) if it is not None]
         got = program.answers(lines, len(wanted))
-        return program.close() != ending(node) or got != wanted
+        return program.close() != ending(node) or [*map(self.plain, got)] != [*map(self.plain, wanted)]
 
     def play_cells(self):
         """Plays each way to a state with each event there that comes to a cell that was not played often enough."""
@@ -252,9 +259,11 @@ def main():
     words.add_argument("--seed", type=int, default=1, metavar="S", help="by default 1")
     words.add_argument("--most", type=int, default=5, metavar="D", help="ends after D differences; by default 5")
     words.add_argument("--no-cells", action="store_true", help="plays random events alone")
+    words.add_argument("--ignore", default="", metavar="FIELDS",
+                       help="fields of `show` that are not compared, as count,timer,due")
     words.add_argument("--whole", action="store_true", help="shows all lines up to a difference, and not fewer")
     given = words.parse_args()
-    bench = Bench(given.node, given.against, given.most, given.whole)
+    bench = Bench(given.node, given.against, given.most, given.whole, given.ignore.split(","))
     if not given.no_cells:
         bench.play_cells()
         bench.try_hidden()
