@@ -64,6 +64,15 @@ impl<T> Kept<T, Global> {
     }
 }
 
+impl<T> Kept<T, Global> {
+    /// Lets go of what holds no box.
+    pub fn end(self)
+        requires { self.value ≡ None }
+    {
+        let Kept { at: _, alloc: _ } = self;
+    }
+}
+
 impl<T: Drop> Kept<T, Global> {
     /// The box, where there is one.
     pub fn into_option(self) -> Option<Box<T>>

@@ -29,6 +29,15 @@ pub(crate) fn take<H: Holds>(handle: &mut H, alloc: Global) -> Option<Box<H::Nod
     mem::replace(handle, none).into_kept(alloc).into_option()
 }
 
+// Puts in what was taken out, where nothing is held meanwhile.
+pub(crate) fn put_back<H: Holds>(handle: &mut H, alloc: Global, node: Box<H::Node>)
+    requires { H.held handle.old ≡ None }
+    ensures { H.held handle.new ≡ Some node.value }
+{
+    let full = H::of(Kept::of(node));
+    mem::replace(handle, full).into_kept(alloc).end();
+}
+
 // Puts in what is to be held; what was there is freed.
 pub(crate) fn put<H: Holds>(handle: &mut H, alloc: Global, node: Box<H::Node>)
     ensures { H.held handle.new ≡ Some node.value }

@@ -9,7 +9,7 @@ macro_rules! held {
             return $crate::answers::CLOSED;
         };
         let answer = $call;
-        $crate::holds::put($handle, $alloc, $node);
+        $crate::holds::put_back($handle, $alloc, $node);
         answer
     }};
 }
