@@ -4,3 +4,4 @@ pub mod Delivery
 pub mod InRange
 pub mod Owed
 pub mod Submissions
+pub mod Waiting

@@ -1,5 +1,5 @@
 -- How a spacecraft's fields stand for its state.
-use Rattle.std.specs.Prelude.{◌≡◌, ◌<◌, ◌≤◌, ◌+◌}
+use Rattle.std.specs.Prelude.{◌≡◌, ◌<◌, ◌≤◌, ◌+◌, length}
 use Rattle.std.specs.VecDeque.{deque_capacity}
 use Rattle.map_service.specs.Exactness.{HasPartsOf}
 use Rattle.tm_link.specs.Builder.{BuilderState}
@@ -34,3 +34,6 @@ pub record IsSound (s : Inside) : Type 0 where
   -- one more frame's packets have room where the buffer is free
   pub room : s.config.ready_slots + 170 ≤ deque_capacity s.ready
   pub frames : IsBuilderOf s.config s.builder
+  -- so many packets wait at most
+  pub waiting : length s.ready.items ≤ s.config.ready_slots + 169
+  pub past : length s.bypass.items ≤ s.config.bypass_slots

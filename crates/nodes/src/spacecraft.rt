@@ -67,7 +67,7 @@ impl Model for Spacecraft {
 }
 
 impl Spacecraft {
-    ghost use Rattle.std.specs.Prelude.{◌≡◌, ◌<◌, ◌++◌, drop, take, length, Ok, option_map, IfOk, IfSome, IfErr, OnOk, OnErr, IsOkUnless, IsTrue};
+    ghost use Rattle.std.specs.Prelude.{◌≡◌, ◌≤◌, ◌<◌, ◌+◌, ◌++◌, drop, take, length, Ok, option_map, IfOk, IfSome, IfErr, OnOk, OnErr, IsOkUnless, IsTrue};
     ghost use Rattle.clcw.specs.Encoding.{fits};
     ghost use Rattle.cop1.specs.Report.{report_of};
     ghost use Rattle.tm_link.specs.Builder.{queue_fault};
@@ -240,14 +240,18 @@ impl Spacecraft {
 
     /// How many packets of sequence-controlled frames wait to be taken.
     pub fn ready(&self) -> usize
-        ensures { result ≡ length self.now.ready }
+        ensures count { result ≡ length self.now.ready }
+
+        // Those of one frame, at most 170, came while fewer waited than there are slots.
+        ensures most { result ≤ self.now.config.ready_slots + 169 }
     {
         self.ready.len()
     }
 
     /// How many packets of frames past the sequence control wait to be taken.
     pub fn bypassed(&self) -> usize
-        ensures { result ≡ length self.now.bypass }
+        ensures count { result ≡ length self.now.bypass }
+        ensures most { result ≤ self.now.config.bypass_slots }
     {
         self.bypass.len()
     }
@@ -292,6 +296,26 @@ impl Spacecraft {
             unreachable!()
         };
         self.builder.build(ocf, out)
+    }
+
+    /// The same, where `out` has as many octets at least as a telemetry frame.
+    /// Cost: n and the number of packets that end in the frame.
+    pub fn report_in(&mut self, out: &mut [u8]) -> usize
+        requires room { self.old.config.frame_length ≤ length out.old }
+        ensures count { result ≡ self.old.config.frame_length }
+        ensures frame { out.new
+            ≡ spelling (spacecraft_step self.old Report).answer ++ drop result out.old }
+        ensures after { self.new ≡ (spacecraft_step self.old Report).after }
+
+        // So the octets are this frame, of the spacecraft's own channel.
+        ensures spells { IsTmFrame result (spacecraft_step self.old Report).answer
+            (take result out.new) }
+        ensures own { IsOwnFrame self.old.config (spacecraft_step self.old Report).answer }
+    {
+        let Ok(ocf) = encode(&self.control_word()) else {
+            unreachable!()
+        };
+        self.builder.build_in(ocf, out)
     }
 }
 

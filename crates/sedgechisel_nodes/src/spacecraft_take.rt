@@ -9,7 +9,7 @@ ghost use Rattle.sedgechisel_nodes.specs.Calls.{room_answer, IsSent};
 
 use crate::answers::ROOM;
 use crate::handles::SpacecraftHandle;
-use crate::room::{copy, describe, hand_out_on};
+use crate::room::{describe, hand_out_on};
 use nodes::Spacecraft;
 use std::alloc::Global;
 
@@ -143,10 +143,7 @@ fn reported(node: &mut Spacecraft, out: &mut [u8], count: &mut usize) -> u8
     if out.len() < node.frame_length() {
         return ROOM;
     }
-    let mut frame = [0; 2048];
-    let total = node.report(&mut frame);
-    copy(&frame[..total], out);
-    *count = total;
+    *count = node.report_in(out);
     0
 }
 

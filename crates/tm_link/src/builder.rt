@@ -155,6 +155,32 @@ impl TmBuilder {
         self.total
     }
 
+    /// The same, where `out` has as many octets at least as all frames.
+    /// Cost: n and the number of packets that end in the frame.
+    pub fn build_in(&mut self, ocf: [u8; 4], out: &mut [u8]) -> usize
+        requires room { self.old.total ≤ length out.old }
+        ensures count { result ≡ self.old.total }
+        ensures frame { out.new ≡ spelling (build_step self.old ocf).0 ++ drop result out.old }
+        ensures after { self.new ≡ (build_step self.old ocf).1 }
+
+        // So `decode` reads this frame.
+        ensures spells { IsTmFrame result (build_step self.old ocf).0 (take result out.new) }
+
+        // The frame goes on with the stream where those before it ended.
+        ensures laid { (packets : List (List ℕ)) (frames : List FrameView)
+            → IsLaidOutBy self.old packets frames
+            → IsLaidOutBy self.new packets (frames ++ (build_step self.old ocf).0 ∷ []) }
+    {
+        put_next(
+            &self.turn(),
+            &self.octets[self.start..],
+            ocf,
+            &mut out[..self.total],
+        );
+        self.pass();
+        self.total
+    }
+
     /// The next frame's count on the master channel (CCSDS 132.0-B-3, 4.1.2.5).
     pub fn mc_count(&self) -> u8
         ensures { result ≡ self.now.mc_count }

@@ -94,6 +94,7 @@ impl Spacecraft {
     }
 
     // Keeps a packet, where there is one; the oldest goes where as many wait as there are slots.
+    #[tactic(auto, using(crate::proofs::Waiting::kept_few))]
     fn keep(&mut self, kept: Option<MapPacket>)
         ensures { self.new ≡ after_keeping self.old kept }
     {

@@ -1,11 +1,12 @@
 use Rattle.std.proofs.Common.{◌<◌, ℕ, List, [], ◌∷◌, Option, ◌≡◌, ◌≤◌, ◌+◌, ◌/◌, true, length, ap, sym, subst, ◌∙◌}
 use Rattle.std.proofs.Common.{arith}
+use Rattle.std.proofs.lemmas.List.{length-append, length-map}
 use Rattle.std.specs.List.{AllByRecursion}
 use Rattle.tc_frame.specs.Layout.{SegmentView, segment_view}
 use Rattle.map_service.specs.declared.limits.Limits.{Limits}
 use Rattle.map_service.specs.AssemblerTable.{take_step}
 use Rattle.map_service.proofs.Handed.{AreWhole, taken_whole}
-use Rattle.nodes.specs.Packets.{put_on_map}
+use Rattle.nodes.specs.Packets.{put_on_map, packet_on}
 use Rattle.nodes.specs.PacketFields.{IsPacketOn}
 use Rattle.std.proofs.lemmas.Bool.{ltb-true}
 use Rattle.map_service.specs.Exactness.{AssemblerState, HasPartsOf, part_on_map, step_at}
@@ -49,13 +50,31 @@ make_ready-requires-clause-room c =
     omega (arith, c.self.inside.ready.ok.0, c.requires.short, c.self.invariant.room)
 
 pub invariant_of-self : goal.invariant_of-self
-invariant_of-self c = record {
-  vcid = c.self.invariant.vcid;
-  limits = ap (λ (a : AssemblerState). a.limits) c.commit-packets.ensures.state ∙ c.self.invariant.limits;
-  parts = subst (λ (segments : List SegmentView). HasPartsOf c.commit-packets.new.self segments)
-      (sym c.then-self-inside.ensures)
-      (c.commit-packets.ensures.exact c.self.inside.accepted.segments c.self.invariant.parts).kept;
-  slots = c.self.invariant.slots;
-  room = omega (arith, c.make_ready.ensures.capacity, c.self.invariant.room);
-  frames = c.self.invariant.frames;
-}
+invariant_of-self c =
+    let s : SegmentView = segment_view c.args.segment.now in
+    let a : AssemblerState = c.self.inside.assembler in
+    let free : is_free (state_of c.self.inside) ≡ true =
+    subst (λ (state : SpacecraftState). is_free state ≡ true) (sym c.self.view_is) c.requires.free in
+    let below : length c.self.inside.ready.items < c.self.inside.config.ready_slots = ltb-true _ _ free in
+    let few : length (step_at a s).packets ≤ length s.payload / 6 + 1 =
+    taken_few a.limits (part_on_map a s.header.map) s in
+    let count : length (ready_view c.commit-packets.result) ≡ length (step_at a s).packets =
+    ap length c.commit-packets.ensures.packets in
+    record {
+      vcid = c.self.invariant.vcid;
+      limits = ap (λ (a : AssemblerState). a.limits) c.commit-packets.ensures.state ∙ c.self.invariant.limits;
+      parts = subst (λ (segments : List SegmentView). HasPartsOf c.commit-packets.new.self segments)
+          (sym c.then-self-inside.ensures)
+          (c.commit-packets.ensures.exact c.self.inside.accepted.segments c.self.invariant.parts).kept;
+      slots = c.self.invariant.slots;
+      room = omega (arith, c.make_ready.ensures.capacity, c.self.invariant.room);
+      frames = c.self.invariant.frames;
+      waiting = omega (
+        arith,
+        c.requires.short,
+        ap length c.make_ready.ensures.items,
+        length-append c.self.inside.ready.items (put_on_map s.header.map (ready_view c.commit-packets.result)),
+        length-map (ready_view c.commit-packets.result) (packet_on s.header.map),
+      );
+      past = c.self.invariant.past;
+    }
