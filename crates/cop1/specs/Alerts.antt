@@ -31,4 +31,4 @@ advice Limit =
 advice Timer =
     codes "frames or reports were lost: after a silence of the longest round trip, resume by the next CLCW"
 advice Terminated =
-    codes "it was told to give up: after a silence of the longest round trip, resume by the next CLCW"
+    codes "the session was terminated: after a silence of the longest round trip, resume by the next CLCW"

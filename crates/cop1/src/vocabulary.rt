@@ -120,7 +120,7 @@ impl Alert {
                 "frames or reports were lost: after a silence of the longest round trip, resume by the next CLCW"
             }
             Alert::Terminated => {
-                "it was told to give up: after a silence of the longest round trip, resume by the next CLCW"
+                "the session was terminated: after a silence of the longest round trip, resume by the next CLCW"
             }
         }
     }
