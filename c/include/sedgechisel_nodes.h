@@ -494,13 +494,13 @@ struct sedge_event {
     size_t count;          /* the number of these */
 };
 
-/* Where the fields are, for addresses of 32 and of 64 bits. */
-typedef char sedge_event_is_laid_out[offsetof(struct sedge_event, map) == 1 &&
-                                             offsetof(struct sedge_event, directive) == 2 &&
-                                             offsetof(struct sedge_event, value) == 4 &&
-                                             offsetof(struct sedge_event, octets) == 8 &&
-                                             offsetof(struct sedge_event, count) == 8 + sizeof(uint8_t *) &&
-                                             sizeof(struct sedge_event) == 8 + 2 * sizeof(uint8_t *)
+/* Where the fields are for the proved archives, whose addresses have 64 bits. */
+typedef char sedge_event_is_laid_out[sizeof(uint8_t *) < 8 || (offsetof(struct sedge_event, map) == 1 &&
+                                                               offsetof(struct sedge_event, directive) == 2 &&
+                                                               offsetof(struct sedge_event, value) == 4 &&
+                                                               offsetof(struct sedge_event, octets) == 8 &&
+                                                               offsetof(struct sedge_event, count) == 16 &&
+                                                               sizeof(struct sedge_event) == 24)
                                          ? 1
                                          : -1];
 
