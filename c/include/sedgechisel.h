@@ -207,7 +207,7 @@ uint8_t sedge_farm_released(struct sedge_farm *farm);
 SEDGE_CHECK uint8_t sedge_farm_control_word(const struct sedge_farm *farm, uint8_t vcid, struct sedge_clcw *word);
 
 /* Returns the state, of sedge_farm_mode, or SEDGE_DAMAGED. */
-uint8_t sedge_farm_state(const struct sedge_farm *farm);
+SEDGE_CHECK uint8_t sedge_farm_state(const struct sedge_farm *farm);
 
 /* ---- The sender FOP-1 of one virtual channel (232.1-B-2, section 5, in the profile of docs/PROFILE.md). ----
  *
@@ -524,7 +524,8 @@ void sedge_gap_check_open(struct sedge_gap_check *check);
 /* Sees a packet of this APID with this count, as sedge_packet_decode gives them, and writes how many are missing before
  * it to missing: (count - last - 1) modulo 16,384. Returns 0, or SEDGE_ABSENT for the first packet of the APID, which
  * is seen; or SEDGE_PACKET_FIELD_RANGE if apid is not below 2,048 or count not below 16,384. */
-uint8_t sedge_gap_check_see(struct sedge_gap_check *check, uint16_t apid, uint16_t count, uint16_t *missing);
+SEDGE_CHECK uint8_t sedge_gap_check_see(struct sedge_gap_check *check, uint16_t apid, uint16_t count,
+                                        uint16_t *missing);
 
 /* ---- Telemetry transfer frames of 16 to 2,048 octets, with an operational control field and an FECF (132.0-B-3,
  * 4.1). ---- */
