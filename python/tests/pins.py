@@ -238,7 +238,9 @@ def methods_and_their_arguments(it):
         if owner not in PREFIXES and owner or own.startswith("_") and own != "__init__":
             continue
         given = (*function.args.args, *function.args.kwonlyargs)
-        parameters = [one.arg for one in given if one.arg not in ("self", "cls")]
+        # (A node gives the fields of its configuration by `_fields_of`, all at once.)
+        others = ("self", "cls", *(it.Config._kinds if owner == "Spacecraft" and own == "__init__" else ()))
+        parameters = [one.arg for one in given if one.arg not in others]
         octets = [one for one in parameters if one in ("octets", "data", "packet", "packets", "ocf")
                   and name not in ("TmFrame.__init__", "TmFrame.ocf")]
         text = " ".join(ast.unparse(statement) for statement in function.body
