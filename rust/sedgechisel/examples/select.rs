@@ -81,7 +81,7 @@ impl Control {
     fn send(&mut self) -> Outcome<()> {
         while let Some(packet) = self.packets.get(self.submitted) {
             match self.ground.submit(MAP, packet) {
-                Ok(()) => self.submitted += 1,
+                Ok(_) => self.submitted += 1,
                 Err(LinkFault::QueueFull | LinkFault::NotOpen) => break,
                 Err(fault) => return Err(fault.into()),
             }

@@ -148,12 +148,15 @@ impl Ground {
     directives!();
 
     /// Submits packets on a MAP, to be sent under sequence control: one, or with blocking several, one after another.
+    /// Returns the number of this submission in its session, from 0.
     ///
     /// # Errors
     ///
-    /// Refused with the first [`LinkFault`] that applies.
-    pub fn submit(&mut self, map: u8, packets: &[u8]) -> Result<(), LinkFault> {
-        LinkFault::judge(raw::ground_submit(self.0.get(), map, packets))
+    /// Refused with the first [`LinkFault`] of 1 to 6 that applies; nothing has changed then.
+    pub fn submit(&mut self, map: u8, packets: &[u8]) -> Result<u64, LinkFault> {
+        let number = self.submitted();
+        LinkFault::judge(raw::ground_submit(self.0.get(), map, packets))?;
+        Ok(number)
     }
 
     /// Submits one packet on a MAP past the sequence control, in any state.
@@ -302,8 +305,9 @@ impl Ground {
         Ok(whole)
     }
 
-    /// The number of submissions of the session; they are numbered from 0, in order. This and the two below: modulo
-    /// 2^64, after an alert too, and 0 once V(S) is set.
+    /// The number of submissions of the session; they are numbered from 0, in order. This,
+    /// [`sent_whole`](Self::sent_whole) and [`acknowledged_whole`](Self::acknowledged_whole): modulo 2^64, after an alert
+    /// too, and 0 once V(S) is set.
     #[must_use]
     pub fn submitted(&self) -> u64 {
         self.read().submitted
@@ -351,13 +355,13 @@ impl Ground {
         self.read().outstanding
     }
 
-    /// The number of these that wait to be sent for the first time.
+    /// The number of segments outstanding that wait to be sent for the first time.
     #[must_use]
     pub fn unsent(&self) -> usize {
         self.read().unsent
     }
 
-    /// The number of these that are to be sent again.
+    /// The number of segments outstanding that are to be sent again.
     #[must_use]
     pub fn due(&self) -> usize {
         self.read().due

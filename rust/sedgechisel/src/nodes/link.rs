@@ -220,7 +220,7 @@ impl Link {
         self.event(SEDGE_EVENT_UP_LOSE, 0, &[]).map(drop)
     }
 
-    /// These octets arrive in its place, which are no frame.
+    /// These octets, which are no frame, arrive in place of the first frame on its way up.
     ///
     /// # Errors
     ///
@@ -261,7 +261,7 @@ impl Link {
         self.event(SEDGE_EVENT_DOWN_LOSE, 0, &[]).map(drop)
     }
 
-    /// These octets arrive in its place, which are no frame.
+    /// These octets, which are no frame, arrive in place of the first frame on its way down.
     ///
     /// # Errors
     ///
@@ -315,7 +315,7 @@ impl Link {
         self.given(Packet::LONGEST, SEDGE_EVENT_TAKE)
     }
 
-    /// The same of the packets that came past the sequence control.
+    /// A packet that came past the sequence control is taken on board, with its MAP, if one waits.
     ///
     /// # Errors
     ///
