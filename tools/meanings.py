@@ -72,6 +72,15 @@ def answers_of(headers, calls):
     return {it.name: numbers(it) for it in calls if it.answer == "u8"}
 
 
+def checks_astray(headers, calls):
+    """The calls that lack `#[must_use]`: their number says more than that a struct is damaged or that a handle holds
+    none, which is one number."""
+    numbers, damaged = answers_of(headers, calls), int(enumerations(headers)["status"]["SEDGE_DAMAGED"], 0)
+    for call in calls:
+        if numbers.get(call.name, set()) - {0, damaged} and not call.is_checked:
+            yield f"sedge_{call.name} lacks #[must_use]"
+
+
 def fields_of_enumerations(headers, structs):
     """Of each struct the fields that hold a number of an enumeration, with its numbers, and 0 where there is none."""
     known = enumerations(headers)

@@ -70,6 +70,11 @@ struct sedge_text {
     char text[20];
 };
 
+/* A sentence of at most 159 characters, with zeros after it; printed as a word is. */
+struct sedge_advice {
+    char text[160];
+};
+
 /* The version of the library. */
 struct sedge_text sedge_version(void);
 
@@ -207,7 +212,7 @@ uint8_t sedge_farm_released(struct sedge_farm *farm);
 SEDGE_CHECK uint8_t sedge_farm_control_word(const struct sedge_farm *farm, uint8_t vcid, struct sedge_clcw *word);
 
 /* Returns the state, of sedge_farm_mode, or SEDGE_DAMAGED. */
-uint8_t sedge_farm_state(const struct sedge_farm *farm);
+SEDGE_CHECK uint8_t sedge_farm_state(const struct sedge_farm *farm);
 
 /* ---- The sender FOP-1 of one virtual channel (232.1-B-2, section 5, in the profile of docs/PROFILE.md). ----
  *
@@ -524,7 +529,8 @@ void sedge_gap_check_open(struct sedge_gap_check *check);
 /* Sees a packet of this APID with this count, as sedge_packet_decode gives them, and writes how many are missing before
  * it to missing: (count - last - 1) modulo 16,384. Returns 0, or SEDGE_ABSENT for the first packet of the APID, which
  * is seen; or SEDGE_PACKET_FIELD_RANGE if apid is not below 2,048 or count not below 16,384. */
-uint8_t sedge_gap_check_see(struct sedge_gap_check *check, uint16_t apid, uint16_t count, uint16_t *missing);
+SEDGE_CHECK uint8_t sedge_gap_check_see(struct sedge_gap_check *check, uint16_t apid, uint16_t count,
+                                        uint16_t *missing);
 
 /* ---- Telemetry transfer frames of 16 to 2,048 octets, with an operational control field and an FECF (132.0-B-3,
  * 4.1). ---- */
@@ -743,6 +749,18 @@ struct sedge_text sedge_packet_fault_name(uint8_t fault); /* the name of a sedge
 struct sedge_text sedge_tm_fault_name(uint8_t fault);     /* the name of a sedge_tm_fault */
 struct sedge_text sedge_map_fault_name(uint8_t fault);    /* the name of a sedge_map_fault */
 struct sedge_text sedge_dropped_name(uint8_t cause);      /* the name of a sedge_dropped */
+
+/* ---- What an alert says. ---- */
+
+/* Whether a sedge_alert says that a condition of the link is broken: true for SEDGE_ALERT_LOCKOUT, SEDGE_ALERT_NNR,
+ * SEDGE_ALERT_CLCW and SEDGE_ALERT_SYNCH. In a confirmed session that was begun by check, Unlock or Set V(R) none of
+ * these comes while the conditions hold: there was a restart on board, a link that reorders or repeats frames, or a
+ * second station. Nothing is known of what is on board then: begin anew, as after a reset. False for the others, after
+ * which the next session begins where this one got to, and for a number that is no alert. */
+bool sedge_alert_shows_broken_condition(uint8_t alert);
+
+/* What to look for after a sedge_alert, and the way on, in words for an operator; "?" for a number that is none. */
+struct sedge_advice sedge_alert_advice(uint8_t alert);
 
 /* ---- The numbers of the enumerations, as constants of an unsigned type. ---- */
 

@@ -23,8 +23,8 @@ struct sedge_place {
 };
 
 /* Finds a place of count octets that nothing else uses until it is let go of. It begins at a multiple of align, which
- * is 1, 2, 4, 8 or 16, so a multiple of 16 always serves. A place for 0 octets has an address of its own too. What its
- * octets are does not matter. */
+ * is 1, 2, 4, 8 or 16, so a multiple of 16 always serves; in portable C it may begin anywhere. A place for 0 octets has
+ * an address of its own too. What its octets are does not matter. */
 struct sedge_place rattle_alloc(size_t count, size_t align);
 
 /* Makes the place at this address, which was found for the same align, one of count octets, more or fewer; it may be
@@ -34,6 +34,25 @@ struct sedge_place rattle_realloc(void *at, size_t kept, size_t count, size_t al
 
 /* Lets go of the place at this address, which one of the two found; it is never null. */
 void rattle_dealloc(void *at);
+
+/* ---- What static.c has besides, for the program. ---- */
+
+/* The places of one size: the octets of each, how many there are, and the most that were used at once since the
+ * start. */
+struct sedge_static_size {
+    size_t octets;
+    size_t count;
+    size_t most;
+};
+
+/* Writes size k, counted from 0, the smallest first. Returns true; or false, with nothing written, if there are not
+ * that many sizes. */
+bool sedge_static_size(size_t k, struct sedge_static_size *size);
+
+/* All places are free again, as at the start; the most that were used stay. No handle is needed for that, as where one
+ * was overwritten: whatever the handles hold is gone, so each is set to {0} before it is used again, and none is
+ * closed before that. */
+void sedge_static_reset(void);
 
 #ifdef __cplusplus
 }

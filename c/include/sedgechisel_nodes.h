@@ -126,7 +126,7 @@ static inline bool sedge_config_set(struct sedge_config *config, uint8_t number,
 
 /* Returns the first parameter that is out of its range, of sedge_parameter; SEDGE_NO_PARAMETER for none. A width is
  * also out of its range where it is odd, and a window where it is more than half of that. */
-uint8_t sedge_config_fault(const struct sedge_config *config);
+SEDGE_CHECK uint8_t sedge_config_fault(const struct sedge_config *config);
 
 /* Names, as tctool writes them; "?" for a number out of the enum. */
 struct sedge_text sedge_parameter_name(uint8_t number);
@@ -396,8 +396,9 @@ uint8_t sedge_spacecraft_read(struct sedge_spacecraft *spacecraft, struct sedge_
  * value there, farm_b, and the counts of telemetry frames. Its receiver is Open with no flag, and no packet is on
  * board; the other fields are not looked at. It is opened as sedge_spacecraft_open does. Returns 0,
  * SEDGE_NODE_OUT_OF_RANGE (also if farm_b is not below 4) or SEDGE_NODE_MEMORY. */
-uint8_t sedge_spacecraft_open_kept(const struct sedge_config *config, const struct sedge_spacecraft_reading *kept,
-                                   struct sedge_spacecraft *spacecraft);
+SEDGE_CHECK uint8_t sedge_spacecraft_open_kept(const struct sedge_config *config,
+                                               const struct sedge_spacecraft_reading *kept,
+                                               struct sedge_spacecraft *spacecraft);
 
 /* ---- A simulated link between two nodes, for tests: it keeps its order in each direction, and loses or damages
  * frames only so that the receiver sees it. ---- */
@@ -493,13 +494,13 @@ struct sedge_event {
     size_t count;          /* the number of these */
 };
 
-/* Where the fields are, for addresses of 32 and of 64 bits. */
-typedef char sedge_event_is_laid_out[offsetof(struct sedge_event, map) == 1 &&
-                                             offsetof(struct sedge_event, directive) == 2 &&
-                                             offsetof(struct sedge_event, value) == 4 &&
-                                             offsetof(struct sedge_event, octets) == 8 &&
-                                             offsetof(struct sedge_event, count) == 8 + sizeof(uint8_t *) &&
-                                             sizeof(struct sedge_event) == 8 + 2 * sizeof(uint8_t *)
+/* Where the fields are for the proved archives, whose addresses have 64 bits. */
+typedef char sedge_event_is_laid_out[sizeof(uint8_t *) < 8 || (offsetof(struct sedge_event, map) == 1 &&
+                                                               offsetof(struct sedge_event, directive) == 2 &&
+                                                               offsetof(struct sedge_event, value) == 4 &&
+                                                               offsetof(struct sedge_event, octets) == 8 &&
+                                                               offsetof(struct sedge_event, count) == 16 &&
+                                                               sizeof(struct sedge_event) == 24)
                                          ? 1
                                          : -1];
 

@@ -4,7 +4,10 @@
  *     -D'SEDGE_PLACES=PLACES(112, 40) PLACES(352, 1) PLACES(65552, 1)'
  * docs/C.md says how many a node takes at most. What is asked for gets a free place of the first size that is enough,
  * so where there are as many of each size as are used at once, nothing is ever refused. Each call takes time in
- * proportion to the number of sizes. Nothing here is for two threads at once. */
+ * proportion to the number of sizes. Nothing here is for two threads at once.
+ *
+ * A place begins at a multiple of what a long double does: 16 on the processors of the proved archives, which ask for
+ * up to 16. Elsewhere it may be 8, 4 or 2, and portable C does with any address. */
 #include <sedgechisel_memory.h>
 #include <stdint.h>
 #include <string.h>
@@ -30,19 +33,21 @@ static union {
         SEDGE_PLACES
 #undef PLACES
     } all;
-    long double align; /* to 16 octets */
+    long double align;
 } memory;
 
-/* The places of a size: where they begin, how many were ever used, and those of them that are free, each of which
- * begins with the address of the next. */
+/* The places of a size: where they begin, the first `used` that were used since all were free, the most that were used
+ * at once since the start, and those of the used ones that are free, each of which begins with the address of the
+ * next. */
 static struct size {
     unsigned char *at;
     size_t octets;
     size_t count;
     size_t used;
+    size_t most;
     void *free;
 } sizes[] = {
-#define PLACES(octets, count) {memory.all.of_##octets[0], (octets), (count), 0, NULL},
+#define PLACES(octets, count) {memory.all.of_##octets[0], (octets), (count), 0, 0, NULL},
     SEDGE_PLACES
 #undef PLACES
 };
@@ -58,6 +63,9 @@ static void *place_of(struct size *size)
     } else {
         at = &size->at[size->used * size->octets];
         size->used++;
+        if (size->most < size->used) {
+            size->most = size->used;
+        }
     }
     return at;
 }
@@ -80,7 +88,7 @@ struct sedge_place rattle_alloc(size_t count, size_t align)
 static struct size *size_at(const void *at)
 {
     size_t k = 0;
-    while (((uintptr_t)at - (uintptr_t)sizes[k].at) >= (sizes[k].count * sizes[k].octets)) {
+    while ((k < (SIZES - 1U)) && (((uintptr_t)at - (uintptr_t)sizes[k].at) >= (sizes[k].count * sizes[k].octets))) {
         k++;
     }
     return &sizes[k];
@@ -104,4 +112,23 @@ struct sedge_place rattle_realloc(void *at, size_t kept, size_t count, size_t al
         }
     }
     return place;
+}
+
+bool sedge_static_size(size_t k, struct sedge_static_size *size)
+{
+    bool found = k < SIZES;
+    if (found) {
+        size->octets = sizes[k].octets;
+        size->count = sizes[k].count;
+        size->most = sizes[k].most;
+    }
+    return found;
+}
+
+void sedge_static_reset(void)
+{
+    for (size_t k = 0; k < SIZES; k++) {
+        sizes[k].used = 0;
+        sizes[k].free = NULL;
+    }
 }

@@ -1,6 +1,7 @@
 /* The places that c/tools/places.c prints, in memory/static.c, of a ground, or with BOARD of a spacecraft, with BLOCKED
- * of one with blocking: at full queues all are used and nothing is refused; with one place less of the size LESS, a
- * call answers that there was no memory, and the status is 2. SEDGE_PLACES has BUT for each PLACES. */
+ * of one with blocking: at full queues all are used and nothing is refused, and again after a reset that finds a node
+ * open; with one place less of the size LESS, a call answers that there was no memory, and the status is 2.
+ * SEDGE_PLACES has BUT for each PLACES. */
 #ifndef LESS
 #define LESS 0
 #endif
@@ -93,12 +94,30 @@ static void set(void) {
     config.ready_slots = READY, config.bypass_slots = BYPASS, config.queue_slots = QUEUE, config.blocking = BLOCKING;
 }
 
+/* A node is open when the places are reset, and nothing holds it then. */
+static void lose_one(void) {
+#if defined(BOARD) || defined(BLOCKED)
+    struct sedge_spacecraft lost = {0};
+    gives(0, sedge_spacecraft_open(&config, &lost));
+#else
+    struct sedge_ground lost = {0};
+    gives(0, sedge_ground_open(&config, &lost));
+#endif
+    sedge_static_reset();
+}
+
 int main(void) {
+    struct sedge_static_size size;
+    size_t k;
+    int status = 0;
     set();
     fill();
-    for (const struct size *size = sizes; size < sizes + SIZES; size++)
-        if (size->used != size->count) printf("%zu of %zu of %zu octets\n", size->used, size->count, size->octets);
-    for (const struct size *size = sizes; size < sizes + SIZES; size++)
-        if (size->used != size->count) return 3;
-    return 0;
+    lose_one();
+    fill();
+    for (k = 0; sedge_static_size(k, &size); k++) {
+        if (size.most == size.count) continue;
+        printf("%zu of %zu of %zu octets\n", size.most, size.count, size.octets);
+        status = 3;
+    }
+    return k == SIZES ? status : 1;
 }

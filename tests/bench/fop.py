@@ -195,6 +195,10 @@ class Extractor:
         return gap, [each for each in packets if apid_of(each) != IDLE]
 
 
+# the alerts that show a broken condition: nothing is known after one of them
+BROKEN = {"Lockout", "NnR", "Clcw", "Synch"}
+
+
 class Ground(Node):
     def begin(self, config):
         self.fop, self.extractor, self.packets = Fop(config), Extractor(), deque()
@@ -291,6 +295,7 @@ class Ground(Node):
     def report(self, word):
         nn, alert = self.fop.nn, self.fop.report(word)
         self.acknowledged += (self.fop.nn - nn) % 256
+        self.known = self.known and alert not in BROKEN
         return self.said(alert)
 
     def on_telemetry(self, octets):
@@ -319,8 +324,10 @@ class Ground(Node):
     def on_resume(self, value):
         fop = self.fop
         some, sent = (value - fop.nn) % 256, (fop.vs - fop.nn) % 256
+        if sent == 0:
+            some = 0
         if fop.state != 6 or not self.known or some > sent:
-            raise Fault(7, "NotKnown")
+            raise Fault(10, "NotKnown")
         whole = self.whole(self.acknowledged + some)
         fop.set_vs(value)
         self.initiate("unlock")

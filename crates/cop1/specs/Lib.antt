@@ -1,4 +1,5 @@
 pub mod Accepted
+pub mod Alerts
 pub mod FarmFields
 pub mod Faults
 pub mod FopFields

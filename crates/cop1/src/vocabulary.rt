@@ -76,6 +76,7 @@ pub enum Control {
 impl Alert {
     ghost use Rattle.std.specs.Prelude.{◌≡◌};
     ghost use Rattle.cop1.specs.Names.{alert_row};
+    ghost use Rattle.cop1.specs.Alerts.{shows_broken, advice};
 
     /// The alert's name, as it is written here.
     pub fn name(self) -> &'static str
@@ -89,6 +90,38 @@ impl Alert {
             Alert::Limit => "Limit",
             Alert::Timer => "Timer",
             Alert::Terminated => "Terminated",
+        }
+    }
+
+    /// Whether it says that a condition of the link is broken: of Lockout, NnR, Clcw and Synch. None of
+    /// these can come in a session that was begun by check, Unlock or Set V(R) and is confirmed, while the
+    /// conditions hold. So there is a restart on board, a link that reorders or repeats frames, or a second
+    /// station; and before a session is confirmed there may be what an earlier one left, as a receiver in
+    /// Lockout. Limit and Timer come of losses alone, and Terminated of its directive (CCSDS 232.1-B-2,
+    /// 5.2.5).
+    pub fn shows_a_broken_condition(self) -> bool
+        ensures { result ≡ shows_broken self }
+    {
+        match self {
+            Alert::Lockout | Alert::NnR | Alert::Clcw | Alert::Synch => true,
+            Alert::Limit | Alert::Timer | Alert::Terminated => false,
+        }
+    }
+
+    /// What to look for after it, and the way on: a text for people.
+    pub fn advice(self) -> &'static str
+        ensures { result.now ≡ advice self }
+    {
+        match self {
+            Alert::Lockout | Alert::NnR | Alert::Clcw | Alert::Synch => {
+                "a condition is broken: look for a restart on board, frames out of order or repeated, a second station; do not resume: begin anew, as after a reset"
+            }
+            Alert::Limit | Alert::Timer => {
+                "frames or reports were lost: after a silence of the longest round trip, resume by the next CLCW"
+            }
+            Alert::Terminated => {
+                "the session was terminated: after a silence of the longest round trip, resume by the next CLCW"
+            }
         }
     }
 }

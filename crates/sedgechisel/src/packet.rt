@@ -112,6 +112,7 @@ pub extern "C" fn sedge_gap_check_open(check: &mut KeptGaps)
 /// before it to `missing`: (count - last - 1) modulo 16,384. Returns 0, or `SEDGE_ABSENT` for the first packet of the
 /// APID, which is seen; or `SEDGE_PACKET_FIELD_RANGE` if `apid` is not below 2,048 or `count` not below 16,384.
 #[unsafe(no_mangle)]
+#[must_use]
 pub extern "C" fn sedge_gap_check_see(
     check: &mut KeptGaps,
     apid: u16,

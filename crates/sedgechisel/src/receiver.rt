@@ -121,6 +121,7 @@ pub extern "C" fn sedge_farm_control_word(receiver: &Receiver, vcid: u8, word: &
 
 /// Returns the state, of `sedge_farm_mode`, or `SEDGE_DAMAGED`.
 #[unsafe(no_mangle)]
+#[must_use]
 pub extern "C" fn sedge_farm_state(receiver: &Receiver) -> u8
     ensures { result ≡ answer_of mode_number (map_ok (λ s. s.state) (farm_described receiver.now)) }
 {

@@ -137,6 +137,7 @@ pub extern "C" fn sedge_spacecraft_open(
 /// board; the other fields are not looked at. It is opened as `sedge_spacecraft_open` does. Returns 0,
 /// `SEDGE_NODE_OUT_OF_RANGE` (also if `farm_b` is not below 4) or `SEDGE_NODE_MEMORY`.
 #[unsafe(no_mangle)]
+#[must_use]
 pub extern "C" fn sedge_spacecraft_open_kept(
     alloc: Global,
     config: &Config,

@@ -25,6 +25,7 @@ fn first_out_of_range(config: &Config) -> Option<Parameter>
 /// Returns the first parameter that is out of its range, of `sedge_parameter`; `SEDGE_NO_PARAMETER` for none. A `width`
 /// is also out of its range where it is odd, and a `window` where it is more than half of that.
 #[unsafe(no_mangle)]
+#[must_use]
 pub extern "C" fn sedge_config_fault(config: &Config) -> u8
     ensures { result ≡ first_number (out_of_range config.now) }
 {

@@ -1,0 +1,34 @@
+-- What an alert says of the link, and the way on after it.
+use Rattle.std.specs.Prelude.{List, ℕ, Bool, true, false, codes}
+use Rattle.cop1.specs.declared.vocabulary.Alert.{Alert}
+use Rattle.cop1.specs.declared.vocabulary.Alert.TheVariants.{Lockout, NnR, Clcw, Synch, Limit}
+use Rattle.cop1.specs.declared.vocabulary.Alert.TheVariants.{Timer}
+use Rattle.cop1.specs.declared.vocabulary.Alert.TheVariants.{Terminated}
+
+-- it says that a condition of the link is broken
+abbrev pub shows_broken : Alert → Bool
+shows_broken Lockout = true
+shows_broken NnR = true
+shows_broken Clcw = true
+shows_broken Synch = true
+shows_broken Limit = false
+shows_broken Timer = false
+shows_broken Terminated = false
+
+-- where a condition is broken
+abbrev pub begin_anew : List ℕ
+begin_anew =
+    codes "a condition is broken: look for a restart on board, frames out of order or repeated, a second station; do not resume: begin anew, as after a reset"
+
+-- what to look for, and what to do, in ASCII
+abbrev pub advice : Alert → List ℕ
+advice Lockout = begin_anew
+advice NnR = begin_anew
+advice Clcw = begin_anew
+advice Synch = begin_anew
+advice Limit =
+    codes "frames or reports were lost: after a silence of the longest round trip, resume by the next CLCW"
+advice Timer =
+    codes "frames or reports were lost: after a silence of the longest round trip, resume by the next CLCW"
+advice Terminated =
+    codes "the session was terminated: after a silence of the longest round trip, resume by the next CLCW"
