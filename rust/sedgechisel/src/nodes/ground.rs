@@ -148,7 +148,9 @@ impl Ground {
     directives!();
 
     /// Submits packets on a MAP, to be sent under sequence control: one, or with blocking several, one after another.
-    /// Returns the number of this submission in its session, from 0.
+    /// Returns the number of this submission in its session, from 0. [`resume`](Self::resume) counts submissions: of
+    /// several packets that do not fit into one segment together, of [`part`](Config::part) octets, some may be on board
+    /// when the submission is not counted.
     ///
     /// # Errors
     ///
@@ -281,8 +283,9 @@ impl Ground {
 
     /// The number of first ones of the session's submissions that are known to be on board whole by a report of this
     /// value: those that are acknowledged, and those all of whose segments it says were accepted. After an alert too
-    /// (CCSDS 232.1-B-2, 5.1). `None` where nothing is known: no session has begun, V(S) was set since, or the value
-    /// does not lie from NN(R) to V(S), which are not equal.
+    /// (CCSDS 232.1-B-2, 5.1). `None` where nothing is known: no session has begun, V(S) was set since, the session ended
+    /// by an alert that [shows a broken condition](Alert::shows_a_broken_condition), or the value does not lie from NN(R)
+    /// to V(S), which are not equal.
     #[must_use]
     pub fn known_on_board(&self, value: u8) -> Option<u64> {
         let mut whole = 0;
@@ -290,15 +293,19 @@ impl Ground {
         known.then_some(whole)
     }
 
-    /// Begins the next session after an alert, where the last one has got to: sets V(S) to the value of a report that
-    /// was made when nothing was on its way up, begins by Unlock (CCSDS 232.1-B-2, 5.2.4), and returns the number of
-    /// first ones of the submissions of the session that ended that are on board whole; those after them are to be
-    /// submitted again.
+    /// Begins the next session after the alert `Timer`, `Limit` or `Terminated`, where the last one has got to: sets V(S)
+    /// to the value of a report that was made when nothing was on its way up, begins by Unlock (CCSDS 232.1-B-2, 5.2.4),
+    /// and returns the number of first ones of the submissions of the session that ended that are on board whole; those
+    /// after them are to be submitted again. (Of a submission of several packets that do not fit into one segment
+    /// together, some may be on board though it is not counted.) Where V(S) = NN(R) it takes any value: nothing that was
+    /// sent is in doubt.
     ///
     /// # Errors
     ///
-    /// Refused with 7 [`NotKnown`](LinkFault::NotKnown) alone: the sender is not in S6, no session has begun, V(S) was
-    /// set since, or the value does not lie from NN(R) to V(S). Nothing has changed then.
+    /// Refused with 10 [`NotKnown`](LinkFault::NotKnown) alone, where nothing is known of what is on board: the sender is
+    /// not in S6, no session has begun, V(S) was set since, the session ended by an alert that
+    /// [shows a broken condition](Alert::shows_a_broken_condition), or the value does not lie from NN(R) to V(S), which
+    /// are not equal. Nothing has changed then.
     pub fn resume(&mut self, value: u8) -> Result<u64, LinkFault> {
         let mut whole = 0;
         LinkFault::judge(raw::sedge_ground_resume(self.0.get(), value, &mut whole))?;

@@ -287,7 +287,7 @@ impl Link {
     ///
     /// # Errors
     ///
-    /// Refused with 7 [`NotKnown`](LinkFault::NotKnown), as that call is.
+    /// Refused with 10 [`NotKnown`](LinkFault::NotKnown), as that call is.
     pub fn resume(&mut self, value: u8) -> Result<u64, LinkFault> {
         let mut reply = raw::Reply::default();
         done(raw::sim_step(self.0.get(), SEDGE_EVENT_RESUME, 0, (0, value.into()), &[], &mut reply));

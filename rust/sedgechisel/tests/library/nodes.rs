@@ -546,7 +546,7 @@ fn a_session_of_which_nothing_is_known() {
     assert_eq!(ground.known_on_board(7), None);
     does_not_resume(&mut ground, 7);
     let fault = LinkFault::NotKnown;
-    assert_eq!((fault.number(), fault.name()), (7, "NotKnown"));
+    assert_eq!((fault.number(), fault.name()), (10, "NotKnown"));
 }
 
 /// A node may go to another thread, and is let go of there.
