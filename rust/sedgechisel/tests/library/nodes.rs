@@ -368,9 +368,9 @@ fn parameters_of_the_ground() {
     let (fifteen, sixteen) = ([&seven[..], &eight].concat(), eight.repeat(2));
     assert_eq!(ground.submit(62, &seven), Err(LinkFault::ClosedMap));
     assert_eq!(ground.submit(63, &octets_of("1005C0000002AABBCC")), Err(LinkFault::TooLong));
-    assert_eq!((ground.submit(63, &fifteen), ground.outstanding()), (Ok(()), 1));
-    assert_eq!((ground.submit(63, &sixteen), ground.outstanding()), (Ok(()), 3));
-    assert_eq!((ground.submit(63, &sixteen), ground.outstanding()), (Ok(()), 5));
+    assert_eq!((ground.submit(63, &fifteen), ground.outstanding()), (Ok(0), 1));
+    assert_eq!((ground.submit(63, &sixteen), ground.outstanding()), (Ok(1), 3));
+    assert_eq!((ground.submit(63, &sixteen), ground.outstanding()), (Ok(2), 5));
     assert_eq!(ground.submit(63, &seven), Err(LinkFault::QueueFull));
     let frames = [sent(&mut ground).unwrap(), sent(&mut ground).unwrap()];
     assert_eq!(sent(&mut ground), None);
@@ -496,7 +496,7 @@ fn stopped_within_a_submission() -> (Ground, Spacecraft) {
     ground.init_without_check().unwrap();
     assert_eq!(ground.known_on_board(0), Some(0));
     does_not_resume(&mut ground, 0); // S1
-    (0..3).for_each(|k| ground.submit(4, &packet(k)).unwrap());
+    (0..3).for_each(|k| assert_eq!(ground.submit(4, &packet(k)), Ok(u64::from(k))));
     go_up(&mut ground, &mut spacecraft, 1, 1);
     ground.telemetry(&reported(&mut spacecraft)).unwrap();
     assert_eq!((ground.nn(), has_come(&ground)), (1, [3, 0, 0]));
@@ -524,7 +524,7 @@ fn a_session_that_goes_on() {
     );
     assert_eq!(spacecraft.receive(&sent(&mut ground).unwrap()), Ok(Received::Control(Command::Unlock)));
     ground.telemetry(&reported(&mut spacecraft)).unwrap();
-    (1..3).for_each(|k| ground.submit(4, &packet(k)).unwrap());
+    (1..3).for_each(|k| assert_eq!(ground.submit(4, &packet(k)), Ok(u64::from(k) - 1)));
     go_up(&mut ground, &mut spacecraft, 4, 4);
     ground.telemetry(&reported(&mut spacecraft)).unwrap();
     assert_eq!((ground.state(), ground.nn(), has_come(&ground)), (FopState::S1, 7, [2, 2, 2]));
@@ -546,7 +546,7 @@ fn a_session_of_which_nothing_is_known() {
     assert_eq!(ground.known_on_board(7), None);
     does_not_resume(&mut ground, 7);
     let fault = LinkFault::NotKnown;
-    assert_eq!((fault.number(), fault.name()), (7, "NotKnown"));
+    assert_eq!((fault.number(), fault.name()), (10, "NotKnown"));
 }
 
 /// A node may go to another thread, and is let go of there.
