@@ -302,14 +302,13 @@ impl Alert {
     pub const fn advice(self) -> &'static str {
         match self {
             Self::Lockout | Self::NnR | Self::Clcw | Self::Synch => {
-                "a condition is broken: look for a restart on board, frames out of order or repeated, a second station; \
-                 do not resume: begin anew, as after a reset"
+                "a condition is broken (restart on board, reordering, second station?): begin anew"
             }
             Self::Limit | Self::Timer => {
-                "frames or reports were lost: after a silence of the longest round trip, resume by the next CLCW"
+                "frames or reports were lost: after one round trip of silence, resume by the next CLCW"
             }
             Self::Terminated => {
-                "the session was terminated: after a silence of the longest round trip, resume by the next CLCW"
+                "the session was terminated: after one round trip of silence, resume by the next CLCW"
             }
         }
     }
