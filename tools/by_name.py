@@ -218,7 +218,18 @@ def python_config(text):
     begun, mark, config = text.partition("class Config(_Struct):")
     for before, lines, after in made:
         config = with_list(config, before, lines, after)
-    return begun + mark + config
+    return begun + mark + with_fields(config, names)
+
+
+def with_fields(text, names):
+    """The fields of the configuration as the nodes take them, and the numbers of its faults."""
+    given = textwrap.wrap(", ".join(f"{it}: Optional[int] = None".replace(" ", "\0") for it in names), WIDE - 20)
+    taken = "".join(f"            {it}\n" for it in given).replace("\0", " ").rstrip()
+    nodes = r"(            self, config: Optional\[Config\] = None, \*,(?: kept: [^\n]*,)?\n).*?(?=\) -> None:)"
+    text = re.sub(nodes, lambda it: it[1] + taken, text, flags=re.S)
+    numbers = "\n         ".join(textwrap.wrap(", ".join(it.upper() for it in names), WIDE - 12))
+    return re.sub(r"(class ConfigFault\(.*?        \().*?\) = range\(1, \d+\)",
+                  lambda it: f"{it[1]}{numbers}) = range(1, {len(names) + 1})", text, count=1, flags=re.S)
 
 
 def parameter_numbers(text):

@@ -12,8 +12,8 @@ EXPORT = re.compile(r'pub extern "C" fn (\w+)')
 # of definitions, `farm` and `fop` the machines that fields describe), or is that of a call.
 RENAMED = {"payload": "data", "receiver": "farm", "sender": "fop", "record_number": "record", "is_open": "open",
            "place": "where"}
-# The struct whose octets are characters in C.
-WORD = "Text"
+# The structs whose octets are characters in C.
+WORDS = ("Text", "Advice")
 NUMBERS = ("u8", "u16", "u32", "u64", "usize")
 
 
@@ -79,7 +79,7 @@ class Struct(typing.NamedTuple):
                 docs.append(line[7:].strip())
             elif found:
                 name, kind, note = RENAMED.get(found[1], found[1]), found[2], " ".join(docs)
-                kind = "octets" if "&'a" in line else "char" if self.name == WORD else struct_names().get(kind, kind)
+                kind = "octets" if "&'a" in line else "char" if self.name in WORDS else struct_names().get(kind, kind)
                 yield Field(name, kind, int(found[3] or 0), note)
                 if kind == "octets":
                     yield Field("count", "usize", 0, "The number of these.")

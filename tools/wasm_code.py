@@ -60,7 +60,9 @@ class Value:
     def __init__(
         self, text, kind, *of, tight=False, number=None, contrary=None, reads=False, name=None, derived=NOTHING
     ):
-        self.text, self.kind, self.number, self.contrary, self.derived = text, kind, number, contrary, derived
+        self.text, self.kind, self.number, self.contrary = text, kind, number, contrary
+        self.derived = frozenset(it for it in derived if isinstance(it, str))
+        self.origin = derived
         self.is_bottom, self.entry = False, None
         self.is_tight = tight or number is not None
         self.names = frozenset().union({name} if name else (), *(it.names for it in of))
@@ -69,6 +71,10 @@ class Value:
     def is_settled(self):
         """Whether nothing that is written later changes it: a number, or a variable that is set once."""
         return self.number is not None or self.is_tight and not self.names and not self.reads and not self.contrary
+
+    def given(self):
+        """The parameters of calls, each as the call and its name, from whose addresses it may be derived."""
+        return self.origin - self.derived
 
     def is_packed(self):
         """Whether it may be several numbers in a variable that holds an address of the frame on another way: of an
@@ -133,6 +139,8 @@ class Translation:
             self.locals += [(f"v{len(self.locals) + k}", kind) for k in range(count)]
         self.stack, self.open = [], [Block("function", None, 0, results=function.results)]
         self.now = {name: self.known(name) for name in names}
+        # The variables that hold the lowest address of the frame, whichever way the code has taken.
+        self.bottoms = NOTHING
         try:
             self.run()
         except Refused as why:
@@ -151,7 +159,7 @@ class Translation:
             return value
         name = self.fresh(value.kind)
         self.items.append(f"{name} = {value.plain()};")
-        return Value(name, value.kind, tight=True, derived=value.derived)
+        return Value(name, value.kind, tight=True, derived=value.origin)
 
     def settle(self, which):
         self.stack = [self.settled(it) if which(it) else it for it in self.stack]
@@ -222,6 +230,7 @@ class Translation:
         self.open.append(Block(kind, f"l{self.labels}", len(self.stack), types, results, self.items, test))
         self.open[-1].entry, self.items = self.now, []
         if kind == "loop":
+            self.bottoms = NOTHING
             again = {name: self.known(f"l{self.labels} {name}") for name, _ in self.locals}
             self.now = united(self.now, again)
 
@@ -229,7 +238,7 @@ class Translation:
         """The statements that hand on the values that a block is left with."""
         values = self.stack[len(self.stack) - len(block.results) :]
         for name, it in zip(block.results, values):
-            self.learn(name, it.derived)
+            self.learn(name, it.origin)
         return [f"{name} = {it.plain()};" for name, it in zip(block.results, values)]
 
     def otherwise(self, is_reached):
@@ -238,7 +247,7 @@ class Translation:
             self.items += self.give_results(block)
             block.arrived = united(block.arrived, self.now)
         del self.stack[block.height :]
-        block.then, self.items, self.now = self.items, [], block.entry
+        block.then, self.items, self.now, self.bottoms = self.items, [], block.entry, NOTHING
 
     def end(self, is_reached):
         block = self.open.pop()
@@ -250,7 +259,7 @@ class Translation:
             block.arrived = united(block.arrived, self.now)
         if block.kind == "if" and block.then is None:
             block.arrived = united(block.arrived, block.entry)
-        self.now = block.arrived
+        self.now, self.bottoms = block.arrived, NOTHING
         left = [self.settled(it) for it in self.stack[block.height :]] if block.kind == "loop" else []
         del self.stack[block.height :]
         inner, self.items = self.items, block.before
@@ -267,7 +276,7 @@ class Translation:
         if not self.function.results:
             return ["return;"]
         value = self.stack[-1]
-        self.learn("result", value.derived)
+        self.learn("result", value.origin)
         return [f"return {self.from_call(value) if always else value.plain()};"]
 
     def branch(self, depth):
@@ -391,7 +400,9 @@ class Translation:
         given = self.pop(len(callee.params))
         self.settle_reads()
         for k, it in enumerate(given):
-            self.program.learn((callee.name, self.program.parameters(callee)[k]), it.derived)
+            self.program.learn((callee.name, self.program.parameters(callee)[k]), it.origin)
+            if callee.end == 0:
+                self.program.read |= it.given()
         text = f"{self.program.name_of(callee)}({', '.join(it.plain() for it in given)})"
         if not callee.results:
             self.items.append(f"{text};")
@@ -411,7 +422,7 @@ class Translation:
     def select(self):
         a, b, test = self.pop(3)
         text = f"({test.test()[0]}) ? {a.operand()} : {b.operand()}"
-        self.shorten(Value(text, a.kind, a, b, test, derived=a.derived | b.derived))
+        self.shorten(Value(text, a.kind, a, b, test, derived=a.origin | b.origin))
 
     def shorten(self, value):
         """Pushes a value, by way of a variable where its text is long."""
@@ -420,22 +431,23 @@ class Translation:
     def get(self):
         name, kind = self.locals[self.reader.unsigned()]
         self.push(name, kind, tight=True, name=name, derived=self.now.get(name, NOTHING))
+        self.stack[-1].is_bottom = name in self.bottoms
 
     def set(self):
         name, _ = self.locals[self.reader.unsigned()]
         (value,) = self.pop(1)
         self.settle(lambda it: name in it.names)
-        self.now = {**self.now, name: value.derived}
+        self.now = {**self.now, name: value.origin}
+        self.bottoms = self.bottoms - {name} | ({name} if value.is_bottom else NOTHING)
         # (what keeps the stack pointer can only set it again, which is nothing here)
         if value.text != name and POINTER not in value.derived:
             self.items.append(f"{name} = {self.from_call(value)};")
 
     def tee(self):
-        at, is_bottom = self.reader.at, self.stack[-1].is_bottom
+        at = self.reader.at
         self.set()
         self.reader.at = at
         self.get()
-        self.stack[-1].is_bottom = is_bottom
 
     def get_pointer(self):
         self.reader.unsigned()
@@ -487,6 +499,8 @@ class Translation:
         offset, found = self.reader.unsigned(), self.program.object.constant_at(place)
         if POINTER in base.derived:
             raise Refused("memory at the stack pointer itself is used")
+        if not is_written:
+            self.program.read |= base.given()
         if is_written and (found or base.derived & {CONSTANT, TEXT, ROOM}):
             raise Refused("a constant is written")
         if found:
@@ -537,6 +551,7 @@ class Translation:
         base, value = self.pop(2)
         if CONSTANT in value.derived:
             raise Refused("an address of a constant that is aligned is put into memory")
+        self.program.read |= value.given()
         place = self.place(base, True)
         self.settle_reads()
         text = value.plain() if value.number is None else number_of(value.number & (2**bits - 1), value.kind).plain()
@@ -553,6 +568,7 @@ class Translation:
         given = self.pop(3)
         if given[0].derived & {CONSTANT, TEXT, ROOM}:
             raise Refused("a constant is written")
+        self.program.read |= given[1].given()
         self.settle_reads()
         self.items.append(f"{'copy' if how == 10 else 'fill'}({', '.join(it.plain() for it in given)});")
 
@@ -560,7 +576,7 @@ class Translation:
         (value,) = self.pop(1)
         if value.derived != {FRAME} or kind != I32:
             self.no_address(value)
-        derived = NOTHING if value.is_packed() else value.derived
+        derived = NOTHING if value.is_packed() else value.origin
         self.push(f"({C_TYPES[kind]}){value.operand()}", kind, value, tight=True, derived=derived)
 
     @staticmethod
@@ -578,6 +594,8 @@ class Translation:
             return self.stack.append(number_of(ENOUGH[sign, b.number], I32))
         if POINTER in a.derived | b.derived:
             raise Refused("the stack pointer is compared")
+        if FRAME in a.derived | b.derived and sign not in ("==", "!=") and not a.derived == b.derived == {FRAME}:
+            raise Refused(f"an address of the frame is compared by {sign} with what is none")
         x, y = self.operands(a, b)
         if sign.endswith("s"):
             half = 2 ** (BITS[kind] - 1)
@@ -598,7 +616,7 @@ class Translation:
         )
 
     def binary(self, sign, kind, a, b):
-        derived = a.derived | b.derived
+        derived, given = a.derived | b.derived, a.given() | b.given()
         if POINTER in derived:
             return self.frame_address(sign, a, b)
         if a.entry or b.entry:
@@ -618,7 +636,7 @@ class Translation:
             return self.shorten(Value(text, kind, a, b, contrary=f"!({text})"))
         if sign == "+" and b.text == f"({a.text} == 0) ? 0x1000ULL : 0ULL":
             text = f"some({a.text})"
-            return self.push(text, kind, a, tight=True, derived=derived)
+            return self.push(text, kind, a, tight=True, derived=derived | given)
         if sign == "+" and b.number is not None and b.number > 2**bits - 2**16:
             text = f"{left_of(a)} - {spelled(2**bits - b.number)}"
         elif sign in "+-":
@@ -636,7 +654,7 @@ class Translation:
             return self.push(text, kind, a, b, tight=True)
         else:
             text = f"{x} {sign} {y}"
-        return self.shorten(Value(text, kind, a, b, derived=derived))
+        return self.shorten(Value(text, kind, a, b, derived=derived | given))
 
     @staticmethod
     def joined(text):

@@ -70,6 +70,11 @@ struct sedge_text {
     char text[20];
 };
 
+/* A sentence of at most 159 characters, with zeros after it; printed as a word is. */
+struct sedge_advice {
+    char text[160];
+};
+
 /* The version of the library. */
 struct sedge_text sedge_version(void);
 
@@ -744,6 +749,18 @@ struct sedge_text sedge_packet_fault_name(uint8_t fault); /* the name of a sedge
 struct sedge_text sedge_tm_fault_name(uint8_t fault);     /* the name of a sedge_tm_fault */
 struct sedge_text sedge_map_fault_name(uint8_t fault);    /* the name of a sedge_map_fault */
 struct sedge_text sedge_dropped_name(uint8_t cause);      /* the name of a sedge_dropped */
+
+/* ---- What an alert says. ---- */
+
+/* Whether a sedge_alert says that a condition of the link is broken: true for SEDGE_ALERT_LOCKOUT, SEDGE_ALERT_NNR,
+ * SEDGE_ALERT_CLCW and SEDGE_ALERT_SYNCH. In a confirmed session that was begun by check, Unlock or Set V(R) none of
+ * these comes while the conditions hold: there was a restart on board, a link that reorders or repeats frames, or a
+ * second station. Nothing is known of what is on board then: begin anew, as after a reset. False for the others, after
+ * which the next session begins where this one got to, and for a number that is no alert. */
+bool sedge_alert_shows_broken_condition(uint8_t alert);
+
+/* What to look for after a sedge_alert, and the way on, in words for an operator; "?" for a number that is none. */
+struct sedge_advice sedge_alert_advice(uint8_t alert);
 
 /* ---- The numbers of the enumerations, as constants of an unsigned type. ---- */
 

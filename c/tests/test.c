@@ -26,6 +26,20 @@ static void the_version(void) {
     WANT(is_named(sedge_version(), version));
 }
 
+/* What an alert says: of the four that show a broken condition, of the others, and of a number that is none. */
+static void advice(void) {
+    int number;
+    for (number = 0; number < 256; number++) {
+        bool is_broken = number >= SEDGE_ALERT_LOCKOUT && number <= SEDGE_ALERT_SYNCH;
+        bool is_alert = number >= SEDGE_ALERT_LOCKOUT && number <= SEDGE_ALERT_TERMINATED;
+        struct sedge_advice it = sedge_alert_advice((uint8_t)number);
+        WANT(sedge_alert_shows_broken_condition((uint8_t)number) == is_broken);
+        WANT(strlen(it.text) < sizeof it.text && (strcmp(it.text, "?") == 0) == !is_alert);
+        WANT((strstr(it.text, "restart on board") != NULL) == is_broken);
+        WANT((strstr(it.text, "resume by the next CLCW") != NULL) == (is_alert && !is_broken));
+    }
+}
+
 static void names(void) {
     int number;
     WANT(is_named(sedge_clcw_fault_name(SEDGE_CLCW_RANGE), "Range"));
@@ -1027,6 +1041,7 @@ static void octets_that_are_not_cut(void) {
 int main(void) {
     the_version();
     names();
+    advice();
     known_checks();
     a_check_is_set_and_holds();
     control_words();

@@ -13,20 +13,20 @@ its meaning. The fields of structs are those of the headers too; a number that d
 OverflowError. The books are
 CCSDS 133.0-B-2 (space packets), 132.0-B-3 (telemetry), 232.0-B-4 (telecommand) and 232.1-B-2 (COP-1)."""
 from ._calls import (
-    NO_START, ONLY_IDLE, Alert, Clcw, Command, Control, Farm, Flags, Fop, GapCheck, Kind, Map, Mode, Next, Packet,
-    PacketKind, Segment, SequenceFlags, State, TcFrame, TmBuilder, TmExtractor, TmFrame, Verdict, accepted_beyond, check,
-    check_append, check_holds, segments, version)
+    NO_START, ONLY_IDLE, Alert, Assembled, Clcw, Command, Control, Extracted, Farm, Flags, Fop, GapCheck, Kind, Map, Mode,
+    Next, Packet, PacketKind, Segment, SequenceFlags, State, TakenFrame, TcFrame, TmBuilder, TmExtractor, TmFrame, Verdict,
+    accepted_beyond, check, check_append, check_holds, segments, version)
 from ._faults import (
     CheckFault, ClcwFault, CopFault, Fault, LinkFault, MapFault, PacketFault, SimFault, TcFault, TelemetryFault, TmFault)
 from ._files import read_frames
 from ._link import Begun, Link
-from ._nodes import Arrived, Config, ConfigFault, Ground, Heard, KeptNumbers, Received, Report, Spacecraft
+from ._nodes import Arrived, Config, ConfigFault, Ground, Heard, KeptNumbers, OnMap, Received, Report, Spacecraft
 
 __version__ = version
 __all__ = [
-    "NO_START", "ONLY_IDLE", "Alert", "Arrived", "Begun", "CheckFault", "Clcw", "ClcwFault", "Command", "Config",
-    "ConfigFault", "Control", "CopFault", "Farm", "Fault", "Flags", "Fop", "GapCheck", "Ground", "Heard", "KeptNumbers",
-    "Kind", "Link", "LinkFault", "Map", "MapFault", "Mode", "Next", "Packet", "PacketFault", "PacketKind", "Received",
-    "Report", "Segment", "SequenceFlags", "SimFault", "Spacecraft", "State", "TcFault", "TcFrame", "TelemetryFault",
-    "TmBuilder", "TmExtractor", "TmFault", "TmFrame", "Verdict", "accepted_beyond", "check", "check_append",
-    "check_holds", "read_frames", "segments", "version"]
+    "NO_START", "ONLY_IDLE", "Alert", "Arrived", "Assembled", "Begun", "CheckFault", "Clcw", "ClcwFault", "Command",
+    "Config", "ConfigFault", "Control", "CopFault", "Extracted", "Farm", "Fault", "Flags", "Fop", "GapCheck", "Ground",
+    "Heard", "KeptNumbers", "Kind", "Link", "LinkFault", "Map", "MapFault", "Mode", "Next", "OnMap", "Packet",
+    "PacketFault", "PacketKind", "Received", "Report", "Segment", "SequenceFlags", "SimFault", "Spacecraft", "State",
+    "TakenFrame", "TcFault", "TcFrame", "TelemetryFault", "TmBuilder", "TmExtractor", "TmFault", "TmFrame", "Verdict",
+    "accepted_beyond", "check", "check_append", "check_holds", "read_frames", "segments", "version"]

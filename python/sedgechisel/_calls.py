@@ -3,13 +3,14 @@ frames."""
 from __future__ import annotations
 
 import ctypes
-from ctypes import POINTER, c_bool, c_char_p, c_size_t, c_uint8, c_uint16, c_uint32
+from ctypes import POINTER, c_bool, c_char, c_char_p, c_size_t, c_uint8, c_uint16, c_uint32
 from enum import IntEnum
 from itertools import chain
 from struct import Struct
 from sys import byteorder
 from threading import RLock
-from typing import Any, Callable, Dict, Iterable, Iterator, List, Optional, Sequence, Tuple, Type, TypeVar, Union
+from typing import (
+    Any, Callable, Dict, Iterable, Iterator, List, NamedTuple, Optional, Sequence, Tuple, Type, TypeVar, Union)
 
 from ._faults import (
     CheckFault, ClcwFault, CopFault, Fault, MapFault, PacketFault, TcFault, Text, TmFault, word_of as _word_of)
@@ -126,12 +127,21 @@ class Flags(_Bits):
     RETRANSMIT, WAIT, LOCKOUT, NO_BIT_LOCK, NO_RF = 0x08, 0x10, 0x20, 0x40, 0x80
 
 
+def _flag(name: str, bit: Flags, note: str) -> Any:
+    """A flag of `Clcw.flags` as a field of its own."""
+    def put(word: Any, is_set: bool) -> None:
+        word.flags = int(word.flags) | bit if _number_of(name, is_set) else int(word.flags) & ~bit
+
+    return property(lambda word: bool(word.flags & bit), put, doc=note)
+
+
 @_typed(flags={bits: Flags(bits) for bits in range(0, 256, Flags.RETRANSMIT)})
 class Clcw(_Struct):
     """A communications link control word (232.0-B-4, 4.2).
 
     - `status`, 0 to 7, is carried and not interpreted; `vcid`, 0 to 63, is the channel that is reported on
-    - `flags`, a Flags; `farm_b`, the FARM-B counter, 0 to 3; `value`, the report value, V(R) of the receiver"""
+    - `flags`, a Flags, which holds `no_rf`, `no_bit_lock`, `lockout`, `wait` and `retransmit`, each True or False
+    - `farm_b`, the FARM-B counter, 0 to 3; `value`, the report value, V(R) of the receiver"""
 
     _fields_ = [("status", c_uint8), ("vcid", c_uint8), ("flags", c_uint8), ("farm_b", c_uint8), ("value", c_uint8)]
     status: int
@@ -139,6 +149,11 @@ class Clcw(_Struct):
     flags: Flags
     farm_b: int
     value: int
+    no_rf: bool = _flag("no_rf", Flags.NO_RF, "The radio frequency channel is not available (4.2.1.8).")
+    no_bit_lock: bool = _flag("no_bit_lock", Flags.NO_BIT_LOCK, "The receiver has no bit lock.")
+    lockout: bool = _flag("lockout", Flags.LOCKOUT, "The receiver is in its state Lockout.")
+    wait: bool = _flag("wait", Flags.WAIT, "There is no room on board for a further frame.")
+    retransmit: bool = _flag("retransmit", Flags.RETRANSMIT, "Frames have to be sent again, from the report value on.")
 
     def __init__(self, status: int = 0, vcid: int = 0, flags: int = 0, farm_b: int = 0, value: int = 0) -> None:
         super().__init__(status, vcid, flags, farm_b, value)
@@ -265,7 +280,8 @@ class Alert(_Numbers):
     - TIMER: the timer has ended, and units may not be sent again
     - TERMINATED: the directive Terminate
 
-    `word` is the word of tctool, such as "NnR" for NNR; that of NONE is empty."""
+    `shows_a_broken_condition` says by which of two ways a program goes on, and `advice` what to look for. `word` is the
+    word of tctool, such as "NnR" for NNR; that of NONE is empty."""
 
     NONE, LOCKOUT, NNR, CLCW, SYNCH, LIMIT, TIMER, TERMINATED = range(8)
 
@@ -274,8 +290,29 @@ class Alert(_Numbers):
         """The word of tctool; of NONE an empty one."""
         return _alert_word(self) if self else ""
 
+    @property
+    def shows_a_broken_condition(self) -> bool:
+        """Whether it says that a condition of the link is broken: of LOCKOUT, NNR, CLCW and SYNCH. None of these can come
+        in a session that was begun by CLCW check, Unlock or Set V(R) and is confirmed, while the conditions hold. So the
+        spacecraft has restarted, the link reorders or repeats frames, or there is a second station; and before a session
+        is confirmed there may be what an earlier one left, as a receiver in Lockout. After one of these nothing is known
+        of what is on board until a session begins (docs/TOUR.md, "After a reset"). After another one `Ground.resume`
+        begins the next session (docs/TOUR.md, "After an alert")."""
+        return bool(_alert_shows_broken_condition(self))
+
+    @property
+    def advice(self) -> str:
+        """What to look for after it, and the way on: a text for people; of NONE an empty one."""
+        return str(_alert_advice(self).text.decode()) if self else ""
+
+
+class _Advice(ctypes.Structure):
+    _fields_ = [("text", c_char * 160)]
+
 
 _alert_word = _word_of("alert")
+_alert_shows_broken_condition = _call("alert_shows_broken_condition", c_bool, ("alert", c_uint8))
+_alert_advice = _call("alert_advice", _Advice, ("alert", c_uint8))
 
 
 class State(_Numbers):
@@ -416,7 +453,10 @@ class Fop(_Struct, Directives):
 
 
 def accepted_beyond(nn: int, vs: int, value: int) -> Optional[int]:
-    """The same of a sender with these numbers for NN(R) and V(S)."""
+    """How many units, of those that a sender with these numbers for NN(R) and V(S) has sent and that are not
+    acknowledged, were accepted on board when a report of this value was made, the oldest ones. Where V(S) = NN(R) it is
+    0, whatever the value. Elsewhere None, where the value is beyond V(S): nothing is known of them. `Fop` and `Ground`
+    have a method of this name for their own numbers."""
     return _accepted_of(_accepted_beyond, nn, vs, value)
 
 
@@ -764,6 +804,26 @@ class TmBuilder(Single):
                         len(self._memory))
 
 
+class Extracted(NamedTuple):
+    """What came of a telemetry frame, by `TmExtractor.take`."""
+
+    packets: List[bytes]
+    """The packets whose last octets the frame has, but for idle ones."""
+    lost: Optional[int]
+    """The number of frames missing before it, modulo 256; None for the first."""
+
+
+class TakenFrame(NamedTuple):
+    """What came of a telemetry frame among others, by `TmExtractor.take_all`."""
+
+    frame: Union[TmFrame, TmFault]
+    """The frame; or why the octets are none."""
+    packets: List[bytes]
+    """The packets whose last octets the frame has, but for idle ones."""
+    lost: Optional[int]
+    """The number of frames missing before it, modulo 256; None for the first, and where there is no frame."""
+
+
 class TmExtractor(Single):
     """Extracts packets from the telemetry frames of one virtual channel, of which any may be missing (132.0-B-3, 4.3).
     It has memory for each packet of at most `longest` octets, idle ones too, 7 to 65,542; or ValueError. Of longer
@@ -782,23 +842,23 @@ class TmExtractor(Single):
         one octet of one had come. Packets that are missing from their first octet on show in the sequence counts."""
         return self._dropped
 
-    def take(self, frame: TmFrame, data: bytes) -> Tuple[List[bytes], Optional[int]]:
-        """Takes the next frame that came, a TmFrame and its data: the packets whose last octets it has, but for idle ones,
-        and the number of frames missing before it, modulo 256, or None for the first. A TmFault, 10 FieldRange for a
-        pointer after the data, and 7 Memory where the packets need more memory; then the frame counts as missing."""
+    def take(self, frame: TmFrame, data: bytes) -> Extracted:
+        """Takes the next frame that came, a TmFrame and its data: an Extracted with the `packets` whose last octets it
+        has, but for idle ones, and the number of frames missing before it, `lost`, modulo 256, or None for the first. A
+        TmFault, 10 FieldRange for a pointer after the data, and 7 Memory where the packets need more memory; then the
+        frame counts as missing."""
         extracted = _TmExtracted()
         fault, packets = self._taken(_struct_of("frame", TmFrame, frame), _octets_of("data", data), extracted)
         TmFault._look_at(fault)
-        return packets, None if extracted.first else extracted.lost
+        return Extracted(packets, None if extracted.first else extracted.lost)
 
-    def take_all(
-            self, octets: bytes, length: int) -> List[Tuple[Union[TmFrame, TmFault], List[bytes], Optional[int]]]:
-        """Takes the frames of `length` octets that stand one after another: for each the frame, and its packets and the
-        number of frames missing before it, as `decode` and `take` give them; or in place of the frame its TmFault, with
-        no packets. Where octets are left at the end, TmFault 1 is the last. A ValueError for a length that is not in 16
-        to 2,048."""
+    def take_all(self, octets: bytes, length: int) -> List[TakenFrame]:
+        """Takes the frames of `length` octets that stand one after another: of each a TakenFrame with the `frame`, as
+        `TmFrame.decode` gives it, and its `packets` and the number of frames missing before it, `lost`, as `take` gives
+        them; or in place of the frame its TmFault, with no packets. Where octets are left at the end, the last one has
+        TmFault 1. A ValueError for a length that is not in 16 to 2,048."""
         octets, length = _octets_of("octets", octets), _frame_length_of(length)
-        answers: List[Tuple[Union[TmFrame, TmFault], List[bytes], Optional[int]]] = []
+        answers: List[TakenFrame] = []
         most = min(_PIECE, len(octets)) // length + 1
         out: Any = ctypes.create_string_buffer(most * _TAKEN.size)
         place: Any = ctypes.create_string_buffer(len(self._memory) + most * length)
@@ -811,7 +871,7 @@ class TmExtractor(Single):
                 begun += found * length
                 piece = octets[begun:begun + most * length]
         if piece:
-            answers.append((TmFault(1), [], None))
+            answers.append(TakenFrame(TmFault(1), [], None))
         return answers
 
     def _taken(self, frame: TmFrame, data: bytes, extracted: _TmExtracted) -> Tuple[int, List[bytes]]:
@@ -842,22 +902,21 @@ class TmExtractor(Single):
 _TAKEN, _TAKEN_FIELDS = Struct("<IBBBB11x"), 8
 
 
-def _add_taken(answers: List[Tuple[Union[TmFrame, TmFault], List[bytes], Optional[int]]], many: Any, records: bytes,
-               octets: bytes) -> int:
+def _add_taken(answers: List[TakenFrame], many: Any, records: bytes, octets: bytes) -> int:
     """Adds what these records say of at most so many frames, whose packets have these octets, and gives the number of
     those that were dropped."""
     frames, end, all_dropped = _structs_of(many, records, _TAKEN.size, _TAKEN_FIELDS), 0, 0
     for frame, (count, fault, first, lost, dropped) in zip(frames, _TAKEN.iter_unpack(records)):
         packets: List[bytes] = []
         if fault:
-            answers.append((TmFault(fault), packets, None))
+            answers.append(TakenFrame(TmFault(fault), packets, None))
             continue
         start, end = end, end + count
         while start < end:
             begun, start = start, start + 7 + (octets[start + 4] << 8 | octets[start + 5])
             packets.append(octets[begun:start])
         all_dropped += dropped
-        answers.append((frame, packets, None if first else lost))
+        answers.append(TakenFrame(frame, packets, None if first else lost))
     return all_dropped
 
 
@@ -908,6 +967,15 @@ def _parts_of(octets: bytes) -> Iterator[_Part]:
         yield part
 
 
+class Assembled(NamedTuple):
+    """What came of a segment, by `Map.take`."""
+
+    packets: List[bytes]
+    """The packets that are whole now."""
+    dropped: Optional[str]
+    """Why octets were dropped, in the word of tctool; or None."""
+
+
 class Map(Single):
     """One MAP on board, which joins segments to packets of at most `longest` octets (232.0-B-4, 4.1.3.2.2). With blocking
     an alone segment may hold several whole packets."""
@@ -916,15 +984,15 @@ class Map(Single):
         self._map, self._memory = _Map(blocking=bool(blocking)), _room_of("longest", longest)
         self._lock = RLock()
 
-    def take(self, flags: int, data: bytes) -> Tuple[List[bytes], Optional[str]]:
-        """Takes the next segment, its Segment flags and its data: the packets that are whole now, and why something was
-        dropped, in the word of tctool, or None. A MapFault, 255 Damaged, for flags that are none."""
+    def take(self, flags: int, data: bytes) -> Assembled:
+        """Takes the next segment, its Segment flags and its data: an Assembled with the `packets` that are whole now,
+        and why octets were `dropped`, in the word of tctool, or None. A MapFault, 255 Damaged, for flags that are none."""
         data, taken = _octets_of("data", data), _Taken()
         with self._lock:
             MapFault._look_at(_map_take(self._map, flags, data, len(data), self._memory, len(self._memory), taken))
             whole: bytes = (self._memory if taken.where == _IN_MEMORY else data)[:taken.count]
         packets = [part.of(whole) for part in _parts_of(whole)]
-        return packets, _dropped_word(taken.dropped) if taken.dropped else None
+        return Assembled(packets, _dropped_word(taken.dropped) if taken.dropped else None)
 
 
 def segments(octets: bytes, part: int, longest: int = 65542, blocking: bool = False) -> List[Tuple[Segment, bytes]]:

@@ -6,7 +6,7 @@ import ctypes
 from ctypes import c_char, c_uint8
 from typing import Any, Callable, ClassVar, Dict, Tuple, Type
 
-from ._library import FIRST, NODES, call_of
+from ._library import FIRST, NODES, Numbers, call_of
 
 _SHARED = {253: "Absent", 254: "WrongCount", 255: "Damaged"}
 _WRONG_COUNT = {254: "not the number of octets that the call needs"}
@@ -25,7 +25,11 @@ def word_of(kind: str, library: ctypes.PyDLL = FIRST) -> Callable[[int], str]:
 
 class Fault(Exception):
     """What the library refuses: its `number` and its `name`, as the headers for C have them, and its `meaning`. Its
-    text is all three. Faults of one kind are equal where their numbers are."""
+    text is all three. Faults of one kind are equal where their numbers are. The `number` is a member of the
+    enumeration `Number` of its class, as in `fault.number is LinkFault.Number.QUEUE_FULL`."""
+
+    class Number(Numbers):
+        """The numbers of a kind of faults, by their names."""
 
     number: int
     name: str
@@ -35,6 +39,8 @@ class Fault(Exception):
 
     def __init__(self, number: int) -> None:
         self.number, self.name, self.meaning = number, self._name_of(number), self._meanings.get(number, "?")
+        if number in self._meanings:
+            self.number = self.Number(number)
         super().__init__(f"{number} {self.name}: {self.meaning}")
 
     def __init_subclass__(cls) -> None:
@@ -42,7 +48,7 @@ class Fault(Exception):
         cls.__doc__ = "\n".join((f"{cls.__doc__}\n", *numbers))
 
     def __reduce__(self) -> Tuple[Type[Fault], Tuple[int]]:
-        return type(self), (self.number,)
+        return type(self), (int(self.number),)
 
     def __eq__(self, other: object) -> bool:
         return isinstance(other, Fault) and (type(other), other.number) == (type(self), self.number)
@@ -63,11 +69,17 @@ class Fault(Exception):
 class CheckFault(Fault):
     """Fewer than two octets have no check."""
 
+    class Number(Numbers):
+        WRONG_COUNT = 254
+
     _meanings = _WRONG_COUNT
 
 
 class ClcwFault(Fault):
     """Why a control word is refused (232.0-B-4)."""
+
+    class Number(Numbers):
+        KIND, VERSION, COP, SPARE, RANGE, WRONG_COUNT, DAMAGED = *range(1, 6), 254, 255
 
     _word = staticmethod(word_of("clcw_fault"))
     _meanings = {
@@ -82,6 +94,9 @@ class ClcwFault(Fault):
 
 class CopFault(Fault):
     """Why a call of a receiver or a sender is refused."""
+
+    class Number(Numbers):
+        WIDTH, WINDOW, LIMIT, TIMER, NOT_OPEN, BUSY, WRONG_STATE, DAMAGED = *range(1, 5), *range(6, 9), 255
 
     _word = staticmethod(word_of("cop_fault"))
     _meanings = {
@@ -98,6 +113,10 @@ class CopFault(Fault):
 
 class TcFault(Fault):
     """Why a telecommand frame is refused (232.0-B-4)."""
+
+    class Number(Numbers):
+        (SHORT, VERSION, RESERVED_TYPE, SPARE, LENGTH, CHECK, BYPASS_NUMBER, EMPTY_DATA, COMMAND, ROOM, FIELD_RANGE,
+         DAMAGED) = *range(1, 12), 255
 
     _word = staticmethod(word_of("tc_fault"))
     _meanings = {
@@ -119,6 +138,9 @@ class TcFault(Fault):
 class PacketFault(Fault):
     """Why a space packet is refused (133.0-B-2)."""
 
+    class Number(Numbers):
+        TRUNCATED, VERSION, IDLE_WITH_SECONDARY, ROOM, FIELD_RANGE, DAMAGED = *range(1, 6), 255
+
     _word = staticmethod(word_of("packet_fault"))
     _meanings = {
         1: "fewer than the 6 octets of the header, or fewer than it declares",
@@ -133,6 +155,10 @@ class PacketFault(Fault):
 
 class TmFault(Fault):
     """Why a telemetry frame is refused (132.0-B-3)."""
+
+    class Number(Numbers):
+        (LENGTH, VERSION, CHECK, STATUS, POINTER, NO_OCF, MEMORY, NOT_A_PACKET, ROOM, FIELD_RANGE,
+         WRONG_COUNT) = *range(1, 11), 254
 
     _word = staticmethod(word_of("tm_fault"))
     _meanings = {
@@ -152,13 +178,16 @@ class TmFault(Fault):
 
 
 class TelemetryFault(TmFault):
-    """Why a packet is not queued on board to be sent as telemetry."""
+    """Why a packet is not queued on board to be sent as telemetry, by two of the numbers of a TmFault."""
 
     _meanings = {7: "there was no memory", 8: TmFault._meanings[8]}
 
 
 class MapFault(Fault):
     """Why octets are not cut into segments, or a MAP is refused."""
+
+    class Number(Numbers):
+        NOT_A_PACKET, TOO_LONG, DAMAGED = 1, 2, 255
 
     _word = staticmethod(word_of("map_fault"))
     _meanings = {
@@ -171,6 +200,9 @@ class MapFault(Fault):
 class LinkFault(Fault):
     """Why a node refuses a call."""
 
+    class Number(Numbers):
+        NOT_OPEN, CLOSED_MAP, NOT_COMMAND, TOO_LONG, QUEUE_FULL, MEMORY, NOT_KNOWN = *range(1, 7), 10
+
     _word = staticmethod(word_of("link_fault", NODES))
     _meanings = {
         1: "the sender is in its state Initial (S6)",
@@ -179,12 +211,15 @@ class LinkFault(Fault):
         4: "a packet has more octets than it may have",
         5: "as many units as may wait are waiting",
         6: "there was no memory",
-        7: "nothing is known of how far the session has come",
+        10: "nothing is known of how far the session has come",
     }
 
 
 class SimFault(Fault):
     """Why an event does not happen on a simulated link."""
+
+    class Number(Numbers):
+        MEMORY, NOTHING_IN_TRANSIT, NOT_DETECTABLE = range(6, 9)
 
     _word = staticmethod(word_of("sim_fault", NODES))
     _meanings = {

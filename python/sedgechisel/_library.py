@@ -35,13 +35,13 @@ def warn_of(old: str, new: str) -> None:
 
 
 def renamed(old: str, call: _Call) -> _Call:
-    """A method under the name that it had."""
+    """A method under the name that it had, which `help` shows as such."""
     @wraps(call)
     def called(*values: Any, **named: Any) -> Any:
         warn_of(old, call.__name__)
         return call(*values, **named)
 
-    called.__name__ = old
+    called.__name__, called.__doc__ = old, f"The old name of `{call.__name__}`; it goes after 0.3."
     return cast(_Call, called)
 
 
@@ -136,7 +136,7 @@ class Numbers(IntEnum):
 
 
 class Bits(IntFlag):
-    """The same of flags."""
+    """Flags that print as their number, in each version of Python."""
 
     def __str__(self) -> str:
         return int.__repr__(self)

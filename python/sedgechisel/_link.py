@@ -9,7 +9,7 @@ from ._calls import Alert, Clcw, Directives, Mode, State, _directive
 from ._faults import CopFault, LinkFault, SimFault, TelemetryFault
 from ._library import Numbers, octets_of, within
 from ._nodes import (Config, Handle, Heard, Received, _call, _GroundReading, _Heard, _Raw, _Received,
-                     _SpacecraftReading)
+                     _SpacecraftReading, OnMap)
 
 _REFUSED = 3
 _REFUSED_BY = {1: LinkFault, 2: CopFault, 3: TelemetryFault}
@@ -95,15 +95,16 @@ class Link(Directives, Handle):
             return self._octets(self._event("send"))
 
     def up_deliver(self) -> Received:
-        """The first frame on its way up arrives; SimFault 7 where there is none, as of the six calls like it."""
+        """The first frame on its way up arrives. A SimFault, 7 NothingInTransit, where there is none."""
         return self._event("up_deliver").up.value()
 
     def up_lose(self) -> None:
-        """It is lost."""
+        """The first frame on its way up is lost. A SimFault, 7 NothingInTransit, where there is none."""
         self._event("up_lose")
 
     def up_damage(self, octets: bytes) -> Received:
-        """These octets arrive in its place, which are no frame; SimFault 8 where they are one."""
+        """These octets arrive in place of the first frame on its way up, and are no frame. A SimFault, 7
+        NothingInTransit where no frame is on its way up, and 8 NotDetectable where the octets are one."""
         return self._event("up_damage", 0, octets_of("octets", octets)).up.value()
 
     def report(self) -> Clcw:
@@ -111,24 +112,27 @@ class Link(Directives, Handle):
         return Clcw.from_buffer_copy(self._event("report").report)
 
     def down_deliver(self) -> Heard:
-        """The first frame on its way down arrives."""
+        """The first frame on its way down arrives. A SimFault, 7 NothingInTransit, where there is none."""
         return self._event("down_deliver").down.value()
 
     def down_lose(self) -> None:
-        """It is lost."""
+        """The first frame on its way down is lost. A SimFault, 7 NothingInTransit, where there is none."""
         self._event("down_lose")
 
     def down_damage(self, octets: bytes) -> Heard:
-        """These octets arrive in its place, which are no frame; SimFault 8 where they are one."""
+        """These octets arrive in place of the first frame on its way down, and are no frame. A SimFault, 7
+        NothingInTransit where no frame is on its way down, and 8 NotDetectable where the octets are one."""
         return self._event("down_damage", 0, octets_of("octets", octets)).down.value()
 
     def down_clcw(self) -> Heard:
-        """It arrives, and its report alone reaches the ground, as by `Ground.clcw`: telemetry is not touched."""
+        """The first frame on its way down arrives, and its report alone reaches the ground, as by `Ground.clcw`:
+        telemetry is not touched. A SimFault, 7 NothingInTransit, where there is none."""
         return self._event("down_clcw").down.value()
 
     def resume(self, value: int) -> int:
         """The ground goes on after an alert, as by `Ground.resume`: a session begins, by Unlock. Returns how many first
-        ones of the submissions of the session that ended are on board whole."""
+        ones of the submissions of the session that ended are on board whole. A LinkFault, 10 NotKnown, as of that
+        call."""
         within("value", c_uint8, value)
         return self._event("resume", directive=(0, value)).whole
 
@@ -136,18 +140,19 @@ class Link(Directives, Handle):
         """A tick of the ground's clock passes: the Alert."""
         return Alert(self._event("tick").alert)
 
-    def _taken(self, name: str) -> Optional[Tuple[int, bytes]]:
+    def _taken(self, name: str) -> Optional[OnMap]:
         with self._lock:
             reply = self._event(name)
             packet = self._octets(reply)
-        return None if packet is None else (reply.map, packet)
+        return None if packet is None else OnMap(reply.map, packet)
 
-    def take(self) -> Optional[Tuple[int, bytes]]:
-        """A packet of sequence-controlled frames is taken on board, its MAP and its octets; or None."""
+    def take(self) -> Optional[OnMap]:
+        """A packet of sequence-controlled frames is taken on board: an OnMap, its `map` and the `packet`; or None."""
         return self._taken("take")
 
-    def take_bypass(self) -> Optional[Tuple[int, bytes]]:
-        """The same of the packets that came past the sequence control."""
+    def take_bypass(self) -> Optional[OnMap]:
+        """A packet that came past the sequence control is taken on board: an OnMap, its `map` and the `packet`; or
+        None."""
         return self._taken("take_bypass")
 
     def telemetry(self, packet: bytes) -> None:
@@ -187,12 +192,12 @@ class Link(Directives, Handle):
 
     @property
     def clean(self) -> bool:
-        """Whether it began with nothing on its way, and without a CLCW check only where V(R) was V(S)."""
+        """Whether the session began with nothing on its way, and without a CLCW check only where V(R) was V(S)."""
         return bool(self._read().clean)
 
     @property
     def idle(self) -> bool:
-        """Whether it had an idle start (docs/PROMISES.md)."""
+        """Whether the session had an idle start (docs/PROMISES.md)."""
         return bool(self._read().idle)
 
     @property
@@ -224,7 +229,7 @@ class Link(Directives, Handle):
 
     @property
     def due(self) -> int:
-        """How many of them are to be sent again."""
+        """How many of the segments that are outstanding are to be sent again."""
         return int(self._read_ground().due)
 
     @property
@@ -265,7 +270,7 @@ class Link(Directives, Handle):
 
     @property
     def bypass_ready(self) -> int:
-        """How many packets that came past the sequence control wait there to be taken."""
+        """How many packets that came past the sequence control wait on board to be taken."""
         return int(self._read_spacecraft().bypassed)
 
     # The records of its session.
@@ -281,14 +286,14 @@ class Link(Directives, Handle):
         return found
 
     @property
-    def submissions(self) -> List[Tuple[int, bytes]]:
+    def submissions(self) -> List[OnMap]:
         """What was submitted in the session, in order: the MAP and the octets of each submission."""
         map, length = c_uint8(), c_size_t()
         found = []
         with self._lock:
             for k in range(self._number(_sim_submissions)):
                 self._asked(_sim_submission_length(self._handle, k, map, length))
-                found.append((map.value, self._given(_sim_submission, length.value, k, map)))
+                found.append(OnMap(map.value, self._given(_sim_submission, length.value, k, map)))
         return found
 
     def submitted(self, map: int) -> List[bytes]:

@@ -3,11 +3,11 @@ from __future__ import annotations
 
 import ctypes
 from ctypes import POINTER, c_bool, c_char_p, c_size_t, c_uint8, c_uint16, c_uint32, c_uint64, c_void_p
-from dataclasses import dataclass
+from dataclasses import dataclass, field
 from enum import EnumMeta
 from threading import RLock
 from types import TracebackType
-from typing import Any, Callable, Dict, Iterator, Optional, Tuple, Type, TypeVar
+from typing import Any, Callable, Dict, Iterator, NamedTuple, Optional, Type, TypeVar
 
 from ._calls import Alert, Clcw, Command, Directives, Mode, State, Verdict, _directive, _dropped_word, _Struct
 from ._faults import ClcwFault, CopFault, Fault, LinkFault, TcFault, TelemetryFault, TmFault, word_of as _word_of
@@ -25,7 +25,9 @@ def _call(name: str, answer: Any, *kinds: Any) -> Callable[..., Any]:
 
 class Config(_Struct):
     """The managed parameters of a node, with the defaults and the ranges of docs/PROFILE.md. Both ends of a link have
-    the same ones. `Config(window=4, timer=3)` sets two of them:
+    the same `scid`, `vcid`, `tm_vcid`, `width`, `max_packet`, `maps`, `frame_length` and `blocking`. Of the others the
+    ground alone reads `window`, `limit`, `timer`, `part` and `queue_slots`, and the spacecraft alone `ready_slots` and
+    `bypass_slots`. `Config(window=4, timer=3)` sets two of them:
 
     - `scid`: the spacecraft identifier, 0 to 1,023; default 1
     - `vcid`: the virtual channel of telecommand frames, 0 to 63; default 2
@@ -83,6 +85,10 @@ _config_fault = _call("config_fault", c_uint8, POINTER(Config))
 class ConfigFault(Fault):
     """The first managed parameter that is out of its range: its number, its name, and the range."""
 
+    class Number(Numbers):
+        (SCID, VCID, TM_VCID, WIDTH, WINDOW, LIMIT, TIMER, PART, MAX_PACKET, MAPS, READY_SLOTS, BYPASS_SLOTS,
+         QUEUE_SLOTS, FRAME_LENGTH, BLOCKING) = range(1, 16)
+
     _word = staticmethod(_word_of("parameter", NODES))
     _meanings = {number: f"its range is {its}" for number, its in enumerate((
         "0 to 1,023", "0 to 63", "0 to 7", "even, 2 to 254", "1 to width/2", "1 to 255", "1 to 65,535", "1 to 1,016",
@@ -93,6 +99,11 @@ class _Raw(ctypes.Structure):
     _fields_ = [("node", c_void_p)]
 
 
+def _fields_of(given: Dict[str, Any]) -> Dict[str, Any]:
+    """Those of these arguments that are managed parameters, and are given."""
+    return {name: value for name, value in given.items() if name in Config._kinds and value is not None}
+
+
 class Handle(Single):
     """What the nodes share. A node is closed by `close`, at the end of its `with`, or when nothing refers to it any
     more; each later call is a ValueError."""
@@ -100,14 +111,22 @@ class Handle(Single):
     _opens: Callable[..., int]
     _closes: Callable[..., Any]
 
-    def __init__(self, config: Optional[Config] = None, **fields: int) -> None:
-        """A node with these managed parameters: a Config, or its fields. A ConfigFault where one is out of its range,
-        or a LinkFault, 6 Memory."""
+    def __init__(
+            self, config: Optional[Config] = None, *,
+            scid: Optional[int] = None, vcid: Optional[int] = None, tm_vcid: Optional[int] = None,
+            width: Optional[int] = None, window: Optional[int] = None, limit: Optional[int] = None,
+            timer: Optional[int] = None, part: Optional[int] = None, max_packet: Optional[int] = None,
+            maps: Optional[int] = None, ready_slots: Optional[int] = None, bypass_slots: Optional[int] = None,
+            queue_slots: Optional[int] = None, frame_length: Optional[int] = None,
+            blocking: Optional[int] = None) -> None:
+        """A node with these managed parameters: a Config, or some of its fields, each by its name; the others have their
+        defaults. A ConfigFault where one is out of its range, or a LinkFault, 6 Memory."""
+        fields = _fields_of(locals())
+        if not isinstance(config, (Config, type(None))):
+            raise TypeError(f"config: {config!r} is not a Config; parameters are given by name, as in timer=3")
         if config is not None and fields:
             raise TypeError("a Config or its fields, but not both")
         config = Config(**fields) if config is None else config
-        if not isinstance(config, Config):
-            raise TypeError(f"config: {config!r} is not a Config; parameters are given by name, as in timer=3")
         if not hasattr(self, "_handle"):
             self._handle, self._lock = _Raw(), RLock()
         answer = self._open(config)
@@ -252,9 +271,11 @@ class Heard:
 
     - INVALID: `fault`
     - TM: the number of frames that are missing before it, `gap`, or None for the first; the number of `packets` that
-      came to wait to be taken; its `report`, and where that is REFUSED the `word_fault`; and why the sender has given up,
-      `alert`
-    - CLCW: `report`, `word_fault` and `alert` in the same way"""
+      came to wait to be taken; what became of its `report`; the `word` itself, or where the report is REFUSED the
+      `word_fault`; and why the sender has given up, `alert`
+    - CLCW: `report`, `word`, `word_fault` and `alert` in the same way
+
+    `word` is a Clcw, about whichever virtual channel; of a `Link` it is None, since `Link.report` has given it."""
 
     kind: Arrived
     fault: Optional[TmFault] = None
@@ -263,13 +284,15 @@ class Heard:
     report: Optional[Report] = None
     word_fault: Optional[ClcwFault] = None
     alert: Alert = Alert.NONE
+    word: Optional[Clcw] = field(default=None, hash=False)
 
 
 class _Heard(ctypes.Structure):
     _fields_ = [("packets", c_size_t), ("kind", c_uint8), ("fault", c_uint8), ("first", c_uint8), ("missing", c_uint8),
                 ("report", c_uint8), ("word_fault", c_uint8), ("alert", c_uint8)]
 
-    def value(self) -> Heard:
+    def value(self, ocf: bytes = b"") -> Heard:
+        """What came, with these four octets for its word."""
         if self.kind == 1:
             return Heard(Arrived.INVALID, fault=TmFault(self.fault))
         if self.kind == 2:
@@ -277,7 +300,8 @@ class _Heard(ctypes.Structure):
         kind, report = Arrived.CLCW if self.kind == 4 else Arrived.TM, _REPORTS[self.report]
         gap = None if self.first or kind == Arrived.CLCW else self.missing
         word_fault = ClcwFault(self.word_fault) if report == Report.REFUSED else None
-        return Heard(kind, None, gap, self.packets, report, word_fault, _ALERTS[self.alert])
+        word = Clcw.decode(ocf) if ocf and word_fault is None else None
+        return Heard(kind, None, gap, self.packets, report, word_fault, _ALERTS[self.alert], word)
 
 
 # ---- The ground ----
@@ -304,8 +328,9 @@ class Ground(Directives, Handle):
 
     def submit(self, map: int, packets: bytes) -> int:
         """Packets are to be sent on a MAP under sequence control: one, or with blocking several, one after another.
-        Returns the number of this submission in its session, from 0. The first LinkFault of 1 to 6 that applies;
-        nothing has changed then."""
+        Returns the number of this submission in its session, from 0. `resume` counts submissions: of several packets that
+        do not fit into one segment together, of `part` octets, some may be on board when the submission is not counted.
+        The first LinkFault of 1 to 6 that applies; nothing has changed then."""
         packets = _octets_of("packets", packets)
         with self._lock:
             number = self.submitted
@@ -342,7 +367,7 @@ class Ground(Directives, Handle):
         """Octets came from the spacecraft, which are one telemetry frame if all is well. A LinkFault, 6 Memory."""
         octets, heard = _octets_of("octets", octets), _Heard()
         self._asked(_ground_telemetry(self._handle, octets, len(octets), heard))
-        return heard.value()
+        return heard.value(octets[-6:-2])
 
     def telemetry_all(self, octets: bytes, length: int) -> Iterator[Heard]:
         """Octets came that are telemetry frames of `length` octets, one after another: what comes of each, as
@@ -358,7 +383,7 @@ class Ground(Directives, Handle):
         octets, heard = _octets_of("word", word), _Heard()
         if self._is_absent(_ground_clcw(self._handle, octets, len(octets), heard)):
             raise ValueError(f"word: {len(octets)} octets, where a control word has four")
-        return heard.value()
+        return heard.value(octets)
 
     def forget_telemetry(self) -> None:
         """Begins to take packets out of telemetry anew, as after a restart of the spacecraft: a packet that is not
@@ -398,17 +423,21 @@ class Ground(Directives, Handle):
     def known_on_board(self, value: int) -> Optional[int]:
         """How many first ones of the session's submissions are known to be on board whole by a report of this value:
         those that are acknowledged, and those all of whose segments it says were accepted. After an alert too (232.1-B-2,
-        5.1). None where nothing is known: no session has begun, V(S) was set since, or the value does not lie from NN(R)
-        to V(S), which are not equal."""
+        5.1). None where nothing is known: no session has begun, V(S) was set since, the session ended by an alert that
+        shows a broken condition, or the value does not lie from NN(R) to V(S), which are not equal."""
         whole = c_uint64()
         return None if self._is_absent(_ground_known_on_board(self._handle, value, whole)) else whole.value
 
     def resume(self, value: int) -> int:
-        """Begins the next session after an alert, where the last one has got to: sets V(S) to the value of a report
-        that was made when nothing was on its way up, begins by Unlock (232.1-B-2, 5.2.4), and returns how many first
-        ones of the submissions of the session that ended are on board whole; those after them are to be submitted
-        again. A LinkFault, 7 NotKnown, where nothing is known of it: the sender is not in S6, no session has begun,
-        V(S) was set since, or the value does not lie from NN(R) to V(S). Nothing has changed then."""
+        """Begins the next session after the alert Timer, Limit or Terminated, where the last one has got to: sets V(S) to
+        the value of a report that was made when nothing was on its way up, begins by Unlock (232.1-B-2, 5.2.4), and
+        returns how many first ones of the submissions of the session that ended are on board whole; those after them are
+        to be submitted again. (Of a submission of several packets that do not fit into one segment together, some may be
+        on board though it is not counted.) Where V(S) = NN(R) it takes any value: nothing that was sent is in doubt.
+
+        A LinkFault, 10 NotKnown, where nothing is known of what is on board: the sender is not in S6, no session has
+        begun, V(S) was set since, the session ended by an alert that shows a broken condition (Lockout, NnR, Clcw or
+        Synch), or the value does not lie from NN(R) to V(S), which are not equal. Nothing has changed then."""
         whole = c_uint64()
         self._asked(_ground_resume(self._handle, value, whole))
         return whole.value
@@ -540,17 +569,32 @@ class KeptNumbers:
         return _SpacecraftReading(value=self.vr, farm_b=self.farm_b, mc_count=self.mc_count, vc_count=self.vc_count)
 
 
+class OnMap(NamedTuple):
+    """A packet and the MAP on which it came."""
+
+    map: int
+    packet: bytes
+
+
 class Spacecraft(Handle):
     """The spacecraft: it receives packets and reports, and sends telemetry."""
 
     _opens, _closes = _spacecraft_open, _spacecraft_close
 
-    def __init__(self, config: Optional[Config] = None, *, kept: Optional[KeptNumbers] = None, **fields: int) -> None:
-        """A spacecraft with these managed parameters, as any node is made. With `kept` it goes on with the numbers that
-        `kept_numbers` gave before a restart on purpose; its receiver is OPEN with no flag, and no packet is on board. A
-        number that `kept` cannot have is an OverflowError."""
+    def __init__(
+            self, config: Optional[Config] = None, *, kept: Optional[KeptNumbers] = None,
+            scid: Optional[int] = None, vcid: Optional[int] = None, tm_vcid: Optional[int] = None,
+            width: Optional[int] = None, window: Optional[int] = None, limit: Optional[int] = None,
+            timer: Optional[int] = None, part: Optional[int] = None, max_packet: Optional[int] = None,
+            maps: Optional[int] = None, ready_slots: Optional[int] = None, bypass_slots: Optional[int] = None,
+            queue_slots: Optional[int] = None, frame_length: Optional[int] = None,
+            blocking: Optional[int] = None) -> None:
+        """A spacecraft with these managed parameters: a Config, or some of its fields, each by its name; the others have
+        their defaults. With `kept` it goes on with the numbers that `kept_numbers` gave before a restart on purpose; its
+        receiver is OPEN with no flag, and no packet is on board. A ConfigFault where a parameter is out of its range; an
+        OverflowError for a number that `kept` cannot have; or a LinkFault, 6 Memory."""
         self._kept = None if kept is None else _struct_of("kept", KeptNumbers, kept)._read()
-        super().__init__(config, **fields)
+        super().__init__(config, **_fields_of(locals()))
 
     def _open(self, config: Config) -> int:
         if self._kept is None:
@@ -567,26 +611,28 @@ class Spacecraft(Handle):
         self._asked(_spacecraft_receive(self._handle, octets, len(octets), received))
         return received.value()
 
-    def _taken(self, call: Callable[..., int]) -> Optional[Tuple[int, bytes]]:
+    def _taken(self, call: Callable[..., int]) -> Optional[OnMap]:
         map = c_uint8()
         packet = self._given(call, LONGEST, map)
-        return (map.value, packet) if packet else None
+        return OnMap(map.value, packet) if packet else None
 
-    def take(self) -> Optional[Tuple[int, bytes]]:
-        """Takes the oldest packet of sequence-controlled frames, its MAP and its octets; or None."""
+    def take(self) -> Optional[OnMap]:
+        """Takes the oldest packet of sequence-controlled frames: an OnMap, its `map` and the `packet`; or None."""
         return self._taken(_spacecraft_take)
 
-    def take_bypass(self) -> Optional[Tuple[int, bytes]]:
-        """The same of the packets that came past the sequence control."""
+    def take_bypass(self) -> Optional[OnMap]:
+        """Takes the oldest packet that came past the sequence control: an OnMap, its `map` and the `packet`; or
+        None."""
         return self._taken(_spacecraft_take_bypass)
 
-    def packets(self) -> Iterator[Tuple[int, bytes]]:
+    def packets(self) -> Iterator[OnMap]:
         """Takes the packets of sequence-controlled frames, the oldest first, each with its MAP, until none is left.
         Those that are not asked for stay on board."""
         return iter(self.take, None)
 
-    def bypass_packets(self) -> Iterator[Tuple[int, bytes]]:
-        """The same of the packets that came past the sequence control."""
+    def bypass_packets(self) -> Iterator[OnMap]:
+        """Takes the packets that came past the sequence control, the oldest first, each with its MAP, until none is
+        left. Those that are not asked for stay on board."""
         return iter(self.take_bypass, None)
 
     def telemetry(self, packet: bytes) -> None:

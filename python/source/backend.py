@@ -1,6 +1,6 @@
 """Builds the package for Python of its source distribution, or of a clone of the repository (PEP 517): the two shared
 libraries of the portable C, by the compiler CC, or cc, and the wheel by python/wheel. It needs nothing else, and no
-network."""
+network. What goes wrong ends the build with a message, which pip shows."""
 import os
 import shlex
 import subprocess
@@ -9,13 +9,20 @@ import tempfile
 
 TOP = os.path.dirname(os.path.dirname(os.path.dirname(os.path.abspath(__file__))))
 SOURCES = {"sedgechisel": [], "sedgechisel_nodes": ["c/memory/malloc.c"]}
+NEEDED = "Install one, as by apt install gcc, or name it by CC, or install a wheel (docs/PYTHON.md)."
 
 
 def compiled(name, room):
     """Makes a shared library, and returns its place."""
     to = f"{room}/lib{name}.so"
-    command = [*shlex.split(os.environ.get("CC", "cc")), "-std=c99", "-O2", "-fPIC", "-shared", "-Ic/include"]
-    subprocess.run([*command, f"c/portable/{name}.c", *SOURCES[name], "-o", to], cwd=TOP, check=True)
+    compiler = os.environ.get("CC", "cc")
+    command = [*shlex.split(compiler), "-std=c99", "-O2", "-fPIC", "-shared", "-Ic/include"]
+    try:
+        subprocess.run([*command, f"c/portable/{name}.c", *SOURCES[name], "-o", to], cwd=TOP, check=True)
+    except OSError as why:
+        sys.exit(f"sedgechisel: the C compiler {compiler} does not start: {why.strerror}. {NEEDED}")
+    except subprocess.CalledProcessError as why:
+        sys.exit(f"sedgechisel: the C compiler {compiler} ended with status {why.returncode}. {NEEDED}")
     return to
 
 
@@ -28,6 +35,12 @@ def build_wheel(wheel_directory, config_settings=None, metadata_directory=None):
     return os.path.basename(made.strip())
 
 
+def build_editable(wheel_directory, config_settings=None, metadata_directory=None):
+    """There is no editable installation: the package has its compiled libraries beside its modules."""
+    sys.exit("sedgechisel: it is not installed with -e, since it has its compiled libraries beside its modules. Run"
+             " `pip install FOLDER`, and again after a change.")
+
+
 def build_sdist(sdist_directory, config_settings=None):
     """The source distribution is made by tools/release of the repository."""
-    raise RuntimeError("the source distribution is made by tools/release of the repository of Sedgechisel")
+    sys.exit("sedgechisel: the source distribution is made by tools/release of the repository")

@@ -58,6 +58,12 @@ def alerts(it):
     assert (last.tick(), last.tick(), last.tick()) == (it.Alert.NONE, it.Alert.TIMER, it.Alert.NONE)
     words = ["", "Lockout", "NnR", "Clcw", "Synch", "Limit", "Timer", "Terminated"]
     assert [one.word for one in it.Alert] == words
+    # Those of a report, but for the one that asks to repeat: promise 4 of README.
+    broken = [one.name for one in it.Alert if one.shows_a_broken_condition]
+    assert broken == ["LOCKOUT", "NNR", "CLCW", "SYNCH"] and it.Alert.NONE.advice == ""
+    for one in [*it.Alert][1:]:
+        looks_for = "restart on board" in one.advice and one.advice.endswith("begin anew")
+        assert looks_for == one.shows_a_broken_condition != ("resume by the next CLCW" in one.advice), one.advice
     return [*(alert for alert, _ in found), active_alert(it)]
 
 
@@ -162,8 +168,9 @@ def arrivals(it):
         assert heard == [
             it.Heard(kind.INVALID, fault=it.TmFault(1)), it.Heard(kind.FOREIGN),
             it.Heard(kind.TM, gap=None, report=it.Report.REFUSED, word_fault=it.ClcwFault(1)),
-            it.Heard(kind.TM, gap=2, report=it.Report.OTHER_CHANNEL), it.Heard(kind.TM, gap=0, report=it.Report.USED),
-            it.Heard(kind.CLCW, report=it.Report.USED)], heard
+            it.Heard(kind.TM, gap=2, report=it.Report.OTHER_CHANNEL, word=it.Clcw(vcid=3)),
+            it.Heard(kind.TM, gap=0, report=it.Report.USED, word=it.Clcw(vcid=2)),
+            it.Heard(kind.CLCW, report=it.Report.USED, word=it.Clcw(vcid=2))], heard
     with it.Spacecraft(max_packet=7) as board:
         long = it.TcFrame(scid=1, vcid=2, flags=it.Segment.ALONE)
         assert board.receive(long.encode(it.Packet(kind=1).encode(b"12"))).dropped == "TooLong"
@@ -242,6 +249,7 @@ def longest_frames(it):
     assert [*it.read_frames(io.BytesIO(octets * 100), 2048)] == [octets] * 100
     word = it.Clcw(status=7, vcid=63, flags=0xF8, farm_b=3, value=255)
     assert word.encode().hex() == "1dfcfeff" and it.Clcw.decode(word.encode()) == word
+    assert word.no_rf and word.no_bit_lock and word.lockout and word.wait and word.retransmit
     assert it.check_append(DATA) == DATA[:-2] + it.check(DATA[:-2]).to_bytes(2, "big")
     assert it.check_holds(it.check_append(DATA)) and it.check_append(b"..") == b"\xff\xff"
 
@@ -303,6 +311,7 @@ def longest_machines(it):
     assert {fop.accepted_beyond(value) for value in range(256)} == {0}
     assert {it.accepted_beyond(126, 126, value) for value in range(256)} == {0}
     assert it.version.count(".") == 2 and it.Alert.NNR.word == "NnR" and it.Verdict.AHEAD.word == "ahead"
+    assert it.Alert.TERMINATED.advice and not it.Alert.TERMINATED.shows_a_broken_condition
     for kind in (fault for fault in vars(it).values() if isinstance(fault, type) and issubclass(fault, it.Fault)):
         assert kind(255).number == 255
 
@@ -327,8 +336,9 @@ def reports_alone(it, ground, down, word):
     assert ground.telemetry(down).gap == 255
     ground.forget_telemetry()
     assert ground.telemetry(down).gap is None
-    assert ground.clcw(word) == it.Heard(it.Arrived.CLCW, report=it.Report.USED)
-    assert ground.clcw(b"\x01\x00\x00\x00") == it.Heard(it.Arrived.CLCW, report=it.Report.OTHER_CHANNEL)
+    assert ground.clcw(word) == it.Heard(it.Arrived.CLCW, report=it.Report.USED, word=it.Clcw.decode(word))
+    assert ground.clcw(b"\x01\x00\x00\x00") == it.Heard(
+        it.Arrived.CLCW, report=it.Report.OTHER_CHANNEL, word=it.Clcw())
     assert ground.clcw(b"\x81\xfc\x00\x00") == it.Heard(
         it.Arrived.CLCW, report=it.Report.REFUSED, word_fault=it.ClcwFault(1))
     says(ValueError, "word: 3 octets", ground.clcw, word[:3])
@@ -346,7 +356,7 @@ def longest_nodes(it):
         down = board.telemetry_frame()
         assert len(down) == ground.frame_length == board.frame_length == 2048
         assert ground.clcw_in(down) == board.control_word
-        assert ground.telemetry(down) == it.Heard(it.Arrived.TM, report=it.Report.USED)
+        assert ground.telemetry(down) == it.Heard(it.Arrived.TM, report=it.Report.USED, word=board.control_word)
         reports_alone(it, ground, down, board.control_word.encode())
         assert ground.submit(63, command) == 0
         assert (ground.state, ground.vs, ground.nn, ground.outstanding) == (it.State.S1, 255, 255, 65)
@@ -546,6 +556,9 @@ def names_before_0_3(it):
         "report is control_word now", "report is clcw now", "report is clcw now", "report is telemetry_frame now",
         "report_in is clcw_in now", "Report.NONE is REFUSED now", "Report.OTHER is OTHER_CHANNEL now"]
     assert {(one.category, one.filename) for one in said} == {(DeprecationWarning, __file__)}
+    for old, new in ((it.Farm.report, "control_word"), (it.Fop.report, "clcw"), (it.Ground.report_in, "clcw_in"),
+                     (it.Spacecraft.report, "telemetry_frame")):
+        assert old.__doc__ == f"The old name of `{new}`; it goes after 0.3."
     assert not hasattr(it.Report, "ABSENT") and [*it.Report.__members__] == ["USED", "REFUSED", "OTHER_CHANNEL"]
 
 

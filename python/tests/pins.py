@@ -127,7 +127,8 @@ OTHERS = {
     "TmExtractor.take_all": "tm_extractor_frames",
     "_frames_in": "tc_frames",
     "segments": "map_count map_count map_segment", "_parts_of": "map_packet",
-    "Alert.word": "alert_word", "Verdict.word": "verdict_word", "Map.take": "map_take dropped_word",
+    "Alert.word": "alert_word", "Alert.shows_a_broken_condition": "alert_shows_broken_condition",
+    "Alert.advice": "alert_advice", "Verdict.word": "verdict_word", "Map.take": "map_take dropped_word",
     "_Received.value": "dropped_word", "Handle.__init__": "config_fault",
     "Ground._read": "ground_read", "Ground._direct": "ground_directive", "Fop._direct": "fop_directive",
     "Spacecraft._read": "spacecraft_read", "Link._read": "sim_read", "Link._event": "sim_step",
@@ -238,7 +239,9 @@ def methods_and_their_arguments(it):
         if owner not in PREFIXES and owner or own.startswith("_") and own != "__init__":
             continue
         given = (*function.args.args, *function.args.kwonlyargs)
-        parameters = [one.arg for one in given if one.arg not in ("self", "cls")]
+        # (A node gives the fields of its configuration by `_fields_of`, all at once.)
+        others = ("self", "cls", *(it.Config._kinds if owner == "Spacecraft" and own == "__init__" else ()))
+        parameters = [one.arg for one in given if one.arg not in others]
         octets = [one for one in parameters if one in ("octets", "data", "packet", "packets", "ocf")
                   and name not in ("TmFrame.__init__", "TmFrame.ocf")]
         text = " ".join(ast.unparse(statement) for statement in function.body

@@ -6,6 +6,10 @@ use Rattle.std.specs.Prelude.{None, ◌==◌, if◌then◌else◌}
 abbrev pub text_of : List ℕ → List ℕ
 text_of word = word ++ replicate (20 - length word) 0
 
+-- a sentence, and zeros up to 160 octets
+abbrev pub sentence_of : List ℕ → List ℕ
+sentence_of sentence = sentence ++ replicate (160 - length sentence) 0
+
 -- the one of these that has the number
 abbrev pub found_by : {A : Type 0} → (A → ℕ) → List A → ℕ → Option A
 found_by number [] n = None

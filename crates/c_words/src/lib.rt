@@ -1,10 +1,10 @@
-//! What both libraries for C share: the words that they hand out, and the directives by numbers.
+//! What both libraries for C share: the words and sentences that they hand out, and the directives by numbers.
 #![tactic(auto)]
 
 mod directives;
 
 ghost use Rattle.std.specs.Prelude.{◌≡◌, ◌≤◌, length};
-ghost use Rattle.c_words.specs.Words.{text_of};
+ghost use Rattle.c_words.specs.Words.{text_of, sentence_of};
 
 pub use directives::directive_named;
 
@@ -23,6 +23,23 @@ pub fn spelled(word: &str) -> Text
     let mut text = [0; 20];
     text[..word.len()].copy_from_slice(word.as_bytes());
     Text { text }
+}
+
+/// A sentence of at most 159 octets, with zeros after it.
+#[repr(C)]
+#[derive(Clone, Copy)]
+pub struct Advice {
+    pub text: [u8; 160],
+}
+
+/// The sentence as C has it.
+pub fn advised(sentence: &str) -> Advice
+    requires { length sentence.now ≤ 159 }
+    ensures { result.text ≡ sentence_of sentence.now }
+{
+    let mut text = [0; 160];
+    text[..sentence.len()].copy_from_slice(sentence.as_bytes());
+    Advice { text }
 }
 
 /// The name of the one of these that has the number; "?" where none has it.

@@ -1,12 +1,14 @@
 -- The words for numbers, which are those of the crates.
-use Rattle.std.specs.Prelude.{ℕ, List, [], ◌∷◌}
-use Rattle.c_words.specs.Words.{name_if, name_by}
+use Rattle.std.specs.Prelude.{ℕ, Bool, false, List, [], ◌∷◌, codes, Option, Some, None}
+use Rattle.c_words.specs.Words.{name_if, name_by, found_by}
 use Rattle.clcw.specs.declared.fault.ClcwFault.TheVariants as clcw
 use Rattle.clcw.specs.Faults as clcw_faults
 use Rattle.cop1.specs.declared.fault.CopFault.TheVariants as cop
 use Rattle.cop1.specs.Faults as cop_faults
 use Rattle.cop1.specs.declared.farm.Verdict.TheVariants as verdicts
 use Rattle.cop1.specs.Names.{verdict_row, alert_row}
+use Rattle.cop1.specs.Alerts.{shows_broken, advice}
+use Rattle.cop1.specs.declared.vocabulary.Alert.{Alert}
 use Rattle.cop1.specs.declared.vocabulary.Alert.TheVariants as alerts
 use Rattle.tc_frame.specs.declared.fault.TcFault.TheVariants as tc
 use Rattle.tc_frame.specs.Faults as tc_faults
@@ -34,10 +36,24 @@ verdict_word n = name_by verdict_row
     (verdicts.Accepted ∷ verdicts.Ahead ∷ verdicts.NoBuffer ∷ verdicts.Behind ∷ verdicts.Outside
     ∷ verdicts.Discarded ∷ []) n
 
-abbrev pub alert_word : ℕ → List ℕ
-alert_word n = name_by alert_row
+-- the alert of this number, 1 to 7
+abbrev pub alert_at : ℕ → Option Alert
+alert_at n = found_by (λ alert. (alert_row alert).0)
     (alerts.Lockout ∷ alerts.NnR ∷ alerts.Clcw ∷ alerts.Synch ∷ alerts.Limit ∷ alerts.Timer
     ∷ alerts.Terminated ∷ []) n
+
+abbrev pub alert_word : ℕ → List ℕ
+alert_word n = name_if alert_row (alert_at n)
+
+-- whether an alert says that a condition is broken; none does not
+abbrev pub broken_if : Option Alert → Bool
+broken_if None = false
+broken_if (Some alert) = shows_broken alert
+
+-- what an alert advises, and "?" for none
+abbrev pub advice_if : Option Alert → List ℕ
+advice_if None = codes "?"
+advice_if (Some alert) = advice alert
 
 abbrev pub tc_fault_word : ℕ → List ℕ
 tc_fault_word n = name_by tc_faults.fault_row

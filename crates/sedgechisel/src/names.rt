@@ -1,10 +1,10 @@
 // The names of numbers, as the crates give them; "?" for a number that is none.
 
 ghost use Rattle.std.specs.Prelude.{◌≡◌};
-ghost use Rattle.c_words.specs.Words.{text_of};
-ghost use Rattle.sedgechisel.specs.Names.{clcw_fault_word, cop_fault_word, verdict_word, alert_word, tc_fault_word, packet_fault_word, tm_fault_word, map_fault_word, dropped_word};
+ghost use Rattle.c_words.specs.Words.{text_of, sentence_of};
+ghost use Rattle.sedgechisel.specs.Names.{clcw_fault_word, cop_fault_word, verdict_word, alert_word, alert_at, broken_if, advice_if, tc_fault_word, packet_fault_word, tm_fault_word, map_fault_word, dropped_word};
 
-use c_words::{Text, named};
+use c_words::{Advice, Text, advised, named};
 use clcw::ClcwFault;
 use cop1::{Alert, CopFault, Verdict};
 use map_service::{Dropped, MapFault};
@@ -46,6 +46,47 @@ pub extern "C" fn sedge_alert_name(alert: u8) -> Text
 {
     named!(alert, Alert:
         1 => Lockout, 2 => NnR, 3 => Clcw, 4 => Synch, 5 => Limit, 6 => Timer, 7 => Terminated)
+}
+
+fn alert_of(number: u8) -> Option<Alert>
+    ensures { result ≡ alert_at number }
+{
+    match number {
+        1 => Some(Alert::Lockout),
+        2 => Some(Alert::NnR),
+        3 => Some(Alert::Clcw),
+        4 => Some(Alert::Synch),
+        5 => Some(Alert::Limit),
+        6 => Some(Alert::Timer),
+        7 => Some(Alert::Terminated),
+        _ => None,
+    }
+}
+
+/// Whether a `sedge_alert` says that a condition of the link is broken: true for `SEDGE_ALERT_LOCKOUT`,
+/// `SEDGE_ALERT_NNR`, `SEDGE_ALERT_CLCW` and `SEDGE_ALERT_SYNCH`. In a confirmed session that was begun by check, Unlock
+/// or Set V(R) none of these comes while the conditions hold: there was a restart on board, a link that reorders or
+/// repeats frames, or a second station. Nothing is known of what is on board then: begin anew, as after a reset. False
+/// for the others, after which the next session begins where this one got to, and for a number that is no alert.
+#[unsafe(no_mangle)]
+pub extern "C" fn sedge_alert_shows_broken_condition(alert: u8) -> bool
+    ensures { result ≡ broken_if (alert_at alert) }
+{
+    match alert_of(alert) {
+        Some(alert) => alert.shows_a_broken_condition(),
+        None => false,
+    }
+}
+
+/// What to look for after a `sedge_alert`, and the way on, in words for an operator; "?" for a number that is none.
+#[unsafe(no_mangle)]
+pub extern "C" fn sedge_alert_advice(alert: u8) -> Advice
+    ensures { result.text ≡ sentence_of (advice_if (alert_at alert)) }
+{
+    match alert_of(alert) {
+        Some(alert) => advised(alert.advice()),
+        None => advised("?"),
+    }
 }
 
 /// The name of a `sedge_tc_fault`.

@@ -69,9 +69,26 @@ pub struct Text {
 impl Text {
     /// The characters before the first zero.
     pub fn as_str(&self) -> &str {
-        let word = self.text.split(|it| *it == 0).next();
-        word.and_then(|it| core::str::from_utf8(it).ok()).unwrap_or("?")
+        before_zero(&self.text)
     }
+}
+
+#[repr(C)]
+#[derive(Clone, Copy)]
+pub struct Advice {
+    pub text: [u8; 160],
+}
+
+impl Advice {
+    /// The characters before the first zero.
+    pub fn as_str(&self) -> &str {
+        before_zero(&self.text)
+    }
+}
+
+fn before_zero(text: &[u8]) -> &str {
+    let word = text.split(|it| *it == 0).next();
+    word.and_then(|it| core::str::from_utf8(it).ok()).unwrap_or("?")
 }
 
 #[repr(C)]
@@ -321,6 +338,9 @@ unsafe extern "C" {
     pub safe fn sedge_tm_fault_name(fault: u8) -> Text;
     pub safe fn sedge_map_fault_name(fault: u8) -> Text;
     pub safe fn sedge_dropped_name(cause: u8) -> Text;
+
+    pub safe fn sedge_alert_shows_broken_condition(alert: u8) -> bool;
+    pub safe fn sedge_alert_advice(alert: u8) -> Advice;
 }
 
 // SAFETY, of all calls below: each pointer to octets and the count after it are those of one slice, and the other
