@@ -13,15 +13,19 @@ each frame where the code was compiled. LLVM writes `|` for `+` where it knows t
 What breaks a rule, or is not known here, is refused with the name of the function."""
 import collections
 import re
+import struct
 import textwrap
 
 from c_flow import Node, shown, simplified
 from wasm_object import Reader, Refused
 
-I32, I64 = 0x7F, 0x7E
-C_TYPES, BITS = {I32: "uint32_t", I64: "uint64_t"}, {I32: 32, I64: 64}
-# What an address is derived from: a constant that LLVM aligned, another constant, the frame, or the stack pointer.
-CONSTANT, TEXT, FRAME, POINTER = "constant", "text", "frame", "pointer"
+I32, I64, F64 = 0x7F, 0x7E, 0x7C
+C_TYPES, BITS = {I32: "uint32_t", I64: "uint64_t", F64: "double"}, {I32: 32, I64: 64}
+# What an address is derived from: a constant that LLVM aligned, another constant, the frame, the stack pointer, or a
+# room (tools/wasm_object.py), which is aligned here too.
+CONSTANT, TEXT, FRAME, POINTER, ROOM = "constant", "text", "frame", "pointer", "room"
+# The most octets of a frame.
+MOST_OF_LIBRARY, MOST_OF_PROGRAM = 2**16, 2**20
 # What stands for a place in a table of addresses, where no text may have it; and why.
 TABLE, MISREAD = "\0", "a table of addresses is used as octets"
 END, RETURN = 0x0B, 0x0F
@@ -42,6 +46,9 @@ WRITE = {0x36: 32, 0x37: 64, 0x3A: 8, 0x3B: 16, 0x3C: 8, 0x3D: 16, 0x3E: 32}
 EXTEND = {0xAC: (I64, 32), 0xC0: (I32, 8), 0xC1: (I32, 16), 0xC2: (I64, 8), 0xC3: (I64, 16), 0xC4: (I64, 32)}
 # What counts the bits of a number: the highest that are 0, the lowest, and all that are 1.
 COUNTS = {first + k: (it, t) for first, t in ((0x67, I32), (0x79, I64)) for k, it in enumerate(("clz", "ctz", "ones"))}
+# Arithmetic and comparisons of numbers with a fraction.
+FRACTIONS = {0xA0: "+", 0xA1: "-", 0xA2: "*", 0xA3: "/"}
+COMPARE_FRACTIONS = {0x61: "==", 0x62: "!=", 0x63: "<", 0x64: ">", 0x65: "<=", 0x66: ">="}
 # How many numbers follow an instruction, where these are read over.
 OPERANDS = dict.fromkeys([0x0C, 0x0D, 0x10, *range(0x20, 0x25), 0x41, 0x42], 1) | dict.fromkeys(range(0x28, 0x3F), 2)
 NOTHING = frozenset()
@@ -53,7 +60,9 @@ class Value:
     def __init__(
         self, text, kind, *of, tight=False, number=None, contrary=None, reads=False, name=None, derived=NOTHING
     ):
-        self.text, self.kind, self.number, self.contrary, self.derived = text, kind, number, contrary, derived
+        self.text, self.kind, self.number, self.contrary = text, kind, number, contrary
+        self.derived = frozenset(it for it in derived if isinstance(it, str))
+        self.origin = derived
         self.is_bottom, self.entry = False, None
         self.is_tight = tight or number is not None
         self.names = frozenset().union({name} if name else (), *(it.names for it in of))
@@ -62,6 +71,10 @@ class Value:
     def is_settled(self):
         """Whether nothing that is written later changes it: a number, or a variable that is set once."""
         return self.number is not None or self.is_tight and not self.names and not self.reads and not self.contrary
+
+    def given(self):
+        """The parameters of calls, each as the call and its name, from whose addresses it may be derived."""
+        return self.origin - self.derived
 
     def is_packed(self):
         """Whether it may be several numbers in a variable that holds an address of the frame on another way: of an
@@ -126,6 +139,8 @@ class Translation:
             self.locals += [(f"v{len(self.locals) + k}", kind) for k in range(count)]
         self.stack, self.open = [], [Block("function", None, 0, results=function.results)]
         self.now = {name: self.known(name) for name in names}
+        # The variables that hold the lowest address of the frame, whichever way the code has taken.
+        self.bottoms = NOTHING
         try:
             self.run()
         except Refused as why:
@@ -144,7 +159,7 @@ class Translation:
             return value
         name = self.fresh(value.kind)
         self.items.append(f"{name} = {value.plain()};")
-        return Value(name, value.kind, tight=True, derived=value.derived)
+        return Value(name, value.kind, tight=True, derived=value.origin)
 
     def settle(self, which):
         self.stack = [self.settled(it) if which(it) else it for it in self.stack]
@@ -191,6 +206,8 @@ class Translation:
                 depth -= 1
             elif op == 0x0E:
                 r.several(r.unsigned), r.unsigned()
+            elif op == 0x44:
+                r.octets(8)
             elif op == 0xFC:
                 for _ in range(2 if r.unsigned() == 10 else 1):
                     r.unsigned()
@@ -213,6 +230,7 @@ class Translation:
         self.open.append(Block(kind, f"l{self.labels}", len(self.stack), types, results, self.items, test))
         self.open[-1].entry, self.items = self.now, []
         if kind == "loop":
+            self.bottoms = NOTHING
             again = {name: self.known(f"l{self.labels} {name}") for name, _ in self.locals}
             self.now = united(self.now, again)
 
@@ -220,7 +238,7 @@ class Translation:
         """The statements that hand on the values that a block is left with."""
         values = self.stack[len(self.stack) - len(block.results) :]
         for name, it in zip(block.results, values):
-            self.learn(name, it.derived)
+            self.learn(name, it.origin)
         return [f"{name} = {it.plain()};" for name, it in zip(block.results, values)]
 
     def otherwise(self, is_reached):
@@ -229,7 +247,7 @@ class Translation:
             self.items += self.give_results(block)
             block.arrived = united(block.arrived, self.now)
         del self.stack[block.height :]
-        block.then, self.items, self.now = self.items, [], block.entry
+        block.then, self.items, self.now, self.bottoms = self.items, [], block.entry, NOTHING
 
     def end(self, is_reached):
         block = self.open.pop()
@@ -241,7 +259,7 @@ class Translation:
             block.arrived = united(block.arrived, self.now)
         if block.kind == "if" and block.then is None:
             block.arrived = united(block.arrived, block.entry)
-        self.now = block.arrived
+        self.now, self.bottoms = block.arrived, NOTHING
         left = [self.settled(it) for it in self.stack[block.height :]] if block.kind == "loop" else []
         del self.stack[block.height :]
         inner, self.items = self.items, block.before
@@ -258,7 +276,7 @@ class Translation:
         if not self.function.results:
             return ["return;"]
         value = self.stack[-1]
-        self.learn("result", value.derived)
+        self.learn("result", value.origin)
         return [f"return {self.from_call(value) if always else value.plain()};"]
 
     def branch(self, depth):
@@ -343,8 +361,37 @@ class Translation:
             (value,) = self.pop(1)
             self.no_address(value)
             self.push(f"extend{BITS[kind]}({value.plain()}, {1 << (bits - 1):#x})", kind, value, tight=True)
-        else:
+        elif not self.program.object.is_program or not self.fraction(op):
             raise Refused(f"the instruction {op:#04x} at {r.at - 1} is not known")
+
+    def fraction(self, op):
+        """Takes an instruction about numbers with a fraction, if it is one."""
+        if op == 0x44:
+            (number,) = struct.unpack("<d", self.reader.octets(8))
+            text = number.hex().replace("inf", "(double)INFINITY").replace("nan", "(double)NAN")
+            self.push(f"({text})" if text[0] == "-" else text, F64, tight=True)
+        elif op in FRACTIONS:
+            a, b = self.pop(2)
+            self.shorten(Value(f"{a.operand()} {FRACTIONS[op]} {b.operand()}", F64, a, b))
+        elif op in COMPARE_FRACTIONS:
+            a, b = self.pop(2)
+            text = f"{a.operand()} {COMPARE_FRACTIONS[op]} {b.operand()}"
+            self.push(text, I32, a, b, contrary=f"!({text})")
+        elif op == 0xBA:
+            (value,) = self.pop(1)
+            self.no_address(value)
+            self.push(f"(double){value.operand()}", F64, value, tight=True)
+        elif op == 0x2B:
+            (base,) = self.pop(1)
+            self.push(f"get_fraction({self.place(base)})", F64, base, tight=True, reads=True)
+        elif op == 0x39:
+            base, value = self.pop(2)
+            place = self.place(base, True)
+            self.settle_reads()
+            self.items.append(f"put_fraction({place}, {value.plain()});")
+        else:
+            return False
+        return True
 
     def call(self):
         place = self.reader.at
@@ -353,7 +400,9 @@ class Translation:
         given = self.pop(len(callee.params))
         self.settle_reads()
         for k, it in enumerate(given):
-            self.program.learn((callee.name, self.program.parameters(callee)[k]), it.derived)
+            self.program.learn((callee.name, self.program.parameters(callee)[k]), it.origin)
+            if callee.end == 0:
+                self.program.read |= it.given()
         text = f"{self.program.name_of(callee)}({', '.join(it.plain() for it in given)})"
         if not callee.results:
             self.items.append(f"{text};")
@@ -373,7 +422,7 @@ class Translation:
     def select(self):
         a, b, test = self.pop(3)
         text = f"({test.test()[0]}) ? {a.operand()} : {b.operand()}"
-        self.shorten(Value(text, a.kind, a, b, test, derived=a.derived | b.derived))
+        self.shorten(Value(text, a.kind, a, b, test, derived=a.origin | b.origin))
 
     def shorten(self, value):
         """Pushes a value, by way of a variable where its text is long."""
@@ -382,22 +431,23 @@ class Translation:
     def get(self):
         name, kind = self.locals[self.reader.unsigned()]
         self.push(name, kind, tight=True, name=name, derived=self.now.get(name, NOTHING))
+        self.stack[-1].is_bottom = name in self.bottoms
 
     def set(self):
         name, _ = self.locals[self.reader.unsigned()]
         (value,) = self.pop(1)
         self.settle(lambda it: name in it.names)
-        self.now = {**self.now, name: value.derived}
+        self.now = {**self.now, name: value.origin}
+        self.bottoms = self.bottoms - {name} | ({name} if value.is_bottom else NOTHING)
         # (what keeps the stack pointer can only set it again, which is nothing here)
         if value.text != name and POINTER not in value.derived:
             self.items.append(f"{name} = {self.from_call(value)};")
 
     def tee(self):
-        at, is_bottom = self.reader.at, self.stack[-1].is_bottom
+        at = self.reader.at
         self.set()
         self.reader.at = at
         self.get()
-        self.stack[-1].is_bottom = is_bottom
 
     def get_pointer(self):
         self.reader.unsigned()
@@ -425,11 +475,16 @@ class Translation:
         if segment in self.program.object.tables:
             raise Refused(MISREAD)
         name = self.constant_named(segment)
+        if segment in self.program.object.rooms:
+            name, of = f"aligned({name})", abs(offset)
+            return f"({name} {'-' if offset < 0 else '+'} {of})" if offset else name
         if offset < 0:
             return f"(address({name}) - {-offset})"
         return f"address({name} + {offset})" if offset else f"address({name})"
 
     def derived_from(self, segment):
+        if segment in self.program.object.rooms:
+            return frozenset([ROOM])
         return frozenset([CONSTANT if self.program.object.aligned[segment] else TEXT])
 
     def constant_named(self, segment):
@@ -444,7 +499,9 @@ class Translation:
         offset, found = self.reader.unsigned(), self.program.object.constant_at(place)
         if POINTER in base.derived:
             raise Refused("memory at the stack pointer itself is used")
-        if is_written and (found or base.derived & {CONSTANT, TEXT}):
+        if not is_written:
+            self.program.read |= base.given()
+        if is_written and (found or base.derived & {CONSTANT, TEXT, ROOM}):
             raise Refused("a constant is written")
         if found:
             return self.address_of(found) if base.number == 0 else f"{left_of(base)} + {self.address_of(found)}"
@@ -494,6 +551,7 @@ class Translation:
         base, value = self.pop(2)
         if CONSTANT in value.derived:
             raise Refused("an address of a constant that is aligned is put into memory")
+        self.program.read |= value.given()
         place = self.place(base, True)
         self.settle_reads()
         text = value.plain() if value.number is None else number_of(value.number & (2**bits - 1), value.kind).plain()
@@ -508,8 +566,9 @@ class Translation:
         for _ in range(2 if how == 10 else 1):
             self.reader.unsigned()
         given = self.pop(3)
-        if given[0].derived & {CONSTANT, TEXT}:
+        if given[0].derived & {CONSTANT, TEXT, ROOM}:
             raise Refused("a constant is written")
+        self.program.read |= given[1].given()
         self.settle_reads()
         self.items.append(f"{'copy' if how == 10 else 'fill'}({', '.join(it.plain() for it in given)});")
 
@@ -517,7 +576,7 @@ class Translation:
         (value,) = self.pop(1)
         if value.derived != {FRAME} or kind != I32:
             self.no_address(value)
-        derived = NOTHING if value.is_packed() else value.derived
+        derived = NOTHING if value.is_packed() else value.origin
         self.push(f"({C_TYPES[kind]}){value.operand()}", kind, value, tight=True, derived=derived)
 
     @staticmethod
@@ -535,6 +594,8 @@ class Translation:
             return self.stack.append(number_of(ENOUGH[sign, b.number], I32))
         if POINTER in a.derived | b.derived:
             raise Refused("the stack pointer is compared")
+        if FRAME in a.derived | b.derived and sign not in ("==", "!=") and not a.derived == b.derived == {FRAME}:
+            raise Refused(f"an address of the frame is compared by {sign} with what is none")
         x, y = self.operands(a, b)
         if sign.endswith("s"):
             half = 2 ** (BITS[kind] - 1)
@@ -555,7 +616,7 @@ class Translation:
         )
 
     def binary(self, sign, kind, a, b):
-        derived = a.derived | b.derived
+        derived, given = a.derived | b.derived, a.given() | b.given()
         if POINTER in derived:
             return self.frame_address(sign, a, b)
         if a.entry or b.entry:
@@ -575,7 +636,7 @@ class Translation:
             return self.shorten(Value(text, kind, a, b, contrary=f"!({text})"))
         if sign == "+" and b.text == f"({a.text} == 0) ? 0x1000ULL : 0ULL":
             text = f"some({a.text})"
-            return self.push(text, kind, a, tight=True, derived=derived)
+            return self.push(text, kind, a, tight=True, derived=derived | given)
         if sign == "+" and b.number is not None and b.number > 2**bits - 2**16:
             text = f"{left_of(a)} - {spelled(2**bits - b.number)}"
         elif sign in "+-":
@@ -593,7 +654,7 @@ class Translation:
             return self.push(text, kind, a, b, tight=True)
         else:
             text = f"{x} {sign} {y}"
-        return self.shorten(Value(text, kind, a, b, derived=derived))
+        return self.shorten(Value(text, kind, a, b, derived=derived | given))
 
     @staticmethod
     def joined(text):
@@ -601,7 +662,8 @@ class Translation:
 
     def frame_address(self, sign, a, b):
         size = b.number if sign == "-" else 2**64 - b.number if sign == "+" and b.number else None
-        if a.derived != {POINTER} or not size or size % 16 != 0 or size > 2**16 or self.frame not in (0, size):
+        most = MOST_OF_PROGRAM if self.program.object.is_program else MOST_OF_LIBRARY
+        if a.derived != {POINTER} or not size or size % 16 != 0 or size > most or self.frame not in (0, size):
             raise Refused("the stack pointer is not moved by a multiple of 16")
         self.frame = size
         self.push("aligned(frame_octets)", I64, tight=True, derived=frozenset([FRAME]))
@@ -619,12 +681,14 @@ class Translation:
         if any(TABLE in it for it in body):
             raise Refused(f"{self.name}: {MISREAD}")
         used = set(re.findall(r"\b[vt]\d+\b", "\n".join(body)))
+        own = [name for name, _ in self.locals[: len(self.function.params)]]
+        body = [*(f"    (void){it};" for it in own if not re.search(rf"\b{it}\b", "\n".join(body))), *body]
         variables = {f"{name}@=@0": kind for name, kind in self.locals[len(self.function.params) :] if name in used}
         variables |= {name: kind for name, kind in self.kinds.items() if name in used}
         lines = [*wrapped(self.signature()), "{"]
         if self.frame:
             lines.append(f"    unsigned char frame_octets[{self.frame} + 15];")
-        for kind in (I32, I64):
+        for kind in (I32, I64, F64):
             names = [name for name, own in variables.items() if own == kind]
             declared = wrapped(f"    {C_TYPES[kind]} {', '.join(names)};") if names else []
             lines += [it.replace("@", " ") for it in declared]

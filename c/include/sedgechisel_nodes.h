@@ -43,7 +43,7 @@ enum sedge_node_status {
     SEDGE_NODE_TOO_LONG = 4,       /* a packet has more octets than it may have */
     SEDGE_NODE_QUEUE_FULL = 5,     /* as many units as may wait are waiting */
     SEDGE_NODE_MEMORY = 6,         /* there was no memory */
-    SEDGE_NODE_NOT_KNOWN = 7,      /* nothing is known of how far the session has come */
+    SEDGE_NODE_NOT_KNOWN = 10,     /* nothing is known of how far the session has come */
     SEDGE_NODE_ROOM = 252,         /* the room is too short; nothing was taken out */
     SEDGE_NODE_ABSENT = 253,       /* there is no record at this place, or a report says nothing of the segments */
     SEDGE_NODE_OUT_OF_RANGE = 254, /* a parameter is out of its range */
@@ -688,7 +688,7 @@ SEDGE_CHECK uint8_t sedge_sim_entry(struct sedge_sim *sim, uint8_t record, uint8
 #define SEDGE_NODE_TOO_LONG ((uint8_t)4)
 #define SEDGE_NODE_QUEUE_FULL ((uint8_t)5)
 #define SEDGE_NODE_MEMORY ((uint8_t)6)
-#define SEDGE_NODE_NOT_KNOWN ((uint8_t)7)
+#define SEDGE_NODE_NOT_KNOWN ((uint8_t)10)
 #define SEDGE_NODE_ROOM ((uint8_t)252)
 #define SEDGE_NODE_ABSENT ((uint8_t)253)
 #define SEDGE_NODE_OUT_OF_RANGE ((uint8_t)254)

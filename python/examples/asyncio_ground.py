@@ -1,106 +1,179 @@
-"""A ground by asyncio: frames come down from a stream and go up by one, a timer ticks, and packets are submitted from a
-queue. At the other end of the streams is a spacecraft, and a third of the frames are lost, both ways. Each packet is
-delivered once, whatever is lost and whenever the tasks run.
+"""A ground by asyncio on bare control words, and on a loopback socket a front end with a spacecraft after it. Both ways
+are slow and lose frames; for a while the link is dark, and once the spacecraft restarts. Each command is executed once,
+in order: after an alert the ground goes on as docs/TOUR.md says, by "After an alert" or by "After a reset".
 Run it by PYTHONPATH=DIR/lib/python python3 python/examples/asyncio_ground.py."""
 import asyncio
+import collections
 import random
-import socket
+import struct
 
 import sedgechisel as sc
 
-TICK = 0.005  # in seconds, also from one report to the next
-PACKETS, MOST = 30, 8  # of which at most so many are submitted and not acknowledged
-chance, config = random.Random(5), sc.Config(window=4, limit=255, timer=4)
+TICK, REPORT, DELAY = 0.010, 0.005, 0.015  # in seconds: the ground's clock, the time between control words, the way
+ROUND_TRIP = 25  # in ticks, and longer than the longest one
+COMMANDS, MAP = 300, 4
+config = sc.Config(scid=42, window=20, limit=3, timer=12)
+chance = random.Random(7)
+
+# What comes down: a letter, then a control word, or what housekeeping says: how often the spacecraft has begun, and the
+# number of commands that it has executed.
+WORD, HOUSEKEEPING, SAID = b"C", b"H", struct.Struct(">II")
+
+
+# ---- The ground. ----
 
 
 class Station:
-    """A ground at its streams, and the queue of what is to be submitted: each a MAP and a packet."""
+    """A ground at the streams of a front end."""
 
-    def __init__(self, ground, reader, writer):
-        self.ground, self.reader, self.writer = ground, reader, writer
-        self.commands, self.changed = asyncio.Queue(), asyncio.Condition()
+    def __init__(self, ground, reader, writer, commands):
+        self.ground, self.reader, self.writer, self.commands = ground, reader, writer, commands
+        self.first = 0  # the command that is submission 0 of this session
+        self.silence = 0  # the ticks since a frame was pulled
+        self.stopped = True  # nothing is pulled until a session begins
+        self.is_known = False  # whether the session that ended says what is on board
+        self.word = None  # a report that was made when nothing was on its way up
+        self.boots, self.executed = None, 0
+        self.alerts, self.done = set(), asyncio.Event()
 
-    async def goes_on(self, alert=sc.Alert.NONE):
-        """Sends what is to be sent after a report, a tick or a submission."""
+    def stops(self, is_known):
+        self.stopped, self.is_known, self.word = True, self.is_known and is_known, None
+
+    def gives_up(self, alert):
         if alert:
-            raise RuntimeError(f"alert {alert.word}: python/examples/alert.py has the steps after one")
-        for frame in self.ground.frames():
-            self.writer.write(frame)
+            self.alerts.add(alert)
+            self.stops(not alert.shows_a_broken_condition)
+
+    def hears_word(self, octets):
+        heard = self.ground.clcw(octets)
+        self.gives_up(heard.alert)
+        if self.stopped and heard.report == sc.Report.USED:
+            if heard.word.wait:
+                self.silence = 0  # the reports before the wait flag is gone say otherwise
+            elif self.silence > ROUND_TRIP:
+                self.word = heard.word
+
+    def hears_housekeeping(self, boots, executed):
+        if self.boots not in (None, boots):  # it has restarted
+            if self.ground.state != sc.State.S6:
+                self.ground.terminate()
+            self.stops(False)
+        self.boots, self.executed = boots, executed
+        if self.word:  # it came before, and no restart was between
+            self.begins(self.word.value)
+        if executed == len(self.commands):
+            self.done.set()
+
+    def begins(self, value):
+        """The next session. Where the last one does not say what is on board, the spacecraft's telemetry does."""
+        if self.is_known and self.ground.known_on_board(value) is not None:
+            self.first += self.ground.resume(value)
+        else:
+            self.first = self.executed
+            self.ground.set_vs(value)
+            self.ground.init_unlock()
+        self.stopped, self.is_known, self.word = False, True, None
+
+    async def sends(self):
+        if not self.stopped:
+            for packet in self.commands[self.first + self.ground.submitted:][:20 - self.ground.unsent]:
+                self.ground.submit(MAP, packet)
+            for frame in self.ground.frames():
+                self.writer.write(frame)
+                self.silence = 0
         await self.writer.drain()
-        async with self.changed:
-            self.changed.notify_all()
 
     async def hears(self):
         while True:
-            octets = await self.reader.readexactly(self.ground.frame_length)
-            await self.goes_on(self.ground.telemetry(octets).alert)
+            if await self.reader.readexactly(1) == WORD:
+                self.hears_word(await self.reader.readexactly(4))
+            else:
+                self.hears_housekeeping(*SAID.unpack(await self.reader.readexactly(SAID.size)))
+            await self.sends()
 
     async def ticks(self):
         while True:
             await asyncio.sleep(TICK)
-            await self.goes_on(self.ground.tick())
+            self.silence += 1
+            self.gives_up(self.ground.tick())
+            await self.sends()
 
-    async def outstanding_below(self, count):
-        async with self.changed:
-            await self.changed.wait_for(lambda: self.ground.outstanding < count)
 
-    async def submits(self):
+# ---- The front end and the spacecraft. ----
+
+
+class Way:
+    """A direction of the link: what goes by it comes later, in order, or is lost."""
+
+    def __init__(self, loop, deliver):
+        self.loop, self.deliver, self.queue, self.last, self.is_dark = loop, deliver, collections.deque(), 0, False
+
+    def send(self, octets):
+        if not self.is_dark and chance.random() > 0.03:
+            self.last = max(self.last, self.loop.time() + DELAY * chance.uniform(1, 2))
+            self.queue.append(octets)
+            self.loop.call_at(self.last, lambda: self.deliver(self.queue.popleft()))
+
+
+class FrontEnd:
+    """What is on the link for a ground: ways up and down, and the spacecraft, which has the commands that it executed."""
+
+    def __init__(self, reader, writer):
+        self.reader, self.writer = reader, writer
+        self.spacecraft, self.boots, self.executed = sc.Spacecraft(config), 0, []
+        loop = asyncio.get_running_loop()
+        self.up, self.down = Way(loop, lambda frame: self.spacecraft.receive(frame)), Way(loop, writer.write)
+
+    def restart(self):
+        """A new node, which has nothing of the old one. It begins in Lockout, so that its reports are not believed."""
+        self.spacecraft.close()
+        self.spacecraft, self.boots = sc.Spacecraft(config), self.boots + 1
+        outside = sc.TcFrame(scid=42, vcid=2, n=128, flags=sc.Segment.ALONE, map=MAP)
+        self.spacecraft.receive(outside.encode(b"."))
+
+    async def flies(self):
+        dark, turn = 120, 0  # how many of the reports the link will be dark for
         while True:
-            map, packet = await self.commands.get()
-            await self.outstanding_below(MOST)
-            self.ground.submit(map, packet)
-            self.commands.task_done()
-            await self.goes_on()
+            await asyncio.sleep(REPORT)
+            for _, packet in self.spacecraft.packets():
+                self.executed.append(sc.Packet.decode(packet)[0].count)
+                if self.boots == 0 and len(self.executed) == 2 * COMMANDS // 3:
+                    self.restart()
+                    break
+            is_dark = dark > 0 and len(self.executed) >= COMMANDS // 3
+            self.up.is_dark = self.down.is_dark = is_dark
+            dark, turn = dark - is_dark, turn + 1
+            self.down.send(WORD + self.spacecraft.control_word.encode())
+            if turn % 10 == 0:  # what was ready is executed
+                self.down.send(HOUSEKEEPING + SAID.pack(self.boots, len(self.executed)))
 
-    async def all_acknowledged(self):
-        await self.commands.join()
-        await self.outstanding_below(1)
-
-
-class Board:
-    """The spacecraft at the other end of the streams, and what was delivered there."""
-
-    def __init__(self, spacecraft, reader, writer):
-        self.spacecraft, self.reader, self.writer, self.delivered = spacecraft, reader, writer, []
-
-    async def receives(self):
+    async def carries(self):
         while True:
             head = await self.reader.readexactly(5)
-            octets = head + await self.reader.readexactly(sc.TcFrame.declared(head) - len(head))
-            if chance.randrange(3):
-                self.spacecraft.receive(octets)
-            self.delivered += self.spacecraft.packets()
-
-    async def reports(self):
-        while True:
-            await asyncio.sleep(TICK)
-            frame = self.spacecraft.telemetry_frame()
-            if chance.randrange(3):
-                self.writer.write(frame)
+            self.up.send(head + await self.reader.readexactly(sc.TcFrame.declared(head) - len(head)))
 
 
 async def main():
-    ours, theirs = socket.socketpair()
-    with sc.Ground(config) as ground, sc.Spacecraft(config) as spacecraft:
-        station = Station(ground, *await asyncio.open_connection(sock=ours))
-        board = Board(spacecraft, *await asyncio.open_connection(sock=theirs))
-        ground.init_unlock()
-        for k in range(PACKETS):
-            packet = sc.Packet(apid=5, count=k, kind=sc.PacketKind.TELECOMMAND).encode(b"command")
-            station.commands.put_nowait((4, packet))
+    joined = asyncio.get_running_loop().create_future()
+    server = await asyncio.start_server(lambda *ends: joined.set_result(FrontEnd(*ends)), "127.0.0.1", 0)
+    reader, writer = await asyncio.open_connection(*server.sockets[0].getsockname())
+    commands = [sc.Packet(apid=5, count=k, kind=sc.PacketKind.TELECOMMAND).encode(b"command") for k in range(COMMANDS)]
+    with sc.Ground(config) as ground:
+        station, front = Station(ground, reader, writer, commands), await joined
         tasks = [asyncio.ensure_future(it) for it in (
-            station.hears(), station.ticks(), station.submits(), board.receives(), board.reports(),
-            station.all_acknowledged())]
+            station.hears(), station.ticks(), station.done.wait(), front.carries(), front.flies())]
         ended, others = await asyncio.wait(tasks, return_when=asyncio.FIRST_COMPLETED)
         for task in others:
             task.cancel()
         await asyncio.gather(*others, return_exceptions=True)
-        station.writer.close(), board.writer.close()
+        writer.close(), front.writer.close(), server.close()
         for task in ended:
             task.result()
-    counts = [sc.Packet.decode(packet)[0].count for _, packet in board.delivered]
-    once = "each once, in order" if counts == [*range(PACKETS)] else counts
-    print(f"{len(counts)} packets are delivered: {once}")
+    for alert in sorted(station.alerts):
+        is_broken = alert.shows_a_broken_condition
+        print(f"alert {alert.word}:", "begin anew, by telemetry" if is_broken else "go on by resume")
+    once = "each once, in order" if front.executed == [*range(COMMANDS)] else front.executed
+    print(f"{len(front.executed)} commands are executed: {once}")
 
 
 asyncio.run(main())

@@ -3,7 +3,7 @@ frames."""
 from __future__ import annotations
 
 import ctypes
-from ctypes import POINTER, c_bool, c_char_p, c_size_t, c_uint8, c_uint16, c_uint32
+from ctypes import POINTER, c_bool, c_char, c_char_p, c_size_t, c_uint8, c_uint16, c_uint32
 from enum import IntEnum
 from itertools import chain
 from struct import Struct
@@ -280,7 +280,8 @@ class Alert(_Numbers):
     - TIMER: the timer has ended, and units may not be sent again
     - TERMINATED: the directive Terminate
 
-    `word` is the word of tctool, such as "NnR" for NNR; that of NONE is empty."""
+    `shows_a_broken_condition` says by which of two ways a program goes on, and `advice` what to look for. `word` is the
+    word of tctool, such as "NnR" for NNR; that of NONE is empty."""
 
     NONE, LOCKOUT, NNR, CLCW, SYNCH, LIMIT, TIMER, TERMINATED = range(8)
 
@@ -289,8 +290,29 @@ class Alert(_Numbers):
         """The word of tctool; of NONE an empty one."""
         return _alert_word(self) if self else ""
 
+    @property
+    def shows_a_broken_condition(self) -> bool:
+        """Whether it says that a condition of the link is broken: of LOCKOUT, NNR, CLCW and SYNCH. None of these can come
+        in a session that was begun by CLCW check, Unlock or Set V(R) and is confirmed, while the conditions hold. So the
+        spacecraft has restarted, the link reorders or repeats frames, or there is a second station; and before a session
+        is confirmed there may be what an earlier one left, as a receiver in Lockout. After one of these nothing is known
+        of what is on board until a session begins (docs/TOUR.md, "After a reset"). After another one `Ground.resume`
+        begins the next session (docs/TOUR.md, "After an alert")."""
+        return bool(_alert_shows_broken_condition(self))
+
+    @property
+    def advice(self) -> str:
+        """What to look for after it, and the way on: a text for people; of NONE an empty one."""
+        return str(_alert_advice(self).text.decode()) if self else ""
+
+
+class _Advice(ctypes.Structure):
+    _fields_ = [("text", c_char * 160)]
+
 
 _alert_word = _word_of("alert")
+_alert_shows_broken_condition = _call("alert_shows_broken_condition", c_bool, ("alert", c_uint8))
+_alert_advice = _call("alert_advice", _Advice, ("alert", c_uint8))
 
 
 class State(_Numbers):

@@ -201,7 +201,7 @@ class LinkFault(Fault):
     """Why a node refuses a call."""
 
     class Number(Numbers):
-        NOT_OPEN, CLOSED_MAP, NOT_COMMAND, TOO_LONG, QUEUE_FULL, MEMORY, NOT_KNOWN = range(1, 8)
+        NOT_OPEN, CLOSED_MAP, NOT_COMMAND, TOO_LONG, QUEUE_FULL, MEMORY, NOT_KNOWN = *range(1, 7), 10
 
     _word = staticmethod(word_of("link_fault", NODES))
     _meanings = {
@@ -211,7 +211,7 @@ class LinkFault(Fault):
         4: "a packet has more octets than it may have",
         5: "as many units as may wait are waiting",
         6: "there was no memory",
-        7: "nothing is known of how far the session has come",
+        10: "nothing is known of how far the session has come",
     }
 
 

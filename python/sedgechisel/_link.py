@@ -131,7 +131,8 @@ class Link(Directives, Handle):
 
     def resume(self, value: int) -> int:
         """The ground goes on after an alert, as by `Ground.resume`: a session begins, by Unlock. Returns how many first
-        ones of the submissions of the session that ended are on board whole."""
+        ones of the submissions of the session that ended are on board whole. A LinkFault, 10 NotKnown, as of that
+        call."""
         within("value", c_uint8, value)
         return self._event("resume", directive=(0, value)).whole
 

@@ -328,8 +328,9 @@ class Ground(Directives, Handle):
 
     def submit(self, map: int, packets: bytes) -> int:
         """Packets are to be sent on a MAP under sequence control: one, or with blocking several, one after another.
-        Returns the number of this submission in its session, from 0. The first LinkFault of 1 to 6 that applies;
-        nothing has changed then."""
+        Returns the number of this submission in its session, from 0. `resume` counts submissions: of several packets that
+        do not fit into one segment together, of `part` octets, some may be on board when the submission is not counted.
+        The first LinkFault of 1 to 6 that applies; nothing has changed then."""
         packets = _octets_of("packets", packets)
         with self._lock:
             number = self.submitted
@@ -422,17 +423,21 @@ class Ground(Directives, Handle):
     def known_on_board(self, value: int) -> Optional[int]:
         """How many first ones of the session's submissions are known to be on board whole by a report of this value:
         those that are acknowledged, and those all of whose segments it says were accepted. After an alert too (232.1-B-2,
-        5.1). None where nothing is known: no session has begun, V(S) was set since, or the value does not lie from NN(R)
-        to V(S), which are not equal."""
+        5.1). None where nothing is known: no session has begun, V(S) was set since, the session ended by an alert that
+        shows a broken condition, or the value does not lie from NN(R) to V(S), which are not equal."""
         whole = c_uint64()
         return None if self._is_absent(_ground_known_on_board(self._handle, value, whole)) else whole.value
 
     def resume(self, value: int) -> int:
-        """Begins the next session after an alert, where the last one has got to: sets V(S) to the value of a report
-        that was made when nothing was on its way up, begins by Unlock (232.1-B-2, 5.2.4), and returns how many first
-        ones of the submissions of the session that ended are on board whole; those after them are to be submitted
-        again. A LinkFault, 7 NotKnown, where nothing is known of it: the sender is not in S6, no session has begun,
-        V(S) was set since, or the value does not lie from NN(R) to V(S). Nothing has changed then."""
+        """Begins the next session after the alert Timer, Limit or Terminated, where the last one has got to: sets V(S) to
+        the value of a report that was made when nothing was on its way up, begins by Unlock (232.1-B-2, 5.2.4), and
+        returns how many first ones of the submissions of the session that ended are on board whole; those after them are
+        to be submitted again. (Of a submission of several packets that do not fit into one segment together, some may be
+        on board though it is not counted.) Where V(S) = NN(R) it takes any value: nothing that was sent is in doubt.
+
+        A LinkFault, 10 NotKnown, where nothing is known of what is on board: the sender is not in S6, no session has
+        begun, V(S) was set since, the session ended by an alert that shows a broken condition (Lockout, NnR, Clcw or
+        Synch), or the value does not lie from NN(R) to V(S), which are not equal. Nothing has changed then."""
         whole = c_uint64()
         self._asked(_ground_resume(self._handle, value, whole))
         return whole.value

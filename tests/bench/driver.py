@@ -1,12 +1,13 @@
 #!/usr/bin/env python3
 """Plays each cell of a table and random events against a program that speaks the lines of a node, beside the model:
 
-    driver.py --node spacecraft|ground --against "COMMAND" [--events N] [--seed S] [--most D] [--whole]
+    driver.py --node spacecraft|ground --against "COMMAND" [--link [--book] [--fixed FIELD=N,..]] [--events N] ..
 
 COMMAND is a program that answers lines on standard input, as `tctool spacecraft` does (docs/PROFILE.md, "One node, line
-by line"). The model is farm.py or fop.py. A difference is shown with its cell, as the line of tables/farm.csv or
-tables/fop.csv, both answers, and as few lines as are enough to show one. The last line is 'N events, C of D cells, E
-differences', and the status is 0 only where nothing differs."""
+by line"); with --link it needs to know no more than what crosses the link (docs/BENCH.md). The model is farm.py or
+fop.py. A difference is shown with its cell, as the line of tables/farm.csv or tables/fop.csv, both answers, and as few
+lines as are enough to show one. The last line is 'N events, C of D cells, E differences', and the status is 0 only
+where nothing differs."""
 import argparse
 import random
 import shlex
@@ -21,6 +22,7 @@ import events  # noqa: E402
 from farm import Spacecraft  # noqa: E402
 from fop import Ground  # noqa: E402
 from frames import Fault  # noqa: E402
+from link import AFTER, Link, Whole  # noqa: E402
 
 PIECE, EVENTS_A_RUN, CELL_PLAYS, PATIENCE = 8192, 1000, 2, 60
 
@@ -74,14 +76,23 @@ class Play:
         self.bench, self.node = bench, bench.model()
         self.program = Program(bench.command)
         self.lines, self.waiting, self.octets, self.same = [], [], 0, True
-        self.last = None  # the cell of the last event, which a `show` after it shows
+        self.last = None  # the cell of the last event, which a `show` or a `report` after it shows
 
     def line(self, line):
-        """Gives a line to the model, and later to the program; whether all is the same so far."""
+        """Gives a line to the model, and later to the program; whether all is the same so far. Where only what crosses
+        the link is compared, the control command goes at once, as in the book."""
+        if not self.bench.speaks.fits(self.node, line):
+            return True
+        same = self.give(line)
+        return self.line("send") if same and self.bench.is_due(self.node) and line != "send" else same
+
+    def give(self, line):
         self.bench.watch.cell = None
         answer = self.node.answer(line)
-        self.last = self.bench.watch.cell or (self.last if line == "show" else None)
-        self.waiting.append((line, answer, self.last))
+        cell = self.bench.watch.cell
+        if line not in ("show", "report") or not self.last:
+            self.last = cell
+        self.waiting.append((line, answer, cell, self.last))
         self.octets += len(line) + 1
         return self.octets < PIECE or self.compare()
 
@@ -91,12 +102,12 @@ class Play:
         got = self.program.answers([it[0] for it in self.waiting], len(wanted))
         got += ["(no answer)"] * (len(wanted) - len(got))
         at = 0
-        for line, answer, cell in self.waiting:
+        for line, answer, cell, shown in self.waiting:
             self.lines.append(line)
             if answer is not None:
-                if self.bench.plain(got[at]) != self.bench.plain(answer):
+                if self.bench.compared(got[at]) != self.bench.compared(answer):
                     self.waiting, self.same = [], False
-                    self.bench.differs(self.lines, cell, got[at], answer)
+                    self.bench.differs(self.lines, shown, got[at], answer)
                     return False
                 at += 1
                 if cell:
@@ -109,27 +120,30 @@ class Play:
         if self.waiting:
             self.compare()
         got, wanted = self.program.close(), ending(self.node)
-        if self.same and got != wanted:
+        if self.same and got != wanted and not self.bench.link:
             self.bench.differs(self.lines, None, got, wanted)
 
 
 class Bench:
     """What is played, against which program, and what came of it."""
 
-    def __init__(self, node, command, most, whole, ignored=()):
+    def __init__(self, node, command, speaks, most, whole):
         self.most, self.whole, self.differing = most, whole, []
-        self.ignored = tuple(f"{it}=" for it in ignored if it)
+        self.speaks, self.compared, self.link = speaks, speaks.compared, isinstance(speaks, Link)
         self.command, self.ground = shlex.split(command), node == "ground"
         self.watch = cells.watch_fop() if self.ground else cells.watch_farm()
+        self.watch.book = self.link and speaks.book
         self.differences, self.events, self.met = 0, 0, set()
+        self.tried = None  # the cell that is played, where only what crosses the link is compared
 
-    def plain(self, answer):
-        """An answer without the fields that are not compared, of a program that cannot show them."""
-        return " ".join(it for it in answer.split(" ") if not (self.ignored and it.startswith(self.ignored)))
+    def is_due(self, node):
+        return self.link and self.ground and node.made and node.fop.due
 
     def model(self):
         node, watch = (Ground if self.ground else Spacecraft)(), self.watch
-        begin = node.begin
+        node.book, begin = watch.book, node.begin
+        if self.link:
+            node.config.update(self.speaks.model)
 
         def begins(config):
             begin(config)
@@ -140,6 +154,7 @@ class Bench:
     def differs(self, lines, cell, got, wanted):
         """Shows a difference with few lines, the first one of each cell; ends the program after the most of these."""
         self.differences += 1
+        cell = self.tried or cell
         if cell not in self.differing:
             self.differing.append(cell)
             print(f"difference {self.differences}, at line {len(lines)} since the start"
@@ -147,9 +162,25 @@ class Bench:
             print(f"    the program: {got}\n    the model:   {wanted}", flush=True)
             lines = list(lines) if self.whole else shortened(self.is_different, list(lines))
             print("    the lines since the start:" if self.whole else "    fewer lines that show one:")
-            print(*(f"        {it}" for it in lines), sep="\n", flush=True)
+            print(*self.shown(lines), sep="\n", flush=True)
             if len(self.differing) == self.most:
                 sys.exit(self.summary())
+
+    def shown(self, lines):
+        """Lines as they are shown; where only what crosses the link is compared, a difference may come after its
+        event, so each has its cell."""
+        for line, _, cell in self.walk(lines)[1]:
+            yield f"        {line}{f'    ({cell})' if self.link and cell else ''}"
+
+    def walk(self, lines):
+        """The model after lines, and what is given of them to a program, with the model's answers and the cells."""
+        node, given = self.model(), []
+        for line in lines:
+            while line is not None and self.speaks.fits(node, line):
+                self.watch.cell = None
+                given.append((line, node.answer(line), self.watch.cell))
+                line = "send" if self.is_due(node) and line != "send" else None
+        return node, given
 
     def summary(self):
         """Writes what came of it all; the status."""
@@ -165,32 +196,33 @@ class Bench:
 
     def is_different(self, lines):
         """Whether the program and the model differ in their answers to these lines, or in the status after them."""
-        node, program = self.model(), Program(self.command)
-        wanted = [it for it in map(node.answer, lines) if it is not None]
-        got = program.answers(lines, len(wanted))
-        return program.close() != ending(node) or [*map(self.plain, got)] != [*map(self.plain, wanted)]
+        (node, given), program = self.walk(lines), Program(self.command)
+        wanted = [answer for _, answer, _ in given if answer is not None]
+        got = program.answers([line for line, _, _ in given], len(wanted))
+        end, differs = program.close(), [*map(self.compared, got)] != [*map(self.compared, wanted)]
+        return differs or not self.link and end != ending(node)
 
     def play_cells(self):
         """Plays each way to a state with each event there that comes to a cell that was not played often enough."""
         ways, happens, after = (
             (events.ground_ways, events.ground_events, events.GROUND_AFTER) if self.ground
             else (events.spacecraft_ways, events.spacecraft_events, events.SPACECRAFT_AFTER))
+        after = AFTER["ground" if self.ground else "spacecraft"] if self.link else after
         played = Counter()
-        for way in ways():
-            node = self.model()
-            for line in way:
-                node.answer(line)
-            for event in happens(node):
+        for way in ways(self.model().config):
+            for event in happens(self.walk(way)[0]):
                 cell = self.cell_of(way, event)
-                if cell and played[cell.line] < CELL_PLAYS:
+                if cell and played[cell.line] < (1 if self.link else CELL_PLAYS):
                     played[cell.line] += 1
+                    self.tried = cell if self.link else None
                     for then in after:
                         self.play([*way, event, *then])
+        self.tried = None
 
     def try_hidden(self):
         """Has the model alone do what no line shows: a frame in Wait although a buffer is free, and units that FOP-1
         refuses since one waits or it is in S6."""
-        for way in (events.ground_ways if self.ground else events.spacecraft_ways)():
+        for way in (events.ground_ways if self.ground else events.spacecraft_ways)(self.model().config):
             node = self.model()
             for line in [*way, "show"]:
                 node.answer(line)
@@ -206,11 +238,10 @@ class Bench:
 
     def cell_of(self, way, event):
         """The cell of an event after a way."""
-        node = self.model()
-        for line in way:
-            node.answer(line)
+        node, _ = self.walk(way)
         self.watch.cell = None
-        node.answer(event)
+        if self.speaks.fits(node, event):
+            node.answer(event)
         return self.watch.cell
 
     def play(self, lines):
@@ -223,15 +254,20 @@ class Bench:
 
     def play_random(self, count, chance):
         """Plays random events, some at a time from a new start."""
+        first, looks = (("tick", "send") if self.ground else ("report", "report")) if self.link else ("show", "show")
         while count > 0:
             play = Play(self)
-            for line in [*events.odd_begin(chance), *events.random_config(chance), "show"]:
+            begin = [] if self.link else events.odd_begin(chance)
+            for line in [*begin, *events.random_config(chance), first]:
                 play.line(line)
             source = (events.GroundLines if self.ground else events.SpacecraftLines)(chance, play.node)
             for _ in range(min(count, EVENTS_A_RUN)):
                 count -= 1
                 self.events += 1
-                if not (play.line(source.next()) and play.line("show")):
+                line = source.next()
+                while not self.speaks.fits(play.node, line):
+                    line = source.next()
+                if not (play.line(line) and (looks == "send" or play.line(looks))):
                     break
             play.close()
 
@@ -262,11 +298,21 @@ def main():
     words.add_argument("--ignore", default="", metavar="FIELDS",
                        help="fields of `show` that are not compared, as count,timer,due")
     words.add_argument("--whole", action="store_true", help="shows all lines up to a difference, and not fewer")
+    words.add_argument("--link", action="store_true", help="compares only what crosses the link")
+    words.add_argument("--book", action="store_true", help="with --link: the model does what the book does, where "
+                       'docs/PROFILE.md, "The profile and the books", says otherwise')
+    words.add_argument("--fixed", default="", metavar="FIELD=N,..",
+                       help="with --link: managed parameters that the program has and is not given")
     given = words.parse_args()
-    bench = Bench(given.node, given.against, given.most, given.whole, given.ignore.split(","))
+    if not given.link and (given.book or given.fixed):
+        words.error("--book and --fixed need --link")
+    fixed = {field: int(number) for field, _, number in (it.partition("=") for it in given.fixed.split(",") if it)}
+    speaks = Link(given.node, given.book, fixed) if given.link else Whole(given.ignore.split(","))
+    bench = Bench(given.node, given.against, speaks, given.most, given.whole)
     if not given.no_cells:
         bench.play_cells()
-        bench.try_hidden()
+        if not given.link:
+            bench.try_hidden()
     bench.play_random(given.events, random.Random(given.seed))
     return bench.summary()
 

@@ -25,12 +25,8 @@ GROUND = ["config width 10", "config window 3", "config timer 3", "config limit 
 COMMAND, TELEMETRY = packet(5, b"\xAA"), packet(5, b"\xAA", 0)
 
 
-def ad(n, data=bytes([ALONE << 6 | 4]) + COMMAND):
-    return f"frame {tc_frame(1, 2, AD, n % 256, data).hex()}"
-
-
-def bc(data):
-    return f"frame {tc_frame(1, 2, BC, 0, data).hex()}"
+def frame(config, kind, n=0, data=bytes([ALONE << 6 | 4]) + COMMAND):
+    return f"frame {tc_frame(config['scid'], config['vcid'], kind, n % 256, data).hex()}"
 
 
 def report(value, flags=0, vcid=2):
@@ -38,30 +34,31 @@ def report(value, flags=0, vcid=2):
     return clcw(Clcw(vcid, flags >> 2, flags >> 1 & 1, flags & 1, 0, value % 256)).hex()
 
 
-def spacecraft_ways():
+def spacecraft_ways(config):
     """Lines that lead to each state of FARM-1 with each of its flags, the buffer free and full."""
-    begin = [*SPACECRAFT, bc(b"\x82\0\xFE")]
-    for full in ([], [ad(254)], [ad(254), ad(255)]):
-        for then in ([], [ad(1)], [ad(126)], [ad(1), ad(126)], [ad(126), "take"]):
+    begin = [*SPACECRAFT, frame(config, BC, 0, b"\x82\0\xFE")]
+    first, second, ahead, outside = (frame(config, AD, n) for n in (254, 255, 1, 126))
+    for full in ([], [first], [first, second]):
+        for then in ([], [ahead], [outside], [ahead, outside], [outside, "take"]):
             yield begin + full + then
 
 
 def spacecraft_events(node):
-    vr = node.farm.vr
-    yield from (ad(vr + ahead) for ahead in (0, 1, 4, 251, 255, 5, 128, 250))
-    yield f"frame {tc_frame(1, 2, BD, 0, bytes([ALONE << 6 | 4]) + COMMAND).hex()}"
-    yield from (bc(b"\0"), bc(b"\x82\0\x4D"), "frame 300108070000FFFF", "take", "report", "send")
+    config, vr = node.config, node.farm.vr
+    yield from (frame(config, AD, vr + ahead) for ahead in (0, 1, 4, 251, 255, 5, 128, 250))
+    yield from (frame(config, BD), frame(config, BC, 0, b"\0"), frame(config, BC, 0, b"\x82\0\x4D"))
+    yield from ("frame 300108070000FFFF", "take", "report", "send")
 
 
 #: What shows the rest of a state after an event.
 SPACECRAFT_AFTER = [["show", "report", "take", "takebypass", "show", "send"]]
 
 
-def ground_ways():
+def ground_ways(config):
     """Lines that lead to each state of FOP-1, with units that wait, are sent and are due, and with each count."""
     submit, none = f"submit 4 {COMMAND.hex()}", "init none"
     sent = [none, submit, "send", submit, "send"]
-    repeat, wait = f"clcw {report(254, 1)}", f"clcw {report(254, 3)}"
+    repeat, wait = (f"clcw {report(254, flags, config['vcid'])}" for flags in (1, 3))
     ways = [[], [none], sent, [*sent, submit, "send"], [*sent, *["tick"] * 3], [*sent, *["tick"] * 3, "send"],
             [*sent, "terminate"], [*sent, repeat, "terminate"], [*sent, repeat], [*sent, repeat, "send"],
             [*sent, repeat, "send", "send"], [*sent, wait], [*sent, repeat, wait], ["init check"], ["init unlock"],
@@ -73,9 +70,9 @@ def ground_ways():
 
 
 def ground_events(node):
-    nn, vs = node.fop.nn, node.fop.vs
+    nn, vs, vcid = node.fop.nn, node.fop.vs, node.config["vcid"]
     values = dict.fromkeys(it % 256 for it in (nn, vs, nn + 1, nn - 1, vs + 1))
-    yield from (f"clcw {report(value, flags)}" for value in values for flags in range(8))
+    yield from (f"clcw {report(value, flags, vcid)}" for value in values for flags in range(8))
     yield from ("tick", "send", f"submit 4 {COMMAND.hex()}", "init none", "init check", "init unlock", "init set 77",
                 "terminate", "vs 77", "window 5", "window 6", "window 0", "timer 9", "timer 0", "limit 9", "limit 0",
                 "clcw 81082000", f"resume {vs}", f"bypass 4 {COMMAND.hex()}")

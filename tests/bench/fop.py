@@ -36,9 +36,11 @@ REPORTS = {
 
 
 class Fop:
-    """FOP-1: its numbers, and its queues of units."""
+    """FOP-1: its numbers, and its queues of units. By the book, where docs/PROFILE.md has "otherwise" in its events, it
+    does what the book does."""
 
-    def __init__(self, config):
+    def __init__(self, config, book=False):
+        self.book = book
         self.state, self.vs, self.nn, self.count, self.ticks = 6, 0, 0, 1, 0
         self.room, self.window = config["width"] // 2, config["window"]
         self.limit, self.timer = config["limit"], config["timer"]
@@ -57,7 +59,8 @@ class Fop:
 
     def acknowledge(self, value):
         while self.nn != value:
-            self.sent.popleft()
+            if len(self.sent) == (self.vs - self.nn) % 256:  # (by the book NN(R) may be before what was sent)
+                self.sent.popleft()
             self.nn = (self.nn + 1) % 256
         self.count = 1
 
@@ -88,7 +91,7 @@ class Fop:
         for action in REPORTS[event][self.state - 1].split():
             if action == "ack":
                 self.acknowledge(word.value)
-                if event in ("E2", "E6"):
+                if event == "E2" or event == "E6" and not self.book:
                     self.ticks = self.timer if self.sent else 0
             elif action == "again":
                 self.again()
@@ -101,7 +104,7 @@ class Fop:
         return None
 
     def invalid(self):
-        pass
+        return self.alert("Clcw") if self.book and self.state < 5 else None
 
     def tick(self):
         if self.ticks == 0:
@@ -113,12 +116,12 @@ class Fop:
             return self.alert("Timer")
         if self.state in (1, 2):
             self.again()
-        else:
+        elif self.state == 5 or not self.book:
             self.due, self.count, self.ticks = self.state == 5, self.count + 1, self.timer
         return None
 
     def submit(self, unit):
-        if self.state == 6:
+        if self.state == 6 or self.book and self.state in (4, 5):
             raise Fault(6, "NotOpen")
         if self.waiting is not None:
             raise Fault(7, "Busy")
@@ -143,7 +146,7 @@ class Fop:
         if self.state != 6:
             raise Fault(8, "WrongState")
         self.vs = self.vs if vr is None else vr
-        self.nn, self.count = self.vs, 1
+        self.nn, self.count = self.nn if self.book and vr is None else self.vs, 1
         self.state = {"none": 1, "check": 4, "unlock": 5, "set": 5}[how]
         self.ticks = self.timer if how == "check" else 0
         self.due, self.command = self.state == 5, b"\0" if how == "unlock" else bytes([0x82, 0, self.vs])
@@ -157,10 +160,10 @@ class Fop:
             return BD, 0, self.bypass.popleft()
         if self.state not in (1, 2):
             return None
-        for k, it in enumerate(self.sent):
+        for k, it in enumerate(self.sent, self.vs - len(self.sent)):
             if it[1]:
                 it[1], self.ticks = False, self.timer
-                return AD, (self.nn + k) % 256, it[0]
+                return AD, k % 256, it[0]
         if self.waiting is None or (self.vs - self.nn) % 256 >= self.window:
             return None
         self.count = self.count if self.sent else 1
@@ -200,8 +203,10 @@ BROKEN = {"Lockout", "NnR", "Clcw", "Synch"}
 
 
 class Ground(Node):
+    book = False
+
     def begin(self, config):
-        self.fop, self.extractor, self.packets = Fop(config), Extractor(), deque()
+        self.fop, self.extractor, self.packets = Fop(config, self.book), Extractor(), deque()
         self.pending, self.known = deque(), False
         self.begin_session(False)
 
@@ -249,6 +254,8 @@ class Ground(Node):
         segments = list(self.segments_of(at, packets))
         if len(segments) + len(self.pending) + (fop.waiting is not None) > self.config["queue_slots"]:
             raise Fault(5, "QueueFull")
+        if fop.book and fop.state in (4, 5):
+            fop.submit(segments[0])  # (refused)
         self.ends.append((self.ends[-1] if self.ends else 0) + len(segments))
         self.pending.extend(segments)
         self.refill()
@@ -314,8 +321,8 @@ class Ground(Node):
         try:
             word = read_clcw(octets)
         except Fault as fault:
-            self.fop.invalid()
-            return f"invalid {fault}"
+            alert = self.fop.invalid()
+            return self.said(alert) if alert else f"invalid {fault}"
         return self.report(word) if word.vcid == self.config["vcid"] else "foreign"
 
     def on_take(self):

@@ -1,17 +1,24 @@
 #!/usr/bin/env python3
-"""A session of a FOP-1 with the FARM-1 of another program over two pipes: `session.py GROUND SPACECRAFT`, commands."""
+"""A session of a FOP-1 with the FARM-1 of another program, by commands: `session.py GROUND SPACECRAFT [FIELD=N ..]`."""
 import subprocess
 import sys
 
-def start(command):
+def start(command, fields):
     node = subprocess.Popen(command.split(), stdin=subprocess.PIPE, stdout=subprocess.PIPE, text=True)
 
     def ask(line):
         print(line, file=node.stdin, flush=True)
+        if not line or line.startswith(("#", "config ")):
+            return None  # nothing answers such a line
         return node.stdout.readline().rstrip("\n")
+
+    for field in fields:
+        ask(f"config {field.replace('=', ' ')}")
+    if not ask("show").startswith("state="):
+        sys.exit(f"{command}: a field is unreadable or out of its range")
     return ask
 
-ground, spacecraft = start(sys.argv[1]), start(sys.argv[2])
+ground, spacecraft = (start(it, sys.argv[3:]) for it in sys.argv[1:3])
 ground("init unlock")
 for k in range(3):
     ground(f"submit 4 1005C0000000A{k}")

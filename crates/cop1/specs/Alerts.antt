@@ -18,7 +18,7 @@ shows_broken Terminated = false
 -- where a condition is broken
 abbrev pub begin_anew : List ℕ
 begin_anew =
-    codes "a condition is broken: look for a restart on board, frames out of order or repeated, a second station; do not resume: begin anew, as after a reset"
+    codes "a condition is broken (restart on board, reordering, second station?): begin anew"
 
 -- what to look for, and what to do, in ASCII
 abbrev pub advice : Alert → List ℕ
@@ -27,8 +27,8 @@ advice NnR = begin_anew
 advice Clcw = begin_anew
 advice Synch = begin_anew
 advice Limit =
-    codes "frames or reports were lost: after a silence of the longest round trip, resume by the next CLCW"
+    codes "frames or reports were lost: after one round trip of silence, resume by the next CLCW"
 advice Timer =
-    codes "frames or reports were lost: after a silence of the longest round trip, resume by the next CLCW"
+    codes "frames or reports were lost: after one round trip of silence, resume by the next CLCW"
 advice Terminated =
-    codes "the session was terminated: after a silence of the longest round trip, resume by the next CLCW"
+    codes "the session was terminated: after one round trip of silence, resume by the next CLCW"

@@ -114,13 +114,13 @@ impl Alert {
     {
         match self {
             Alert::Lockout | Alert::NnR | Alert::Clcw | Alert::Synch => {
-                "a condition is broken: look for a restart on board, frames out of order or repeated, a second station; do not resume: begin anew, as after a reset"
+                "a condition is broken (restart on board, reordering, second station?): begin anew"
             }
             Alert::Limit | Alert::Timer => {
-                "frames or reports were lost: after a silence of the longest round trip, resume by the next CLCW"
+                "frames or reports were lost: after one round trip of silence, resume by the next CLCW"
             }
             Alert::Terminated => {
-                "the session was terminated: after a silence of the longest round trip, resume by the next CLCW"
+                "the session was terminated: after one round trip of silence, resume by the next CLCW"
             }
         }
     }

@@ -22,7 +22,7 @@ use crate::parts::{put_field, put_word};
 use crate::record_number::RecordNumber;
 use crate::text::Text;
 use cop1::{Farm, Verdict};
-use map_service::{Assembler, Dropped, Limits, Taken};
+use map_service::{Assembler, Dropped, Limits, TakenInline};
 use octets::Splitter;
 use space_packet::is_packet;
 use std::alloc::{AllocError, Global};
@@ -82,7 +82,7 @@ impl MapListing {
         if let Some(packet) = self.assembler.lone_packet(&segment) {
             return push_packet(text, segment.header.map, packet);
         }
-        let Ok(taken) = self.assembler.take(&segment) else {
+        let Ok(taken) = self.assembler.take_inline(&segment) else {
             return Err(AllocError);
         };
         push_cause(text, index, taken.dropped)?;

@@ -1,9 +1,9 @@
 -- What is handed out at a segment is packets, each exactly one, on a MAP that is open.
 use Rattle.std.proofs.Common.{◌≡◌, ◌<◌, ℕ, Bool, true, false, not, List, [], ◌∷◌, ◌++◌, Option, Some, None, refl, ap}
-use Rattle.std.proofs.Common.{subst}
+use Rattle.std.proofs.Common.{◌≤◌, length, subst}
 use Rattle.std.specs.Prelude.{if◌then◌else◌, nat_lt}
 use Rattle.std.specs.List.{AllByRecursion}
-use Rattle.std.proofs.lemmas.Bool.{cond_both, ltb-true, and_parts, not-false}
+use Rattle.std.proofs.lemmas.Bool.{cond_both, ltb-true, ltb-false, and_parts, or_parts, not-false}
 use Rattle.std.proofs.lemmas.List.{append-nil}
 use Rattle.tc_frame.specs.declared.frame.SegmentFlags.{SegmentFlags}
 use Rattle.tc_frame.specs.declared.frame.SegmentFlags.TheVariants.{First, Continuing, Last, Alone}
@@ -12,7 +12,7 @@ use Rattle.map_service.specs.declared.limits.Limits.{Limits}
 use Rattle.map_service.specs.declared.dropped.Dropped.{Dropped}
 use Rattle.map_service.specs.declared.dropped.Dropped.TheVariants.{NotAPacket, TooLong}
 use Rattle.map_service.specs.Assembly.{is_open, is_too_long}
-use Rattle.map_service.specs.Packets.{packets_in, rest_in, is_packet, are_packets}
+use Rattle.map_service.specs.Packets.{packets_in, rest_in, is_packet, are_packets, is_some_over}
 use Rattle.map_service.specs.declared.decision.Action.TheVariants.{HandOut}
 use Rattle.map_service.specs.Decision.{outcome_with}
 use Rattle.map_service.specs.AssemblerTable.{TakeOutcome, one_fault, several_fault, alone_fault, drop_outcome}
@@ -76,26 +76,37 @@ alone_whole : (limits : Limits) (octets : List ℕ) (blocking : Bool)
 alone_whole limits octets true e = several_whole limits octets e
 alone_whole limits octets false e = (one_whole limits octets e, tt)
 
-given_whole : (earlier : Option Dropped) (packets : List (List ℕ)) (fault : Option Dropped)
-    → (fault ≡ None → AreWhole packets) → AreWhole (packets_outcome earlier packets fault).packets
-given_whole earlier packets None whole = whole refl
-given_whole earlier packets (Some cause) whole = tt
+-- what holds of no packets, of those of an alone segment and of the one that a last segment ends, where these are
+-- handed out, holds of those of each cell
+module _ (P : List (List ℕ) → Type 0) (none : P []) where
+  of_packets : (earlier : Option Dropped) (packets : List (List ℕ)) (fault : Option Dropped)
+      → (fault ≡ None → P packets) → P (packets_outcome earlier packets fault).packets
+  of_packets earlier packets None handed = handed refl
+  of_packets earlier packets (Some cause) handed = none
 
-opened_whole : (limits : Limits) (earlier : Option Dropped) (octets : List ℕ)
-    → AreWhole (part_outcome limits earlier octets).packets
-opened_whole limits earlier octets =
-    cond_both (is_too_long limits octets) (drop_outcome TooLong) _ (λ o. AreWhole o.packets) (λ t. tt) (λ t. tt)
+  of_part : (limits : Limits) (earlier : Option Dropped) (octets : List ℕ)
+      → P (part_outcome limits earlier octets).packets
+  of_part limits earlier octets =
+      cond_both (is_too_long limits octets) (drop_outcome TooLong) _ (λ o. P o.packets) (λ t. none) (λ t. none)
+
+  of_cell : (limits : Limits)
+      → ((octets : List ℕ) → alone_fault limits octets ≡ None → P (alone_packets limits octets))
+      → ((octets : List ℕ) → one_fault limits octets ≡ None → P (octets ∷ []))
+      → (flags : SegmentFlags) (part : Option (List ℕ)) (octets : List ℕ) → P (cell limits flags part octets).packets
+  of_cell limits alone one Alone part octets =
+      of_packets (interruption part) _ (alone_fault limits octets) (alone octets)
+  of_cell limits alone one First part octets = of_part limits (interruption part) octets
+  of_cell limits alone one Continuing None octets = none
+  of_cell limits alone one Continuing (Some part) octets = of_part limits None (part ++ octets)
+  of_cell limits alone one Last None octets = none
+  of_cell limits alone one Last (Some part) octets =
+      of_packets None _ (one_fault limits (part ++ octets)) (one (part ++ octets))
 
 cell_whole : (limits : Limits) (flags : SegmentFlags) (part : Option (List ℕ)) (octets : List ℕ)
     → AreWhole (cell limits flags part octets).packets
-cell_whole limits Alone part octets =
-    given_whole (interruption part) _ (alone_fault limits octets) (alone_whole limits octets limits.blocking)
-cell_whole limits First part octets = opened_whole limits (interruption part) octets
-cell_whole limits Continuing None octets = tt
-cell_whole limits Continuing (Some part) octets = opened_whole limits None (part ++ octets)
-cell_whole limits Last None octets = tt
-cell_whole limits Last (Some part) octets =
-    given_whole None _ (one_fault limits (part ++ octets)) (λ e. (one_whole limits (part ++ octets) e, tt))
+cell_whole limits =
+    of_cell AreWhole tt limits (λ octets. alone_whole limits octets limits.blocking)
+    (λ octets e. (one_whole limits octets e, tt))
 
 pub open_below : (limits : Limits) (m : ℕ) → is_open limits m ≡ true → m < 64
 open_below limits m e = ltb-true m 64 (and_parts (nat_lt m 64) _ e).0
@@ -108,6 +119,46 @@ taken_whole P limits part s none whole =
     cond_both (is_open limits s.header.map) (cell limits s.header.flags part s.payload) _ (λ o. P o.packets)
     (λ t. whole (cell limits s.header.flags part s.payload).packets (open_below limits s.header.map t)
     (cell_whole limits s.header.flags part s.payload)) (λ t. none)
+
+-- ---- no packet that is handed out is longer than a packet may be
+
+abbrev pub AreWithin : ℕ → List (List ℕ) → Type 0
+AreWithin most packets = AllByRecursion (λ (p : List ℕ). length p ≤ most) packets
+
+none_over : (most : ℕ) (packets : List (List ℕ)) → is_some_over most packets ≡ false → AreWithin most packets
+none_over most [] e = tt
+none_over most (p ∷ ps) e =
+    let both = or_parts (nat_lt most (length p)) (is_some_over most ps) e in
+    (ltb-false most (length p) both.0, none_over most ps both.1)
+
+one_within : (limits : Limits) (octets : List ℕ) → one_fault limits octets ≡ None → length octets ≤ limits.max_packet
+one_within limits octets =
+    cond_both (is_too_long limits octets) (Some TooLong) _
+    (λ (o : Option Dropped). o ≡ None → length octets ≤ limits.max_packet)
+    (λ t e. absurd (cc e)) (λ t e. ltb-false limits.max_packet (length octets) t)
+
+several_within : (limits : Limits) (octets : List ℕ) → several_fault limits octets ≡ None
+    → AreWithin limits.max_packet (packets_in octets)
+several_within limits octets =
+    cond_both (not (are_packets octets)) (Some NotAPacket) _
+    (λ (o : Option Dropped). o ≡ None → AreWithin limits.max_packet (packets_in octets)) (λ t e. absurd (cc e))
+    (λ t. cond_both (is_some_over limits.max_packet (packets_in octets)) (Some TooLong) None
+    (λ (o : Option Dropped). o ≡ None → AreWithin limits.max_packet (packets_in octets)) (λ t e. absurd (cc e))
+    (λ t e. none_over limits.max_packet (packets_in octets) t))
+
+alone_within : (limits : Limits) (octets : List ℕ) (blocking : Bool)
+    → (if blocking then several_fault limits octets else one_fault limits octets) ≡ None
+    → AreWithin limits.max_packet (if blocking then packets_in octets else octets ∷ [])
+alone_within limits octets true e = several_within limits octets e
+alone_within limits octets false e = (one_within limits octets e, tt)
+
+pub taken_within : (limits : Limits) (part : Option (List ℕ)) (s : SegmentView)
+    → AreWithin limits.max_packet (take_step limits part s).packets
+taken_within limits part s =
+    cond_both (is_open limits s.header.map) (cell limits s.header.flags part s.payload) _
+    (λ o. AreWithin limits.max_packet o.packets)
+    (λ t. of_cell (AreWithin limits.max_packet) tt limits (λ octets. alone_within limits octets limits.blocking)
+    (λ octets e. (one_within limits octets e, tt)) s.header.flags part s.payload) (λ t. tt)
 
 -- ---- what is dropped with no memory taken hands nothing out
 

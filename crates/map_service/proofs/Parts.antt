@@ -229,7 +229,7 @@ segments-joined part m octets one whole =
     ∙ ap concat (groups_joined (length (packets_in octets)) part (packets_in octets) (omega arith))
     ∙ sym (all_of octets whole)
 
-all-append : {X : Type 0} (P : X → Type 0) (xs ys : List X) → AllByRecursion P xs → AllByRecursion P ys
+pub all-append : {X : Type 0} (P : X → Type 0) (xs ys : List X) → AllByRecursion P xs → AllByRecursion P ys
     → AllByRecursion P (xs ++ ys)
 all-append P [] ys p q = q
 all-append P (x ∷ xs) ys p q = (p.0, all-append P xs ys p.1 q)

@@ -8,7 +8,7 @@ ghost use Rattle.map_service.specs.Assembly.{is_too_long};
 ghost use Rattle.map_service.specs.AssemblerFields.{HasLongest};
 ghost use Rattle.map_service.specs.Prepared.{outcome_of, part_after, HasRoom};
 ghost use Rattle.map_service.specs.AssemblerTable.{packets_outcome, one_fault, cell_at, lone_packet_cell, IsSureAtOnce};
-ghost use Rattle.map_service.specs.Views.{part_view, ready_view};
+ghost use Rattle.map_service.specs.Views.{part_view, packets_view, ready_view};
 
 use crate::decision::{Action, Decision, decide};
 use crate::dropped::Dropped;
@@ -24,6 +24,15 @@ use tc_frame::{Segment, SegmentFlags};
 /// What an assembler answers to a segment.
 #[derive(Drop)]
 pub struct Taken {
+    /// What was dropped, where anything was: the later of two.
+    pub dropped: Option<Dropped>,
+    /// The packets that are whole now, in order, each as its octets.
+    pub packets: Vec<Vec<u8>>,
+}
+
+/// What an assembler answers to a segment, as `Taken`.
+#[derive(Drop)]
+pub struct TakenInline {
     /// What was dropped, where anything was: the later of two.
     pub dropped: Option<Dropped>,
     /// The packets that are whole now, in order, each as its octets. A list of one takes no memory
@@ -109,13 +118,12 @@ impl Assembler {
     /// closed, where there is any. At a fault the assembler is as it was.
     /// Faults: 3 Memory. Memory: yes; none where the segment is dropped at once. Cost: n*, and the
     /// packets handed out.
-    #[inline(always)]
     pub fn take(&mut self, segment: &Segment) -> Result<Taken, MapFault>
         // The table, cell by cell.
         ensures dropped { IfOk result
             (λ t. t.dropped ≡ (step_at self.old (segment_view segment.now)).dropped) }
         ensures packets { IfOk result
-            (λ t. ready_view t.packets ≡ (step_at self.old (segment_view segment.now)).packets) }
+            (λ t. packets_view t.packets ≡ (step_at self.old (segment_view segment.now)).packets) }
         ensures state { OnOk result (self.new ≡ after_step self.old (segment_view segment.now)) }
         ensures memory { OnErr result (self.new ≡ self.old) }
         ensures fault { IfErr result (λ e. e ≡ MapFault.Memory) }
@@ -127,7 +135,32 @@ impl Assembler {
         ensures exact { IfOk result (λ t. (segments : List SegmentView)
             → HasPartsOf self.old segments
             → IsTakenExactly
-            self.new segments (segment_view segment.now) (ready_view t.packets)) }
+            self.new segments (segment_view segment.now) (packets_view t.packets)) }
+    {
+        let Prepared {
+            dropped,
+            packets,
+            change,
+        } = self.prepare_with_spare(segment)?;
+        let packets = listed(self.alloc, packets)?;
+        let closed = self.put(segment, change);
+        self.keep(closed);
+        Ok(Taken { dropped, packets })
+    }
+
+    /// Takes the next segment as `take` does. A list of one packet takes no memory of its own.
+    /// Faults: 3 Memory. Memory: yes; none where the segment is dropped at once. Cost: n*, and the
+    /// packets handed out.
+    #[inline(always)]
+    pub fn take_inline(&mut self, segment: &Segment) -> Result<TakenInline, MapFault>
+        ensures dropped { IfOk result
+            (λ t. t.dropped ≡ (step_at self.old (segment_view segment.now)).dropped) }
+        ensures packets { IfOk result
+            (λ t. ready_view t.packets ≡ (step_at self.old (segment_view segment.now)).packets) }
+        ensures state { OnOk result (self.new ≡ after_step self.old (segment_view segment.now)) }
+        ensures memory { OnErr result (self.new ≡ self.old) }
+        ensures fault { IfErr result (λ e. e ≡ MapFault.Memory) }
+        ensures none { IsSureAtOnce (step_at self.old (segment_view segment.now)) result }
     {
         let Prepared {
             dropped,
@@ -136,7 +169,7 @@ impl Assembler {
         } = self.prepare_with_spare(segment)?;
         let closed = self.put(segment, change);
         self.keep(closed);
-        Ok(Taken { dropped, packets })
+        Ok(TakenInline { dropped, packets })
     }
 
     /// Finds out what comes of the next segment, and takes the memory that this needs. Nothing changes.
@@ -292,6 +325,21 @@ fn put(
             None
         }
     }
+}
+
+// The same packets. A list of none takes no memory.
+fn listed(alloc: Global, packets: SmallVec<Vec<u8>, 1>) -> Result<Vec<Vec<u8>>, MapFault>
+    ensures packets { IfOk result (λ v. packets_view v ≡ ready_view packets) }
+    ensures fault { IfErr result (λ e. e ≡ MapFault.Memory) }
+    ensures none { ready_view packets ≡ [] → IsOk result }
+{
+    if packets.is_empty() {
+        return Ok(Vec::new(alloc));
+    }
+    let Ok(list) = packets.into_vec() else {
+        return Err(MapFault::Memory);
+    };
+    Ok(list)
 }
 
 // No packet is handed out.

@@ -3,5 +3,6 @@ pub mod CommandPackets
 pub mod Delivery
 pub mod InRange
 pub mod Owed
+pub mod Resuming
 pub mod Submissions
 pub mod Waiting

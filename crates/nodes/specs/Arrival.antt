@@ -74,13 +74,14 @@ pub record IsAcceptable (s : SpacecraftState) (segment : SegmentView) (p : Prepa
   pub free : is_free s ≡ true
   pub short : length segment.payload ≤ 1016
 
--- it has this outcome, and accepts this segment
+-- it has this outcome, and accepts this segment; what is kept is not too long
 pub record IsArrivalOf (s : SpacecraftState) (o : SpacecraftOutcome Received)
     (segment : Option SegmentView) (a : Arrival) : Type 0 where
   pub answer : a.received ≡ o.answer
   pub after : after_arrival s a ≡ o.after
   pub accepted : segment_accepted a ≡ segment
   pub acceptable : IfSome a.accepted (λ p. IsAcceptable s (segment_view p.0) p.1)
+  pub within : IfSome a.kept (λ p. length p.octets ≤ s.config.max_packet)
 
 -- this comes of its octets, at a spacecraft in this state
 abbrev pub IsArrivalAt : SpacecraftState → Arrival → Type 0

@@ -1,7 +1,9 @@
 -- How far the submissions of a session have come. They are numbered from 0, in order, and one is
 -- whole when its last segment is.
 use Rattle.std.specs.Prelude.{ℕ, zero, suc, ◌+◌, ◌-◌, ◌%◌, ◌^◌, List, [], ◌∷◌, ◌++◌, length}
-use Rattle.std.specs.Prelude.{Bool, true, false, if◌then◌else◌, Option, None, Some}
+use Rattle.std.specs.Prelude.{Bool, true, false, not, ◌&&◌, if◌then◌else◌, Option, None, Some}
+use Rattle.cop1.specs.Alerts.{shows_broken}
+use Rattle.cop1.specs.declared.vocabulary.Alert.{Alert}
 use Rattle.cop1.specs.declared.vocabulary.Directive.{Directive}
 use Rattle.cop1.specs.declared.vocabulary.Directive.TheVariants.{SetVs}
 use Rattle.cop1.specs.FopDirective.{is_initiation}
@@ -28,7 +30,8 @@ pub record Fates : Type 0 where
   pub acknowledged : ℕ
   -- how many segments of each of the others are not acknowledged, the oldest first
   pub left : List ℕ
-  -- V(S) and NN(R) are the session's: one has begun, and no directive has set V(S) since
+  -- V(S) and NN(R) are the session's, and what a report says by them is so: a session has begun,
+  -- and since then no directive has set V(S), and no alert has shown that a condition is broken
   pub kept : Bool
 
 abbrev pub fates_of : ℕ → List ℕ → Bool → Fates
@@ -50,6 +53,15 @@ whole_with k f = (f.acknowledged + whole_within k f.left) % 2 ^ 64
 abbrev pub after_acknowledging : ℕ → Fates → Fates
 after_acknowledging k f =
     record f { acknowledged = whole_with k f; left = left_after k f.left }
+
+-- there is an alert that shows a broken condition
+abbrev pub shows_one : Option Alert → Bool
+shows_one None = false
+shows_one (Some alert) = shows_broken alert
+
+-- a report has this alert, or none: after one that shows a broken condition nothing is known
+abbrev pub beside_alert : Option Alert → Fates → Fates
+beside_alert alert f = record f { kept = not (shows_one alert) && f.kept }
 
 -- whether V(S) and NN(R) are a session's once a directive is obeyed; none where it leaves them
 abbrev pub number_set : Directive → Option Bool

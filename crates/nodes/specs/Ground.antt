@@ -37,7 +37,7 @@ use Rattle.nodes.specs.declared.heard.HeardClcw.{HeardClcw}
 use Rattle.nodes.specs.declared.heard.HeardReport.TheVariants.{Used, Refused, OtherChannel}
 use Rattle.nodes.specs.CommandPackets.{are_commands}
 use Rattle.nodes.specs.Fates.{Fates, new_fates, with_submission, whole_with, after_acknowledging}
-use Rattle.nodes.specs.Fates.{after_obeying}
+use Rattle.nodes.specs.Fates.{after_obeying, beside_alert}
 use Rattle.nodes.specs.Parameters.{limits_of}
 use Rattle.nodes.specs.Steps.{Outcome}
 
@@ -199,25 +199,25 @@ known_on_board s value =
     then option_map (λ k. whole_with k s.fates) (accepted_beyond s.fop.nn s.fop.vs value)
     else None
 
--- the session has ended, its numbers stand, and the value lies from NN(R) to V(S)
+-- the same where the sender is in S6, in which the next session may begin
+abbrev pub known_at_end : GroundState → ℕ → Option ℕ
+known_at_end s value = if is_closed s.fop.state then known_on_board s value else None
+
 abbrev pub can_resume : GroundState → ℕ → Bool
-can_resume s value =
-    is_closed s.fop.state && s.fates.kept
-    && not (nat_lt (sent_beyond s) (ahead_by value s.fop.nn))
+can_resume s value = is_some (known_at_end s value)
 
 -- V(S) is set to the value, and a session begins by Unlock
 abbrev pub after_resuming : GroundState → ℕ → GroundState
 after_resuming s value =
     (ground_directive (ground_directive s (SetVs value)).after InitUnlock).after
 
--- with how many submissions of the session that ended are on board
+-- where it is known how many submissions of the session that ended are on board; or it is refused
+abbrev pub resumed_from : GroundState → ℕ → Option ℕ → GroundOutcome (Result ℕ LinkFault)
+resumed_from s value (Some whole) = record { answer = Ok whole; after = after_resuming s value }
+resumed_from s value None = record { answer = Err NotKnown; after = s }
+
 abbrev pub ground_resume : GroundState → ℕ → GroundOutcome (Result ℕ LinkFault)
-ground_resume s value =
-    if can_resume s value then record {
-      answer = Ok (whole_with (ahead_by value s.fop.nn) s.fates);
-      after = after_resuming s value;
-    }
-    else record { answer = Err NotKnown; after = s }
+ground_resume s value = resumed_from s value (known_at_end s value)
 
 abbrev pub ground_tick : GroundState → GroundOutcome (Option Alert)
 ground_tick s = sender_outcome s (sender.fop_step s.fop sender.Tick)
@@ -249,10 +249,14 @@ after_extraction s x = record s { extractor = x.after; telemetry = s.telemetry +
 abbrev pub moved_by : (new old : ℕ) → ℕ
 moved_by new old = if new == old then 0 else ahead_by new old
 
--- the sender obeys a report, by which segments may be acknowledged
-abbrev pub after_report : GroundState → FopState SegmentView → GroundState
-after_report s fop =
-    with_fop (record s { fates = after_acknowledging (moved_by fop.nn s.fop.nn) s.fates }) fop
+-- the sender obeys a report, by which segments may be acknowledged, and of which an alert may come
+abbrev pub acknowledging : GroundState → FopOutcome SegmentView (Option Alert) → GroundState
+acknowledging s o = record s {
+  fates = beside_alert o.answer (after_acknowledging (moved_by o.after.nn s.fop.nn) s.fates);
+}
+
+abbrev pub after_report : GroundState → FopOutcome SegmentView (Option Alert) → GroundState
+after_report s o = with_fop (acknowledging s o) o.after
 
 -- a report reaches the sender where it is one of this ground's virtual channel
 abbrev pub report_outcome : GroundState → Result Clcw ClcwFault → GroundOutcome HeardClcw
@@ -266,7 +270,7 @@ report_outcome s (Ok report) =
         report = Used;
         alert = (sender.fop_step s.fop (sender.Report report)).answer;
       };
-      after = after_report s (sender.fop_step s.fop (sender.Report report)).after;
+      after = after_report s (sender.fop_step s.fop (sender.Report report));
     }
     else record { answer = record { report = OtherChannel; alert = None }; after = s }
 

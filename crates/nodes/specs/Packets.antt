@@ -1,5 +1,6 @@
 -- Packets, with the MAPs that they are on.
-use Rattle.std.specs.Prelude.{ℕ, List, map}
+use Rattle.std.specs.Prelude.{ℕ, List, map, length, ◌≤◌}
+use Rattle.std.specs.List.{AllByRecursion}
 use Rattle.std.specs.Borrow.{Bor}
 use Rattle.std.specs.declared.vec.Vec.{Vec}
 
@@ -13,6 +14,10 @@ packet_on m octets = record { on_map = m; octets = octets }
 
 abbrev pub put_on_map : ℕ → List (List ℕ) → List PacketOn
 put_on_map m packets = map (packet_on m) packets
+
+-- each has at most this many octets
+abbrev pub AreWithin : ℕ → List PacketOn → Type 0
+AreWithin most packets = AllByRecursion (λ (p : PacketOn). length p.octets ≤ most) packets
 
 -- as it is handed out, without where it lies in memory
 abbrev pub packet_view : {Z : Type 0} → ℕ × Vec ℕ Z → PacketOn

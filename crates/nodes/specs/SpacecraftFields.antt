@@ -5,6 +5,7 @@ use Rattle.map_service.specs.Exactness.{HasPartsOf}
 use Rattle.tm_link.specs.Builder.{BuilderState}
 use Rattle.nodes.specs.declared.config.Config.{Config}
 use Rattle.nodes.specs.declared.spacecraft.Spacecraft.TheInside.{Inside}
+use Rattle.nodes.specs.Packets.{AreWithin}
 use Rattle.nodes.specs.Parameters.{limits_of}
 use Rattle.nodes.specs.Spacecraft.{SpacecraftState}
 
@@ -37,3 +38,6 @@ pub record IsSound (s : Inside) : Type 0 where
   -- so many packets wait at most
   pub waiting : length s.ready.items ≤ s.config.ready_slots + 169
   pub past : length s.bypass.items ≤ s.config.bypass_slots
+  -- none of them is too long
+  pub within : AreWithin s.config.max_packet s.ready.items
+  pub past_within : AreWithin s.config.max_packet s.bypass.items

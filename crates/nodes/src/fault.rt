@@ -21,13 +21,13 @@ pub enum LinkFault {
     /// There was no memory.
     Memory = 6,
     /// Nothing is known of how far the session has come.
-    NotKnown = 7,
+    NotKnown = 10,
 }
 
 impl LinkFault {
     ghost use Rattle.nodes.specs.Faults.{fault_row};
 
-    /// The fault's number, from 1.
+    /// The fault's number. 7 to 9 are those of the simulated link.
     pub fn number(self) -> u8
         ensures { result ≡ (fault_row self).0 }
     {

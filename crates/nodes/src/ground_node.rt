@@ -28,7 +28,8 @@ pub struct Ground {
     fop: Fop<OwnedSegment>,
     pending: VecDeque<OwnedSegment>,
     // how many submissions of the session are acknowledged whole, modulo 2^64; how many segments of each
-    // of the others are not, the oldest first; whether V(S) and NN(R) are the session's
+    // of the others are not, the oldest first; whether V(S) and NN(R) are the session's, and no alert has
+    // shown that a condition is broken
     acknowledged: u64,
     left: VecDeque<usize>,
     kept: bool,

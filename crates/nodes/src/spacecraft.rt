@@ -169,9 +169,11 @@ impl Spacecraft {
         }
     }
 
-    /// The packet that `take` takes next, lent, with its MAP; the spacecraft stays as it is.
+    /// The packet that `take` takes next, lent, with its MAP; the spacecraft stays as it is. It has at
+    /// most `max_packet` octets.
     pub fn peek(&self) -> Option<(u8, &[u8])>
-        ensures { option_map lent_packet result ≡ (spacecraft_step self.now Take).answer }
+        ensures answer { option_map lent_packet result ≡ (spacecraft_step self.now Take).answer }
+        ensures within { IfSome result (λ p. length p.1.now ≤ self.now.config.max_packet) }
     {
         match self.ready.front() {
             Some(packet) => Some(packet.parts()),
@@ -179,9 +181,12 @@ impl Spacecraft {
         }
     }
 
-    /// The packet that `take_bypass` takes next, lent, with its MAP; the spacecraft stays as it is.
+    /// The packet that `take_bypass` takes next, lent, with its MAP; the spacecraft stays as it is. It
+    /// has at most `max_packet` octets.
     pub fn peek_bypass(&self) -> Option<(u8, &[u8])>
-        ensures { option_map lent_packet result ≡ (spacecraft_step self.now TakeBypass).answer }
+        ensures answer { option_map lent_packet result
+            ≡ (spacecraft_step self.now TakeBypass).answer }
+        ensures within { IfSome result (λ p. length p.1.now ≤ self.now.config.max_packet) }
     {
         match self.bypass.front() {
             Some(packet) => Some(packet.parts()),
@@ -190,14 +195,15 @@ impl Spacecraft {
     }
 
     /// Takes the oldest packet that sequence-controlled frames carried, with its MAP (CCSDS
-    /// 232.0-B-4, 4.4). There is room on board again where fewer packets than the ready slots wait
-    /// then.
+    /// 232.0-B-4, 4.4): at most `max_packet` octets. There is room on board again where fewer packets
+    /// than the ready slots wait then.
     pub fn take(&mut self) -> Option<(u8, Vec<u8>)>
         ensures answer { option_map packet_view result ≡ (spacecraft_step self.old Take).answer }
         ensures after { self.new ≡ (spacecraft_step self.old Take).after }
 
         // It is exactly one packet, on one of the 64 MAPs.
         ensures packet { IfSome result (λ p. IsPacketOn (packet_view p)) }
+        ensures within { IfSome result (λ p. length p.1.items ≤ self.old.config.max_packet) }
     {
         let Some(packet) = self.ready.pop_front() else {
             return None;
@@ -209,7 +215,7 @@ impl Spacecraft {
     }
 
     /// Takes the oldest packet that frames past the sequence control carried, with its MAP (CCSDS
-    /// 232.0-B-4, 4.4).
+    /// 232.0-B-4, 4.4): at most `max_packet` octets.
     pub fn take_bypass(&mut self) -> Option<(u8, Vec<u8>)>
         ensures answer { option_map packet_view result
             ≡ (spacecraft_step self.old TakeBypass).answer }
@@ -217,6 +223,7 @@ impl Spacecraft {
 
         // It is exactly one packet, on one of the 64 MAPs.
         ensures packet { IfSome result (λ p. IsPacketOn (packet_view p)) }
+        ensures within { IfSome result (λ p. length p.1.items ≤ self.old.config.max_packet) }
     {
         match self.bypass.pop_front() {
             Some(packet) => Some(packet.into_parts()),

@@ -19,9 +19,9 @@ use Rattle.tm_link.specs.Layout.{FrameView}
 use Rattle.tm_link.specs.Layout as telemetry
 use Rattle.cop1.specs.Units.{IsFop}
 use Rattle.cop1.specs.FopWords.{is_outside}
-use Rattle.nodes.specs.Ground.{after_report, report_outcome, is_own_telemetry, moved_by}
+use Rattle.nodes.specs.Ground.{after_report, acknowledging, report_outcome, is_own_telemetry}
 use Rattle.nodes.specs.declared.heard.HeardClcw.{HeardClcw}
-use Rattle.nodes.specs.Fates.{Fates, with_submission, after_acknowledging, after_obeying}
+use Rattle.nodes.specs.Fates.{with_submission, after_obeying}
 use Rattle.nodes.specs.Ground as ground
 pub use Rattle.nodes.proofs.Owed.{IsConfirming, IsCause, AtEachState, reported}
 use Rattle.nodes.proofs.Owed.{without_mark}
@@ -33,11 +33,11 @@ use Rattle.nodes.proofs.Owed.{without_mark}
 pub record AtEachFrame (s : GroundState) (P : GroundState → Type 0) : Type 0 where
   pub same : P s
   pub extracts : (x : Extracted) → P (after_extraction s x)
-  pub uses : (x : Extracted) (report : Clcw) → P (after_report (after_extraction s x) (clcw_step s.fop report).after)
+  pub uses : (x : Extracted) (report : Clcw) → P (after_report (after_extraction s x) (clcw_step s.fop report))
 
 -- of a report, which a frame carried or which came by itself
 pub report_seen : (s : GroundState) (P : GroundState → Type 0) → P s
-    → ((report : Clcw) → P (after_report s (clcw_step s.fop report).after)) → (r : Result Clcw ClcwFault)
+    → ((report : Clcw) → P (after_report s (clcw_step s.fop report))) → (r : Result Clcw ClcwFault)
     → P (report_outcome s r).after
 report_seen s P same uses (Err fault) = same
 report_seen s P same uses (Ok report) =
@@ -224,17 +224,16 @@ module _ (s : GroundState) (fop : IsFop s.fop) (octet : s.fop.nn < 256) where
     same = same_less s refl;
     extracts = λ x. same_less (after_extraction s x) refl;
     uses = λ x report.
-        let f : FopState SegmentView = (clcw_step s.fop report).after in
-        let fates : Fates = after_acknowledging (moved_by f.nn s.fop.nn) s.fates in
-        refilled_less (record (after_extraction s x) { fates = fates; fop = f }) (report_gone s.fop fop octet report);
+        let o = clcw_step s.fop report in
+        refilled_less (record (acknowledging (after_extraction s x) o) { fop = o.after })
+        (report_gone s.fop fop octet report);
   })
 
   -- when a control word arrives by itself
   pub word_less : (r : Result Clcw ClcwFault) → IsLess (ground.report_outcome s r).after
   word_less = report_seen s IsLess (same_less s refl) (λ report.
-      let f : FopState SegmentView = (clcw_step s.fop report).after in
-      let fates : Fates = after_acknowledging (moved_by f.nn s.fop.nn) s.fates in
-      refilled_less (record s { fates = fates; fop = f }) (report_gone s.fop fop octet report))
+      let o = clcw_step s.fop report in
+      refilled_less (record (acknowledging s o) { fop = o.after }) (report_gone s.fop fop octet report))
 
 -- ---- nothing is sent first where nothing goes
 

@@ -23,7 +23,8 @@ use Rattle.tm_link.specs.Builder.{after_queue, is_to_send}
 use Rattle.tm_link.specs.Extractor.{ExtractorState}
 use Rattle.tm_link.specs.Layout as telemetry
 use Rattle.tm_link.specs.Decoding as telemetry_reading
-use Rattle.nodes.specs.Ground.{report_outcome, can_resume, is_over_slots, bypass_fault}
+use Rattle.nodes.specs.Ground.{report_outcome, can_resume, known_at_end, is_over_slots, bypass_fault}
+use Rattle.nodes.proofs.Resuming.{resumed_or, resumed_known}
 use Rattle.nodes.specs.declared.fault.LinkFault.TheVariants.{NotKnown}
 use Rattle.nodes.specs.Ground as ground
 use Rattle.nodes.specs.Spacecraft.{spacecraft_receive, spacecraft_take, spacecraft_take_bypass, spacecraft_telemetry}
@@ -145,12 +146,20 @@ module _ (w : World) (P : WorldOutcome → Type 0) (each : AtEachLoss w P) where
 -- the ground resumes, or refuses to
 module _ (w : World) (value : ℕ) where
   pub resumes : (P : WorldOutcome → Type 0) → P (world_reply (Refused (Link NotKnown)) w)
-      → ((whole : ℕ) → can_resume w.ground_node value ≡ true → P (world_reply (Resumed whole) (resumed w value)))
+      → ((whole : ℕ) → known_at_end w.ground_node value ≡ Some whole → can_resume w.ground_node value ≡ true
+      → P (world_reply (Resumed whole) (resumed w value)))
       → P (world_step w (events.Resume value))
   resumes P refused each =
-      cond_both (can_resume w.ground_node value) _ _
-      (λ (o : GroundOutcome (Result ℕ LinkFault)). P (world_after_resuming w value o.answer)) (λ can. each _ can)
-      (λ t. refused)
+      resumed_or w.ground_node value
+      (λ (o : GroundOutcome (Result ℕ LinkFault)). P (world_after_resuming w value o.answer))
+      each (λ t. refused)
+
+  -- where it does not refuse
+  pub resumed_after : can_resume w.ground_node value ≡ true
+      → (world_step w (events.Resume value)).after ≡ resumed w value
+  resumed_after can =
+      ap (λ (o : GroundOutcome (Result ℕ LinkFault)). (world_after_resuming w value o.answer).after)
+      (resumed_known w.ground_node value can).2
 
 -- What an event may do, by its kind.
 
@@ -223,7 +232,7 @@ pub record AtEachStep (w : World) (e : Event) (P : World → Type 0) : Type 0 wh
   pub hears : (b : List ℕ) (bs : List (List ℕ)) → w.down ≡ b ∷ bs → BringsReport e → (x : ExtractorState)
       (packets : List (List ℕ)) (r : Clcw)
       → P (with_heard w (ground.after_report (record w.ground_node { extractor = x; telemetry = packets })
-      (clcw_step w.ground_node.fop r).after) bs)
+      (clcw_step w.ground_node.fop r)) bs)
 
 module _ (w : World) (P : World → Type 0) where
   abbrev After : WorldOutcome → Type 0
@@ -275,7 +284,7 @@ module _ (w : World) (P : World → Type 0) where
   stepped (events.Bypass m octets) each =
       bypassed _ each.same (bypass_fault w.ground_node m octets.now) (each.bypasses m octets refl)
   stepped (events.Directive d) each = each.directs d refl
-  stepped (events.Resume value) each = resumes w value After each.same (λ whole can. each.restarts value refl can)
+  stepped (events.Resume value) each = resumes w value After each.same (λ whole known can. each.restarts value refl can)
   stepped events.Send each = pulled w After (λ reply up sent silent. each.sends refl up sent)
   stepped events.UpDeliver each = up_arrives w After each.same (each.receives refl)
   stepped events.UpLose each = first_on After (up_lose_step w) w.up each.same each.up_gone
@@ -341,10 +350,10 @@ pub record AtEachStepOnGround (w : World) (e : Event) (P : GroundState → Sessi
       (session_after_report w.session w.ground_node (record w.ground_node { extractor = x; telemetry = packets }))
   pub hears : BringsReport e → (x : ExtractorState) (packets : List (List ℕ)) (r : Clcw)
       → P (ground.after_report (record w.ground_node { extractor = x; telemetry = packets })
-      (clcw_step w.ground_node.fop r).after)
+      (clcw_step w.ground_node.fop r))
       (session_after_report w.session w.ground_node
       (ground.after_report (record w.ground_node { extractor = x; telemetry = packets })
-      (clcw_step w.ground_node.fop r).after))
+      (clcw_step w.ground_node.fop r)))
 
 pub ground_after : (w : World) (P : GroundState → Session → Type 0) (e : Event) → AtEachStepOnGround w e P
     → P (world_step w e).after.ground_node (world_step w e).after.session
@@ -407,7 +416,7 @@ silent w (events.Submit m octets) other = submission_silent (unless_refused (sub
 silent w (events.Bypass m octets) other = submission_silent (unless_refused (bypass_fault w.ground_node m octets.now)
     w.ground_node (ground.after_bypass w.ground_node m octets.now)).answer
 silent w (events.Directive d) other = absurd (other tt)
-silent w (events.Resume value) other = resumes w value IsSilent refl (λ whole can. refl)
+silent w (events.Resume value) other = resumes w value IsSilent refl (λ whole known can. refl)
 silent w events.Send other = pulled w IsSilent (λ reply up sent none. none)
 silent w events.UpDeliver other = up_arrives w IsSilent tt (λ b bs is. refl)
 silent w events.Report other = refl
@@ -495,5 +504,5 @@ refused_keeps w (events.UpDamage octets) = lost w (Keeps w) (losses w) (events.U
 refused_keeps w events.DownLose = lost w (Keeps w) (losses w) events.DownLose tt
 refused_keeps w (events.DownDamage octets) = lost w (Keeps w) (losses w) (events.DownDamage octets) tt
 refused_keeps w events.DownClcw = word_arrives w (Keeps w) (losses w) (λ b bs is r. tt)
-refused_keeps w (events.Resume value) = resumes w value (Keeps w) tt (λ whole can. tt)
+refused_keeps w (events.Resume value) = resumes w value (Keeps w) tt (λ whole known can. tt)
 refused_keeps w _ = tt

@@ -58,7 +58,7 @@ pub use Rattle.tm_link.specs.Extractor.{ExtractorState, without_idle}
 pub use Rattle.tm_link.specs.Stream.{choice}
 pub use Rattle.nodes.proofs.Submissions.{segments_fit}
 pub use Rattle.nodes.specs.Ground.{unsent_segments, bypass_fault, after_bypass, frame_of, directive_outcome}
-pub use Rattle.nodes.specs.Ground.{segments_on, ground_telemetry, after_report, moved_by}
+pub use Rattle.nodes.specs.Ground.{segments_on, ground_telemetry, after_report, acknowledging, moved_by}
 pub use Rattle.nodes.specs.Fates.{Fates, with_submission, after_acknowledging, after_obeying}
 pub use Rattle.nodes.specs.OwnedFields.{FitsFrame}
 pub use Rattle.nodes.specs.Parameters.{IsConfig}
@@ -95,9 +95,6 @@ submitting s m octets = record s {
   pending = s.pending ++ segments_on s m octets;
   fates = with_submission (length (segments_on s m octets)) s.fates;
 }
-
-abbrev pub acknowledging : GroundState → FopState SegmentView → GroundState
-acknowledging s f = record s { fates = after_acknowledging (moved_by f.nn s.fop.nn) s.fates }
 
 -- In S6 the sender is closed, and in no other state.
 

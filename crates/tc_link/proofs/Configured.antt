@@ -25,7 +25,7 @@ use Rattle.nodes.specs.declared.received.Received.TheVariants.{Sequence}
 use Rattle.nodes.specs.Ground.{GroundEvent, Submit, Bypass, Direct, Pull, Tick, Telemetry, ControlWord, TakeTelemetry}
 use Rattle.nodes.specs.Ground.{ForgetTelemetry, ground_step, after_moving_up, after_directive, report_outcome}
 use Rattle.nodes.specs.Ground.{ground_take_telemetry, is_own_telemetry, beside_packets}
-use Rattle.nodes.specs.Ground.{Resume, can_resume, after_resuming, ground_directive}
+use Rattle.nodes.specs.Ground.{Resume, known_at_end, resumed_from, after_resuming, ground_directive}
 use Rattle.nodes.specs.Packets.{PacketOn, put_on_map}
 use Rattle.nodes.specs.Spacecraft.{SpacecraftEvent, Receive, Take, TakeBypass, Report, spacecraft_step, after_farm}
 use Rattle.nodes.specs.Spacecraft.{Telemetry as Queue, is_accepted, assemble_step, spacecraft_take}
@@ -92,6 +92,12 @@ module _ (g b : Config) where
       ∙ ap (λ (x : GroundState). ground_with g (ground_directive x InitUnlock).after)
       (directed_own s d o.answer o.after)
 
+  resumed_from_as : (s : GroundState) (value : ℕ) (o : Option ℕ)
+      → resumed_from (ground_with g s) value o ≡ ground_outcome_with g (resumed_from (ground_with c s) value o)
+  resumed_from_as s value (Some whole) =
+      ap (λ (after : GroundState). record { answer = Ok whole; after = after }) (resumed_as s value)
+  resumed_from_as s value None = refl
+
   sends_as : (pulled : PulledUnit SegmentView) → frame_to_send g pulled ≡ frame_to_send c pulled
   sends_as NothingPulled = refl
   sends_as _ = refl
@@ -103,7 +109,7 @@ module _ (g b : Config) where
       either (ground_outcome_with g) (report.vcid == g.vcid)
       (ap (λ (after : GroundState).
       record { answer = record { report = Used; alert = (clcw_step s.fop report).answer }; after = after })
-      (refilled_with_as (acknowledging s (clcw_step s.fop report).after) (clcw_step s.fop report).after))
+      (refilled_with_as (acknowledging s (clcw_step s.fop report)) (clcw_step s.fop report).after))
       refl
 
   framed_as : (s : GroundState) (r : Result telemetry.FrameView TmFault)
@@ -132,10 +138,7 @@ module _ (g b : Config) where
       ap (λ (after : GroundState). record { answer = answer; after = after })
       (directed_as s directive answer (directive_step s.fop directive).after)
   ground_as s (Resume value) =
-      either (ground_outcome_with g) (can_resume s value)
-      (ap (λ (after : GroundState).
-      record { answer = Ok (whole_with (ahead_by value s.fop.nn) s.fates); after = after }) (resumed_as s value))
-      refl
+      resumed_from_as s value (known_at_end s value)
   ground_as s Pull =
       ap (λ (frame : Option FrameView). record
       { answer = frame; after = with_fop (ground_with g s) (pull_step s.fop).after })

@@ -8,7 +8,8 @@ use Rattle.tc_link.proofs.Common.{GroundState, GroundOutcome, is_closed, after_r
 use Rattle.tc_link.proofs.Common.{telemetry_outcome, own_frame_outcome, IsChecked, World, is_confirmation}
 use Rattle.tc_link.proofs.Common.{AtMostOneStep, Rises, acknowledging, ground_telemetry, Option, None, if◌then◌else◌}
 use Rattle.tc_link.proofs.Common.{PlainLink, WorldOutcome, world_step, down_deliver_step, with_fop, Alert, Idle}
-use Rattle.tc_link.proofs.Common.{FopMode, S1, S4, S5, S6, FopOutcome, units_of, after_alert, goes_on, is_initialising}
+use Rattle.tc_link.proofs.Common.{FopMode, S1, S4, S5, S6, FopOutcome, units_of, after_alert, alerts, goes_on}
+use Rattle.tc_link.proofs.Common.{is_initialising}
 use Rattle.tc_link.proofs.Common.{◌%◌, report_in, report_while_active}
 use Rattle.std.proofs.lemmas.List.{drop-drop}
 use Rattle.tm_link.specs.Decoding.{frame_at}
@@ -42,7 +43,7 @@ use Rattle.simulated_link.proofs.Unchanged.{with_heard}
 abbrev pub used : GroundState → Extracted → Clcw → GroundOutcome Heard
 used s x report = record {
   answer = Frame x.gap (length x.packets) Used (clcw_step s.fop report).answer;
-  after = after_report (after_extraction s x) (clcw_step s.fop report).after;
+  after = after_report (after_extraction s x) (clcw_step s.fop report);
 }
 
 pub used_is : (c : Config) (s : GroundState) (octets : List ℕ) (report : Clcw) → s.config ≡ c
@@ -59,7 +60,7 @@ used_is c s octets report is t =
 abbrev pub used_word : GroundState → Clcw → GroundOutcome HeardClcw
 used_word s report = record {
   answer = record { report = Used; alert = (clcw_step s.fop report).answer };
-  after = after_report s (clcw_step s.fop report).after;
+  after = after_report s (clcw_step s.fop report);
 }
 
 -- ---- a report leads to another sender
@@ -75,15 +76,18 @@ pub record Moves (base : ℕ) (s : FopState SegmentView) (a v gone : ℕ) (f : F
 
 -- the first report is no longer on its way, and the session may be at another stage
 pub heard_keeps : (early to : Bool) (c : Config) (d : Directive) (base : ℕ) (w : World) (g : In early c d base w)
-    (x : Extracted) (bs : List (List ℕ)) (rs : List Clcw) (v : ℕ) (vs : List ℕ) (f : FopState SegmentView) (gone : ℕ)
-    → g.plain.down ≡ v ∷ vs → Reporting c bs rs → length rs ≡ length vs → Rises g.plain.a (v ∷ vs) g.plain.r
-    → Moves base w.ground_node.fop g.plain.a v gone f
-    → Stage to d base f.state f.control w.spacecraft.farm
-    (w.session.confirmed || is_confirmation w.ground_node.fop.state f.state) g.front rs (g.plain.a + gone) g.plain.r
-    g.plain.n vs → Next to c d base g.plain (with_heard w (after_report (after_extraction w.ground_node x) f) bs)
-heard_keeps early to c d base w g x bs rs v vs f gone also rest count up moves stage =
+    (x : Extracted) (bs : List (List ℕ)) (rs : List Clcw) (v : ℕ) (vs : List ℕ)
+    (o : FopOutcome SegmentView (Option Alert)) (gone : ℕ) → g.plain.down ≡ v ∷ vs → Reporting c bs rs
+    → length rs ≡ length vs → Rises g.plain.a (v ∷ vs) g.plain.r
+    → Moves base w.ground_node.fop g.plain.a v gone o.after
+    → Stage to d base o.after.state o.after.control w.spacecraft.farm
+    (w.session.confirmed || is_confirmation w.ground_node.fop.state o.after.state) g.front rs (g.plain.a + gone)
+    g.plain.r g.plain.n vs
+    → Next to c d base g.plain (with_heard w (after_report (after_extraction w.ground_node x) o) bs)
+heard_keeps early to c d base w g x bs rs v vs o gone also rest count up moves stage =
     refilled_keeps (λ t. Next to c d base g.plain (with_heard w t bs))
-    (record (acknowledging (after_extraction w.ground_node x) f) { fop = f }) (λ waiting pending on off.
+    (record (acknowledging (after_extraction w.ground_node x) o) { fop = o.after }) (λ waiting pending on off.
+    let f : FopState SegmentView = o.after in
     let p = g.plain in
     let l = g.linked in
     let a : ℕ = p.a + gone in
@@ -151,11 +155,12 @@ module _ (c : Config) (w : World) (k : Sound c w) where
     word_apart : (down_clcw_step w (b ∷ bs)).after ≡ with_telemetry_of w (down_deliver_step w (b ∷ bs)).after
     word_apart =
         let s : GroundState = w.ground_node in
-        let f : FopState SegmentView = (clcw_step s.fop r).after in
+        let o : FopOutcome SegmentView (Option Alert) = clcw_step s.fop r in
         ap (λ (o : WorldOutcome). o.after) word_is
-        ∙ ap (λ (g : GroundState). with_heard w g bs) (refilled_apart (acknowledging s f) f s.extractor s.telemetry)
+        ∙ ap (λ (g : GroundState). with_heard w g bs)
+        (refilled_apart (acknowledging s o) o.after s.extractor s.telemetry)
         ∙ sym (ap (λ (g : GroundState). with_telemetry_of w (with_heard w g bs))
-        (refilled_apart (acknowledging s f) f extracted.after (s.telemetry ++ extracted.packets)))
+        (refilled_apart (acknowledging s o) o.after extracted.after (s.telemetry ++ extracted.packets)))
         ∙ sym (ap (λ (o : GroundOutcome Heard). with_telemetry_of w (with_heard w o.after bs)) whole_is)
 
     word_says : SaysAs (down_deliver_step w (b ∷ bs)).answer (down_clcw_step w (b ∷ bs)).answer
@@ -337,8 +342,8 @@ module _ (c : Config) (d : Directive) (base : ℕ) (w : World) (k : Sound c w) (
       (is : g.reports ≡ r ∷ rs) (also : g.plain.down ≡ v ∷ vs) (rest : Reporting c bs rs)
       (count : length rs ≡ length vs) (up : Rises g.plain.a (v ∷ vs) g.plain.r) where
     abbrev Hears : FopOutcome SegmentView (Option Alert) → Type 0
-    Hears o = Next true c d base g.plain (with_heard w (after_report (after_extraction w.ground_node x) o.after) bs)
-        ⊎ Confirmed c d base g.plain (with_heard w (after_report (after_extraction w.ground_node x) o.after) bs)
+    Hears o = Next true c d base g.plain (with_heard w (after_report (after_extraction w.ground_node x) o) bs)
+        ⊎ Confirmed c d base g.plain (with_heard w (after_report (after_extraction w.ground_node x) o) bs)
 
     lasts : Lasts base (r ∷ rs) (WouldConfirm base w.spacecraft.farm)
     lasts = rw is at g.stage.lasts
@@ -363,15 +368,15 @@ module _ (c : Config) (d : Directive) (base : ℕ) (w : World) (k : Sound c w) (
     }
 
     -- the session is not confirmed
-    stays_early : (f : FopState SegmentView) → IsEarly d f.state → ControlFits d base f.control
-        → Moves base w.ground_node.fop g.plain.a v 0 f
-        → Next true c d base g.plain (with_heard w (after_report (after_extraction w.ground_node x) f) bs)
-    stays_early f early command_is to =
-        heard_keeps true true c d base w g x bs rs v vs f 0 also rest count up to (record {
+    stays_early : (o : FopOutcome SegmentView (Option Alert)) → IsEarly d o.after.state
+        → ControlFits d base o.after.control → Moves base w.ground_node.fop g.plain.a v 0 o.after
+        → Next true c d base g.plain (with_heard w (after_report (after_extraction w.ground_node x) o) bs)
+    stays_early o early command_is to =
+        heard_keeps true true c d base w g x bs rs v vs o 0 also rest count up to (record {
           checked = g.stage.checked;
           early = early;
           command_is = command_is;
-          confirmed_not = rw (g.stage.confirmed_not, confirms_not d w.ground_node.fop.state f.state early) refl;
+          confirmed_not = rw (g.stage.confirmed_not, confirms_not d w.ground_node.fop.state o.after.state early) refl;
           front_is = g.stage.front_is;
           none_sent = g.stage.none_sent;
           lasts = lasts.1;
@@ -415,9 +420,9 @@ module _ (c : Config) (d : Directive) (base : ℕ) (w : World) (k : Sound c w) (
               };
         } in
         inr (record {
-          late = heard_keeps true false c d base w g x bs rs v vs f 0 also rest count up to stage;
+          late = heard_keeps true false c d base w g x bs rs v vs (goes_on f) 0 also rest count up to stage;
           exact = refilled_keeps (λ t. (farm.vr ≡ t.fop.vs) × (t.fop.nn ≡ t.fop.vs))
-              (record (acknowledging (after_extraction w.ground_node x) f) { fop = f })
+              (record (acknowledging (after_extraction w.ground_node x) (goes_on f)) { fop = f })
               (λ wait pending so off. (
                 last.3 ∙ sym (vs_of on) ∙ sym vs_is,
                 omega (arith, nn_is, vs_is, was.nn_is, a_none, vs_of on, g.linked.base_octet),
@@ -431,7 +436,7 @@ module _ (c : Config) (d : Directive) (base : ℕ) (w : World) (k : Sound c w) (
         λ on t. (t.0, t.1, t.2, t.3 ∙ vs_of on) in
         reported s r (λ o. Hears o) (record {
           active = λ active. absurd (early_off d s.state g.stage.early active);
-          alerted = λ is alert cause. inl (stays_early (after_alert s) tt tt (moves (after_alert s) refl
+          alerted = λ is alert cause. inl (stays_early (alerts s alert) tt tt (moves (after_alert s) refl
               (λ pending n units was. kept_of (is_closed w.ground_node.fop.state) _ _ _ _ _ _ _ _ was)));
           checked = λ state confirms. let on : is_closed s.state ≡ false = rw state refl in
               goes_late (record s { state = S1; ticks = None }) on (rw state refl) refl refl refl refl refl
@@ -439,7 +444,8 @@ module _ (c : Config) (d : Directive) (base : ℕ) (w : World) (k : Sound c w) (
           commanded = λ state confirms. let on : is_closed s.state ≡ false = rw state refl in
               goes_late (record s { state = S1; ticks = None; control = Idle }) on (rw state refl) refl refl refl refl
               refl (confirming on confirms);
-          same = inl (stays_early s g.stage.early g.stage.command_is (moves s refl (λ pending n units was. was)));
+          same = inl (stays_early (goes_on s) g.stage.early g.stage.command_is
+              (moves s refl (λ pending n units was. was)));
         })
 
   down_early : (bs : List (List ℕ)) (rs : List Clcw) (vs : List ℕ) → g.reports ≡ rs → g.plain.down ≡ vs
@@ -634,11 +640,11 @@ module _ (c : Config) (d : Directive) (base : ℕ) (w : World) (k : Sound c w) (
       let x : Extracted = extract_step w.ground_node.extractor rest.0.frame in
       let goes =
       goes_in r v (coming r rs v vs down_is up ranks) (λ t. (ranks t).2) w.ground_node.fop.state refl in
-      let f : FopState SegmentView = (clcw_step w.ground_node.fop r).after in
+      let heard : FopOutcome SegmentView (Option Alert) = clcw_step w.ground_node.fop r in
       subst (λ (o : GroundOutcome Heard). Next false c d base g.plain (with_heard w o.after bs))
       (sym (used_is c w.ground_node b r k.ground_node.config rest.0))
-      (heard_keeps false false c d base w g x bs rs v vs f goes.0 also rest.1 (omega (arith, count)) up
-      goes.1.moves (heard_so r rs v vs (2 * v + bit (asks r)) f goes.0 down_is (λ t. (ranks t).3) goes.1))
+      (heard_keeps false false c d base w g x bs rs v vs heard goes.0 also rest.1 (omega (arith, count)) up
+      goes.1.moves (heard_so r rs v vs (2 * v + bit (asks r)) heard.after goes.0 down_is (λ t. (ranks t).3) goes.1))
 
   pub late_down_deliver : Next false c d base g.plain (down_deliver_step w w.down).after
   late_down_deliver =

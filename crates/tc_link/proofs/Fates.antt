@@ -8,7 +8,15 @@ use Rattle.tc_link.proofs.Common.{with_fop, directive_outcome, segments_on, segm
 use Rattle.tc_link.proofs.Common.{submitting, ahead_by, PacketOn, Event, World, WorldOutcome, world_step}
 use Rattle.tc_link.proofs.Common.{world_after_directive, BeginsNoSession, IsIdle, IsSettled, IsEvent}
 use Rattle.tc_link.proofs.Common.{accepted, directive_of, option_map, Opening, IsChecking, closed_is, HasPlainHistory}
-use Rattle.tc_link.proofs.Common.{obeyed, begun, packet_on, after_alert, obeying}
+use Rattle.tc_link.proofs.Common.{obeyed, begun, packet_on, after_alert, obeying, acknowledging, Clcw, ClcwFault}
+use Rattle.tc_link.proofs.Common.{TmFault, GroundOutcome, cond_both, telemetry_outcome, after_extraction, Err}
+use Rattle.clcw.specs.Decoding.{clcw_at}
+use Rattle.tm_link.specs.Layout as telemetry
+use Rattle.tm_link.specs.Decoding as telemetry_reading
+use Rattle.tm_link.specs.Extractor.{extract_step}
+use Rattle.nodes.specs.declared.heard.Heard.{Heard}
+use Rattle.nodes.specs.declared.heard.HeardClcw.{HeardClcw}
+use Rattle.simulated_link.specs.Replies.{heard_alert}
 use Rattle.cop1.proofs.Cases.{obeyed_set}
 use Rattle.tc_link.specs.Confirmation.{IsChecked}
 use Rattle.std.specs.Prelude.{◌^◌, ◌==◌, ◌≢◌}
@@ -18,10 +26,12 @@ use Rattle.cop1.specs.declared.vocabulary.Alert.TheVariants.{Terminated}
 use Rattle.cop1.specs.Accepted.{accepted_beyond}
 use Rattle.nodes.specs.Fates.{Fates, left_after, whole_within, whole_with, new_fates, with_submission}
 use Rattle.nodes.specs.Fates.{after_acknowledging, after_obeying, kept_after, submitted as submissions_of}
+use Rattle.nodes.specs.Fates.{beside_alert, shows_one}
 use Rattle.nodes.specs.Ground.{moved_by, after_report, after_directive, known_on_board, sent_beyond}
+use Rattle.nodes.specs.Ground.{report_outcome, is_own_telemetry}
 use Rattle.nodes.proofs.Owed.{moved_is, fewer_left, left_more}
 use Rattle.nodes.specs.declared.event.Event.TheVariants as events
-use Rattle.simulated_link.proofs.Unchanged.{ground_after, not_restarted}
+use Rattle.simulated_link.proofs.Unchanged.{ground_after, not_restarted, BringsReport, down_arrives, word_arrives}
 use Rattle.simulated_link.specs.World.{Session, session_after_report}
 use Rattle.tc_link.proofs.Promised.{past_holds, keeps_what_is_known, sent_count, accepted_count, promised_so}
 use Rattle.tc_link.proofs.Promised.{link_step_holds, still_idle, still_opening, CountsAs, counts_still}
@@ -34,10 +44,11 @@ use Rattle.tc_link.proofs.Refilled.{refilled_keeps}
 use Rattle.tc_link.specs.Accepted.{SaysWhatWasAccepted}
 use Rattle.std.proofs.lemmas.Bool.{cases_Bool, eqb-true, eqb-false}
 use Rattle.tc_link.specs.AnyPast.{HasAnyPast, LinkStep, IsLinkStep, link_run, link_step}
-use Rattle.tc_link.specs.Beside.{LeavesSession, SessionLasts, LeavesNumbers, SetsNone}
+use Rattle.tc_link.specs.Beside.{LeavesSession, SessionLasts, LeavesNumbers, SetsNone, ShowsNothing, ShowsNone}
+use Rattle.tc_link.specs.FalseAlarms.{alert_in}
 use Rattle.tc_link.specs.CountsOn.{CountsFrom}
 use Rattle.tc_link.specs.Taken.{BeginsSession}
-use Rattle.tc_link.specs.Fates.{whole_first, CountsSubmissions, KnowsFates}
+use Rattle.tc_link.specs.Fates.{whole_first, CountsSubmissions, KnowsOnBoard, KnowsFates}
 use Rattle.tc_link.specs.Whole.{segments_each}
 use Rattle.tc_link.specs.Known.{SetsNoNumber}
 
@@ -62,7 +73,6 @@ module _ (c : Config) where
 
 -- the ground's account is of these submissions, of whose segments so many are acknowledged
 pub record Accounts (c : Config) (fates : Fates) (submissions : List PacketOn) (a : ℕ) : Type 0 where
-  pub kept : fates.kept ≡ true
   pub left : fates.left ≡ left_after a (counts c submissions)
   pub acknowledged : fates.acknowledged ≡ whole_within a (counts c submissions) % 2 ^ 64
 
@@ -70,7 +80,7 @@ abbrev pub AccountsAt : Config → World → Type 0
 AccountsAt c w = Accounts c w.ground_node.fates w.session.submissions w.session.acknowledged
 
 new_accounts : (c : Config) → Accounts c (new_fates true) [] 0
-new_accounts c = record { kept = refl; left = refl; acknowledged = refl }
+new_accounts c = record { left = refl; acknowledged = refl }
 
 with_accounts : (c : Config) (fates : Fates) (ps : List PacketOn) (p : PacketOn) (a n : ℕ)
     → a ≤ length (flat_map (segments c) ps) → n ≡ length (segments c p) → Accounts c fates ps a
@@ -78,7 +88,6 @@ with_accounts : (c : Config) (fates : Fates) (ps : List PacketOn) (p : PacketOn)
 with_accounts c fates ps p a n le is k =
     let most : a ≤ total (counts c ps) = omega (arith, le, counts_total c ps) in
     record {
-      kept = k.kept;
       left =
           ap (λ (ns : List ℕ). ns ++ n ∷ []) k.left
           ∙ ap (λ (m : ℕ). left_after a (counts c ps) ++ m ∷ []) is
@@ -91,15 +100,14 @@ with_accounts c fates ps p a n le is k =
           ∙ ap (whole_within a) (sym (counts_with c ps p)));
     }
 
-acknowledging : (c : Config) (fates : Fates) (ps : List PacketOn) (a k b : ℕ) → b ≡ a + k → Accounts c fates ps a
-    → Accounts c (after_acknowledging k fates) ps b
-acknowledging c fates ps a k b is t =
+with_acknowledged : (c : Config) (fates : Fates) (ps : List PacketOn) (a k b : ℕ) (alert : Option Alert)
+    → b ≡ a + k → Accounts c fates ps a → Accounts c (beside_alert alert (after_acknowledging k fates)) ps b
+with_acknowledged c fates ps a k b alert is t =
     let left : left_after k fates.left ≡ left_after b (counts c ps) =
     ap (left_after k) t.left ∙ sym (left_more a k b (counts c ps) is) in
     let more : whole_within k fates.left ≡ whole_within k (left_after a (counts c ps)) =
     ap (whole_within k) t.left in
     record {
-      kept = t.kept;
       left = left;
       acknowledged = omega (arith, t.acknowledged, more, whole_more a k b (counts c ps) is);
     }
@@ -116,15 +124,20 @@ with_fates s f = refilled_fates (record s { fop = f })
 abbrev Acknowledges : GroundState → GroundState → Type 0
 Acknowledges s t =
     ((t.fates ≡ s.fates) × (t.fop.nn ≡ s.fop.nn))
-    ⊎ (t.fates ≡ after_acknowledging (moved_by t.fop.nn s.fop.nn) s.fates)
+    ⊎ ((alert : Option Alert)
+    × (t.fates ≡ beside_alert alert (after_acknowledging (moved_by t.fop.nn s.fop.nn) s.fates)))
 
-with_report : (s : GroundState) (f : FopState SegmentView) → Acknowledges s (after_report s f)
-with_report s f =
-    let counted : GroundState = record s { fates = after_acknowledging (moved_by f.nn s.fop.nn) s.fates } in
-    let nn : (with_fop counted f).fop.nn ≡ f.nn =
-    refilled_keeps (λ t. t.fop.nn ≡ f.nn) (record counted { fop = f }) (λ waiting pending on closed. refl) in
-    inr (with_fates counted f
-    ∙ ap (λ (n : ℕ). after_acknowledging (moved_by n s.fop.nn) s.fates) (sym nn))
+with_report : (s : GroundState) (o : FopOutcome SegmentView (Option Alert)) → Acknowledges s (after_report s o)
+with_report s o =
+    let counted : GroundState = acknowledging s o in
+    let nn : (with_fop counted o.after).fop.nn ≡ o.after.nn =
+    refilled_keeps (λ t. t.fop.nn ≡ o.after.nn) (record counted { fop = o.after })
+    (λ waiting pending on closed. refl) in
+    inr (
+      o.answer,
+      with_fates counted o.after
+          ∙ ap (λ (n : ℕ). beside_alert o.answer (after_acknowledging (moved_by n s.fop.nn) s.fates)) (sym nn),
+    )
 
 -- ---- a directive that begins no session, and sets no number
 
@@ -186,12 +199,12 @@ module _ (c : Config) (w : World) (k : AccountsAt c w) (config : w.ground_node.c
         let none : w.session.acknowledged ≡ w.session.acknowledged + ahead_by t.fop.nn w.ground_node.fop.nn =
         omega (arith, same.1, octet) in
         rw (same.0) (subst (Accounts c w.ground_node.fates w.session.submissions) none k))
-    | inr fates ↦ (
+    | inr told ↦ (
         let moved : ahead_by t.fop.nn w.ground_node.fop.nn ≡ moved_by t.fop.nn w.ground_node.fop.nn =
         moved_is t.fop.nn w.ground_node.fop.nn octet in
-        rw fates (acknowledging c w.ground_node.fates w.session.submissions w.session.acknowledged
+        rw (told.1) (with_acknowledged c w.ground_node.fates w.session.submissions w.session.acknowledged
         (moved_by t.fop.nn w.ground_node.fop.nn) (w.session.acknowledged + ahead_by t.fop.nn w.ground_node.fop.nn)
-        (ap (λ (n : ℕ). w.session.acknowledged + n) moved) k))
+        told.0 (ap (λ (n : ℕ). w.session.acknowledged + n) moved) k))
   ]
 
   step_accounts : w.ground_node.fop.nn < 256 → (e : Event) → BeginsNoSession w e → SetsNoNumber w e
@@ -212,9 +225,67 @@ module _ (c : Config) (w : World) (k : AccountsAt c w) (config : w.ground_node.c
             (inl (refl, refl));
         hears = λ told x packets r.
             let t : GroundState = record s { extractor = x; telemetry = packets } in
-            let f : FopState SegmentView = (clcw_step s.fop r).after in
-            hears (after_report t f) octet (with_report t f);
+            let o : FopOutcome SegmentView (Option Alert) = clcw_step s.fop r in
+            hears (after_report t o) octet (with_report t o);
       })
+
+-- ---- an event that begins no session, and sets no V(S)
+
+module _ (w : World) (kept : w.ground_node.fates.kept ≡ true) where
+  abbrev StillKept : WorldOutcome → Type 0
+  StillKept o = shows_one (alert_in o.answer) ≡ false → o.after.ground_node.fates.kept ≡ true
+
+  -- a report is heard, in its frame or by itself
+  word_kept : (s : GroundState) → s.fates.kept ≡ true → (r : Result Clcw ClcwFault)
+      → let o = report_outcome s r in shows_one o.answer.alert ≡ false → o.after.fates.kept ≡ true
+  word_kept s is (Err fault) = λ none. is
+  word_kept s is (Ok report) =
+      cond_both (report.vcid == s.config.vcid) _ _
+      (λ (o : GroundOutcome HeardClcw). shows_one o.answer.alert ≡ false → o.after.fates.kept ≡ true)
+      (λ t none. let o = clcw_step s.fop report in
+      ap (λ (f : Fates). f.kept) (with_fates (acknowledging s o) o.after) ∙ rw (none, is) refl)
+      (λ t none. is)
+
+  frame_kept : (r : Result telemetry.FrameView TmFault) → let o = telemetry_outcome w.ground_node r in
+      shows_one (heard_alert o.answer) ≡ false → o.after.fates.kept ≡ true
+  frame_kept (Err fault) = λ none. kept
+  frame_kept (Ok frame) =
+      cond_both (is_own_telemetry w.ground_node.config frame) _ _
+      (λ (o : GroundOutcome Heard). shows_one (heard_alert o.answer) ≡ false → o.after.fates.kept ≡ true)
+      (λ t. word_kept (after_extraction w.ground_node (extract_step w.ground_node.extractor frame)) kept
+      (clcw_at frame.ocf))
+      (λ t none. kept)
+
+  -- it brings none
+  other_kept : (e : Event) → BeginsNoSession w e → SetsNoNumber w e → (BringsReport e → ⊥)
+      → (world_step w e).after.ground_node.fates.kept ≡ true
+  other_kept e goes quiet silent =
+      let s = w.ground_node in
+      ground_after w (λ t session. t.fates.kept ≡ true) e (record {
+        same = kept;
+        submits = λ m octets none. ap (λ (f : Fates). f.kept) (refilled_fates (submitting s m octets)) ∙ kept;
+        bypasses = λ m octets is none. kept;
+        directs = λ d is.
+            let same = directive_keeps w d (subst (BeginsNoSession w) is goes) (subst (SetsNoNumber w) is quiet) in
+            ap (λ (f : Fates). f.kept) same.0 ∙ kept;
+        restarts = λ value is can. not_restarted w e goes value is can;
+        ticks = λ is. ap (λ (f : Fates). f.kept) (with_fates s _) ∙ kept;
+        sends = λ is sent. ap (λ (f : Fates). f.kept) (with_fates s _) ∙ kept;
+        hears_none = λ told. absurd (silent told);
+        hears = λ told. absurd (silent told);
+      })
+
+  pub event_kept : (e : Event) → BeginsNoSession w e → SetsNoNumber w e → StillKept (world_step w e)
+  event_kept events.DownDeliver goes quiet =
+      down_arrives w StillKept (λ none. kept)
+      (λ b bs is. frame_kept (telemetry_reading.frame_at w.ground_node.config.frame_length b))
+  event_kept events.DownClcw goes quiet =
+      word_arrives w StillKept (record {
+        refused = λ fault none. kept;
+        up = λ b bs is reply silent none. kept;
+        down = λ b bs is reply silent none. kept;
+      }) (λ b bs is. word_kept w.ground_node kept)
+  event_kept e goes quiet = λ none. other_kept e goes quiet (λ told. told)
 
 -- ---- since the session began
 
@@ -281,6 +352,22 @@ module _ (c : Config) where
         counts = counts_still c w h base s fits.0 lasts.0 g.counts;
         accounts = accounts_still w h g.idle g.accounts s lasts.0 quiet.0;
       }) steps fits.1 lasts.1 quiet.1
+
+  -- and the ground knows what is on board, while no alert shows a broken condition
+  still_kept : (w : World) → w.ground_node.fates.kept ≡ true → (s : LinkStep) → LeavesSession w s
+      → LeavesNumbers w s → ShowsNothing w s → (link_step w s).ground_node.fates.kept ≡ true
+  still_kept w kept s goes quiet none = beside_so w (λ (x : World). x.ground_node.fates.kept ≡ true) s goes (record {
+    happens = λ e is goes. event_kept w kept e goes (subst (LeavesNumbers w) is quiet) (subst (ShowsNothing w) is none);
+    same = kept;
+    takes = λ x packets. kept;
+    passes = λ u held. kept;
+  })
+
+  kept_on : (w : World) → w.ground_node.fates.kept ≡ true → (steps : List LinkStep) → SessionLasts w steps
+      → SetsNone w steps → ShowsNone w steps → (link_run w steps).ground_node.fates.kept ≡ true
+  kept_on w kept [] lasts quiet none = kept
+  kept_on w kept (s ∷ steps) lasts quiet none =
+      kept_on (link_step w s) (still_kept w kept s lasts.0 quiet.0 none.0) steps lasts.1 quiet.1 none.1
 
   -- before the session is settled nothing is sent
   unchecked_or_not : (d : Directive) → is_initiation d ≡ true → (d ≡ InitWithoutCheck) ⊎ IsChecked d
@@ -355,13 +442,14 @@ module _ (c : Config) where
             half,
           )
 
-      known_with : (value j : ℕ) → accepted_beyond w.ground_node.fop.nn w.ground_node.fop.vs value ≡ Some j
+      known_with : (value j : ℕ) → w.ground_node.fates.kept ≡ true
+          → accepted_beyond w.ground_node.fop.nn w.ground_node.fop.vs value ≡ Some j
           → known_on_board w.ground_node value ≡ Some (whole_with j w.ground_node.fates)
-      known_with value j is = rw (k.kept, is) refl
+      known_with value j kept is = rw (kept, is) refl
 
       on_board : SaysWhatWasAccepted w → IsSettled w ⊎ (length w.session.sent ≡ 0)
-          → known_on_board w.ground_node w.spacecraft.farm.vr ≡ Some (whole_first w (length (accepted w)))
-      on_board says settled =
+          → w.ground_node.fates.kept ≡ true → KnowsOnBoard w
+      on_board says settled kept =
           let f = w.ground_node.fop in
           let p = history in
           let sent = sent_count w p.base p.plain p.is in
@@ -377,11 +465,11 @@ module _ (c : Config) where
                   p.is.order.0,
                   p.is.order.1,
                 ) in
-                known_with w.spacecraft.farm.vr 0 (rw equal refl) ∙ ap Some (whole_is 0 (length (accepted w)) all))
+                known_with w.spacecraft.farm.vr 0 kept (rw equal refl) ∙ ap Some (whole_is 0 (length (accepted w)) all))
             | inr two ↦ (elim settled [
               | inl settled ↦ (
                   let said = says.now settled (inr (eqb-false f.vs f.nn two)) in
-                  known_with w.spacecraft.farm.vr said.0 said.1
+                  known_with w.spacecraft.farm.vr said.0 kept said.1
                   ∙ ap Some (whole_is said.0 (length (accepted w)) (sym said.2)))
               | inr none ↦ (
                   let one : f.vs ≡ f.nn =
@@ -424,6 +512,10 @@ pub record Since (c : Config) (w now : World) (e : Event) : Type 0 where
   pub goes : Goes c (world_step w e).after.session.opening (world_step w e).after.ground_node.fop.vs now
   pub counts : CountsFrom (world_step w e).after.ground_node.fop.vs now
 
+begun_fates : (w : World) (e : Event) → (at : BeganAt w e) → (world_step w e).after.ground_node.fates ≡ new_fates true
+begun_fates w e at = subst (λ (x : World). x.ground_node.fates ≡ new_fates true) (sym at.is)
+    (starts_account at.start at.directive at.initiates at.closed)
+
 pub since_begun : (w : World) (e : Event) (since : List LinkStep) → (r : HasAnyPast w) → BeginsSession w e
     → SessionLasts (world_step w e).after since → SetsNone (world_step w e).after since → IsEvent e
     → AllByRecursion IsLinkStep since → IsIdle (world_step w e).after
@@ -434,8 +526,7 @@ since_begun w e since r b lasts quiet fits numbers idle =
     let h = step_holds c w (past_holds w r) e fits in
     let at = began_at w e b in
     let s = begun_session w e at in
-    let fates = subst (λ (x : World). x.ground_node.fates ≡ new_fates true) (sym at.is)
-    (starts_account at.start at.directive at.initiates at.closed) in
+    let fates = begun_fates w e at in
     let on = subst (λ (x : World). is_closed x.ground_node.fop.state ≡ false) (sym at.is)
     (starts_on at.start at.directive at.initiates at.closed) in
     let k : AccountsAt c start = rw (fates, s) (new_accounts c) in
@@ -471,8 +562,8 @@ module _ (c : Config) (w now : World) (e : Event) (t : Since c w now e) where
   pub settled_now : IsSettled now ⊎ (length now.session.sent ≡ 0)
   settled_now = settled_or_none c now t.goes.holds t.goes.idle t.at.directive t.at.initiates opened_now
 
-  pub counts_now : CountsSubmissions now
-  counts_now =
+  pub counts_at : CountsSubmissions now
+  counts_at =
       let on = t.goes in
       let base : ℕ = (world_step w e).after.ground_node.fop.vs in
       record {
@@ -480,11 +571,26 @@ module _ (c : Config) (w now : World) (e : Event) (t : Since c w now e) where
         sent = whole_is c now on.holds on.idle on.accounts (sent_beyond now.ground_node) (length now.session.sent)
             (sent_is c now on.holds on.idle on.accounts base t.counts);
         acknowledged = whole_is c now on.holds on.idle on.accounts 0 now.session.acknowledged (omega arith);
-        on_board = on_board c now on.holds on.idle on.accounts base t.counts
-            (promised_so c now on.holds on.idle).says settled_now;
       }
+
+  pub knows_at : now.ground_node.fates.kept ≡ true → KnowsOnBoard now
+  knows_at =
+      let on = t.goes in
+      on_board c now on.holds on.idle on.accounts (world_step w e).after.ground_node.fop.vs t.counts
+      (promised_so c now on.holds on.idle).says settled_now
+
+-- and it is kept while no alert shows a broken condition
+pub kept_since : (w : World) (e : Event) (since : List LinkStep) → HasAnyPast w → BeginsSession w e
+    → SessionLasts (world_step w e).after since → SetsNone (world_step w e).after since
+    → ShowsNone (world_step w e).after since → (link_run (world_step w e).after since).ground_node.fates.kept ≡ true
+kept_since w e since r b lasts quiet none =
+    let start : World = (world_step w e).after in
+    kept_on r.config start (ap (λ (f : Fates). f.kept) (begun_fates w e (began_at w e b))) since lasts quiet none
 
 pub knows_fates : KnowsFates
 knows_fates w e since r b lasts quiet fits numbers idle =
-    counts_now r.config w (link_run (world_step w e).after since) e
-    (since_begun w e since r b lasts quiet fits numbers idle)
+    let now : World = link_run (world_step w e).after since in
+    let at = since_begun w e since r b lasts quiet fits numbers idle in (
+      counts_at r.config w now e at,
+      λ none. knows_at r.config w now e at (kept_since w e since r b lasts quiet none),
+    )

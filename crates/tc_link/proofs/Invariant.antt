@@ -17,7 +17,8 @@ use Rattle.cop1.specs.FopPull.{after_send_first}
 use Rattle.nodes.specs.declared.event.Event.TheVariants as events
 use Rattle.nodes.specs.Ground.{can_resume}
 use Rattle.simulated_link.specs.World.{Session, directed, first_sent, resumed, session_after_report}
-use Rattle.simulated_link.proofs.Unchanged.{resumes, ground_after, BringsReport, not_restarted, stepped}
+use Rattle.simulated_link.proofs.Unchanged.{resumes, resumed_after, ground_after, BringsReport, not_restarted, stepped}
+use Rattle.nodes.proofs.Resuming.{resumed_known, known_off}
 use Rattle.simulated_link.proofs.Counted.{reported}
 use Rattle.tc_link.specs.Taken.{BeginsSession}
 use Rattle.tc_link.specs.Known.{SetsNoNumber, MovesWithRecords}
@@ -214,7 +215,7 @@ module _ (c : Config) (w : World) (h : Holding c w) where
 pub step_holds : (c : Config) (w : World) → Holding c w → (e : Event) → IsEvent e → Holding c (world_step w e).after
 step_holds c w h (events.Directive d) fits = directive_holds c w h d fits
 step_holds c w h (events.Resume value) fits =
-    resumes w value (λ o. Holding c o.after) h (λ whole can.
+    resumes w value (λ o. Holding c o.after) h (λ whole known can.
     directive_holds c (directed w (SetVs value)) (directive_holds c w h (SetVs value) fits) InitUnlock tt)
 step_holds c w h e fits = goes_holds c w h e fits tt
 
@@ -240,7 +241,8 @@ reached_holds w r =
 -- ---- a session begins with an event
 
 pub can_off : (s : GroundState) (value : ℕ) → can_resume s value ≡ true → s.fop.state ≡ S6
-can_off s value can = grind (arith, can)
+can_off s value can =
+    let k = resumed_known s value can in closed_is s.fop.state (known_off s value k.0 k.1)
 
 -- it is an initiation, or ends with one
 pub record BeganAt (w : World) (e : Event) : Type 0 where
@@ -257,7 +259,7 @@ began_at w (events.Resume value) can = record {
   directive = InitUnlock;
   initiates = refl;
   closed = let off = can_off w.ground_node value can in rw off refl;
-  is = rw can refl;
+  is = resumed_after w value can;
 }
 began_at w _ b = elim b [ ]
 

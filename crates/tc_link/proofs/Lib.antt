@@ -31,3 +31,5 @@ pub mod Resumed
 pub mod SeenCounts
 pub mod SeenGround
 pub mod Seen
+pub mod Resumable
+pub mod Shown

@@ -328,7 +328,7 @@ module _ (most k : ℕ) where
       let r : Clcw = report_of w.spacecraft.farm w.spacecraft.config.vcid in
       let x = extract_step w.ground_node.extractor t.tells.frame in
       let f : FopState SegmentView = (clcw_step w.ground_node.fop r).after in
-      let s : GroundState = acknowledging (after_extraction w.ground_node x) f in
+      let s : GroundState = acknowledging (after_extraction w.ground_node x) (clcw_step w.ground_node.fop r) in
       let only : w.down ≡ t.last ∷ [] = t.down ∙ ap (λ xs. xs ++ t.last ∷ []) (nil_from_length t.olds t.count) in
       let same = heard_is w t.last [] r only t.tells in
       let o : WorldOutcome = world_after_telemetry w [] (used w.ground_node x r) in
@@ -366,7 +366,7 @@ module _ (most k : ℕ) where
         oldest_heard More w g b (bs ++ t.last ∷ []) down (λ r x.
         or_on (holds_more w.ground_node.fop w.ground_node.pending r t.bounds.active) (λ less.
         let f : FopState SegmentView = (clcw_step w.ground_node.fop r).after in
-        let s : GroundState = acknowledging (after_extraction w.ground_node x) f in
+        let s : GroundState = acknowledging (after_extraction w.ground_node x) (clcw_step w.ground_node.fop r) in
         inr (record {
           bounds = bounded most k s f (assumption t.bounds) less;
           up = t.up;

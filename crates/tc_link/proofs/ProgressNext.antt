@@ -551,7 +551,7 @@ module _ (most k : ℕ) where
       let s : FopState SegmentView = w.ground_node.fop in
       let x = extract_step w.ground_node.extractor t.tells.frame in
       let f : FopState SegmentView = (clcw_step s r).after in
-      let ground : GroundState = acknowledging (after_extraction w.ground_node x) f in
+      let ground : GroundState = acknowledging (after_extraction w.ground_node x) (clcw_step s r) in
       let flags = open_flags w.spacecraft.farm.lockout w.spacecraft.farm.wait
       (sym t.opened ∙ (known w g).holds.sound.spacecraft.farm.flags.state) in
       let said = flags_are w.spacecraft.farm w.spacecraft.config.vcid in

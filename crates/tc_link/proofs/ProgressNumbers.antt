@@ -342,7 +342,8 @@ module _ (c : Config) (w : World) (h : Holding c w) (k : HasOctets c w) where
       let f : FopState SegmentView = (clcw_step s first.0.0).after in
       subst (λ o. After (world_after_telemetry w bs o))
       (sym (used_is c w.ground_node b first.0.0 h.sound.ground_node.config first.0.1)) (record {
-        sender = with_kept Numbered queued_numbers (acknowledging (after_extraction w.ground_node x) f) f
+        sender = with_kept Numbered queued_numbers
+            (acknowledging (after_extraction w.ground_node x) (clcw_step s first.0.0)) f
             (report_numbers s k.sender first.0.0 first.0.2);
         receiver = k.receiver;
         up = k.up;
@@ -414,7 +415,7 @@ pub step_octets : (c : Config) (w : World) → Holding c w → HasOctets c w →
     → HasOctets c (world_step w e).after
 step_octets c w h k =
     event_octets c w h k (λ value fits.
-    resumes w value (λ o. HasOctets c o.after) k (λ whole can.
+    resumes w value (λ o. HasOctets c o.after) k (λ whole known can.
     directive_octets c (directed w (SetVs value)) (step_holds c w h (events.Directive (SetVs value)) fits)
     (directive_octets c w h k (SetVs value) fits) InitUnlock tt))
 
@@ -541,10 +542,10 @@ module _ (c : Config) (w : World) (k : Known c w) where
 
   used_known : (x : ExtractorState) (packets : List (List ℕ)) (report : Clcw) → report.value < 256
       → KnownOf c (with_nodes w
-      (after_report (apart w.ground_node x packets) (clcw_step w.ground_node.fop report).after) w.spacecraft)
+      (after_report (apart w.ground_node x packets) (clcw_step w.ground_node.fop report)) w.spacecraft)
   used_known x packets report octet =
       let f : FopState SegmentView = (clcw_step w.ground_node.fop report).after in
-      let t = acknowledging (apart w.ground_node x packets) f in
+      let t = acknowledging (apart w.ground_node x packets) (clcw_step w.ground_node.fop report) in
       record {
         sender = with_kept Timed queued_timed t f (report_timed w.ground_node.fop k.sender report);
         octets = record {

@@ -82,7 +82,8 @@ module _ (P : FopState SegmentView → Type 0)
       sends = λ is sent. with_kept w.ground_node (pull_step s).after (pull is);
       hears_none = λ told x packets. k;
       hears = λ told x packets r. let f : FopState SegmentView = (clcw_step s r).after in
-          with_kept (acknowledging (record w.ground_node { extractor = x; telemetry = packets }) f) f (hears told r);
+          with_kept (acknowledging (record w.ground_node { extractor = x; telemetry = packets }) (clcw_step s r)) f
+          (hears told r);
     })
 
 -- What the sender does in an exchange.

@@ -212,7 +212,7 @@ module _ (count limit : ℕ) where
         let count : length bs ≡ n = omega (arith, ap length is, p.0) in
         oldest_heard HeardOne w g b bs is (λ r x.
         let f : FopState SegmentView = (clcw_step w.ground_node.fop r).after in
-        let s : GroundState = acknowledging (after_extraction w.ground_node x) f in
+        let s : GroundState = acknowledging (after_extraction w.ground_node x) (clcw_step w.ground_node.fop r) in
         let same = with_same s f in
         elim p.1 [
           | inl active ↦ or_on (holds_more w.ground_node.fop w.ground_node.pending r active)

@@ -406,13 +406,13 @@ module _ (c : Config) (w : World) (h : Holding c w) where
   -- ---- a report, beside such telemetry
 
   used_holds : (x : ExtractorState) (packets : List (List ℕ)) (report : Clcw) → Holding c
-      (with_nodes w (after_report (apart w.ground_node x packets) (clcw_step w.ground_node.fop report).after)
+      (with_nodes w (after_report (apart w.ground_node x packets) (clcw_step w.ground_node.fop report))
       w.spacecraft)
   used_holds x packets report =
       let s : GroundState = w.ground_node in
       let k = h.sound.ground_node in
       let f : FopState SegmentView = (clcw_step s.fop report).after in
-      let t : GroundState = acknowledging (apart s x packets) f in
+      let t : GroundState = acknowledging (apart s x packets) (clcw_step s.fop report) in
       nodes_hold _ w.spacecraft (refilled_so c (record t { fop = f }) k.config (report_so c s.fop k.fop report))
       (with_fits t f (heard_fits s.fop s.pending h.carried.fits report))
       h.sound.spacecraft

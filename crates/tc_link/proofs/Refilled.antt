@@ -15,6 +15,7 @@ use Rattle.std.specs.Prelude.{◌^◌}
 use Rattle.nodes.specs.Ground.{after_moving_up, GroundEvent, Submit, Bypass, Direct, Resume, Pull, Tick, Telemetry}
 use Rattle.nodes.specs.Ground.{ControlWord, TakeTelemetry, ForgetTelemetry, ground_step, ground_take_telemetry}
 use Rattle.nodes.specs.Ground.{can_resume, after_directive, after_report, after_resuming, ground_directive}
+use Rattle.nodes.proofs.Resuming.{resumed_or}
 use Rattle.nodes.specs.Fates.{whole_with, kept_after, counted_from}
 use Rattle.tc_link.specs.Beside.{IsUnused, BringsNone}
 use Rattle.tc_link.specs.Repeated.{BringsNoReport}
@@ -196,7 +197,7 @@ pub record AtEachCall (s : GroundState) (e : GroundEvent) (P : GroundState → T
   -- telemetry is another, and a report may be heard beside it
   pub takes : (x : ExtractorState) (packets : List (List ℕ)) → P (record s { extractor = x; telemetry = packets })
   pub hears : IsHeard e → (x : ExtractorState) (packets : List (List ℕ)) (r : Clcw)
-      → P (after_report (record s { extractor = x; telemetry = packets }) (clcw_step s.fop r).after)
+      → P (after_report (record s { extractor = x; telemetry = packets }) (clcw_step s.fop r))
 
 module _ (s : GroundState) (P : GroundState → Type 0) where
   accepted_or : (fault : Option LinkFault) (next : GroundState) → P s → P next → P (unless_refused fault s next).after
@@ -225,8 +226,8 @@ module _ (s : GroundState) (P : GroundState → Type 0) where
       accepted_or (bypass_fault s m octets) (after_bypass s m octets) each.same (each.bypasses _)
   called (Direct d) each = directed_so d each.same (each.directs d refl)
   called (Resume value) each =
-      cond_both (can_resume s value) _ _ (λ (o : GroundOutcome (Result ℕ LinkFault)). P o.after)
-      (each.resumes value refl) (λ t. each.same)
+      resumed_or s value (λ (o : GroundOutcome (Result ℕ LinkFault)). P o.after)
+      (λ whole known. each.resumes value refl) (λ t. each.same)
   called Pull each = each.pulls
   called Tick each = each.ticks
   called (Telemetry octets) each = frame_seen s P (record {

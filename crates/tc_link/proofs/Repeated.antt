@@ -498,10 +498,10 @@ module _ (r : Clcw) (octet : r.value < 256) where
   run_heard (e ∷ es) s all h = run_heard es (ground_step s e).after all.1 (step_heard s h e all.0)
 
   -- it was heard
-  uses_heard : (s : GroundState) → Usual s.fop → IsKnown r (after_report s (clcw_step s.fop r).after)
+  uses_heard : (s : GroundState) → Usual s.fop → IsKnown r (after_report s (clcw_step s.fop r))
   uses_heard s usual =
-      let f : FopState SegmentView = (clcw_step s.fop r).after in
-      let t : GroundState = record (acknowledging s f) { fop = f } in
+      let o : FopOutcome SegmentView (Option Alert) = clcw_step s.fop r in
+      let t : GroundState = record (acknowledging s o) { fop = o.after } in
       record {
         usual = refilled_usual t (report_usual s.fop usual r);
         known = refilled_known t (report_known s.fop usual r);
@@ -513,14 +513,14 @@ module _ (r : Clcw) (octet : r.value < 256) where
   abbrev using : GroundState → GroundOutcome HeardClcw
   using s = record {
     answer = record { report = Used; alert = (clcw_step s.fop r).answer };
-    after = after_report s (clcw_step s.fop r).after;
+    after = after_report s (clcw_step s.fop r);
   }
 
   again : (s : GroundState) (once : HeardClcw) → once.report ≡ Used → IsKnown r s → using s ≡ repeated_outcome s once
   again s once is h =
       let o : FopOutcome SegmentView (Option Alert) = clcw_step s.fop r in
       ap (λ (o : FopOutcome SegmentView (Option Alert)).
-      record { answer = record { report = Used; alert = o.answer }; after = after_report s o.after })
+      record { answer = record { report = Used; alert = o.answer }; after = after_report s o })
       (ignored s.fop r octet h.known)
       ∙ ap (λ (k : Fates). record {
         answer = record { report = Used; alert = None };
@@ -538,8 +538,8 @@ module _ (r : Clcw) (octet : r.value < 256) where
     used_again : (r.vcid == s.config.vcid) ≡ true → Repeats (using s)
     used_again own all =
         let now : GroundState = ground_run (using s).after since in
-        let f : FopState SegmentView = (clcw_step s.fop r).after in
-        let used = refilled_config s.config (record (acknowledging s f) { fop = f }) refl in
+        let o : FopOutcome SegmentView (Option Alert) = clcw_step s.fop r in
+        let used = refilled_config s.config (record (acknowledging s o) { fop = o.after }) refl in
         let config = run_config s.config since (using s).after used in
         cond_both (r.vcid == now.config.vcid) _ _
         (λ (o : GroundOutcome HeardClcw). o ≡ repeated_outcome now (using s).answer)

@@ -4,18 +4,19 @@ use Rattle.tc_link.proofs.Common.{Result, Ok, Err, refl, ap, sym, subst, ◌∙�
 use Rattle.tc_link.proofs.Common.{take-append-drop, AllByRecursion, inl, inr, Opening, length-drop, option_map, SetVs}
 use Rattle.tc_link.proofs.Common.{InitUnlock, is_closed, Config, GroundState, PacketOn, Event, World, world_step}
 use Rattle.tc_link.proofs.Common.{IsIdle, IsEvent, session_begun_by}
-use Rattle.tc_link.proofs.Common.{delivered, accepted, ahead_by, false, ◌/◌, IsSettled, FopState, SegmentView}
-use Rattle.std.specs.Prelude.{◌^◌, ◌==◌, ◌&&◌, nat_lt}
+use Rattle.tc_link.proofs.Common.{delivered, accepted, GroundOutcome}
+use Rattle.std.specs.Prelude.{◌^◌, ◌==◌, ◌&&◌, is_some, None, Option}
 use Rattle.std.specs.List.{flat_map, filter, list_all}
-use Rattle.std.proofs.lemmas.Bool.{cases_Bool, and_parts, not-true, ltb-false, eqb-true, le-ltb}
+use Rattle.std.proofs.lemmas.Bool.{cond_both}
 use Rattle.std.proofs.Math.Seq.{take-add}
 use Rattle.std.proofs.lemmas.List.{take-append-le, nil_from_length}
 use Rattle.std.proofs.lemmas.List.Concat.{flat_map-append}
 use Rattle.std.proofs.lemmas.List.Elements.{filter-append}
 use Rattle.octets.specs.Beginning.{IsBeginning}
 use Rattle.map_service.specs.Packets.{packets_in}
-use Rattle.nodes.specs.Fates.{whole_with}
-use Rattle.nodes.specs.Ground.{ground_step, Resume, can_resume, known_on_board, ground_resume}
+use Rattle.nodes.specs.Ground.{ground_step, Resume, can_resume, known_on_board, known_at_end, resumed_from}
+use Rattle.nodes.specs.Ground.{ground_resume}
+use Rattle.nodes.proofs.Resuming.{known_kept}
 use Rattle.nodes.specs.declared.fault.LinkFault.{LinkFault}
 use Rattle.nodes.specs.declared.event.Event.TheVariants as events
 use Rattle.simulated_link.specs.World.{Session, is_idle, is_none, reports_as, report_now, world_after_resuming}
@@ -24,24 +25,20 @@ use Rattle.tc_link.proofs.Promised.{sent_count, accepted_count}
 use Rattle.std.proofs.Math.Seq.{drop-length}
 use Rattle.tc_link.proofs.Common.{append-nil, segment_octets}
 use Rattle.simulated_link.specs.World.{assembled_on}
-use Rattle.tc_link.proofs.Fates.{knows_fates, Since, since_begun, settled_now, counts_now as counts_since}
-use Rattle.tc_link.proofs.IdleStart.{in_session}
-use Rattle.tc_link.proofs.InOrder.{is_history, sent_length, has_plain_history}
-use Rattle.tc_link.proofs.Invariant.{Holding, step_holds, octet, began_at, begun_session, can_off}
+use Rattle.tc_link.proofs.Fates.{knows_fates, since_begun, knows_at}
+use Rattle.tc_link.proofs.InOrder.{has_plain_history}
+use Rattle.tc_link.proofs.Invariant.{Holding, step_holds, began_at, begun_session, can_off}
 use Rattle.tc_link.proofs.Sound.{all_push}
 use Rattle.tc_link.specs.AnyPast.{HasAnyPast, LinkStep, Happens, IsLinkStep, link_run, link_step}
 use Rattle.tc_link.specs.Beside.{LeavesSession, SessionLasts, LeavesNumbers, SetsNone}
-use Rattle.tc_link.specs.Fates.{CountsSubmissions}
-use Rattle.tc_link.specs.Fates.{whole_first}
-use Rattle.tc_link.specs.Resumed.{IsResumable, AnswersResuming, EachAnswersResuming}
+use Rattle.tc_link.specs.Fates.{KnowsOnBoard, whole_first}
+use Rattle.tc_link.specs.Resumed.{EachAnswersResuming}
 use Rattle.tc_link.specs.Resumed.{packets_on_map, Sessions, first, goes_on, resumes, begins_anew, ResumesInOrder}
 use Rattle.tc_link.specs.Resumed.{ResumesSo}
 use Rattle.tc_link.specs.Taken.{BeginsSession}
 use Rattle.tc_link.specs.Whole.{on_board, IsOneGroup, AreSingle, DeliversWhole}
 use Rattle.tm_link.specs.Decoding as telemetry_reading
-use Rattle.simulated_link.specs.Replies.{Resumed, Refused}
-use Rattle.simulated_link.specs.declared.reply.NodeFault.TheVariants.{Link}
-use Rattle.nodes.specs.declared.fault.LinkFault.TheVariants.{NotKnown}
+use Rattle.simulated_link.specs.Replies.{Resumed}
 use Rattle.map_service.proofs.Groups.{behind-each}
 
 -- ---- lists of submissions
@@ -122,10 +119,12 @@ module _ (c : Config) (w : World) (l : Began c w) where
   pub idle_now : IsIdle w
   idle_now = subst IsIdle l.led (run_idle (world_step l.start l.initiation).after l.since l.idle l.lasts)
 
-  counts_now : CountsSubmissions w
-  counts_now =
-      subst CountsSubmissions l.led
-      (knows_fates l.start l.initiation l.since l.past l.begins l.lasts l.quiet l.fits l.numbers l.idle)
+  knows_now : w.ground_node.fates.kept ≡ true → KnowsOnBoard w
+  knows_now =
+      let now : World = link_run (world_step l.start l.initiation).after l.since in
+      subst (λ (x : World). x.ground_node.fates.kept ≡ true → KnowsOnBoard x) l.led
+      (knows_at l.past.config l.start now l.initiation
+      (since_begun l.start l.initiation l.since l.past l.begins l.lasts l.quiet l.fits l.numbers l.idle))
 
   config_now : w.ground_node.config ≡ c
   config_now = holds_now.sound.ground_node.config
@@ -168,17 +167,32 @@ began_first c w p is e begins fits idle = record {
 
 -- ---- the ground resumes
 
-ground_resumes : (s : GroundState) (value more : ℕ) → (ground_resume s value).answer ≡ Ok more
-    → (can_resume s value ≡ true) × (more ≡ whole_with (ahead_by value s.fop.nn) s.fates)
-ground_resumes s value more answered = grind (arith, answered)
+-- in S6 it is known as at any other time
+pub known_now : (s : GroundState) (value more : ℕ) → known_at_end s value ≡ Some more
+    → known_on_board s value ≡ Some more
+known_now s value more =
+    cond_both (is_closed s.fop.state) (known_on_board s value) None
+    (λ (o : Option ℕ). o ≡ Some more → known_on_board s value ≡ Some more) (λ off known. known)
+    (λ on known. absurd (cc known))
+
+-- what it answers is what is known then
+answered_known : (s : GroundState) (value more : ℕ) → (ground_resume s value).answer ≡ Ok more
+    → known_at_end s value ≡ Some more
+answered_known s value more = known (known_at_end s value) refl where
+  known : (o : Option ℕ) → known_at_end s value ≡ o → (resumed_from s value o).answer ≡ Ok more
+      → known_at_end s value ≡ Some more
+  known (Some whole) is answered = is ∙ ap Some (let same : whole ≡ more = cc answered in same)
+  known None is answered = absurd (cc answered)
 
 pub resumes_so : ResumesSo
 resumes_so w value more answered =
-    let r = ground_resumes w.ground_node value more answered in
+    let s : GroundState = w.ground_node in
+    let is : ground_resume s value ≡ resumed_from s value (Some more) =
+    ap (resumed_from s value) (answered_known s value more answered) in
     record {
-      answer = ap (λ (a : Result ℕ LinkFault). (world_after_resuming w value a).answer) answered;
-      after = rw r.0 refl;
-      leaves = rw r.0 refl;
+      answer = ap (λ (o : GroundOutcome (Result ℕ LinkFault)). (world_after_resuming w value o.answer).answer) is;
+      after = ap (λ (o : GroundOutcome (Result ℕ LinkFault)). (world_after_resuming w value o.answer).after) is;
+      leaves = ap (λ (o : GroundOutcome (Result ℕ LinkFault)). o.after) is;
     }
 
 -- what the link answers is what the ground answers
@@ -186,34 +200,10 @@ answered_by : (w : World) (value more : ℕ) (r : Result ℕ LinkFault)
     → (world_after_resuming w value r).answer ≡ Ok (Resumed more) → r ≡ Ok more
 answered_by w value more r is = grind (arith, is)
 
--- what a value says, by which the ground resumes, it says of what is on board
-known_by : (s : GroundState) (value : ℕ) → s.fop.nn < 256 → can_resume s value ≡ true
-    → known_on_board s value ≡ Some (whole_with (ahead_by value s.fop.nn) s.fates)
-known_by s value octet can =
-    let both = and_parts (is_closed s.fop.state && s.fates.kept) _ can in
-    let kept : s.fates.kept ≡ true = (and_parts (is_closed s.fop.state) s.fates.kept both.0).1 in
-    let inside = not-true (nat_lt (ahead_by s.fop.vs s.fop.nn) (ahead_by value s.fop.nn)) both.1 in
-    let within = ltb-false (ahead_by s.fop.vs s.fop.nn) (ahead_by value s.fop.nn) inside in
-    elim (cases_Bool (s.fop.vs == s.fop.nn)) [
-      | inl equal ↦ (
-          let one : s.fop.vs ≡ s.fop.nn = eqb-true s.fop.vs s.fop.nn equal in
-          let none : 0 ≡ ahead_by value s.fop.nn = omega (arith, one, octet, within) in
-          rw (kept, equal) (ap (λ (k : ℕ). Some (whole_with k s.fates)) none))
-      | inr two ↦ rw (kept, two, inside) refl
-    ]
-
 -- it answers what it knows
-answer_is : (s : GroundState) (value more : ℕ) → s.fop.nn < 256 → (ground_resume s value).answer ≡ Ok more
+pub answer_is : (s : GroundState) (value more : ℕ) → (ground_resume s value).answer ≡ Ok more
     → known_on_board s value ≡ Some more
-answer_is s value more octet answered =
-    let r = ground_resumes s value more answered in
-    known_by s value octet r.0 ∙ ap (λ (k : ℕ). Some k) (sym r.1)
-
--- it does not refuse then
-answered_ok : (s : GroundState) (value : ℕ) → can_resume s value ≡ true → (r : Result ℕ LinkFault)
-    → (ground_resume s value).answer ≡ r → (more : ℕ) × (r ≡ Ok more)
-answered_ok s value may (Ok more) is = (more, refl)
-answered_ok s value may (Err fault) is = absurd (grind (arith, may, is))
+answer_is s value more answered = known_now s value more (answered_known s value more answered)
 
 module _ (c : Config) (wanted : List PacketOn) (w : World) (done : ℕ) (l : Leads c wanted w done)
     (small : length wanted < 2 ^ 64) where
@@ -229,11 +219,10 @@ module _ (c : Config) (wanted : List PacketOn) (w : World) (done : ℕ) (l : Lea
   pub more_is : (value more : ℕ) → value ≡ w.spacecraft.farm.vr
       → (ground_step w.ground_node (Resume value)).answer ≡ Ok more → more ≡ on_board w
   more_is value more is answered =
-      let h = holds_now c w l.began in
-      let small_nn = octet c w h.sound (h.session (idle_now c w l.began)) in
-      let said = (counts_now c w l.began).on_board in
+      let known = answer_is w.ground_node value more answered in
+      let said = knows_now c w l.began (known_kept w.ground_node value more known) in
       let same : Some more ≡ Some (on_board w % 2 ^ 64) =
-      sym (answer_is w.ground_node value more small_nn answered) ∙ ap (known_on_board w.ground_node) is ∙ said in
+      sym known ∙ ap (known_on_board w.ground_node) is ∙ said in
       let counted : more ≡ on_board w % 2 ^ 64 = cc same in
       omega (arith, counted, few, board_most)
 
@@ -287,7 +276,7 @@ module _ (c : Config) (wanted : List PacketOn) (w : World) (done : ℕ) (l : Lea
     (quiet : is_idle w ≡ true) (octet_is : value < 256)
     (answered : (ground_step w.ground_node (Resume value)).answer ≡ Ok more) where
   can : can_resume w.ground_node value ≡ true
-  can = (ground_resumes w.ground_node value more answered).0
+  can = ap is_some (answered_known w.ground_node value more answered)
 
   abbrev set : World
   set = (world_step w (events.Directive (SetVs value))).after
@@ -298,7 +287,7 @@ module _ (c : Config) (wanted : List PacketOn) (w : World) (done : ℕ) (l : Lea
     directive = InitUnlock;
     initiates = refl;
     closed = let off = can_off w.ground_node value can in rw off refl;
-    is = rw can refl;
+    is = (resumes_so w value more answered).after;
   })
 
   leads_resumed : Leads c wanted (world_step w (events.Resume value)).after (done + more)
@@ -423,107 +412,17 @@ resumes_in_order wanted w done before m s small single =
 
 -- ---- whether it resumes
 
-module _ (c : Config) (w now : World) (e : Event) (t : Since c w now e) where
-  abbrev f : FopState SegmentView
-  f = now.ground_node.fop
-
-  abbrev vr : ℕ
-  vr = now.spacecraft.farm.vr
-
-  -- V(R) lies from NN(R) to V(S)
-  record Lies : Type 0 where
-    within : ahead_by vr f.nn ≤ ahead_by f.vs f.nn
-    same : f.vs ≡ f.nn → vr ≡ f.vs
-
-  settled_lies : IsSettled now → Lies
-  settled_lies settled =
-      let h = t.goes.holds in
-      let s = t.goes.counts.session in
-      let base_is = t.goes.counts.base_is in
-      let most : c.width / 2 ≤ 127 = omega (arith, h.sound.ranges.width) in
-      in_session s (λ early g.
-      let k = is_history early c s.directive s.base now g h.sound in
-      let l = g.linked in
-      let sent = sent_length early c s.directive s.base now g h.sound in
-      let vr_is = k.vr settled in
-      record {
-        within = omega (arith, vr_is, base_is, t.counts.vs, t.counts.nn, sent, l.acked_is, l.a_r, l.r_n, l.n_a, most);
-        same = λ one.
-            omega (arith, one, vr_is, base_is, t.counts.vs, t.counts.nn, sent, l.acked_is, l.a_r, l.r_n, l.n_a, most);
-      })
-
-  -- as many are acknowledged as were sent, or fewer
-  acked_most : now.session.acknowledged ≤ length now.session.sent
-  acked_most =
-      let h = t.goes.holds in
-      let s = t.goes.counts.session in
-      in_session s (λ early g. let l = g.linked in
-      omega (arith, sent_length early c s.directive s.base now g h.sound, l.acked_is, l.a_r, l.r_n))
-
-  none_same : length now.session.sent ≡ 0 → f.vs ≡ f.nn
-  none_same none = omega (arith, none, acked_most, t.counts.vs, t.counts.nn)
-
-  unsettled_none : (IsSettled now → ⊥) → length now.session.sent ≡ 0
-  unsettled_none other = elim (settled_now c w now e t) [
-    | inl settled ↦ absurd (other settled)
-    | inr none ↦ none
-  ]
-
-  inside : IsResumable now → ahead_by vr f.nn ≤ ahead_by f.vs f.nn
-  inside is = elim is [
-    | inl settled ↦ (settled_lies settled).within
-    | inr one ↦ omega (arith, one)
-  ]
-
-  module _ (off : is_closed f.state ≡ true) where
-    can_by : nat_lt (ahead_by f.vs f.nn) (ahead_by vr f.nn) ≡ false → can_resume now.ground_node vr ≡ true
-    can_by in_range = rw (off, t.goes.accounts.kept, in_range) refl
-
-    can_now : IsResumable now → can_resume now.ground_node vr ≡ true
-    can_now is = can_by (le-ltb (ahead_by f.vs f.nn) (ahead_by vr f.nn) (inside is))
-
-    answers : IsResumable now
-        → (world_step now (events.Resume vr)).answer ≡ Ok (Resumed (whole_first now (length (accepted now))))
-    answers is =
-        let h = t.goes.holds in
-        let octet_nn = octet c now h.sound (h.session t.goes.idle) in
-        let s = now.ground_node in
-        let more = answered_ok s vr (can_now is) (ground_resume s vr).answer refl in
-        let same : Some more.0 ≡ Some (whole_first now (length (accepted now))) =
-        sym (answer_is s vr more.0 octet_nn more.1) ∙ (counts_since c w now e t).on_board in
-        let whole : more.0 ≡ whole_first now (length (accepted now)) = cc same in
-        ap (λ (r : Result ℕ LinkFault). (world_after_resuming now vr r).answer) more.1
-        ∙ ap (λ (k : ℕ). Ok (Resumed k)) whole
-
-    refuses : (IsResumable now → ⊥) → vr < 256
-        → (world_step now (events.Resume vr)).answer ≡ Ok (Refused (Link NotKnown))
-    refuses other small =
-        let none : length now.session.sent ≡ 0 = unsettled_none (λ settled. other (inl settled)) in
-        elim (cases_Bool (can_resume now.ground_node vr)) [
-          | inl may ↦ absurd (
-              let both = and_parts (is_closed f.state && now.ground_node.fates.kept) _ may in
-              let in_range = not-true (nat_lt (ahead_by f.vs f.nn) (ahead_by vr f.nn)) both.1 in
-              let within = ltb-false (ahead_by f.vs f.nn) (ahead_by vr f.nn) in_range in
-              let h = t.goes.holds in
-              let octet_nn = octet c now h.sound (h.session t.goes.idle) in
-              let one : vr ≡ f.vs = omega (arith, within, none_same none, octet_nn, small) in
-              other (inr one))
-          | inr never ↦ rw never refl
-        ]
-
-    answers_resuming : AnswersResuming now
-    answers_resuming = record {
-      accepted_so = answers;
-      refused_so = refuses;
-      nothing_sent = λ other. nil_from_length now.session.sent (unsettled_none (λ settled. other (inl settled)));
-      apart = λ two. elim (settled_now c w now e t) [
-        | inl settled ↦ settled
-        | inr none ↦ absurd (two (none_same none))
-      ];
-      same = λ settled. (settled_lies settled).same;
-    }
+-- the link answers what the ground knows
+resuming_answer : (w : World) (value more : ℕ) → is_closed w.ground_node.fop.state ≡ true
+    → known_on_board w.ground_node value ≡ Some more
+    → (world_step w (events.Resume value)).answer ≡ Ok (Resumed more)
+resuming_answer w value more off known =
+    let s : GroundState = w.ground_node in
+    let at_end : known_at_end s value ≡ Some more = rw off known in
+    ap (λ (o : Option ℕ). (world_after_resuming w value (resumed_from s value o).answer).answer) at_end
 
 pub each_answers_resuming : EachAnswersResuming
-each_answers_resuming w e since r b lasts quiet fits numbers idle off =
+each_answers_resuming w e since r b lasts quiet none fits numbers idle off =
     let now : World = link_run (world_step w e).after since in
-    answers_resuming r.config w now e (since_begun w e since r b lasts quiet fits numbers idle) off
+    resuming_answer now now.spacecraft.farm.vr (whole_first now (length (accepted now))) off
+    ((knows_fates w e since r b lasts quiet fits numbers idle).1 none)

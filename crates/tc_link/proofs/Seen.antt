@@ -14,7 +14,7 @@ use Rattle.tc_link.proofs.Common.{SetVs, ◌<◌, ◌+◌, ◌==◌, take-append
 use Rattle.tc_link.proofs.Common.{length-append, cond_both, GroundOutcome, ahead_by, ◌/◌}
 use Rattle.std.proofs.Math.Seq.{drop-length, take-add}
 use Rattle.std.specs.Borrow.{Bor}
-use Rattle.std.specs.Prelude.{◌^◌, ◌&&◌}
+use Rattle.std.specs.Prelude.{◌^◌, ◌&&◌, is_some}
 use Rattle.std.specs.List.{flat_map}
 use Rattle.std.proofs.lemmas.Bool.{cases_Bool, eqb-true}
 use Rattle.octets.specs.Beginning.{IsBeginning}
@@ -24,10 +24,10 @@ use Rattle.tm_link.specs.Decoding as telemetry_reading
 use Rattle.map_service.specs.Assembly.{open_part}
 use Rattle.map_service.specs.Packets.{packets_in}
 use Rattle.map_service.proofs.Passage.{cuttable_from}
-use Rattle.nodes.specs.Fates.{whole_with}
 use Rattle.nodes.specs.Packets.{put_on_map}
 use Rattle.nodes.specs.Ground as ground
-use Rattle.nodes.specs.Ground.{ground_step, can_resume}
+use Rattle.nodes.specs.Ground.{ground_step, can_resume, known_at_end, resumed_from}
+use Rattle.nodes.proofs.Resuming.{known_kept}
 use Rattle.nodes.specs.declared.event.Event.TheVariants as events
 use Rattle.simulated_link.specs.World.{directed, resumed, world_after_resuming, down_clcw_step, down_word_outcome}
 use Rattle.simulated_link.specs.World.{is_idle, Session, world_after_submission}
@@ -38,7 +38,9 @@ use Rattle.tc_link.specs.Seen.{has_check, is_first, is_silent, ArePrefixes, IsSe
 use Rattle.tc_link.specs.Whole.{on_board}
 use Rattle.tc_link.specs.Taken.{handed_out}
 use Rattle.tc_link.proofs.Linked.{zeros_run, In, run_to, IsGiven, units_of_all, Kept}
+use Rattle.simulated_link.proofs.Unchanged.{resumes, resumed_after}
 use Rattle.tc_link.proofs.Resumed.{set_idle, Began, Leads, began_on, began_first, past_push, more_is, board_most}
+use Rattle.tc_link.proofs.Resumed.{known_now}
 use Rattle.tc_link.proofs.Invariant.{session_stays, begun_is, can_off, Holding, new_holds, step_holds, early_step}
 use Rattle.tc_link.proofs.Invariant.{late_step}
 use Rattle.tc_link.proofs.InOrder.{AllHaveMore, step_none, given_first, all_single, cut, is_cut}
@@ -146,11 +148,17 @@ module _ (o : Option Opening) where
           (refl, none_more, refl);
     })
 
+    resuming_same : (value : ℕ) (o : Option ℕ) → is_some o ≡ false
+        → let answer = (resumed_from w.ground_node value o).answer in Same (events.Resume value)
+        (world_after_resuming w value answer) (world_after_resuming (opened_as w) value answer)
+    resuming_same value (Some whole) none = absurd (cc none)
+    resuming_same value None none = (refl, none_more, tt)
+
     same_after : (e : Event) → BeginsNoSession w e → Same e (world_step w e) (world_step (opened_as w) e)
     same_after (events.Submit m octets) goes =
         let x = ground_step w.ground_node (ground.Submit m octets.now) in submitted_same m octets x.after x.answer
     same_after (events.Directive d) goes = directed_same d goes
-    same_after (events.Resume value) goes = rw goes (refl, none_more, tt)
+    same_after (events.Resume value) goes = resuming_same value (known_at_end w.ground_node value) goes
     same_after events.Send goes =
         let x = ground_step w.ground_node ground.Pull in pulled_same x.after x.answer
     same_after events.UpDeliver goes =
@@ -515,45 +523,45 @@ module _ (c : Config) (without : c.blocking ≢ 1) (s : Seen) (w : World) (t : T
   made_value None value is = absurd cc
   made_value (Some v) value is = ap Some (eqb-true v value is)
 
-  module _ (value : ℕ) (fits : value < 256) (can : can_resume w.ground_node value ≡ true) where
-    abbrev whole : ℕ
-    whole = whole_with (ahead_by value w.ground_node.fop.nn) w.ground_node.fates
+  module _ (value : ℕ) (fits : value < 256) (whole : ℕ) (known : known_at_end w.ground_node value ≡ Some whole)
+    where
+      can : can_resume w.ground_node value ≡ true
+      can = ap is_some known
 
-    kept_now : w.ground_node.fates.kept ≡ true
-    kept_now =
-        (and_parts (is_closed w.ground_node.fop.state) w.ground_node.fates.kept
-        (and_parts (is_closed w.ground_node.fop.state && w.ground_node.fates.kept) _ can).0).1
+      kept_now : w.ground_node.fates.kept ≡ true
+      kept_now = known_kept w.ground_node value whole (known_now w.ground_node value whole known)
 
-    resumed_once : (was : Sessions c s w) → NowOnce (s.session.from + whole) (is_made s.made value) was
-    resumed_once was wanted small all so =
-        let both = and_parts s.resumed (is_made s.made value) so in
-        let parts = all_parts (IsWanted wanted) s.before s.session all in
-        let now = (t.counts.made_is value (made_value s.made value both.1)).1 in
-        let next : IsBeginning w.session.submissions (drop s.session.from wanted) =
-        subst (λ (ps : List PacketOn). IsBeginning ps (drop s.session.from wanted)) was.submits parts.1 in
-        let l : Leads c wanted w s.session.from = record { began = was.since kept_now; submits = next } in
-        let counted = more_is c wanted w s.session.from l small value whole now (rw can refl) in
-        ap (λ xs. xs ++ passed c w) (was.once wanted small parts.0 both.0)
-        ∙ ap (λ xs. take s.session.from wanted ++ xs) (are_whole c without s w t.holds.sound was)
-        ∙ pieces_on wanted w.session.submissions s.session.from (on_board w)
-        (board_most c wanted w s.session.from l small) next
-        ∙ ap (λ (n : ℕ). take (s.session.from + n) wanted) (sym counted)
+      resumed_once : (was : Sessions c s w) → NowOnce (s.session.from + whole) (is_made s.made value) was
+      resumed_once was wanted small all so =
+          let both = and_parts s.resumed (is_made s.made value) so in
+          let parts = all_parts (IsWanted wanted) s.before s.session all in
+          let now = (t.counts.made_is value (made_value s.made value both.1)).1 in
+          let next : IsBeginning w.session.submissions (drop s.session.from wanted) =
+          subst (λ (ps : List PacketOn). IsBeginning ps (drop s.session.from wanted)) was.submits parts.1 in
+          let l : Leads c wanted w s.session.from = record { began = was.since kept_now; submits = next } in
+          let counted = more_is c wanted w s.session.from l small value whole now
+          (ap (λ (o : Option ℕ). (resumed_from w.ground_node value o).answer) known) in
+          ap (λ xs. xs ++ passed c w) (was.once wanted small parts.0 both.0)
+          ∙ ap (λ xs. take s.session.from wanted ++ xs) (are_whole c without s w t.holds.sound was)
+          ∙ pieces_on wanted w.session.submissions s.session.from (on_board w)
+          (board_most c wanted w s.session.from l small) next
+          ∙ ap (λ (n : ℕ). take (s.session.from + n) wanted) (sym counted)
 
-    resumed_sessions : s.idle && (true && is_silent s) ≡ true
-        → Sessions c (begins s (s.session.from + whole) true (is_made s.made value)) (resumed w value)
-    resumed_sessions idle =
-        let at = idle_there true idle in
-        let set : World = directed w (SetVs value) in
-        let h = step_holds c w t.holds (events.Directive (SetVs value)) fits in
-        let off : is_closed set.ground_node.fop.state ≡ true =
-        let so = can_off w.ground_node value can in rw so refl in
-        let same : (world_step w (events.Resume value)).after ≡ resumed w value = rw can refl in
-        begun_sessions set InitUnlock (s.session.from + whole) true (is_made s.made value) refl
-        (step_holds c set h (events.Directive InitUnlock) tt) refl off refl
-        (set_idle c w t.holds value fits at.2) at.0
-        (λ starts. subst (Began c) same
-        (began_first c w t.past.0 t.past.1 (events.Resume value) can fits (subst IsIdle (sym same) starts)))
-        resumed_once
+      resumed_sessions : s.idle && (true && is_silent s) ≡ true
+          → Sessions c (begins s (s.session.from + whole) true (is_made s.made value)) (resumed w value)
+      resumed_sessions idle =
+          let at = idle_there true idle in
+          let set : World = directed w (SetVs value) in
+          let h = step_holds c w t.holds (events.Directive (SetVs value)) fits in
+          let off : is_closed set.ground_node.fop.state ≡ true =
+          let so = can_off w.ground_node value can in rw so refl in
+          let same : (world_step w (events.Resume value)).after ≡ resumed w value = resumed_after w value can in
+          begun_sessions set InitUnlock (s.session.from + whole) true (is_made s.made value) refl
+          (step_holds c set h (events.Directive InitUnlock) tt) refl off refl
+          (set_idle c w t.holds value fits at.2) at.0
+          (λ starts. subst (Began c) same
+          (began_first c w t.past.0 t.past.1 (events.Resume value) can fits (subst IsIdle (sym same) starts)))
+          resumed_once
 
   abbrev Resumes : ℕ → WorldOutcome → Type 0
   Resumes value o = (seen_step s (events.Resume value) o.answer).idle ≡ true
@@ -561,9 +569,7 @@ module _ (c : Config) (without : c.blocking ≢ 1) (s : Seen) (w : World) (t : T
 
   resume_sessions : (value : ℕ) → value < 256 → Resumes value (world_step w (events.Resume value))
   resume_sessions value fits =
-      cond_both (can_resume w.ground_node value) _ _
-      (λ (o : GroundOutcome (Result ℕ LinkFault)). Resumes value (world_after_resuming w value o.answer))
-      (λ can. resumed_sessions value fits can) (λ cannot. t.sessions)
+      resumes w value (Resumes value) t.sessions (λ whole known can. resumed_sessions value fits whole known)
 
   sessions_step : (e : Event) → IsEvent e → (seen_step s e (world_step w e).answer).idle ≡ true
       → Sessions c (seen_step s e (world_step w e).answer) (world_step w e).after

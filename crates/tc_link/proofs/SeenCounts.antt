@@ -156,7 +156,7 @@ module _ (c : Config) (s : Seen) (w : World) (h : Holding c w) (k : CountsAt c s
       submitted m octets (ground_step w.ground_node (ground.Submit m octets.now)).answer
   counts_step (events.Bypass m octets) = k
   counts_step (events.Directive d) = directed d (ground_step w.ground_node (ground.Direct d)).answer
-  counts_step (events.Resume value) = resumes w value (By (events.Resume value)) k (λ whole can. k)
+  counts_step (events.Resume value) = resumes w value (By (events.Resume value)) k (λ whole known can. k)
   counts_step events.Send =
       let o = ground_step w.ground_node ground.Pull in sent o.after o.answer
   counts_step events.UpDeliver =

@@ -4,10 +4,12 @@ use Rattle.tc_link.proofs.Common.{SegmentView, CopFault, Alert, Directive, InitW
 use Rattle.tc_link.proofs.Common.{InitSetVr, SetVs, is_initiation, is_closed, closed_not, closed_is, obeyed, ticked}
 use Rattle.tc_link.proofs.Common.{pulled_out, directive_step, tick_step, pull_step, clcw_step, FopState, FopOutcome}
 use Rattle.tc_link.proofs.Common.{IsActive, S6, Clcw, GroundState, with_fop, directive_outcome, Event, World}
-use Rattle.tc_link.proofs.Common.{world_step, BeginsNoSession, Fates, after_obeying, after_acknowledging, submitting}
+use Rattle.tc_link.proofs.Common.{world_step, BeginsNoSession, Fates, after_obeying, submitting}
 use Rattle.tc_link.proofs.Common.{obeying}
-use Rattle.tc_link.proofs.Common.{after_alert, moved_by, ExtractorState}
-use Rattle.std.proofs.lemmas.Bool.{cases_Bool}
+use Rattle.tc_link.proofs.Common.{after_alert, acknowledging, ExtractorState}
+use Rattle.std.specs.Prelude.{not}
+use Rattle.std.proofs.lemmas.Bool.{cases_Bool, and_parts}
+use Rattle.nodes.specs.Fates.{shows_one}
 use Rattle.cop1.specs.declared.vocabulary.Directive.TheVariants.{Terminate}
 use Rattle.nodes.specs.declared.event.Event.TheVariants as events
 use Rattle.simulated_link.specs.World.{directed}
@@ -45,7 +47,7 @@ module _ (w : World) where
   heard x packets r = record s {
     extractor = x;
     telemetry = packets;
-    fates = after_acknowledging (moved_by (clcw_step s.fop r).after.nn s.fop.nn) s.fates;
+    fates = (acknowledging s (clcw_step s.fop r)).fates;
   }
 
   abbrev KeptBy : Directive → FopOutcome SegmentView (Result (Option Alert) CopFault) → Type 0
@@ -75,7 +77,8 @@ module _ (w : World) where
     sends = λ is sent kept. kept_as s.fates _ (with_fates s (pull_step s.fop).after) kept;
     hears_none = λ told x packets kept. kept;
     hears = λ told x packets r kept.
-        kept_as (heard x packets r).fates _ (with_fates (heard x packets r) (clcw_step s.fop r).after) kept;
+        (and_parts (not (shows_one (clcw_step s.fop r).answer)) s.fates.kept
+        (kept_as (heard x packets r).fates _ (with_fates (heard x packets r) (clcw_step s.fop r).after) kept)).1;
   })
 
   forgets : (x : ℕ) → s.fop.state ≡ S6 → (directed w (SetVs x)).ground_node.fates.kept ≡ false

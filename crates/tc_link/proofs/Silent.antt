@@ -17,7 +17,8 @@ use Rattle.tm_link.specs.Layout as telemetry
 use Rattle.tm_link.specs.Decoding as telemetry_reading
 use Rattle.tm_link.specs.Extractor.{extract_step}
 use Rattle.nodes.specs.Ground.{outstanding, GroundEvent, ground_step, report_outcome, is_own_telemetry}
-use Rattle.nodes.specs.Ground.{can_resume, Submit, Bypass, Direct, Resume, Pull, Tick, Telemetry, ControlWord}
+use Rattle.nodes.proofs.Resuming.{resumed_or}
+use Rattle.nodes.specs.Ground.{Submit, Bypass, Direct, Resume, Pull, Tick, Telemetry, ControlWord}
 use Rattle.nodes.specs.Ground.{TakeTelemetry, ForgetTelemetry, ground_take_telemetry, ground_directive, ground_tick}
 use Rattle.nodes.specs.Ground.{after_directive}
 use Rattle.nodes.specs.declared.fault.LinkFault.{LinkFault}
@@ -156,7 +157,7 @@ word_aloud s (Ok report) =
     cond_both (report.vcid == s.config.vcid) _ _
     (λ (o : GroundOutcome HeardClcw). Aloud s.fop o.answer.alert o.after.fop)
     (λ t. let o = clcw_step s.fop report in
-    moved_aloud s (record (acknowledging s o.after) { fop = o.after }) o.answer (report_aloud s.fop report))
+    moved_aloud s (record (acknowledging s o) { fop = o.after }) o.answer (report_aloud s.fop report))
     (λ t. same_aloud s.fop None)
 
 module _ (s : GroundState) where
@@ -192,8 +193,8 @@ module _ (s : GroundState) where
   call_aloud (Direct d) =
       let o = directive_step s.fop d in directed_or d o.answer o.after (directive_aloud s.fop d)
   call_aloud (Resume value) =
-      cond_both (can_resume s value) _ _ (λ (o : GroundOutcome (Result ℕ LinkFault)). Aloud s.fop None o.after.fop)
-      (λ can on off. closed_not s.fop.state (can_off s value can) on) (λ t. same_aloud s.fop None)
+      resumed_or s value (λ (o : GroundOutcome (Result ℕ LinkFault)). Aloud s.fop None o.after.fop)
+      (λ whole known can on off. closed_not s.fop.state (can_off s value can) on) (λ t. same_aloud s.fop None)
   call_aloud Pull =
       let o = pull_step s.fop in moved_aloud s (record s { fop = o.after }) None (pull_aloud s.fop)
   call_aloud Tick =

@@ -186,7 +186,7 @@ directed_extracts s d (Err fault) fop = (refl, refl)
 
 pub report_extracts : (s : GroundState) (r : Result Clcw ClcwFault) → Extracts s (report_outcome s r).after
 report_extracts s = report_seen s (Extracts s) (refl, refl) (λ report.
-    let f : FopState SegmentView = (clcw_step s.fop report).after in with_extracts (acknowledging s f) f)
+    let o = clcw_step s.fop report in with_extracts (acknowledging s o) o.after)
 
 -- Telemetry over a run: what holds at every moment, and that it is what is promised.
 

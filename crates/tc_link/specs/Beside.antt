@@ -1,10 +1,11 @@
 -- What happens on a link while a session goes on: the events that begin none, and what leaves the
 -- session as it is.
-use Rattle.std.specs.Prelude.{◌≡◌, List, [], ◌∷◌}
+use Rattle.std.specs.Prelude.{◌≡◌, List, [], ◌∷◌, false}
 use Rattle.std.specs.List.{AllByRecursion}
 use Rattle.octets.specs.Number.{IsOctets}
 use Rattle.cop1.specs.declared.farm.Verdict.TheVariants.{Behind, Discarded}
 use Rattle.nodes.specs.declared.config.Config.{Config}
+use Rattle.nodes.specs.Fates.{shows_one}
 use Rattle.nodes.specs.Ground.{ground_step}
 use Rattle.nodes.specs.Ground as ground_calls
 use Rattle.nodes.specs.Parameters.{IsConfig}
@@ -16,10 +17,11 @@ use Rattle.nodes.specs.declared.heard.HeardReport.{HeardReport}
 use Rattle.nodes.specs.declared.heard.HeardReport.TheVariants.{Used}
 use Rattle.nodes.specs.declared.received.Received.{Received}
 use Rattle.nodes.specs.declared.received.Received.TheVariants as received_cases
-use Rattle.simulated_link.specs.World.{World, BeginsNoSession, new_world}
+use Rattle.simulated_link.specs.World.{World, BeginsNoSession, new_world, world_step}
 use Rattle.tc_link.specs.AnyPast.{LinkStep, Happens, TakeTelemetry, Receives, Hears, HearsReport}
 use Rattle.tc_link.specs.AnyPast.{ForgetTelemetry, NewGround, NewSpacecraft, IsLinkStep, link_step}
 use Rattle.tc_link.specs.AnyPast.{link_run, word_step}
+use Rattle.tc_link.specs.FalseAlarms.{alert_in}
 use Rattle.tc_link.specs.Known.{SetsNoNumber}
 
 -- octets that reach the spacecraft are no frame, or one for another, one of Type-BD, or one of
@@ -69,6 +71,15 @@ LeavesNumbers w _ = Unit {0}
 abbrev pub SetsNone : World → List LinkStep → Type 0
 SetsNone w [] = Unit {0}
 SetsNone w (step ∷ more) = LeavesNumbers w step × SetsNone (link_step w step) more
+
+-- a step is answered no alert that shows a broken condition, and none of these is
+abbrev pub ShowsNothing : World → LinkStep → Type 0
+ShowsNothing w (Happens event) = shows_one (alert_in (world_step w event).answer) ≡ false
+ShowsNothing w _ = Unit {0}
+
+abbrev pub ShowsNone : World → List LinkStep → Type 0
+ShowsNone w [] = Unit {0}
+ShowsNone w (step ∷ more) = ShowsNothing w step × ShowsNone (link_step w step) more
 
 -- ---- a run in which octets from outside the link are octets
 

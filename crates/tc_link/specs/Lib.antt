@@ -29,3 +29,4 @@ pub mod Taken
 pub mod Telemetry
 pub mod Whole
 pub mod Resumed
+pub mod Resumable

@@ -12,7 +12,7 @@ use Rattle.cop1.specs.declared.vocabulary.Directive.TheVariants.{InitWithoutChec
 use Rattle.cop1.specs.declared.vocabulary.Directive.TheVariants.{InitSetVr, SetVs, Terminate}
 use Rattle.cop1.specs.declared.vocabulary.FopMode.TheVariants.{S1}
 use Rattle.nodes.specs.declared.config.Config.{Config}
-use Rattle.nodes.specs.Ground.{outstanding, frame_of, ground_step}
+use Rattle.nodes.specs.Ground.{outstanding, frame_of, ground_step, new_ground}
 use Rattle.nodes.specs.Ground as ground_calls
 use Rattle.nodes.specs.Packets.{packet_on}
 use Rattle.nodes.specs.Parameters.{default_config}
@@ -21,7 +21,7 @@ use Rattle.nodes.specs.Spacecraft as spacecraft_calls
 use Rattle.nodes.specs.declared.event.Event.{Event}
 use Rattle.nodes.specs.declared.event.Event.TheVariants as events
 use Rattle.simulated_link.specs.declared.session_start.Opening.{Opening}
-use Rattle.simulated_link.specs.World.{World, world_step, world_after_submission}
+use Rattle.simulated_link.specs.World.{World, world_step, new_world, world_after_submission}
 use Rattle.simulated_link.specs.World.{world_after_queueing, submitted, delivered}
 use Rattle.simulated_link.specs.World.{directive_of, IsIdle}
 
@@ -38,8 +38,9 @@ pub data LooseStep : Type 0 where
   DownOvertakes : LooseStep
   -- a frame of another sender goes up
   UpJoins : (octets : List ℕ) → LooseStep
-  -- the spacecraft begins anew
+  -- the spacecraft, or the ground, begins anew
   Restarts : LooseStep
+  GroundRestarts : LooseStep
 
 abbrev pub overtaken : List (List ℕ) → List (List ℕ)
 overtaken (first ∷ (second ∷ more)) = second ∷ (first ∷ more)
@@ -57,10 +58,15 @@ loose_step w UpOvertakes = record w { up = overtaken w.up }
 loose_step w DownOvertakes = record w { down = overtaken w.down }
 loose_step w (UpJoins octets) = record w { up = w.up ++ octets ∷ [] }
 loose_step w Restarts = record w { spacecraft = new_spacecraft w.spacecraft.config }
+loose_step w GroundRestarts = record w { ground_node = new_ground w.ground_node.config }
 
 abbrev pub loose_run : World → List LooseStep → World
 loose_run w [] = w
 loose_run w (step ∷ more) = loose_run (loose_step w step) more
+
+-- two new nodes, each with its own configuration
+abbrev pub two_new : (below on_board : Config) → World
+two_new below on_board = record (new_world below) { spacecraft = new_spacecraft on_board }
 
 -- ---- what goes wrong
 
@@ -88,6 +94,14 @@ small = record default_config { width = 2; window = 1; timer = 1; frame_length =
 -- a sender's window of one more than half the width
 abbrev pub wide : Config
 wide = record small { window = 2 }
+
+-- a spacecraft on which no MAP is open
+abbrev pub closed : Config
+closed = record small { maps = 0 }
+
+-- a ground that puts several packets into a segment
+abbrev pub blocking : Config
+blocking = record small { blocking = 1 }
 
 abbrev pub command : List ℕ
 command = 0x10 ∷ 0x05 ∷ 0xc0 ∷ 0 ∷ 0 ∷ 0 ∷ 0xaa ∷ []
@@ -165,6 +179,19 @@ second_sender =
 abbrev pub restarted : List LooseStep
 restarted =
     begins (InitSetVr 255) ∷ up ++ down ++ Submits command ∷ up_lost ++ Restarts ∷ down
+
+-- The ground begins anew, while a frame that it sent before is on its way up.
+abbrev pub ground_restarted : List LooseStep
+ground_restarted =
+    begins InitWithoutCheck ∷ Submits another ∷ Happens events.Send ∷ GroundRestarts
+    ∷ begins InitWithoutCheck ∷ Submits command ∷ up ++ Happens events.UpDeliver ∷ down
+
+-- Two nodes that are not configured alike: the command, or both in one segment.
+abbrev pub one_sent : List LooseStep
+one_sent = begins InitWithoutCheck ∷ Submits command ∷ up ++ down
+
+abbrev pub both_sent : List LooseStep
+both_sent = begins InitWithoutCheck ∷ Submits (command ++ another) ∷ up ++ down
 
 -- A sender's window of one more than half the width: of two frames the first is lost.
 abbrev pub over_the_window : List LooseStep

@@ -3,22 +3,22 @@
 use Rattle.std.specs.Prelude.{◌≡◌, ◌≢◌, ◌⊎◌, ◌<◌, ℕ, ◌+◌, ◌^◌, List, [], ◌++◌, length, drop}
 use Rattle.std.specs.Prelude.{flat_map}
 use Rattle.std.specs.Prelude.{filter}
-use Rattle.std.specs.Prelude.{◌==◌, true, Ok}
+use Rattle.std.specs.Prelude.{◌==◌, true, Ok, Some}
 use Rattle.std.specs.List.{AllByRecursion}
 use Rattle.octets.specs.Beginning.{IsBeginning}
 use Rattle.map_service.specs.Packets.{packets_in}
+use Rattle.cop1.specs.declared.vocabulary.Directive.TheVariants.{InitWithCheck}
 use Rattle.nodes.specs.Ground.{ground_step, Resume, is_closed}
-use Rattle.nodes.specs.declared.fault.LinkFault.TheVariants.{NotKnown}
 use Rattle.nodes.specs.Packets.{PacketOn}
 use Rattle.nodes.specs.declared.event.Event.{Event}
 use Rattle.nodes.specs.declared.event.Event.TheVariants as events
-use Rattle.simulated_link.specs.Replies.{Resumed, Refused}
-use Rattle.simulated_link.specs.declared.reply.NodeFault.TheVariants.{Link}
-use Rattle.simulated_link.specs.World.{World, IsIdle, IsSettled, is_idle, accepted, delivered}
+use Rattle.simulated_link.specs.Replies.{Resumed}
+use Rattle.simulated_link.specs.World.{World, IsIdle, is_idle, accepted, delivered, directive_of}
 use Rattle.simulated_link.specs.World.{resumed}
 use Rattle.simulated_link.specs.World.{world_step}
 use Rattle.tc_link.specs.AnyPast.{HasAnyPast, LinkStep, IsLinkStep, link_step, link_run}
-use Rattle.tc_link.specs.Beside.{LeavesSession, SessionLasts, LeavesNumbers, SetsNone}
+use Rattle.tc_link.specs.Beside.{LeavesSession, SessionLasts, LeavesNumbers, SetsNone, ShowsNone}
+use Rattle.tc_link.specs.Confirmation.{IsChecking}
 use Rattle.tc_link.specs.Fates.{whole_first}
 use Rattle.tc_link.specs.Reached.{IsEvent}
 use Rattle.tc_link.specs.Taken.{BeginsSession}
@@ -52,8 +52,8 @@ pub data Sessions (wanted : List PacketOn) : World → ℕ → (ℕ → List (Li
       → (world_step w (events.Resume value)).answer ≡ Ok (Resumed more)
       → Sessions wanted (world_step w (events.Resume value)).after (done + more)
       (λ m. before m ++ delivered w m)
-  -- nothing of the session was sent, as where `resume` refuses in S6: another begins by an idle
-  -- start, and goes on from the same submission; meanwhile V(S) may be set
+  -- nothing of the session was sent: another begins by an idle start, and goes on from the same
+  -- submission; meanwhile V(S) may be set, and any alert may come
   begins_anew : {w : World} {done : ℕ} {before : ℕ → List (List ℕ)} (since : List LinkStep)
       (initiation : Event) → Sessions wanted w done before → SessionLasts w since
       → AllByRecursion IsLinkStep since → (link_run w since).session.sent ≡ []
@@ -83,33 +83,30 @@ ResumesSo =
 
 -- ---- whether `resume` is accepted
 
--- the session was settled, or V(R) is V(S)
-abbrev pub IsResumable : World → Type 0
-IsResumable w = IsSettled w ⊎ (w.spacecraft.farm.vr ≡ w.ground_node.fop.vs)
+-- By the value of a report that is made now `resume` answers how many submissions are on board
+-- whole.
+abbrev pub AnswersResuming : World → Type 0
+AnswersResuming w =
+    (world_step w (events.Resume w.spacecraft.farm.vr)).answer
+    ≡ Ok (Resumed (whole_first w (length (accepted w))))
 
--- By the value of a report that is made now, where the sender is in S6.
-pub record AnswersResuming (w : World) : Type 0 where
-  -- in a settled session, and where V(R) is V(S), `resume` answers how many submissions are on
-  -- board whole
-  pub accepted_so : IsResumable w
-      → (world_step w (events.Resume w.spacecraft.farm.vr)).answer
-      ≡ Ok (Resumed (whole_first w (length (accepted w))))
-  -- in any other it refuses: the session was never confirmed, and nothing of it was sent
-  pub refused_so : (IsResumable w → ⊥) → w.spacecraft.farm.vr < 256
-      → (world_step w (events.Resume w.spacecraft.farm.vr)).answer ≡ Ok (Refused (Link NotKnown))
-  pub nothing_sent : (IsResumable w → ⊥) → w.session.sent ≡ []
-  -- by what the ground knows: it does so where V(S) is not NN(R), or is V(R), and nowhere else
-  pub apart : w.ground_node.fop.vs ≢ w.ground_node.fop.nn → IsSettled w
-  pub same : IsSettled w → w.ground_node.fop.vs ≡ w.ground_node.fop.nn
-      → w.spacecraft.farm.vr ≡ w.ground_node.fop.vs
-
--- So it does since a session with an idle start began, whatever came before it, after each alert,
--- while no directive sets V(S).
+-- So it does in S6, since a session with an idle start began, whatever came before it, whether the
+-- session was confirmed or not, while no directive sets V(S) and no alert shows that a condition is
+-- broken: after Timer, Limit and Terminated.
 abbrev pub EachAnswersResuming : Type 0
 EachAnswersResuming =
     (w : World) (initiation : Event) (since : List LinkStep) → HasAnyPast w
     → BeginsSession w initiation → SessionLasts (world_step w initiation).after since
-    → SetsNone (world_step w initiation).after since → IsEvent initiation
+    → SetsNone (world_step w initiation).after since
+    → ShowsNone (world_step w initiation).after since → IsEvent initiation
     → AllByRecursion IsLinkStep since → IsIdle (world_step w initiation).after
     → let now : World = link_run (world_step w initiation).after since in
     is_closed now.ground_node.fop.state ≡ true → AnswersResuming now
+
+-- While the link keeps its conditions no alert shows that one is broken: after any past, in a
+-- session with an idle start that began by Unlock or Set V(R), or began by check and is confirmed.
+abbrev pub ShowsNoneByItself : Type 0
+ShowsNoneByItself =
+    (w : World) (since : List LinkStep) → HasAnyPast w → IsIdle w → IsChecking (directive_of w)
+    → (directive_of w ≢ Some InitWithCheck) ⊎ (w.session.confirmed ≡ true) → SessionLasts w since
+    → AllByRecursion IsLinkStep since → ShowsNone w since

@@ -10,7 +10,8 @@ ghost use Rattle.tc_link.specs.Progress.{EachAcknowledges, EachBegins, EachEnds,
 ghost use Rattle.tc_link.specs.Progress.{EachMakesProgress};
 ghost use Rattle.tc_link.specs.Promises.{HoldsOfAllRuns};
 ghost use Rattle.tc_link.specs.Repeated.{RepeatsNothing, RepeatsNothingOfFrames};
-ghost use Rattle.tc_link.specs.Resumed.{EachAnswersResuming, ResumesInOrder, ResumesSo};
+ghost use Rattle.tc_link.specs.Resumable.{EachKnowsExactly};
+ghost use Rattle.tc_link.specs.Resumed.{EachAnswersResuming, ResumesInOrder, ResumesSo, ShowsNoneByItself};
 ghost use Rattle.tc_link.specs.Seen.{EachIsSeen};
 ghost use Rattle.tc_link.specs.Silence.{SilenceIsIdle};
 ghost use Rattle.tc_link.specs.Silent.{GivesUpAloud, HoldsWhatIsNotAcknowledged};
@@ -131,7 +132,8 @@ pub fn law_of_configurations()
 /// before it, and until a directive sets V(S), in each state and after each alert: the numbers of
 /// submissions, of those that were sent whole and of those that are acknowledged whole are those of the
 /// records, modulo 2^64; and by the value of a report that is made now, so is that of those that are on
-/// board whole. Meanwhile may happen what `law_of_taking` names.
+/// board whole, while no alert has shown that a condition is broken. Meanwhile may happen what
+/// `law_of_taking` names.
 pub fn law_of_submissions()
     ensures { KnowsFates }
 {}
@@ -139,19 +141,27 @@ pub fn law_of_submissions()
 /// One way on after an alert. A program that resumes after each alert, by the value of a report that is made
 /// when nothing is on its way up, and submits again exactly the submissions from the one on that `resume`
 /// answers, session after session, has on each MAP over all its sessions together a prefix of what it wants
-/// delivered, each packet once. So it is where nothing of a session was sent, as where `resume` refuses, and
-/// it begins another by an idle start from the same submission (`in_order`). Each of its submissions is one
-/// packet, or packets that fit into one segment together. Meanwhile may happen what `law_of_taking` names.
-/// What `resume` leaves is the ground once V(S) is set to the value and Unlock begins a session, and so it
-/// is with the event Resume of the link and its records (`ground`). In S6, since a session with an idle
-/// start began and until a directive sets V(S), `resume` is accepted by the value of a report that is made
-/// now where the session was confirmed or begun without a check, and where V(R) is V(S), and answers how
-/// many submissions are on board whole. In any other case it is refused, and nothing of the session was
-/// sent: V(S) is NN(R) then, and is not V(R) (`answers`).
+/// delivered, each packet once. So it is where nothing of a session was sent, and it begins another by an
+/// idle start from the same submission (`in_order`). Each of its submissions is one packet, or packets that
+/// fit into one segment together. Meanwhile may happen what `law_of_taking` names. What `resume` leaves is
+/// the ground once V(S) is set to the value and Unlock begins a session, and so it is with the event Resume
+/// of the link and its records (`ground`).
+///
+/// In S6, since a session with an idle start began, whether it was confirmed or not, `resume` by the value
+/// of a report that is made now is accepted, and answers how many submissions are on board whole: until a
+/// directive sets V(S), or an alert shows that a condition is broken (`answers`). Such an alert does not
+/// come while the link keeps its conditions, in a session by Unlock or Set V(R), nor in one by CLCW check
+/// once it is confirmed (`quiet`). Whatever a ground was called with: `known_on_board` says a number exactly
+/// where a session is known by what the calls were answered, and the value lies from NN(R) to V(S) or these
+/// are equal; `resume` is accepted exactly where it says one in S6, and else refuses by 10 NotKnown and
+/// changes nothing. In a new ground, once V(S) is set, and after an alert that shows a broken condition, no
+/// session is known until one begins (`exactly`).
 pub fn law_of_resuming()
     ensures in_order { ResumesInOrder }
     ensures ground { ResumesSo }
     ensures answers { EachAnswersResuming }
+    ensures quiet { ShowsNoneByItself }
+    ensures exactly { EachKnowsExactly }
 {}
 
 /// Loss is never silent. After any past, in a session with an idle start, from its initiation until an alert

@@ -6,15 +6,18 @@ ghost use Rattle.simulated_link.specs.World.{new_world};
 ghost use Rattle.tc_link.specs.Needed.{EndsWith, IsFalseAlarm, loose_run, small, wide, command, another, joined};
 ghost use Rattle.tc_link.specs.Needed.{frame_overtaken, report_overtaken, frame_left, report_left, other_number};
 ghost use Rattle.tc_link.specs.Needed.{second_sender, restarted, over_the_window, frames_lost};
+ghost use Rattle.tc_link.specs.Needed.{two_new, closed, blocking, ground_restarted, one_sent, both_sent};
 
 /// Each condition of the link is needed: for each there is a run that keeps the others and goes wrong.
-/// In seven of them the ground is Active with nothing outstanding at the end, so that all seems well,
+/// In ten of them the ground is Active with nothing outstanding at the end, so that all seems well,
 /// and a command is lost, comes twice, or is not the one that was submitted: one frame out of its order
 /// (`frame`), one report out of its order (`report`), a frame or a report on its way when the session
 /// begins (`up`, `down`), V(S) one below V(R) and no check (`number`), a second sender (`sender`), a
-/// spacecraft that restarts (`restart`). With a sender's window of one more than half the width the
-/// receiver locks (`window`). After 256 telemetry frames lost in a row a packet comes down that was
-/// never queued (`outage`). The configuration is in its ranges, but for that window (`ranges`).
+/// spacecraft that restarts (`restart`), a ground that does so while its frame is on its way
+/// (`ground_restart`), a MAP that is closed on board alone (`maps`), blocking on the ground alone
+/// (`blocks`). With a sender's window of one more than half the width the receiver locks (`window`). After
+/// 256 telemetry frames lost in a row a packet comes down that was never queued (`outage`). The
+/// configurations are in their ranges, but for that window (`ranges`).
 pub fn law_of_premises()
     ensures frame { EndsWith (loose_run (new_world small) frame_overtaken) true
         (command ∷ []) (command ∷ command ∷ []) }
@@ -25,7 +28,12 @@ pub fn law_of_premises()
     ensures sender { EndsWith (loose_run (new_world small) second_sender) true
         (command ∷ []) (another ∷ []) }
     ensures restart { EndsWith (loose_run (new_world small) restarted) true (command ∷ []) [] }
+    ensures ground_restart { EndsWith (loose_run (new_world small) ground_restarted) false
+        (command ∷ []) (another ∷ []) }
+    ensures maps { EndsWith (loose_run (two_new small closed) one_sent) true (command ∷ []) [] }
+    ensures blocks { EndsWith (loose_run (two_new blocking small) both_sent) true
+        (command ∷ another ∷ []) [] }
     ensures window { IsFalseAlarm (loose_run (new_world wide) over_the_window) }
     ensures outage { (loose_run (new_world small) frames_lost).ground_node.telemetry ≡ joined ∷ [] }
-    ensures ranges { IsConfig small }
+    ensures ranges { IsConfig small × IsConfig closed × IsConfig blocking }
 {}

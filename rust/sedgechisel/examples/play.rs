@@ -76,8 +76,8 @@ fn refused(fault: impl Display) -> String {
     format!("refused {}", text.split(':').next().unwrap_or(&text))
 }
 
-fn done(answer: Result<(), impl Display>) -> Answer {
-    answer.map(|()| "ok".into()).map_err(refused)
+fn done<T>(answer: Result<T, impl Display>) -> Answer {
+    answer.map(|_| "ok".into()).map_err(refused)
 }
 
 fn digits_of(octets: &[u8]) -> String {

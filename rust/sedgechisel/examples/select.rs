@@ -1,202 +1,331 @@
-//! A ground as a loop of select: it waits for a telemetry frame, for a packet to be sent, or for the next tick, whichever
-//! comes first, and after each sends up what is to be sent. Here a spacecraft in another thread stands where the radio
-//! is, over a link that loses a fourth of all frames, and for a while all on their way down, so that the sender gives up.
-//! What was not accepted is sent again then. All channels are std's; with an executor the three arms are those of its
-//! own select.
+//! A ground on bare control words, as a loop of select: it waits for what comes down, for a command to be sent, or for the
+//! next tick, whichever comes first, and after each sends up what is to be sent. On a loopback socket is a front end with
+//! a spacecraft after it. Both ways are slow and lose frames; for a while the link is dark, and once the spacecraft
+//! restarts. Each command is executed once, in order: after an alert the ground goes on as docs/TOUR.md says, by "After an
+//! alert" or by "After a reset". All channels are std's; with an executor the arms are those of its own select.
 
-use sedgechisel::{Alert, Config, FopState, Ground, Heard, HeardReport, LinkFault, Packet, PacketKind};
-use sedgechisel::{SequenceFlags, Spacecraft, TmFrame};
+use sedgechisel::{
+    Alert, Body, Clcw, Config, Fecf, FopState, Ground, HeardReport, LinkFault, Packet, PacketKind,
+};
+use sedgechisel::{Segment, SegmentFlags, SequenceFlags, Spacecraft, TcFrame};
+use std::collections::VecDeque;
 use std::error::Error;
+use std::io::{Read, Write};
+use std::net::{Shutdown, TcpListener, TcpStream};
 use std::sync::mpsc::{channel, Receiver, RecvTimeoutError, Sender};
 use std::thread;
 use std::time::{Duration, Instant};
 
-type Outcome<T> = Result<T, Box<dyn Error>>;
+type Outcome<T> = Result<T, Box<dyn Error + Send + Sync>>;
 
-/// The packets that are sent on MAP 4. Each is one segment.
-const PACKETS: u16 = 100;
+/// The commands that are sent on MAP 4. Each is one segment.
+const COMMANDS: usize = 300;
 const MAP: u8 = 4;
 
-/// The ground's clock, and how often the spacecraft sends a telemetry frame.
-const TICK: Duration = Duration::from_millis(2);
-const REPORT: Duration = Duration::from_millis(3);
+/// The ground's clock, and how often the spacecraft sends a control word.
+const TICK: Duration = Duration::from_millis(10);
+const REPORT: Duration = Duration::from_millis(5);
 
 /// Longer than the longest round trip, in ticks: nothing is on its way up after so many ticks in which nothing was sent.
-const ROUND_TRIP: u32 = 150;
+const ROUND_TRIP: u32 = 50;
+
+fn config() -> Config {
+    Config { scid: 42, window: 20, limit: 3, timer: 12, queue_slots: 20, ..Config::default() }
+}
+
+// ---- The ground. ----
 
 /// What the ground waits for, besides its clock.
 enum Event {
-    /// A telemetry frame came down.
-    Down(Vec<u8>),
-    /// A packet is to be sent.
+    /// A control word came down.
+    Word([u8; 4]),
+    /// Housekeeping came down: how often the spacecraft has begun, and the number of commands that it has executed.
+    Housekeeping { boots: u32, executed: usize },
+    /// A command is to be sent.
     Submit(Vec<u8>),
-    /// There are no more packets.
-    NoMore,
 }
 
 /// The ground with what its program keeps.
-struct Control {
+struct Station {
     ground: Ground,
-    up: Sender<Vec<u8>>,
-    /// All packets, in order: of these the first were submitted, and of those the first are known to be accepted.
-    packets: Vec<Vec<u8>>,
-    submitted: usize,
-    accepted: usize,
+    up: TcpStream,
+    commands: Vec<Vec<u8>>,
+    /// The command that is submission 0 of this session.
+    first: usize,
     /// The ticks since a frame was sent up.
     silence: u32,
-    alerts: u32,
+    /// Nothing is sent until a session begins.
+    is_stopped: bool,
+    /// Whether the session that ended says what is on board.
+    is_known: bool,
+    /// A report that was made when nothing was on its way up.
+    word: Option<Clcw>,
+    boots: Option<u32>,
+    executed: usize,
+    alerts: Vec<Alert>,
 }
 
-impl Control {
-    /// Runs until all packets are known to be accepted on board.
+impl Station {
+    /// Runs until all commands are executed on board.
     fn run(&mut self, events: &Receiver<Event>) -> Outcome<()> {
-        let (mut clock, mut is_last) = (Instant::now() + TICK, false);
-        self.begin(0)?;
-        while !is_last || self.accepted < self.packets.len() {
+        let mut clock = Instant::now() + TICK;
+        while self.executed < COMMANDS {
             // What has come is taken before the tick that is due.
             match events.recv_timeout(clock.saturating_duration_since(Instant::now())) {
-                Ok(Event::Down(octets)) => self.hear(&octets)?,
-                Ok(Event::Submit(packet)) => self.packets.push(packet),
-                Ok(Event::NoMore) => is_last = true,
+                Ok(Event::Word(octets)) => self.hear_word(&octets)?,
+                Ok(Event::Housekeeping { boots, executed }) => self.hear_housekeeping(boots, executed)?,
+                Ok(Event::Submit(command)) => self.commands.push(command),
                 Err(RecvTimeoutError::Timeout) => {
                     clock = Instant::now() + TICK;
                     self.silence += 1;
                     let alert = self.ground.tick();
-                    self.given_up(alert);
+                    self.give_up(alert);
                 }
-                Err(RecvTimeoutError::Disconnected) => return Err("the spacecraft is gone".into()),
+                Err(RecvTimeoutError::Disconnected) => return Err("the front end is gone".into()),
             }
             self.send()?;
         }
         Ok(())
     }
 
-    /// Begins a session at the number that the spacecraft expects. Unlock clears its flags, and ends a lockout.
-    fn begin(&mut self, vr: u8) -> Outcome<()> {
-        self.ground.set_vs(vr)?;
-        Ok(self.ground.init_unlock()?)
+    fn stop(&mut self, is_known: bool) {
+        (self.is_stopped, self.is_known, self.word) = (true, self.is_known && is_known, None);
     }
 
-    /// Submits as many packets as the queue takes, and sends the frames that are to be sent now.
-    fn send(&mut self) -> Outcome<()> {
-        while let Some(packet) = self.packets.get(self.submitted) {
-            match self.ground.submit(MAP, packet) {
-                Ok(()) => self.submitted += 1,
-                Err(LinkFault::QueueFull | LinkFault::NotOpen) => break,
-                Err(fault) => return Err(fault.into()),
-            }
+    fn give_up(&mut self, alert: Option<Alert>) {
+        if let Some(alert) = alert {
+            self.alerts.push(alert);
+            self.stop(!alert.shows_a_broken_condition());
         }
-        for frame in self.ground.frames() {
-            self.up.send(frame?)?;
-            self.silence = 0;
+    }
+
+    fn hear_word(&mut self, octets: &[u8; 4]) -> Outcome<()> {
+        let heard = self.ground.clcw(octets);
+        self.give_up(heard.alert);
+        if !self.is_stopped || heard.report != HeardReport::Used {
+            return Ok(());
+        }
+        let word = Clcw::decode(octets)?;
+        if word.wait {
+            self.silence = 0; // the reports before the wait flag is gone say otherwise
+        } else if self.silence > ROUND_TRIP {
+            self.word = Some(word);
         }
         Ok(())
     }
 
-    /// A telemetry frame came. In a session its report says what is acknowledged. After an alert it says what was
-    /// accepted on board, if it was made when nothing was on its way up: then the others are sent again.
-    fn hear(&mut self, octets: &[u8]) -> Outcome<()> {
-        let nn = self.ground.nn();
-        let heard = self.ground.telemetry(octets)?;
-        self.accepted += usize::from(self.ground.nn().wrapping_sub(nn));
-        let Heard::Frame { report: HeardReport::Used, alert, .. } = heard else { return Ok(()) };
-        self.given_up(alert);
-        if self.ground.state() != FopState::S6 || self.silence < ROUND_TRIP {
+    fn hear_housekeeping(&mut self, boots: u32, executed: usize) -> Outcome<()> {
+        if self.boots.is_some_and(|it| it != boots) {
+            // It has restarted.
+            if self.ground.state() != FopState::S6 {
+                self.ground.terminate()?;
+            }
+            self.stop(false);
+        }
+        (self.boots, self.executed) = (Some(boots), executed);
+        // A word that is kept came before this, and no restart was between.
+        self.word.take().map_or(Ok(()), |word| self.begin(word.value))
+    }
+
+    /// The next session. Where the last one does not say what is on board, the spacecraft's telemetry does.
+    fn begin(&mut self, value: u8) -> Outcome<()> {
+        if self.is_known && self.ground.known_on_board(value).is_some() {
+            self.first += self.ground.resume(value)? as usize;
+        } else {
+            self.first = self.executed;
+            self.ground.set_vs(value)?;
+            self.ground.init_unlock()?;
+        }
+        (self.is_stopped, self.is_known) = (false, true);
+        Ok(())
+    }
+
+    /// Submits as many commands as the queue takes, and sends the frames that are to be sent now.
+    fn send(&mut self) -> Outcome<()> {
+        if self.is_stopped {
             return Ok(());
         }
-        let word = self.ground.clcw_in(octets).ok_or("the frame has no report")?;
-        let more = self.ground.accepted_beyond(word.value).ok_or("nothing is known of what was sent")?;
-        self.accepted += usize::from(more);
-        self.submitted = self.accepted;
-        self.begin(word.value)
-    }
-
-    fn given_up(&mut self, alert: Option<Alert>) {
-        self.alerts += u32::from(alert.is_some());
-    }
-}
-
-/// Loses a fourth of all frames, by a generator of Lehmer's; and of two hundred each one that is on its way down.
-struct Link {
-    state: u64,
-    frames: u32,
-    lost: u32,
-}
-
-impl Link {
-    fn carries(&mut self, is_down: bool) -> bool {
-        self.state = self.state * 48271 % 2147483647;
-        self.frames += 1;
-        let is_lost = self.state % 4 == 0 || is_down && (60..260).contains(&self.frames);
-        self.lost += u32::from(is_lost);
-        !is_lost
+        let next = self.first + self.ground.submitted() as usize;
+        for command in self.commands.iter().skip(next) {
+            match self.ground.submit(MAP, command) {
+                Ok(_) => {}
+                Err(LinkFault::QueueFull) => break,
+                Err(fault) => return Err(fault.into()),
+            }
+        }
+        for frame in self.ground.frames() {
+            self.up.write_all(&frame?)?;
+            self.silence = 0;
+        }
+        Ok(())
     }
 }
 
-/// The spacecraft, until nothing more can come up: the packets in the order in which they were taken on board, and the
-/// number of frames that the link lost.
-fn on_board(
-    mut spacecraft: Spacecraft, up: &Receiver<Vec<u8>>, down: &Sender<Event>,
-) -> Result<(Vec<Vec<u8>>, u32), LinkFault> {
-    let (mut link, mut delivered) = (Link { state: 1, frames: 0, lost: 0 }, Vec::new());
-    let (mut clock, mut room) = (Instant::now() + REPORT, [0; TmFrame::LONGEST]);
+/// Hands on what comes down: a letter, then a control word, or two numbers of four octets.
+fn listen(mut down: TcpStream, events: &Sender<Event>) -> Outcome<()> {
     loop {
-        match up.recv_timeout(clock.saturating_duration_since(Instant::now())) {
-            Ok(frame) if link.carries(false) => {
-                spacecraft.receive(&frame)?;
-                for packet in spacecraft.packets() {
-                    delivered.push(packet?.1);
-                }
-            }
-            Ok(_) => {}
-            Err(RecvTimeoutError::Timeout) => {
-                clock = Instant::now() + REPORT;
-                let frame = spacecraft.telemetry_frame(&mut room);
-                if link.carries(true) {
-                    // A ground that has ended takes no more.
-                    down.send(Event::Down(frame.to_vec())).ok();
-                }
-            }
-            Err(RecvTimeoutError::Disconnected) => return Ok((delivered, link.lost)),
+        let (mut kind, mut word) = ([0], [0; 4]);
+        down.read_exact(&mut kind)?;
+        down.read_exact(&mut word)?;
+        let mut event = Event::Word(word);
+        if kind == *b"H" {
+            let boots = u32::from_be_bytes(word);
+            down.read_exact(&mut word)?;
+            event = Event::Housekeeping { boots, executed: u32::from_be_bytes(word) as usize };
+        }
+        events.send(event)?;
+    }
+}
+
+/// Those who send commands: one each millisecond.
+fn submit(events: &Sender<Event>) -> Outcome<()> {
+    for count in 0..COMMANDS {
+        let (kind, flags) = (PacketKind::Telecommand, SequenceFlags::Unsegmented);
+        let packet = Packet { kind, secondary: false, apid: 5, flags, count: count as u16, data: b"command" };
+        events.send(Event::Submit(packet.encode(&mut [0; 64])?.to_vec()))?;
+        thread::sleep(Duration::from_millis(1));
+    }
+    Ok(())
+}
+
+// ---- The front end and the spacecraft. ----
+
+/// A direction of the link: what goes by it comes later, in order, or is lost, three of a hundred by a generator of
+/// Lehmer's.
+struct Way {
+    random: u64,
+    queue: VecDeque<(Instant, Vec<u8>)>,
+    is_dark: bool,
+}
+
+impl Way {
+    fn new(random: u64) -> Self {
+        Self { random, queue: VecDeque::new(), is_dark: false }
+    }
+
+    fn send(&mut self, octets: Vec<u8>) {
+        self.random = self.random * 48271 % 2147483647;
+        if !self.is_dark && self.random % 100 >= 3 {
+            let at = Instant::now() + Duration::from_millis(15 + self.random % 16);
+            self.queue.push_back((self.queue.back().map_or(at, |last| at.max(last.0)), octets));
+        }
+    }
+
+    fn arrived(&mut self) -> Option<Vec<u8>> {
+        let is_due = self.queue.front().is_some_and(|it| it.0 <= Instant::now());
+        if is_due {
+            self.queue.pop_front().map(|it| it.1)
+        } else {
+            None
         }
     }
 }
 
-/// Those who send packets: one each millisecond.
-fn submit(packets: Vec<Vec<u8>>, events: &Sender<Event>) {
-    for packet in packets {
-        events.send(Event::Submit(packet)).ok();
-        thread::sleep(Duration::from_millis(1));
-    }
-    events.send(Event::NoMore).ok();
+/// What is on the link for a ground: ways up and down, and the spacecraft with the counts of the commands that it executed.
+struct FrontEnd {
+    spacecraft: Spacecraft,
+    boots: u32,
+    executed: Vec<u16>,
+    /// The reports for which the link will be dark.
+    dark: u32,
+    up: Way,
+    down: Way,
 }
 
-fn packet(count: u16) -> Outcome<Vec<u8>> {
-    let (kind, flags) = (PacketKind::Telecommand, SequenceFlags::Unsegmented);
-    let packet = Packet { kind, secondary: false, apid: 5, flags, count, data: b"command" };
-    Ok(packet.encode(&mut [0; 64])?.to_vec())
+impl FrontEnd {
+    /// Runs until the ground is gone: the counts of the commands that were executed.
+    fn run(mut self, mut stream: TcpStream, frames: &Receiver<Vec<u8>>) -> Outcome<Vec<u16>> {
+        let (mut clock, mut turn) = (Instant::now() + REPORT, 0u32);
+        loop {
+            match frames.recv_timeout(Duration::from_millis(1)) {
+                Ok(frame) => self.up.send(frame),
+                Err(RecvTimeoutError::Timeout) => {}
+                Err(RecvTimeoutError::Disconnected) => return Ok(self.executed),
+            }
+            while let Some(frame) = self.up.arrived() {
+                self.spacecraft.receive(&frame)?;
+            }
+            if clock <= Instant::now() {
+                (clock, turn) = (clock + REPORT, turn + 1);
+                self.report(turn)?;
+            }
+            while let Some(octets) = self.down.arrived() {
+                // A ground that has ended takes no more.
+                stream.write_all(&octets).ok();
+            }
+        }
+    }
+
+    /// Executes what is ready, and sends a control word, and in each tenth turn housekeeping.
+    fn report(&mut self, turn: u32) -> Outcome<()> {
+        while let Some((_, packet)) = self.spacecraft.take()? {
+            self.executed.push(Packet::decode(&packet)?.count);
+            if self.boots == 0 && self.executed.len() == 2 * COMMANDS / 3 {
+                self.restart()?;
+            }
+        }
+        let is_dark = self.dark > 0 && self.executed.len() >= COMMANDS / 3;
+        self.dark -= u32::from(is_dark);
+        (self.up.is_dark, self.down.is_dark) = (is_dark, is_dark);
+        self.down.send([&b"C"[..], &self.spacecraft.control_word().encode()?].concat());
+        if turn % 10 == 0 {
+            let executed = (self.executed.len() as u32).to_be_bytes();
+            self.down.send([&b"H"[..], &self.boots.to_be_bytes(), &executed].concat());
+        }
+        Ok(())
+    }
+
+    /// A new node, which has nothing of the old one. It begins in Lockout, so that its reports are not believed.
+    fn restart(&mut self) -> Outcome<()> {
+        (self.spacecraft, self.boots) = (Spacecraft::new(&config())?, self.boots + 1);
+        let segment = Segment { flags: SegmentFlags::Alone, map: MAP, data: b"." };
+        let outside = TcFrame { scid: 42, vcid: 2, body: Body::Ad { n: 128, segment } };
+        self.spacecraft.receive(outside.encode(Fecf::Present, &mut [0; TcFrame::LONGEST])?)?;
+        Ok(())
+    }
+}
+
+/// Hands on the frames that the ground sends, each as long as it declares.
+fn receive(mut stream: TcpStream, frames: &Sender<Vec<u8>>) -> Outcome<()> {
+    loop {
+        let mut frame = vec![0; 5];
+        stream.read_exact(&mut frame)?;
+        frame.resize(TcFrame::declared(&frame, Fecf::Present)?, 0);
+        stream.read_exact(&mut frame[5..])?;
+        frames.send(frame)?;
+    }
 }
 
 fn main() -> Outcome<()> {
-    // A report comes every 3 ms, so a timer of 30 ms is long enough.
-    let config = Config { window: 8, limit: 5, timer: 15, queue_slots: 4, ..Config::default() };
-    let packets = (0..PACKETS).map(packet).collect::<Outcome<Vec<_>>>()?;
-    let (ground, spacecraft) = (Ground::new(&config)?, Spacecraft::new(&config)?);
-    let ((up, arriving), (down, events)) = (channel(), channel());
-    let (wanted, queue) = (packets.clone(), down.clone());
-    let board = thread::spawn(move || on_board(spacecraft, &arriving, &down));
-    thread::spawn(move || submit(packets, &queue));
-    let (packets, submitted, accepted, silence, alerts) = (Vec::new(), 0, 0, 0, 0);
-    let mut control = Control { ground, up, packets, submitted, accepted, silence, alerts };
-    control.run(&events)?;
-    let alerts = control.alerts;
-    // With it goes the channel up, by which the spacecraft ends.
-    drop(control);
-    let (delivered, lost) = board.join().map_err(|_| "the spacecraft stopped")??;
-    if delivered != wanted {
-        return Err("a packet was not delivered once, in its place".into());
+    let listener = TcpListener::bind("127.0.0.1:0")?;
+    let up = TcpStream::connect(listener.local_addr()?)?;
+    let (theirs, _) = listener.accept()?;
+    let ((came, frames), (events, waiting)) = (channel(), channel());
+    let (up_there, down, submitting) = (theirs.try_clone()?, up.try_clone()?, events.clone());
+    let (spacecraft, executed) = (Spacecraft::new(&config())?, Vec::new());
+    let front = FrontEnd { spacecraft, boots: 0, executed, dark: 120, up: Way::new(1), down: Way::new(2) };
+    thread::spawn(move || receive(up_there, &came));
+    let front = thread::spawn(move || front.run(theirs, &frames));
+    thread::spawn(move || listen(down, &events));
+    thread::spawn(move || submit(&submitting));
+    let (commands, first, silence, alerts) = (Vec::new(), 0, 0, Vec::new());
+    let (is_stopped, is_known, word, boots, executed) = (true, false, None, None, 0);
+    let ground = Ground::new(&config())?;
+    let mut station =
+        Station { ground, up, commands, first, silence, is_stopped, is_known, word, boots, executed, alerts };
+    station.run(&waiting)?;
+    station.up.shutdown(Shutdown::Both)?;
+    let executed = front.join().map_err(|_| "the front end stopped")??;
+    station.alerts.sort_by_key(|it| it.number());
+    station.alerts.dedup();
+    for alert in &station.alerts {
+        let way =
+            if alert.shows_a_broken_condition() { "begin anew, by telemetry" } else { "go on by resume" };
+        println!("alert {}: {way}", alert.name());
     }
-    println!("frames lost: {lost}, alerts: {alerts}");
-    println!("{} packets are delivered: each once, in order", delivered.len());
+    if !executed.iter().map(|it| usize::from(*it)).eq(0..COMMANDS) {
+        return Err(format!("not each once, in order: {executed:?}").into());
+    }
+    println!("{} commands are executed: each once, in order", executed.len());
     Ok(())
 }

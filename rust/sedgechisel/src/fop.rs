@@ -280,6 +280,40 @@ fn alert_of(number: u8) -> Option<Alert> {
     (number != ffi::SEDGE_NO_ALERT).then(|| Alert::of(number))
 }
 
+impl Alert {
+    /// Whether it says that a condition of the link is broken: of `Lockout`, `NnR`, `Clcw` and `Synch`. None of these can
+    /// come in a session that was begun by CLCW check, Unlock or Set V(R) and is confirmed, while the conditions hold
+    /// (docs/PROMISES.md). So the spacecraft has restarted, the link reorders or repeats frames, or there is a second
+    /// station; and before a session is confirmed there may be what an earlier one left, as a receiver in Lockout.
+    ///
+    /// After one of these nothing is known of what is on board until a session begins, and `Ground::resume` refuses
+    /// (docs/TOUR.md, "After a reset"). After another one the next session goes on by `Ground::resume` (docs/TOUR.md,
+    /// "After an alert").
+    #[must_use]
+    pub const fn shows_a_broken_condition(self) -> bool {
+        match self {
+            Self::Lockout | Self::NnR | Self::Clcw | Self::Synch => true,
+            Self::Limit | Self::Timer | Self::Terminated => false,
+        }
+    }
+
+    /// What to look for after it, and the way on: a text for people.
+    #[must_use]
+    pub const fn advice(self) -> &'static str {
+        match self {
+            Self::Lockout | Self::NnR | Self::Clcw | Self::Synch => {
+                "a condition is broken (restart on board, reordering, second station?): begin anew"
+            }
+            Self::Limit | Self::Timer => {
+                "frames or reports were lost: after one round trip of silence, resume by the next CLCW"
+            }
+            Self::Terminated => {
+                "the session was terminated: after one round trip of silence, resume by the next CLCW"
+            }
+        }
+    }
+}
+
 impl Control {
     fn from_raw(control: u8, vr: u8) -> Self {
         match control {

@@ -25,7 +25,7 @@ faults! {
         TooLong = 4, "a packet has more octets than it may have";
         QueueFull = 5, "as many units as may wait are waiting";
         Memory = 6, "there was no memory";
-        NotKnown = 7, "nothing is known of how far the session has come";
+        NotKnown = 10, "nothing is known of how far the session has come";
     }
 }
 

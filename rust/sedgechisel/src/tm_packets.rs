@@ -150,8 +150,16 @@ impl<'m> TmExtractor<'m> {
     /// [`TmFrame::decode`] and then [`take`](Self::take) take it, before this returns. What comes of them is written to
     /// the other two: 19 octets of each frame, and the octets of all packets.
     ///
-    /// It stops where one of these has no room: `packets` has to have as much left for a frame as the memory and the
-    /// frame have. [`len`](ExactSizeIterator::len) says how many frames were taken; go on with the octets after these.
+    /// It stops where one of these has no room left, and where no whole frame is left: `packets` has to have as much left
+    /// for a frame as the memory and the frame have. [`len`](ExactSizeIterator::len) says how many frames were taken, and
+    /// [`rest`](TakenFrames::rest) is what stands after these: go on with it until none are taken. What is left then is
+    /// no whole frame.
+    ///
+    /// # Errors
+    ///
+    /// Refused with 1 [`Length`](TmFault::Length), for a length outside 16 to 2,048, or with 9 [`Room`](TmFault::Room),
+    /// where `records` has fewer than 19 octets, or `packets` fewer than the memory and a frame have. No frame is taken
+    /// then, and nothing has changed.
     ///
     /// ```
     /// use sedgechisel::{TmExtractor, TmFault};
@@ -160,9 +168,12 @@ impl<'m> TmExtractor<'m> {
     /// let (mut records, mut packets) = ([0; 19 * 2], [0; 5000]);
     /// let mut extractor = TmExtractor::new(&mut memory);
     /// let mut rest = &octets[..];
-    /// while rest.len() >= 20 {
-    ///     let frames = extractor.take_all(rest, 20, &mut records, &mut packets);
-    ///     rest = &rest[20 * frames.len()..];
+    /// loop {
+    ///     let frames = extractor.take_all(rest, 20, &mut records, &mut packets)?;
+    ///     if frames.len() == 0 {
+    ///         break;
+    ///     }
+    ///     rest = frames.rest();
     ///     for frame in frames {
     ///         match frame {
     ///             Ok(taken) => taken.packets.for_each(|it| println!("{it:?}")),
@@ -170,13 +181,28 @@ impl<'m> TmExtractor<'m> {
     ///         }
     ///     }
     /// }
+    /// assert!(rest.is_empty());
+    /// # Ok::<(), TmFault>(())
     /// ```
-    pub fn take_all<'t>(
-        &mut self, octets: &'t [u8], length: usize, records: &'t mut [u8], packets: &'t mut [u8],
-    ) -> TakenFrames<'t> {
+    pub fn take_all<'o: 't, 't>(
+        &mut self, octets: &'o [u8], length: usize, records: &'t mut [u8], packets: &'t mut [u8],
+    ) -> Result<TakenFrames<'o, 't>, TmFault> {
+        if !(16..=TmFrame::LONGEST).contains(&length) {
+            return Err(TmFault::Length);
+        }
         let (kept, memory, mut total) = (&mut self.kept, &mut self.memory, 0);
-        let frames = ffi::tm_extractor_frames(kept, octets, length, memory, records, packets, &mut total);
-        TakenFrames { octets, length, records: &records[..RECORD * frames], packets: &packets[..total] }
+        if records.len() < RECORD || packets.len() < memory.len() + length {
+            return Err(TmFault::Room);
+        }
+        let count = ffi::tm_extractor_frames(kept, octets, length, memory, records, packets, &mut total);
+        let (octets, rest) = octets.split_at(count * length);
+        Ok(TakenFrames {
+            octets,
+            rest,
+            length,
+            records: &records[..RECORD * count],
+            packets: &packets[..total],
+        })
     }
 }
 
@@ -229,11 +255,21 @@ impl FusedIterator for TmPackets<'_> {}
 
 /// What came of frames one after another, by [`TmExtractor::take_all`]: of each, or its fault with its octets.
 #[derive(Clone, Debug)]
-pub struct TakenFrames<'t> {
-    octets: &'t [u8],
+pub struct TakenFrames<'o, 't> {
+    octets: &'o [u8],
+    rest: &'o [u8],
     length: usize,
     records: &'t [u8],
     packets: &'t [u8],
+}
+
+impl<'o> TakenFrames<'o, '_> {
+    /// The octets after the frames that were taken, whichever of these are still to be given: frames for which there was
+    /// no room, and at the end of all what is no whole frame.
+    #[must_use]
+    pub fn rest(&self) -> &'o [u8] {
+        self.rest
+    }
 }
 
 /// A frame that was taken, and its packets.
@@ -268,7 +304,7 @@ impl<'t> TakenFrame<'t> {
     }
 }
 
-impl<'t> Iterator for TakenFrames<'t> {
+impl<'o: 't, 't> Iterator for TakenFrames<'o, 't> {
     type Item = Result<TakenFrame<'t>, (TmFault, &'t [u8])>;
 
     fn next(&mut self) -> Option<Self::Item> {
@@ -289,6 +325,6 @@ impl<'t> Iterator for TakenFrames<'t> {
     }
 }
 
-impl ExactSizeIterator for TakenFrames<'_> {}
+impl<'o: 't, 't> ExactSizeIterator for TakenFrames<'o, 't> {}
 
-impl FusedIterator for TakenFrames<'_> {}
+impl<'o: 't, 't> FusedIterator for TakenFrames<'o, 't> {}

@@ -41,8 +41,11 @@ impl Ground {
 
     /// How many of the session's submissions are known to be on board whole by a report of this value, the
     /// first ones: those that are acknowledged, and those all of whose segments the report says were
-    /// accepted. None where nothing is known: no session has begun, V(S) was set since, or `accepted_beyond`
-    /// knows nothing. After an alert too (CCSDS 232.1-B-2, 5.1). It takes no memory. Cost: as `sent_whole`.
+    /// accepted. After an alert too (CCSDS 232.1-B-2, 5.1). None where nothing is known:
+    /// - no session has begun, or V(S) was set since;
+    /// - an alert came since that shows a broken condition (`Alert::shows_a_broken_condition`);
+    /// - V(S) is not NN(R), and the value does not lie from NN(R) to V(S).
+    /// It takes no memory. Cost: as `sent_whole`.
     pub fn known_on_board(&self, value: u8) -> Option<u64>
         ensures { result ≡ known_on_board self.now value }
     {
@@ -56,23 +59,25 @@ impl Ground {
     /// Begins the next session after an alert, from where the last one has got to: sets V(S) to the value of
     /// a report that was made when nothing was on its way up, and begins by Unlock (CCSDS 232.1-B-2, 5.2.4).
     /// Returns how many submissions of the session that ended are on board whole, modulo 2^64: the first
-    /// ones; those after them are to be submitted again. Refuses by 7, and changes nothing, where nothing is
-    /// known: the sender is not in S6, no session has begun, V(S) was set since, or the value does not lie
-    /// from NN(R) to V(S).
-    /// Faults: 7 NotKnown. Cost: as `sent_whole`.
+    /// ones, counted within that session; those after them are to be submitted again. A submission of more
+    /// octets than a segment takes (`part`) that holds several packets is whole only with its last one, so
+    /// that some of its packets may be on board before, and come again. Refuses by 10, and changes nothing,
+    /// where the sender is not in S6, and where nothing is known:
+    /// - no session has begun, or V(S) was set since;
+    /// - an alert came since that shows a broken condition (`Alert::shows_a_broken_condition`);
+    /// - V(S) is not NN(R), and the value does not lie from NN(R) to V(S).
+    /// Faults: 10 NotKnown. Cost: as `sent_whole`.
     pub fn resume(&mut self, value: u8) -> Result<u64, LinkFault>
         ensures answer { result ≡ (ground_step self.old (Resume value)).answer }
         ensures after { self.new ≡ (ground_step self.old (Resume value)).after }
         ensures err { OnErr result (self.new ≡ self.old) }
     {
-        let accepted = value.wrapping_sub(self.nn());
-        if self.state() != FopMode::S6
-            || !self.kept
-            || self.vs().wrapping_sub(self.nn()) < accepted
-        {
+        if self.state() != FopMode::S6 {
             return Err(LinkFault::NotKnown);
         }
-        let whole = self.whole_with(accepted);
+        let Some(whole) = self.known_on_board(value) else {
+            return Err(LinkFault::NotKnown);
+        };
         let _ = self.directive(Directive::SetVs(value));
         let _ = self.directive(Directive::InitUnlock);
         Ok(whole)

@@ -25,7 +25,9 @@ impl Ground {
     /// `commit`. The first that applies:
     /// 1 `NotOpen` (in S6), 2 `ClosedMap`, 3 `NotCommand`, 4 `TooLong`, 5 `QueueFull` (more
     /// segments than the queue slots would wait to be sent), 6 `Memory`; and then the ground is as
-    /// it was.
+    /// it was. It is the submission of this session with the number that `submitted` returned before; that
+    /// `resume` delivers each packet once is promised of submissions that are one packet, or packets that fit
+    /// into one segment (`part` octets) together.
     /// Faults: 1 NotOpen, 2 ClosedMap, 3 NotCommand, 4 TooLong, 5 QueueFull, 6 Memory. Memory: yes.
     /// Cost: n.
     pub fn submit(&mut self, map: u8, octets: &[u8]) -> Result<(), LinkFault>

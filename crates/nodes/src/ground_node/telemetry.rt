@@ -1,12 +1,14 @@
 // What comes from the spacecraft.
 
-ghost use Rattle.std.specs.Prelude.{◌≡◌, None};
+ghost use Rattle.std.specs.Prelude.{◌≡◌, ◌&&◌, not, None};
+ghost use Rattle.nodes.specs.Fates.{shows_one};
 
 use super::Ground;
 use super::fates::take_segments;
 use crate::fault::LinkFault;
 use crate::heard::{Heard, HeardClcw, HeardReport};
 use clcw::{Clcw, ClcwFault};
+use cop1::Alert;
 use tm_link::{Gap, TmFrame, decode};
 
 impl Ground {
@@ -86,6 +88,7 @@ impl Ground {
         let alert = self.fop.clcw(&word);
         let whole = take_segments(&mut self.left, self.fop.nn().wrapping_sub(nn));
         self.acknowledged = self.acknowledged.wrapping_add(whole as u64);
+        self.kept = kept_beside(self.kept, alert);
         self.refill();
         HeardClcw {
             report: HeardReport::Used,
@@ -119,6 +122,17 @@ impl Ground {
             return Err(LinkFault::Memory);
         };
         Ok((gap, self.finished.len() - before))
+    }
+}
+
+// Whether it is still known how far the session has come: not after an alert that shows a broken
+// condition.
+fn kept_beside(kept: bool, alert: Option<Alert>) -> bool
+    ensures { result ≡ not (shows_one alert) && kept }
+{
+    match alert {
+        Some(alert) => !alert.shows_a_broken_condition() && kept,
+        None => kept,
     }
 }
 

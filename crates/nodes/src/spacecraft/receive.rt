@@ -94,8 +94,9 @@ impl Spacecraft {
     }
 
     // Keeps a packet, where there is one; the oldest goes where as many wait as there are slots.
-    #[tactic(auto, using(crate::proofs::Waiting::kept_few))]
+    #[tactic(auto, using(crate::proofs::Waiting::kept_few, crate::proofs::Waiting::kept_within))]
     fn keep(&mut self, kept: Option<MapPacket>)
+        requires { IfSome kept (λ p. length p.octets ≤ self.old.config.max_packet) }
         ensures { self.new ≡ after_keeping self.old kept }
     {
         if let Some(packet) = kept {
@@ -184,6 +185,7 @@ impl Spacecraft {
         })
     }
 
+    #[tactic(auto, using(crate::proofs::Waiting::kept_short))]
     fn prepare_bypass<'a>(
         &self,
         octets: &'a [u8],

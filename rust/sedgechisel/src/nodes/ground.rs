@@ -148,12 +148,17 @@ impl Ground {
     directives!();
 
     /// Submits packets on a MAP, to be sent under sequence control: one, or with blocking several, one after another.
+    /// Returns the number of this submission in its session, from 0. [`resume`](Self::resume) counts submissions: of
+    /// several packets that do not fit into one segment together, of [`part`](Config::part) octets, some may be on board
+    /// when the submission is not counted.
     ///
     /// # Errors
     ///
-    /// Refused with the first [`LinkFault`] that applies.
-    pub fn submit(&mut self, map: u8, packets: &[u8]) -> Result<(), LinkFault> {
-        LinkFault::judge(raw::ground_submit(self.0.get(), map, packets))
+    /// Refused with the first [`LinkFault`] of 1 to 6 that applies; nothing has changed then.
+    pub fn submit(&mut self, map: u8, packets: &[u8]) -> Result<u64, LinkFault> {
+        let number = self.submitted();
+        LinkFault::judge(raw::ground_submit(self.0.get(), map, packets))?;
+        Ok(number)
     }
 
     /// Submits one packet on a MAP past the sequence control, in any state.
@@ -278,8 +283,9 @@ impl Ground {
 
     /// The number of first ones of the session's submissions that are known to be on board whole by a report of this
     /// value: those that are acknowledged, and those all of whose segments it says were accepted. After an alert too
-    /// (CCSDS 232.1-B-2, 5.1). `None` where nothing is known: no session has begun, V(S) was set since, or the value
-    /// does not lie from NN(R) to V(S), which are not equal.
+    /// (CCSDS 232.1-B-2, 5.1). `None` where nothing is known: no session has begun, V(S) was set since, the session ended
+    /// by an alert that [shows a broken condition](Alert::shows_a_broken_condition), or the value does not lie from NN(R)
+    /// to V(S), which are not equal.
     #[must_use]
     pub fn known_on_board(&self, value: u8) -> Option<u64> {
         let mut whole = 0;
@@ -287,23 +293,28 @@ impl Ground {
         known.then_some(whole)
     }
 
-    /// Begins the next session after an alert, where the last one has got to: sets V(S) to the value of a report that
-    /// was made when nothing was on its way up, begins by Unlock (CCSDS 232.1-B-2, 5.2.4), and returns the number of
-    /// first ones of the submissions of the session that ended that are on board whole; those after them are to be
-    /// submitted again.
+    /// Begins the next session after the alert `Timer`, `Limit` or `Terminated`, where the last one has got to: sets V(S)
+    /// to the value of a report that was made when nothing was on its way up, begins by Unlock (CCSDS 232.1-B-2, 5.2.4),
+    /// and returns the number of first ones of the submissions of the session that ended that are on board whole; those
+    /// after them are to be submitted again. (Of a submission of several packets that do not fit into one segment
+    /// together, some may be on board though it is not counted.) Where V(S) = NN(R) it takes any value: nothing that was
+    /// sent is in doubt.
     ///
     /// # Errors
     ///
-    /// Refused with 7 [`NotKnown`](LinkFault::NotKnown) alone: the sender is not in S6, no session has begun, V(S) was
-    /// set since, or the value does not lie from NN(R) to V(S). Nothing has changed then.
+    /// Refused with 10 [`NotKnown`](LinkFault::NotKnown) alone, where nothing is known of what is on board: the sender is
+    /// not in S6, no session has begun, V(S) was set since, the session ended by an alert that
+    /// [shows a broken condition](Alert::shows_a_broken_condition), or the value does not lie from NN(R) to V(S), which
+    /// are not equal. Nothing has changed then.
     pub fn resume(&mut self, value: u8) -> Result<u64, LinkFault> {
         let mut whole = 0;
         LinkFault::judge(raw::sedge_ground_resume(self.0.get(), value, &mut whole))?;
         Ok(whole)
     }
 
-    /// The number of submissions of the session; they are numbered from 0, in order. This and the two below: modulo
-    /// 2^64, after an alert too, and 0 once V(S) is set.
+    /// The number of submissions of the session; they are numbered from 0, in order. This,
+    /// [`sent_whole`](Self::sent_whole) and [`acknowledged_whole`](Self::acknowledged_whole): modulo 2^64, after an alert
+    /// too, and 0 once V(S) is set.
     #[must_use]
     pub fn submitted(&self) -> u64 {
         self.read().submitted
@@ -351,13 +362,13 @@ impl Ground {
         self.read().outstanding
     }
 
-    /// The number of these that wait to be sent for the first time.
+    /// The number of segments outstanding that wait to be sent for the first time.
     #[must_use]
     pub fn unsent(&self) -> usize {
         self.read().unsent
     }
 
-    /// The number of these that are to be sent again.
+    /// The number of segments outstanding that are to be sent again.
     #[must_use]
     pub fn due(&self) -> usize {
         self.read().due

@@ -220,7 +220,7 @@ impl Link {
         self.event(SEDGE_EVENT_UP_LOSE, 0, &[]).map(drop)
     }
 
-    /// These octets arrive in its place, which are no frame.
+    /// These octets, which are no frame, arrive in place of the first frame on its way up.
     ///
     /// # Errors
     ///
@@ -261,7 +261,7 @@ impl Link {
         self.event(SEDGE_EVENT_DOWN_LOSE, 0, &[]).map(drop)
     }
 
-    /// These octets arrive in its place, which are no frame.
+    /// These octets, which are no frame, arrive in place of the first frame on its way down.
     ///
     /// # Errors
     ///
@@ -287,7 +287,7 @@ impl Link {
     ///
     /// # Errors
     ///
-    /// Refused with 7 [`NotKnown`](LinkFault::NotKnown), as that call is.
+    /// Refused with 10 [`NotKnown`](LinkFault::NotKnown), as that call is.
     pub fn resume(&mut self, value: u8) -> Result<u64, LinkFault> {
         let mut reply = raw::Reply::default();
         done(raw::sim_step(self.0.get(), SEDGE_EVENT_RESUME, 0, (0, value.into()), &[], &mut reply));
@@ -315,7 +315,7 @@ impl Link {
         self.given(Packet::LONGEST, SEDGE_EVENT_TAKE)
     }
 
-    /// The same of the packets that came past the sequence control.
+    /// A packet that came past the sequence control is taken on board, with its MAP, if one waits.
     ///
     /// # Errors
     ///

@@ -198,7 +198,9 @@ impl Spacecraft {
         Ok(packet.map(|packet| (map, packet)))
     }
 
-    /// The same of the packets that came past the sequence control, as [`take_bypass`](Self::take_bypass) takes them.
+    /// The packets that came past the sequence control, each with its MAP, the oldest one first. Each is taken when it
+    /// is asked for, as [`take_bypass`](Self::take_bypass) takes it; those that are not asked for stay on board. Refused
+    /// with 6 [`Memory`](LinkFault::Memory) alone, and then there are no more; the packet waits.
     pub fn bypass_packets(&mut self) -> impl FusedIterator<Item = Result<(u8, Vec<u8>), LinkFault>> + '_ {
         one_by_one(|| self.take_bypass())
     }

@@ -442,7 +442,7 @@ fn long_queues() {
     let (mut ground, mut spacecraft) = (Ground::new(&config).unwrap(), Spacecraft::new(&config).unwrap());
     let (mut up, mut down) = ([0; TcFrame::LONGEST], [0; TmFrame::LONGEST]);
     ground.init_without_check().unwrap();
-    (1..=2000).for_each(|it| ground.submit(4, &numbered(PacketKind::Telecommand, it)).unwrap());
+    (1..=2000).for_each(|it| assert!(ground.submit(4, &numbered(PacketKind::Telecommand, it)).is_ok()));
     let mut taken = 0;
     // A window of 127 is sent in each round.
     for _ in 0..16 {

@@ -97,11 +97,15 @@ fn frames_one_after_another() {
     let (mut memory, mut other, mut packets) = ([0; 100], [0; 100], [0; 300]);
     let (mut many, mut alone) = (TmExtractor::new(&mut memory), TmExtractor::new(&mut other));
     let (mut rest, mut found, mut dropped, mut refused) = (&octets[..], 0, 0, 0);
-    while rest.len() >= 24 {
+    loop {
         let mut records = [0; 19 * 7];
-        let frames = many.take_all(rest, 24, &mut records, &mut packets);
-        assert!((1..=7).contains(&frames.len()));
+        let frames = many.take_all(rest, 24, &mut records, &mut packets).unwrap();
+        if frames.len() == 0 {
+            break;
+        }
+        assert!(frames.len() <= 7);
         let (pieces, later) = rest.split_at(24 * frames.len());
+        assert_eq!(frames.rest(), later);
         rest = later;
         for (one, piece) in frames.zip(pieces.chunks(24)) {
             match (one, TmFrame::decode(piece, 24)) {
@@ -125,9 +129,22 @@ fn frames_one_after_another() {
     assert_eq!((rest, refused), (&b"rest"[..], 38));
     assert!(found > 100 && dropped > 10, "{found} {dropped}");
     let mut records = [0; 19];
-    for (octets, length, room) in [(&octets[..23], 24, 300), (&octets[..], 0, 300), (&octets[..], 24, 123)] {
-        assert_eq!(many.take_all(octets, length, &mut records, &mut packets[..room]).len(), 0);
+    let none = many.take_all(&octets[..23], 24, &mut records, &mut packets[..124]).unwrap();
+    assert_eq!((none.len(), none.rest()), (0, &octets[..23]));
+    for (length, record, room, fault) in [
+        (0, 19, 300, TmFault::Length),
+        (15, 19, 300, TmFault::Length),
+        (2049, 19, 300, TmFault::Length),
+        (24, 18, 300, TmFault::Room),
+        (24, 19, 123, TmFault::Room),
+    ] {
+        let refused = many.take_all(&octets, length, &mut records[..record], &mut packets[..room]);
+        assert_eq!(refused.err(), Some(fault));
     }
+    let mut one = many.take_all(&octets, 24, &mut records, &mut packets[..124]).unwrap();
+    assert_eq!((one.len(), one.rest()), (1, &octets[24..]));
+    assert!(one.next().is_some() && one.next().is_none());
+    assert_eq!(one.rest(), &octets[24..]);
 }
 
 #[test]

@@ -1,4 +1,6 @@
 use Rattle.tc_link.proofs.Resumed.{resumes_in_order, resumes_so, each_answers_resuming}
+use Rattle.tc_link.proofs.Resumable.{each_knows_exactly}
+use Rattle.tc_link.proofs.Shown.{shows_none_by_itself}
 use Rattle.tc_link.proofs.laws.law_of_resuming.Goals as goal
 
 pub returns-clause-in_order : goal.returns-clause-in_order
@@ -9,3 +11,9 @@ returns-clause-ground c = resumes_so
 
 pub returns-clause-answers : goal.returns-clause-answers
 returns-clause-answers c = each_answers_resuming
+
+pub returns-clause-quiet : goal.returns-clause-quiet
+returns-clause-quiet c = shows_none_by_itself
+
+pub returns-clause-exactly : goal.returns-clause-exactly
+returns-clause-exactly c = each_knows_exactly

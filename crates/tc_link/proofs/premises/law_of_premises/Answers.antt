@@ -12,10 +12,14 @@ use Rattle.tc_link.proofs.premises.law_of_premises.Goals as goal
 -- the runs, computed
 runs : goal.returns-clause-frame × goal.returns-clause-report × goal.returns-clause-up × goal.returns-clause-down
     × goal.returns-clause-number × goal.returns-clause-sender × goal.returns-clause-restart
+    × goal.returns-clause-ground_restart × goal.returns-clause-maps × goal.returns-clause-blocks
     × goal.returns-clause-window × goal.returns-clause-outage
 unfolding tc.frame_at tc.body_at tc.command_at tc.segment_at tm.frame_at check_of remainder clcw_at records_of rest_of
     extent_at packet_at groups_of pieces_of
 runs = (
+  λ c. record { active = refl; nothing = refl; start = refl; submitted = refl; delivered = refl },
+  λ c. record { active = refl; nothing = refl; start = refl; submitted = refl; delivered = refl },
+  λ c. record { active = refl; nothing = refl; start = refl; submitted = refl; delivered = refl },
   λ c. record { active = refl; nothing = refl; start = refl; submitted = refl; delivered = refl },
   λ c. record { active = refl; nothing = refl; start = refl; submitted = refl; delivered = refl },
   λ c. record { active = refl; nothing = refl; start = refl; submitted = refl; delivered = refl },
@@ -48,11 +52,20 @@ returns-clause-sender = runs.5
 pub returns-clause-restart : goal.returns-clause-restart
 returns-clause-restart = runs.6
 
+pub returns-clause-ground_restart : goal.returns-clause-ground_restart
+returns-clause-ground_restart = runs.7
+
+pub returns-clause-maps : goal.returns-clause-maps
+returns-clause-maps = runs.8
+
+pub returns-clause-blocks : goal.returns-clause-blocks
+returns-clause-blocks = runs.9
+
 pub returns-clause-window : goal.returns-clause-window
-returns-clause-window = runs.7
+returns-clause-window = runs.10
 
 pub returns-clause-outage : goal.returns-clause-outage
-returns-clause-outage = runs.8
+returns-clause-outage = runs.11
 
 pub returns-clause-ranges : goal.returns-clause-ranges
-returns-clause-ranges c = config_is _ refl
+returns-clause-ranges c = (config_is _ refl, config_is _ refl, config_is _ refl)

@@ -1,13 +1,14 @@
 use Rattle.std.proofs.Common.{◌≡◌, ◌<◌, ℕ, ◌+◌, ◌%◌, List, Result, Ok, ap, refl, sym, ◌∙◌, arith}
 use Rattle.std.proofs.lemmas.Bool.{eq-eqb}
-use Rattle.std.specs.Prelude.{◌^◌}
+use Rattle.std.specs.Prelude.{◌^◌, ◌&&◌, not, Bool, Option}
 use Rattle.clcw.specs.declared.word.Clcw.{Clcw}
 use Rattle.clcw.specs.declared.fault.ClcwFault.{ClcwFault}
 use Rattle.tc_frame.specs.Layout.{SegmentView}
 use Rattle.cop1.specs.Modulo.{ahead_by}
 use Rattle.cop1.specs.FopReport.{clcw_step}
-use Rattle.cop1.specs.Units.{FopState}
-use Rattle.nodes.specs.Fates.{left_after, whole_within}
+use Rattle.cop1.specs.Units.{FopState, FopOutcome}
+use Rattle.cop1.specs.declared.vocabulary.Alert.{Alert}
+use Rattle.nodes.specs.Fates.{left_after, whole_within, shows_one}
 use Rattle.nodes.specs.Ground.{GroundState, moved_by, report_outcome, after_report, refill_step}
 use Rattle.nodes.specs.GroundFields.{state_of}
 use Rattle.nodes.proofs.Owed.{moved_is, reported_holds, still_owed}
@@ -15,15 +16,18 @@ use Rattle.nodes.proofs.ground_node.Ground.report.Goals as goal
 
 -- a report that is used
 used : (s : GroundState) (word : Clcw) (r : Result Clcw ClcwFault) → r ≡ Ok word → word.vcid ≡ s.config.vcid
-    → after_report s (clcw_step s.fop word).after ≡ (report_outcome s r).after
+    → after_report s (clcw_step s.fop word) ≡ (report_outcome s r).after
 used s word r is own = rw (is, eq-eqb word.vcid s.config.vcid own) refl
 
-module _ (c : goal.After-self-1) where
+module _ (c : goal.After-self-2-1) where
   abbrev t : GroundState
   t = state_of c.self.inside
 
+  abbrev heard : FopOutcome SegmentView (Option Alert)
+  heard = clcw_step t.fop c.in-Ok.word
+
   abbrev next : FopState SegmentView
-  next = (clcw_step t.fop c.in-Ok.word).after
+  next = heard.after
 
   abbrev gone : ℕ
   gone = moved_by next.nn t.fop.nn
@@ -43,19 +47,28 @@ module _ (c : goal.After-self-1) where
   whole_is : c.take_segments-whole.result ≡ whole_within gone t.fates.left
   whole_is = c.take_segments-whole.ensures.whole ∙ ap (λ (k : ℕ). whole_within k t.fates.left) gone_is
 
-  abbrev with : FopState SegmentView → ℕ → List ℕ → GroundState
-  with fop whole left = record t {
+  kept_is : c.kept_beside-self-inside.result ≡ not (shows_one heard.answer) && t.fates.kept
+  kept_is =
+      c.kept_beside-self-inside.ensures
+      ∙ ap (λ (a : Option Alert). not (shows_one a) && t.fates.kept) c.clcw-alert.ensures.alert
+
+  abbrev with : FopState SegmentView → ℕ → List ℕ → Bool → GroundState
+  with fop whole left kept = record t {
     fop = fop;
-    fates = record t.fates { acknowledged = (t.fates.acknowledged + whole) % 2 ^ 64; left = left };
+    fates = record { acknowledged = (t.fates.acknowledged + whole) % 2 ^ 64; left = left; kept = kept };
   }
 
   counted : with c.clcw-alert.new.self c.take_segments-whole.result c.take_segments-whole.new.left.items
+      c.kept_beside-self-inside.result
       ≡ with next (whole_within gone t.fates.left) (left_after gone t.fates.left)
+      (not (shows_one heard.answer) && t.fates.kept)
   counted =
-      ap (λ (f : FopState SegmentView). with f c.take_segments-whole.result c.take_segments-whole.new.left.items)
-      c.clcw-alert.ensures.after
-      ∙ ap (λ (n : ℕ). with next n c.take_segments-whole.new.left.items) whole_is
-      ∙ ap (with next (whole_within gone t.fates.left)) left_is
+      let left = c.take_segments-whole.new.left.items in
+      let kept = c.kept_beside-self-inside.result in
+      ap (λ (f : FopState SegmentView). with f c.take_segments-whole.result left kept) c.clcw-alert.ensures.after
+      ∙ ap (λ (n : ℕ). with next n left kept) whole_is
+      ∙ ap (λ (ns : List ℕ). with next (whole_within gone t.fates.left) ns kept) left_is
+      ∙ ap (with next (whole_within gone t.fates.left) (left_after gone t.fates.left)) kept_is
 
 pub invariant_of-self : goal.invariant_of-self
 invariant_of-self c =
