@@ -13,15 +13,19 @@ each frame where the code was compiled. LLVM writes `|` for `+` where it knows t
 What breaks a rule, or is not known here, is refused with the name of the function."""
 import collections
 import re
+import struct
 import textwrap
 
 from c_flow import Node, shown, simplified
 from wasm_object import Reader, Refused
 
-I32, I64 = 0x7F, 0x7E
-C_TYPES, BITS = {I32: "uint32_t", I64: "uint64_t"}, {I32: 32, I64: 64}
-# What an address is derived from: a constant that LLVM aligned, another constant, the frame, or the stack pointer.
-CONSTANT, TEXT, FRAME, POINTER = "constant", "text", "frame", "pointer"
+I32, I64, F64 = 0x7F, 0x7E, 0x7C
+C_TYPES, BITS = {I32: "uint32_t", I64: "uint64_t", F64: "double"}, {I32: 32, I64: 64}
+# What an address is derived from: a constant that LLVM aligned, another constant, the frame, the stack pointer, or a
+# room (tools/wasm_object.py), which is aligned here too.
+CONSTANT, TEXT, FRAME, POINTER, ROOM = "constant", "text", "frame", "pointer", "room"
+# The most octets of a frame.
+MOST_OF_LIBRARY, MOST_OF_PROGRAM = 2**16, 2**20
 # What stands for a place in a table of addresses, where no text may have it; and why.
 TABLE, MISREAD = "\0", "a table of addresses is used as octets"
 END, RETURN = 0x0B, 0x0F
@@ -42,6 +46,9 @@ WRITE = {0x36: 32, 0x37: 64, 0x3A: 8, 0x3B: 16, 0x3C: 8, 0x3D: 16, 0x3E: 32}
 EXTEND = {0xAC: (I64, 32), 0xC0: (I32, 8), 0xC1: (I32, 16), 0xC2: (I64, 8), 0xC3: (I64, 16), 0xC4: (I64, 32)}
 # What counts the bits of a number: the highest that are 0, the lowest, and all that are 1.
 COUNTS = {first + k: (it, t) for first, t in ((0x67, I32), (0x79, I64)) for k, it in enumerate(("clz", "ctz", "ones"))}
+# Arithmetic and comparisons of numbers with a fraction.
+FRACTIONS = {0xA0: "+", 0xA1: "-", 0xA2: "*", 0xA3: "/"}
+COMPARE_FRACTIONS = {0x61: "==", 0x62: "!=", 0x63: "<", 0x64: ">", 0x65: "<=", 0x66: ">="}
 # How many numbers follow an instruction, where these are read over.
 OPERANDS = dict.fromkeys([0x0C, 0x0D, 0x10, *range(0x20, 0x25), 0x41, 0x42], 1) | dict.fromkeys(range(0x28, 0x3F), 2)
 NOTHING = frozenset()
@@ -199,6 +206,8 @@ class Translation:
                 depth -= 1
             elif op == 0x0E:
                 r.several(r.unsigned), r.unsigned()
+            elif op == 0x44:
+                r.octets(8)
             elif op == 0xFC:
                 for _ in range(2 if r.unsigned() == 10 else 1):
                     r.unsigned()
@@ -352,8 +361,37 @@ class Translation:
             (value,) = self.pop(1)
             self.no_address(value)
             self.push(f"extend{BITS[kind]}({value.plain()}, {1 << (bits - 1):#x})", kind, value, tight=True)
-        else:
+        elif not self.program.object.is_program or not self.fraction(op):
             raise Refused(f"the instruction {op:#04x} at {r.at - 1} is not known")
+
+    def fraction(self, op):
+        """Takes an instruction about numbers with a fraction, if it is one."""
+        if op == 0x44:
+            (number,) = struct.unpack("<d", self.reader.octets(8))
+            text = number.hex().replace("inf", "(double)INFINITY").replace("nan", "(double)NAN")
+            self.push(f"({text})" if text[0] == "-" else text, F64, tight=True)
+        elif op in FRACTIONS:
+            a, b = self.pop(2)
+            self.shorten(Value(f"{a.operand()} {FRACTIONS[op]} {b.operand()}", F64, a, b))
+        elif op in COMPARE_FRACTIONS:
+            a, b = self.pop(2)
+            text = f"{a.operand()} {COMPARE_FRACTIONS[op]} {b.operand()}"
+            self.push(text, I32, a, b, contrary=f"!({text})")
+        elif op == 0xBA:
+            (value,) = self.pop(1)
+            self.no_address(value)
+            self.push(f"(double){value.operand()}", F64, value, tight=True)
+        elif op == 0x2B:
+            (base,) = self.pop(1)
+            self.push(f"get_fraction({self.place(base)})", F64, base, tight=True, reads=True)
+        elif op == 0x39:
+            base, value = self.pop(2)
+            place = self.place(base, True)
+            self.settle_reads()
+            self.items.append(f"put_fraction({place}, {value.plain()});")
+        else:
+            return False
+        return True
 
     def call(self):
         place = self.reader.at
@@ -437,11 +475,16 @@ class Translation:
         if segment in self.program.object.tables:
             raise Refused(MISREAD)
         name = self.constant_named(segment)
+        if segment in self.program.object.rooms:
+            name, of = f"aligned({name})", abs(offset)
+            return f"({name} {'-' if offset < 0 else '+'} {of})" if offset else name
         if offset < 0:
             return f"(address({name}) - {-offset})"
         return f"address({name} + {offset})" if offset else f"address({name})"
 
     def derived_from(self, segment):
+        if segment in self.program.object.rooms:
+            return frozenset([ROOM])
         return frozenset([CONSTANT if self.program.object.aligned[segment] else TEXT])
 
     def constant_named(self, segment):
@@ -458,7 +501,7 @@ class Translation:
             raise Refused("memory at the stack pointer itself is used")
         if not is_written:
             self.program.read |= base.given()
-        if is_written and (found or base.derived & {CONSTANT, TEXT}):
+        if is_written and (found or base.derived & {CONSTANT, TEXT, ROOM}):
             raise Refused("a constant is written")
         if found:
             return self.address_of(found) if base.number == 0 else f"{left_of(base)} + {self.address_of(found)}"
@@ -523,7 +566,7 @@ class Translation:
         for _ in range(2 if how == 10 else 1):
             self.reader.unsigned()
         given = self.pop(3)
-        if given[0].derived & {CONSTANT, TEXT}:
+        if given[0].derived & {CONSTANT, TEXT, ROOM}:
             raise Refused("a constant is written")
         self.program.read |= given[1].given()
         self.settle_reads()
@@ -551,7 +594,9 @@ class Translation:
             return self.stack.append(number_of(ENOUGH[sign, b.number], I32))
         if POINTER in a.derived | b.derived:
             raise Refused("the stack pointer is compared")
-        if FRAME in a.derived | b.derived and sign not in ("==", "!=") and not a.derived == b.derived == {FRAME}:
+        # (a program compares one with an end that it has read from memory)
+        is_alone = FRAME in a.derived | b.derived and not a.derived == b.derived == {FRAME}
+        if is_alone and sign not in ("==", "!=") and not self.program.object.is_program:
             raise Refused(f"an address of the frame is compared by {sign} with what is none")
         x, y = self.operands(a, b)
         if sign.endswith("s"):
@@ -619,7 +664,8 @@ class Translation:
 
     def frame_address(self, sign, a, b):
         size = b.number if sign == "-" else 2**64 - b.number if sign == "+" and b.number else None
-        if a.derived != {POINTER} or not size or size % 16 != 0 or size > 2**16 or self.frame not in (0, size):
+        most = MOST_OF_PROGRAM if self.program.object.is_program else MOST_OF_LIBRARY
+        if a.derived != {POINTER} or not size or size % 16 != 0 or size > most or self.frame not in (0, size):
             raise Refused("the stack pointer is not moved by a multiple of 16")
         self.frame = size
         self.push("aligned(frame_octets)", I64, tight=True, derived=frozenset([FRAME]))
@@ -637,12 +683,14 @@ class Translation:
         if any(TABLE in it for it in body):
             raise Refused(f"{self.name}: {MISREAD}")
         used = set(re.findall(r"\b[vt]\d+\b", "\n".join(body)))
+        own = [name for name, _ in self.locals[: len(self.function.params)]]
+        body = [*(f"    (void){it};" for it in own if not re.search(rf"\b{it}\b", "\n".join(body))), *body]
         variables = {f"{name}@=@0": kind for name, kind in self.locals[len(self.function.params) :] if name in used}
         variables |= {name: kind for name, kind in self.kinds.items() if name in used}
         lines = [*wrapped(self.signature()), "{"]
         if self.frame:
             lines.append(f"    unsigned char frame_octets[{self.frame} + 15];")
-        for kind in (I32, I64):
+        for kind in (I32, I64, F64):
             names = [name for name, own in variables.items() if own == kind]
             declared = wrapped(f"    {C_TYPES[kind]} {', '.join(names)};") if names else []
             lines += [it.replace("@", " ") for it in declared]

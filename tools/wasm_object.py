@@ -65,7 +65,11 @@ class Function(typing.NamedTuple):
 
 
 class Object:
-    def __init__(self, data):
+    """`is_program`: constants that hold addresses have `rooms`, which a program fills when it begins; a library has only
+    tables, of addresses alone."""
+
+    def __init__(self, data, is_program=False):
+        self.is_program, self.rooms = is_program, {}
         self.data, self.types, self.imports, self.own_types, self.bodies = data, [], [], [], []
         self.globals, self.segments, self.segment_names, self.symbols, self.relocations = [], [], [], [], {}
         self.places, self.aligned, self.tables, self.starts, index, r = [], [], {}, {}, 0, Reader(data, 8)
@@ -197,6 +201,10 @@ class Object:
         none."""
         begin, size = self.places[segment], len(self.segments[segment])
         if not any(it in self.relocations for it in range(begin, begin + size)):
+            return None
+        if self.is_program:
+            places = [it for it in range(begin, begin + size) if it in self.relocations]
+            self.rooms[segment] = [(it - begin, *self.constant_at(it)) for it in places]
             return None
         found = [self.constant_at(it) for it in range(begin, begin + size, 8)]
         if None in found or size % 8 != 0:

@@ -26,6 +26,10 @@ export const structs = {
     "sedge_event": {"size": 16, "fields": [["kind", "uint8_t", 0, 0], ["map", "uint8_t", 1, 0], ["directive", "uint8_t", 2, 0], ["value", "uint16_t", 4, 0], ["octets", "octets", 8, 12]]},
     "sedge_sim_reading": {"size": 16, "fields": [["outstanding", "size_t", 0, 0], ["acknowledged", "size_t", 4, 0], ["state", "uint8_t", 8, 0], ["begun", "uint8_t", 9, 0], ["vr", "uint8_t", 10, 0], ["clean", "bool", 11, 0], ["idle", "bool", 12, 0], ["confirmed", "bool", 13, 0]]},
 };
+export const texts = {
+    "sedge_text": 20,
+    "sedge_advice": 160,
+};
 export const calls = {
     "sedge_version": ["sedge_text", []],
     "sedge_check": ["uint16_t", [["octets", "octets", ""]]],
@@ -79,6 +83,8 @@ export const calls = {
     "sedge_tm_fault_name": ["sedge_text", [["fault", "value", "uint8_t"]]],
     "sedge_map_fault_name": ["sedge_text", [["fault", "value", "uint8_t"]]],
     "sedge_dropped_name": ["sedge_text", [["cause", "value", "uint8_t"]]],
+    "sedge_alert_shows_broken_condition": ["bool", [["alert", "value", "uint8_t"]]],
+    "sedge_alert_advice": ["sedge_advice", [["alert", "value", "uint8_t"]]],
     "sedge_config_default": ["void", [["config", "written", "sedge_config"]]],
     "sedge_config_fault": ["uint8_t", [["config", "read", "sedge_config"]]],
     "sedge_parameter_name": ["sedge_text", [["number", "value", "uint8_t"]]],
@@ -258,7 +264,7 @@ export const numbers = {
     "SEDGE_NODE_TOO_LONG": 4,
     "SEDGE_NODE_QUEUE_FULL": 5,
     "SEDGE_NODE_MEMORY": 6,
-    "SEDGE_NODE_NOT_KNOWN": 7,
+    "SEDGE_NODE_NOT_KNOWN": 10,
     "SEDGE_NODE_ROOM": 252,
     "SEDGE_NODE_ABSENT": 253,
     "SEDGE_NODE_OUT_OF_RANGE": 254,

@@ -286,6 +286,8 @@ export interface Calls {
     sedge_tm_fault_name(fault: number): string;
     sedge_map_fault_name(fault: number): string;
     sedge_dropped_name(cause: number): string;
+    sedge_alert_shows_broken_condition(alert: number): boolean;
+    sedge_alert_advice(alert: number): string;
     sedge_config_default(config: Partial<sedge_config>): void;
     sedge_config_fault(config: sedge_config): number;
     sedge_parameter_name(number: number): string;

@@ -2,7 +2,7 @@
 // their names there, of the module that web/build makes. Octets are a Uint8Array, which a call copies in, and out where
 // it writes there; its length is the number that stands after it in C. A struct is an object with its fields; a pointer
 // to a number is an object with a value. A call writes into those that it is given.
-import { calls, numbers, structs } from './calls.mjs';
+import { calls, numbers, structs, texts } from './calls.mjs';
 
 export { numbers };
 
@@ -134,13 +134,14 @@ function sizeOf(way, kind, value) {
 // A call: what it is given is put into a room, and what it wrote is read from there.
 function callOf(of, name, result, parameters) {
     return (...values) => {
-        let size = 32;
+        const characters = texts[result] ?? 0; // of a text that it returns
+        let size = 32 + characters;
         parameters.forEach(([, way, kind], k) => {
             size += sizeOf(way, kind, values[k]);
         });
         const given = new Given(of, size), words = [], after = [];
-        const text = result === 'sedge_text' ? given.place(20) : 0;
-        if (text !== 0) words.push(text);
+        const text = characters > 0 ? given.place(characters) : 0;
+        if (characters > 0) words.push(text);
         parameters.forEach(([, way, kind], k) => {
             const value = values[k];
             if (way === 'octets' || way === 'room') {
@@ -161,14 +162,14 @@ function callOf(of, name, result, parameters) {
         });
         const answer = of.exports[name](...words);
         for (const act of after) act();
-        const shown = text !== 0 ? textAt(of.memory, text) : result === 'bool' ? answer !== 0 : answer;
+        const shown = characters > 0 ? textAt(of.memory, text, characters) : result === 'bool' ? answer !== 0 : answer;
         of.places.give(given.room);
         return shown;
     };
 }
 
-function textAt(memory, at) {
-    const octets = new Uint8Array(memory.buffer, at, 20);
+function textAt(memory, at, characters) {
+    const octets = new Uint8Array(memory.buffer, at, characters);
     return String.fromCharCode(...octets.subarray(0, octets.indexOf(0)));
 }
 

@@ -44,6 +44,19 @@ function machines() {
     assert.equal(fop.state, n.SEDGE_FOP_S1);
 }
 
+// What an alert says, and by which of two ways a program goes on.
+function alerts() {
+    const all = ['LOCKOUT', 'NNR', 'CLCW', 'SYNCH', 'LIMIT', 'TIMER', 'TERMINATED'];
+    for (const [k, name] of all.entries()) {
+        const alert = n[`SEDGE_ALERT_${name}`], advice = sedge.sedge_alert_advice(alert);
+        assert.equal(sedge.sedge_alert_shows_broken_condition(alert), k < 4);
+        assert.equal(advice.includes('restart on board'), k < 4);
+        assert.equal(advice.includes('resume by the next CLCW'), k >= 4);
+    }
+    assert.equal(sedge.sedge_alert_shows_broken_condition(n.SEDGE_NO_ALERT), false);
+    assert.equal(sedge.sedge_alert_advice(n.SEDGE_NO_ALERT), '?');
+}
+
 // A packet goes up, and the report on it comes down.
 function nodes() {
     const ground = {}, spacecraft = {}, out = new Uint8Array(2048), count = {}, received = {}, heard = {}, map = {};
@@ -128,5 +141,5 @@ function lines() {
     assert.equal(scriptOf('config maps 18446744073709551615\n').config.maps, DEFAULTS.maps);
 }
 
-for (const test of [codecs, packetsThatAreMissing, machines, nodes, linked, memory, lines]) test();
+for (const test of [codecs, packetsThatAreMissing, machines, alerts, nodes, linked, memory, lines]) test();
 console.log('all as wanted');

@@ -155,11 +155,6 @@ static uint32_t extend32(uint32_t x, uint32_t highest)
     return ((x & (2 * highest - 1)) ^ highest) - highest;
 }
 
-static uint64_t ordered64(uint64_t x)
-{
-    return x ^ 0x8000000000000000ULL;
-}
-
 /* ---- Constants. ---- */
 
 /* Of sedge_alert_name_at. */
@@ -907,7 +902,6 @@ static void tm_link_decoding_decode(uint64_t p0, uint64_t p1, uint64_t p2, uint6
     uint32_t v5 = 0, v6 = 0, v7 = 0, v8 = 0, v9 = 0, t1;
     uint64_t v4 = 0;
     v4 = aligned(frame_octets);
-    if (ordered64(v4) < 0x8000000000000010ULL) UNREACHABLE;
     put64(v4 + 46, 0);
     put64(v4 + 40, 0);
     put64(v4 + 32, 0);
@@ -1058,7 +1052,6 @@ static uint32_t sedgechisel_telemetry_extractor_sedge_tm_extractor_frame(uint64_
     uint32_t v8 = 0, v9 = 0, v14 = 0, v16 = 0;
     uint64_t v7 = 0, v10 = 0, v11 = 0, v12 = 0, v13 = 0, v15 = 0, v17 = 0, v18 = 0, v19 = 0, v20 = 0;
     v7 = aligned(frame_octets);
-    if (ordered64(v7) < 0x8000000000000010ULL) UNREACHABLE;
     put16(v7 + 4, 0);
     put32(v7, 0);
     v8 = 255;
@@ -1968,7 +1961,6 @@ static uint32_t sedge_map_count_at(uint64_t octets, uint64_t count, uint64_t lim
     uint32_t v5 = 0, v6 = 0, v7 = 0;
     uint64_t v4 = 0;
     v4 = aligned(frame_octets);
-    if (ordered64(v4) < 0x8000000000000010ULL) UNREACHABLE;
     put64(v4 + 16, 0);
     put64(v4 + 8, 0);
     v5 = 255;
@@ -2069,7 +2061,6 @@ static uint32_t sedge_map_segment_at(uint64_t octets, uint64_t count, uint64_t l
     uint32_t v7 = 0, v8 = 0, v9 = 0;
     uint64_t v6 = 0, v10 = 0, v11 = 0, v12 = 0;
     v6 = aligned(frame_octets);
-    if (ordered64(v6) < 0x8000000000000010ULL) UNREACHABLE;
     put64(v6 + 16, 0);
     put64(v6 + 8, 0);
     v7 = 255;
@@ -2548,7 +2539,6 @@ static uint32_t sedge_tm_decode_at(uint64_t octets, uint64_t count, uint64_t len
     uint32_t v6 = 0, v7 = 0, v8 = 0, v9 = 0, v10 = 0, v11 = 0, v12 = 0;
     uint64_t v5 = 0;
     v5 = aligned(frame_octets);
-    if (ordered64(v5) < 0x8000000000000010ULL) UNREACHABLE;
     put64(v5 + 40, 0);
     put64(v5 + 32, 0);
     put64(v5 + 24, 0);
@@ -3265,7 +3255,6 @@ static uint64_t sedge_tm_extractor_frames_at(uint64_t extractor, uint64_t octets
     uint64_t v11 = 0, v12 = 0, v13 = 0, v14 = 0, v15 = 0, v16 = 0, v17 = 0, v18 = 0, v19 = 0, v20 = 0, v21 = 0,
         v32 = 0, v33 = 0, v36 = 0, v37 = 0, v38 = 0, v42 = 0, v43 = 0, v44 = 0, v45 = 0;
     v11 = aligned(frame_octets);
-    if (ordered64(v11) < 0x8000000000000010ULL) UNREACHABLE;
     v12 = 0;
     v13 = out_room / 19;
     if (out_room < 19) {
@@ -5018,7 +5007,6 @@ static uint64_t sedge_tc_frames_at(uint64_t octets, uint64_t count, uint32_t che
     uint32_t v12 = 0, v13 = 0, v14 = 0;
     uint64_t v6 = 0, v7 = 0, v8 = 0, v9 = 0, v10 = 0, v11 = 0;
     v6 = aligned(frame_octets);
-    if (ordered64(v6) < 0x8000000000000010ULL) UNREACHABLE;
     v7 = 0;
     v8 = room / 12;
     if (room < 12) {
@@ -5230,6 +5218,29 @@ l2:;
 
 /* ---- The structs of the header, in the layout that the functions know. ---- */
 
+/* Whether structs of numbers of at most 32 bits are copied to that layout. Where numbers in memory are little-endian they
+ * have it here too, and go as they are. */
+#ifdef LITTLE
+#define COPIES_NUMBERS 0
+#else
+#define COPIES_NUMBERS 1
+#endif
+
+/* Whether those with a size_t or numbers of 64 bits are; they need not be where a size_t has 64 bits besides. One with an
+ * address is copied on each machine. */
+#if defined LITTLE && SIZE_MAX == 0xffffffffffffffff
+#define COPIES_COUNTS 0
+#else
+#define COPIES_COUNTS 1
+#endif
+
+#define IS(name, size, align)                                                                                          \
+    (sizeof(struct name) == (size) && sizeof(struct { char before; struct name it; }) == (size) + (align))
+#define AT(name, field, place) (offsetof(struct name, field) == (place))
+
+typedef char sedge_part_is_laid_out_so[COPIES_COUNTS || (IS(sedge_part, 16, 8) && AT(sedge_part, from, 0) &&
+    AT(sedge_part, count, 8)) ? 1 : -1];
+
 static void put_sedge_part(uint64_t at, const struct sedge_part *it)
 {
     put64(at, it->from);
@@ -5241,6 +5252,12 @@ static void get_sedge_part(uint64_t at, struct sedge_part *it)
     it->from = (size_t)get64(at);
     it->count = (size_t)get64(at + 8);
 }
+
+typedef char sedge_fop_is_laid_out_so[COPIES_NUMBERS || (IS(sedge_fop, 16, 2) && AT(sedge_fop, timer, 0) &&
+    AT(sedge_fop, ticks, 2) && AT(sedge_fop, room, 4) && AT(sedge_fop, state, 5) && AT(sedge_fop, vs, 6) &&
+    AT(sedge_fop, nn, 7) && AT(sedge_fop, waiting, 8) && AT(sedge_fop, sent, 9) && AT(sedge_fop, due, 10) &&
+    AT(sedge_fop, window, 11) && AT(sedge_fop, limit, 12) && AT(sedge_fop, count, 13) && AT(sedge_fop, control, 14) &&
+    AT(sedge_fop, vr, 15)) ? 1 : -1];
 
 static void put_sedge_fop(uint64_t at, const struct sedge_fop *it)
 {
@@ -5278,6 +5295,10 @@ static void get_sedge_fop(uint64_t at, struct sedge_fop *it)
     it->vr = (uint8_t)get8(at + 15);
 }
 
+typedef char sedge_tc_frame_is_laid_out_so[COPIES_NUMBERS || (IS(sedge_tc_frame, 10, 2) && AT(sedge_tc_frame, scid, 0)
+    && AT(sedge_tc_frame, vcid, 2) && AT(sedge_tc_frame, kind, 3) && AT(sedge_tc_frame, n, 4) && AT(sedge_tc_frame,
+    flags, 5) && AT(sedge_tc_frame, map, 6) && AT(sedge_tc_frame, command, 7) && AT(sedge_tc_frame, vr, 8)) ? 1 : -1];
+
 static void put_sedge_tc_frame(uint64_t at, const struct sedge_tc_frame *it)
 {
     put16(at, it->scid);
@@ -5302,6 +5323,10 @@ static void get_sedge_tc_frame(uint64_t at, struct sedge_tc_frame *it)
     it->vr = (uint8_t)get8(at + 8);
 }
 
+typedef char sedge_packet_is_laid_out_so[COPIES_NUMBERS || (IS(sedge_packet, 8, 2) && AT(sedge_packet, apid, 0) &&
+    AT(sedge_packet, count, 2) && AT(sedge_packet, kind, 4) && AT(sedge_packet, secondary, 5) && AT(sedge_packet,
+    flags, 6)) ? 1 : -1];
+
 static void put_sedge_packet(uint64_t at, const struct sedge_packet *it)
 {
     put16(at, it->apid);
@@ -5320,6 +5345,9 @@ static void get_sedge_packet(uint64_t at, struct sedge_packet *it)
     it->flags = (uint8_t)get8(at + 6);
 }
 
+typedef char sedge_gap_check_is_laid_out_so[COPIES_NUMBERS || (IS(sedge_gap_check, 4096, 2) && AT(sedge_gap_check,
+    last, 0)) ? 1 : -1];
+
 static void put_sedge_gap_check(uint64_t at, const struct sedge_gap_check *it)
 {
     for (uint64_t k = 0; k < 2048; k++) put16(at + 2 * k, it->last[k]);
@@ -5329,6 +5357,10 @@ static void get_sedge_gap_check(uint64_t at, struct sedge_gap_check *it)
 {
     for (uint64_t k = 0; k < 2048; k++) it->last[k] = (uint16_t)get16(at + 2 * k);
 }
+
+typedef char sedge_tm_frame_is_laid_out_so[COPIES_NUMBERS || (IS(sedge_tm_frame, 12, 2) && AT(sedge_tm_frame, scid, 0)
+    && AT(sedge_tm_frame, pointer, 2) && AT(sedge_tm_frame, vcid, 4) && AT(sedge_tm_frame, mc_count, 5) &&
+    AT(sedge_tm_frame, vc_count, 6) && AT(sedge_tm_frame, ocf, 7)) ? 1 : -1];
 
 static void put_sedge_tm_frame(uint64_t at, const struct sedge_tm_frame *it)
 {
@@ -5349,6 +5381,11 @@ static void get_sedge_tm_frame(uint64_t at, struct sedge_tm_frame *it)
     it->vc_count = (uint8_t)get8(at + 6);
     copy(address(it->ocf), at + 7, 4);
 }
+
+typedef char sedge_tm_builder_is_laid_out_so[COPIES_COUNTS || (IS(sedge_tm_builder, 32, 8) && AT(sedge_tm_builder,
+    from, 0) && AT(sedge_tm_builder, count, 8) && AT(sedge_tm_builder, begun, 16) && AT(sedge_tm_builder, scid, 24) &&
+    AT(sedge_tm_builder, length, 26) && AT(sedge_tm_builder, vcid, 28) && AT(sedge_tm_builder, next_count, 29) &&
+    AT(sedge_tm_builder, idle_left, 30)) ? 1 : -1];
 
 static void put_sedge_tm_builder(uint64_t at, const struct sedge_tm_builder *it)
 {
@@ -5374,6 +5411,10 @@ static void get_sedge_tm_builder(uint64_t at, struct sedge_tm_builder *it)
     it->idle_left = (uint8_t)get8(at + 30);
 }
 
+typedef char sedge_tm_extractor_is_laid_out_so[COPIES_COUNTS || (IS(sedge_tm_extractor, 24, 8) &&
+    AT(sedge_tm_extractor, from, 0) && AT(sedge_tm_extractor, count, 8) && AT(sedge_tm_extractor, last, 16) &&
+    AT(sedge_tm_extractor, seen, 17)) ? 1 : -1];
+
 static void put_sedge_tm_extractor(uint64_t at, const struct sedge_tm_extractor *it)
 {
     put64(at, it->from);
@@ -5390,14 +5431,10 @@ static void get_sedge_tm_extractor(uint64_t at, struct sedge_tm_extractor *it)
     it->seen = (uint8_t)get8(at + 17);
 }
 
-static void put_sedge_tm_extracted(uint64_t at, const struct sedge_tm_extracted *it)
-{
-    put64(at, it->joined);
-    put64(at + 8, it->packets.from);
-    put64(at + 16, it->packets.count);
-    put8(at + 24, it->first);
-    put8(at + 25, it->lost);
-}
+typedef char sedge_tm_extracted_is_laid_out_so[COPIES_COUNTS || (IS(sedge_tm_extracted, 32, 8) &&
+    AT(sedge_tm_extracted, joined, 0) && AT(sedge_tm_extracted, packets, 8) && AT(sedge_tm_extracted, packets.from, 8)
+    && AT(sedge_tm_extracted, packets.count, 16) && AT(sedge_tm_extracted, first, 24) && AT(sedge_tm_extracted, lost,
+    25)) ? 1 : -1];
 
 static void get_sedge_tm_extracted(uint64_t at, struct sedge_tm_extracted *it)
 {
@@ -5407,6 +5444,9 @@ static void get_sedge_tm_extracted(uint64_t at, struct sedge_tm_extracted *it)
     it->first = (uint8_t)get8(at + 24);
     it->lost = (uint8_t)get8(at + 25);
 }
+
+typedef char sedge_map_is_laid_out_so[COPIES_COUNTS || (IS(sedge_map, 16, 8) && AT(sedge_map, count, 0) &&
+    AT(sedge_map, open, 8) && AT(sedge_map, blocking, 9)) ? 1 : -1];
 
 static void put_sedge_map(uint64_t at, const struct sedge_map *it)
 {
@@ -5422,12 +5462,8 @@ static void get_sedge_map(uint64_t at, struct sedge_map *it)
     it->blocking = (uint8_t)get8(at + 9);
 }
 
-static void put_sedge_taken(uint64_t at, const struct sedge_taken *it)
-{
-    put64(at, it->count);
-    put8(at + 8, it->where);
-    put8(at + 9, it->dropped);
-}
+typedef char sedge_taken_is_laid_out_so[COPIES_COUNTS || (IS(sedge_taken, 16, 8) && AT(sedge_taken, count, 0) &&
+    AT(sedge_taken, where, 8) && AT(sedge_taken, dropped, 9)) ? 1 : -1];
 
 static void get_sedge_taken(uint64_t at, struct sedge_taken *it)
 {
@@ -5435,6 +5471,9 @@ static void get_sedge_taken(uint64_t at, struct sedge_taken *it)
     it->where = (uint8_t)get8(at + 8);
     it->dropped = (uint8_t)get8(at + 9);
 }
+
+typedef char sedge_limits_is_laid_out_so[COPIES_NUMBERS || (IS(sedge_limits, 12, 4) && AT(sedge_limits, part, 0) &&
+    AT(sedge_limits, max_packet, 4) && AT(sedge_limits, blocking, 8)) ? 1 : -1];
 
 static void put_sedge_limits(uint64_t at, const struct sedge_limits *it)
 {
@@ -5444,6 +5483,16 @@ static void put_sedge_limits(uint64_t at, const struct sedge_limits *it)
 }
 
 /* ---- The calls of the header. ---- */
+
+/* A call that writes is compiled apart from the program: gcc does not see in the code of such a call that it has written
+ * what it answers to have written, and would warn of the program that it is compiled into (-flto). */
+#ifndef APART
+#if defined __GNUC__ && __GNUC__ >= 8 && !defined __clang__
+#define APART __attribute__((noipa))
+#else
+#define APART
+#endif
+#endif
 
 struct sedge_text sedge_version(void)
 {
@@ -5457,7 +5506,7 @@ uint16_t sedge_check(const uint8_t *octets, size_t count)
     return (uint16_t)sedge_check_at(address(octets), count);
 }
 
-bool sedge_check_append(uint8_t *octets, size_t count)
+APART bool sedge_check_append(uint8_t *octets, size_t count)
 {
     return sedge_check_append_at(address(octets), count) != 0;
 }
@@ -5467,47 +5516,47 @@ bool sedge_check_holds(const uint8_t *octets, size_t count)
     return sedge_check_holds_at(address(octets), count) != 0;
 }
 
-uint8_t sedge_clcw_decode(const uint8_t *octets, size_t count, struct sedge_clcw *word)
+APART uint8_t sedge_clcw_decode(const uint8_t *octets, size_t count, struct sedge_clcw *word)
 {
     return (uint8_t)sedge_clcw_decode_at(address(octets), count, address(word));
 }
 
-uint8_t sedge_clcw_encode(const struct sedge_clcw *word, uint8_t *out, size_t room)
+APART uint8_t sedge_clcw_encode(const struct sedge_clcw *word, uint8_t *out, size_t room)
 {
     return (uint8_t)sedge_clcw_encode_at(address(word), address(out), room);
 }
 
-uint8_t sedge_farm_open(struct sedge_farm *farm, uint8_t width, uint8_t vr)
+APART uint8_t sedge_farm_open(struct sedge_farm *farm, uint8_t width, uint8_t vr)
 {
     return (uint8_t)sedge_farm_open_at(address(farm), width, vr);
 }
 
-uint8_t sedge_farm_ad(struct sedge_farm *farm, uint8_t n, bool buffer_free)
+APART uint8_t sedge_farm_ad(struct sedge_farm *farm, uint8_t n, bool buffer_free)
 {
     return (uint8_t)sedge_farm_ad_at(address(farm), n, buffer_free);
 }
 
-uint8_t sedge_farm_bd(struct sedge_farm *farm)
+APART uint8_t sedge_farm_bd(struct sedge_farm *farm)
 {
     return (uint8_t)sedge_farm_bd_at(address(farm));
 }
 
-uint8_t sedge_farm_unlock(struct sedge_farm *farm)
+APART uint8_t sedge_farm_unlock(struct sedge_farm *farm)
 {
     return (uint8_t)sedge_farm_unlock_at(address(farm));
 }
 
-uint8_t sedge_farm_set_vr(struct sedge_farm *farm, uint8_t vr)
+APART uint8_t sedge_farm_set_vr(struct sedge_farm *farm, uint8_t vr)
 {
     return (uint8_t)sedge_farm_set_vr_at(address(farm), vr);
 }
 
-uint8_t sedge_farm_released(struct sedge_farm *farm)
+APART uint8_t sedge_farm_released(struct sedge_farm *farm)
 {
     return (uint8_t)sedge_farm_released_at(address(farm));
 }
 
-uint8_t sedge_farm_control_word(const struct sedge_farm *farm, uint8_t vcid, struct sedge_clcw *word)
+APART uint8_t sedge_farm_control_word(const struct sedge_farm *farm, uint8_t vcid, struct sedge_clcw *word)
 {
     return (uint8_t)sedge_farm_control_word_at(address(farm), vcid, address(word));
 }
@@ -5517,376 +5566,357 @@ uint8_t sedge_farm_state(const struct sedge_farm *farm)
     return (uint8_t)sedge_farm_state_at(address(farm));
 }
 
-uint8_t sedge_fop_open(struct sedge_fop *fop, uint8_t width, uint8_t window, uint8_t limit, uint16_t timer)
+APART uint8_t sedge_fop_open(struct sedge_fop *fop, uint8_t width, uint8_t window, uint8_t limit, uint16_t timer)
 {
-    unsigned char fop_octets[16 + 15];
-    const uint64_t fop_at = aligned(fop_octets);
+    unsigned char fop_octets[COPIES_NUMBERS ? 16 + 15 : 1];
+    const uint64_t fop_at = COPIES_NUMBERS ? aligned(fop_octets) : address(fop);
     uint8_t answer;
-    put_sedge_fop(fop_at, fop);
     answer = (uint8_t)sedge_fop_open_at(fop_at, width, window, limit, timer);
-    get_sedge_fop(fop_at, fop);
+    if (COPIES_NUMBERS && answer == 0) get_sedge_fop(fop_at, fop);
     return answer;
 }
 
-uint8_t sedge_fop_directive(struct sedge_fop *fop, uint8_t directive, uint16_t value)
+APART uint8_t sedge_fop_directive(struct sedge_fop *fop, uint8_t directive, uint16_t value)
 {
-    unsigned char fop_octets[16 + 15];
-    const uint64_t fop_at = aligned(fop_octets);
+    unsigned char fop_octets[COPIES_NUMBERS ? 16 + 15 : 1];
+    const uint64_t fop_at = COPIES_NUMBERS ? aligned(fop_octets) : address(fop);
     uint8_t answer;
-    put_sedge_fop(fop_at, fop);
+    if (COPIES_NUMBERS) put_sedge_fop(fop_at, fop);
     answer = (uint8_t)sedge_fop_directive_at(fop_at, directive, value);
-    get_sedge_fop(fop_at, fop);
+    if (COPIES_NUMBERS) get_sedge_fop(fop_at, fop);
     return answer;
 }
 
-uint8_t sedge_fop_submit(struct sedge_fop *fop)
+APART uint8_t sedge_fop_submit(struct sedge_fop *fop)
 {
-    unsigned char fop_octets[16 + 15];
-    const uint64_t fop_at = aligned(fop_octets);
+    unsigned char fop_octets[COPIES_NUMBERS ? 16 + 15 : 1];
+    const uint64_t fop_at = COPIES_NUMBERS ? aligned(fop_octets) : address(fop);
     uint8_t answer;
-    put_sedge_fop(fop_at, fop);
+    if (COPIES_NUMBERS) put_sedge_fop(fop_at, fop);
     answer = (uint8_t)sedge_fop_submit_at(fop_at);
-    get_sedge_fop(fop_at, fop);
+    if (COPIES_NUMBERS) get_sedge_fop(fop_at, fop);
     return answer;
 }
 
-uint8_t sedge_fop_next(struct sedge_fop *fop, uint8_t *number)
+APART uint8_t sedge_fop_next(struct sedge_fop *fop, uint8_t *number)
 {
-    unsigned char fop_octets[16 + 15];
-    const uint64_t fop_at = aligned(fop_octets);
+    unsigned char fop_octets[COPIES_NUMBERS ? 16 + 15 : 1];
+    const uint64_t fop_at = COPIES_NUMBERS ? aligned(fop_octets) : address(fop);
     uint8_t answer;
-    put_sedge_fop(fop_at, fop);
+    if (COPIES_NUMBERS) put_sedge_fop(fop_at, fop);
     answer = (uint8_t)sedge_fop_next_at(fop_at, address(number));
-    get_sedge_fop(fop_at, fop);
+    if (COPIES_NUMBERS) get_sedge_fop(fop_at, fop);
     return answer;
 }
 
-uint8_t sedge_fop_clcw(struct sedge_fop *fop, uint8_t vcid, const struct sedge_clcw *word, uint8_t *released)
+APART uint8_t sedge_fop_clcw(struct sedge_fop *fop, uint8_t vcid, const struct sedge_clcw *word, uint8_t *released)
 {
-    unsigned char fop_octets[16 + 15];
-    const uint64_t fop_at = aligned(fop_octets);
+    unsigned char fop_octets[COPIES_NUMBERS ? 16 + 15 : 1];
+    const uint64_t fop_at = COPIES_NUMBERS ? aligned(fop_octets) : address(fop);
     uint8_t answer;
-    put_sedge_fop(fop_at, fop);
+    if (COPIES_NUMBERS) put_sedge_fop(fop_at, fop);
     answer = (uint8_t)sedge_fop_clcw_at(fop_at, vcid, address(word), address(released));
-    get_sedge_fop(fop_at, fop);
+    if (COPIES_NUMBERS) get_sedge_fop(fop_at, fop);
     return answer;
 }
 
-uint8_t sedge_fop_tick(struct sedge_fop *fop)
+APART uint8_t sedge_fop_tick(struct sedge_fop *fop)
 {
-    unsigned char fop_octets[16 + 15];
-    const uint64_t fop_at = aligned(fop_octets);
+    unsigned char fop_octets[COPIES_NUMBERS ? 16 + 15 : 1];
+    const uint64_t fop_at = COPIES_NUMBERS ? aligned(fop_octets) : address(fop);
     uint8_t answer;
-    put_sedge_fop(fop_at, fop);
+    if (COPIES_NUMBERS) put_sedge_fop(fop_at, fop);
     answer = (uint8_t)sedge_fop_tick_at(fop_at);
-    get_sedge_fop(fop_at, fop);
+    if (COPIES_NUMBERS) get_sedge_fop(fop_at, fop);
     return answer;
 }
 
-uint8_t sedge_fop_accepted_beyond(const struct sedge_fop *fop, uint8_t value, uint8_t *accepted)
+APART uint8_t sedge_fop_accepted_beyond(const struct sedge_fop *fop, uint8_t value, uint8_t *accepted)
 {
-    unsigned char fop_octets[16 + 15];
-    const uint64_t fop_at = aligned(fop_octets);
-    put_sedge_fop(fop_at, fop);
+    unsigned char fop_octets[COPIES_NUMBERS ? 16 + 15 : 1];
+    const uint64_t fop_at = COPIES_NUMBERS ? aligned(fop_octets) : address(fop);
+    if (COPIES_NUMBERS) put_sedge_fop(fop_at, fop);
     return (uint8_t)sedge_fop_accepted_beyond_at(fop_at, value, address(accepted));
 }
 
-uint8_t sedge_accepted_beyond(uint8_t nn, uint8_t vs, uint8_t value, uint8_t *accepted)
+APART uint8_t sedge_accepted_beyond(uint8_t nn, uint8_t vs, uint8_t value, uint8_t *accepted)
 {
     return (uint8_t)sedge_accepted_beyond_at(nn, vs, value, address(accepted));
 }
 
-uint8_t sedge_tc_decode(const uint8_t *octets, size_t count, bool checked, struct sedge_tc_frame *frame, struct
+APART uint8_t sedge_tc_decode(const uint8_t *octets, size_t count, bool checked, struct sedge_tc_frame *frame, struct
     sedge_part *data)
 {
-    unsigned char frame_octets[10 + 15];
-    const uint64_t frame_at = aligned(frame_octets);
-    unsigned char data_octets[16 + 15];
-    const uint64_t data_at = aligned(data_octets);
+    unsigned char frame_octets[COPIES_NUMBERS ? 10 + 15 : 1];
+    const uint64_t frame_at = COPIES_NUMBERS ? aligned(frame_octets) : address(frame);
+    unsigned char data_octets[COPIES_COUNTS ? 16 + 15 : 1];
+    const uint64_t data_at = COPIES_COUNTS ? aligned(data_octets) : address(data);
     uint8_t answer;
-    put_sedge_tc_frame(frame_at, frame);
-    put_sedge_part(data_at, data);
     answer = (uint8_t)sedge_tc_decode_at(address(octets), count, checked, frame_at, data_at);
-    get_sedge_tc_frame(frame_at, frame);
-    get_sedge_part(data_at, data);
+    if (COPIES_NUMBERS && answer == 0) get_sedge_tc_frame(frame_at, frame);
+    if (COPIES_COUNTS && answer == 0) get_sedge_part(data_at, data);
     return answer;
 }
 
-uint8_t sedge_tc_encode(const struct sedge_tc_frame *frame, const uint8_t *data, size_t data_count, bool checked,
-    uint8_t *out, size_t room, size_t *total)
+APART uint8_t sedge_tc_encode(const struct sedge_tc_frame *frame, const uint8_t *data, size_t data_count, bool
+    checked, uint8_t *out, size_t room, size_t *total)
 {
-    unsigned char frame_octets[10 + 15];
-    const uint64_t frame_at = aligned(frame_octets);
-    unsigned char total_octets[8 + 15];
-    const uint64_t total_at = aligned(total_octets);
+    unsigned char frame_octets[COPIES_NUMBERS ? 10 + 15 : 1];
+    const uint64_t frame_at = COPIES_NUMBERS ? aligned(frame_octets) : address(frame);
+    unsigned char total_octets[COPIES_COUNTS ? 8 + 15 : 1];
+    const uint64_t total_at = COPIES_COUNTS ? aligned(total_octets) : address(total);
     uint8_t answer;
-    put_sedge_tc_frame(frame_at, frame);
-    put64(total_at, *total);
+    if (COPIES_NUMBERS) put_sedge_tc_frame(frame_at, frame);
     answer = (uint8_t)sedge_tc_encode_at(frame_at, address(data), data_count, checked, address(out), room, total_at);
-    *total = (size_t)get64(total_at);
+    if (COPIES_COUNTS && answer == 0) *total = (size_t)get64(total_at);
     return answer;
 }
 
-uint8_t sedge_tc_declared(const uint8_t *octets, size_t count, bool checked, size_t *total)
+APART uint8_t sedge_tc_declared(const uint8_t *octets, size_t count, bool checked, size_t *total)
 {
-    unsigned char total_octets[8 + 15];
-    const uint64_t total_at = aligned(total_octets);
+    unsigned char total_octets[COPIES_COUNTS ? 8 + 15 : 1];
+    const uint64_t total_at = COPIES_COUNTS ? aligned(total_octets) : address(total);
     uint8_t answer;
-    put64(total_at, *total);
     answer = (uint8_t)sedge_tc_declared_at(address(octets), count, checked, total_at);
-    *total = (size_t)get64(total_at);
+    if (COPIES_COUNTS && answer == 0) *total = (size_t)get64(total_at);
     return answer;
 }
 
-size_t sedge_tc_frames(const uint8_t *octets, size_t count, bool checked, uint8_t *out, size_t room, size_t *total)
+APART size_t sedge_tc_frames(const uint8_t *octets, size_t count, bool checked, uint8_t *out, size_t room, size_t
+    *total)
 {
-    unsigned char total_octets[8 + 15];
-    const uint64_t total_at = aligned(total_octets);
+    unsigned char total_octets[COPIES_COUNTS ? 8 + 15 : 1];
+    const uint64_t total_at = COPIES_COUNTS ? aligned(total_octets) : address(total);
     size_t answer;
-    put64(total_at, *total);
     answer = (size_t)sedge_tc_frames_at(address(octets), count, checked, address(out), room, total_at);
-    *total = (size_t)get64(total_at);
+    if (COPIES_COUNTS) *total = (size_t)get64(total_at);
     return answer;
 }
 
-uint8_t sedge_packet_decode(const uint8_t *octets, size_t count, struct sedge_packet *packet, struct sedge_part *data)
+APART uint8_t sedge_packet_decode(const uint8_t *octets, size_t count, struct sedge_packet *packet, struct sedge_part
+    *data)
 {
-    unsigned char packet_octets[8 + 15];
-    const uint64_t packet_at = aligned(packet_octets);
-    unsigned char data_octets[16 + 15];
-    const uint64_t data_at = aligned(data_octets);
+    unsigned char packet_octets[COPIES_NUMBERS ? 8 + 15 : 1];
+    const uint64_t packet_at = COPIES_NUMBERS ? aligned(packet_octets) : address(packet);
+    unsigned char data_octets[COPIES_COUNTS ? 16 + 15 : 1];
+    const uint64_t data_at = COPIES_COUNTS ? aligned(data_octets) : address(data);
     uint8_t answer;
-    put_sedge_packet(packet_at, packet);
-    put_sedge_part(data_at, data);
     answer = (uint8_t)sedge_packet_decode_at(address(octets), count, packet_at, data_at);
-    get_sedge_packet(packet_at, packet);
-    get_sedge_part(data_at, data);
+    if (COPIES_NUMBERS && answer == 0) get_sedge_packet(packet_at, packet);
+    if (COPIES_COUNTS && answer == 0) get_sedge_part(data_at, data);
     return answer;
 }
 
-uint8_t sedge_packet_encode(const struct sedge_packet *packet, const uint8_t *data, size_t data_count, uint8_t *out,
-    size_t room, size_t *total)
+APART uint8_t sedge_packet_encode(const struct sedge_packet *packet, const uint8_t *data, size_t data_count, uint8_t
+    *out, size_t room, size_t *total)
 {
-    unsigned char packet_octets[8 + 15];
-    const uint64_t packet_at = aligned(packet_octets);
-    unsigned char total_octets[8 + 15];
-    const uint64_t total_at = aligned(total_octets);
+    unsigned char packet_octets[COPIES_NUMBERS ? 8 + 15 : 1];
+    const uint64_t packet_at = COPIES_NUMBERS ? aligned(packet_octets) : address(packet);
+    unsigned char total_octets[COPIES_COUNTS ? 8 + 15 : 1];
+    const uint64_t total_at = COPIES_COUNTS ? aligned(total_octets) : address(total);
     uint8_t answer;
-    put_sedge_packet(packet_at, packet);
-    put64(total_at, *total);
+    if (COPIES_NUMBERS) put_sedge_packet(packet_at, packet);
     answer = (uint8_t)sedge_packet_encode_at(packet_at, address(data), data_count, address(out), room, total_at);
-    *total = (size_t)get64(total_at);
+    if (COPIES_COUNTS && answer == 0) *total = (size_t)get64(total_at);
     return answer;
 }
 
-uint8_t sedge_packet_declared(const uint8_t *octets, size_t count, size_t *total)
+APART uint8_t sedge_packet_declared(const uint8_t *octets, size_t count, size_t *total)
 {
-    unsigned char total_octets[8 + 15];
-    const uint64_t total_at = aligned(total_octets);
+    unsigned char total_octets[COPIES_COUNTS ? 8 + 15 : 1];
+    const uint64_t total_at = COPIES_COUNTS ? aligned(total_octets) : address(total);
     uint8_t answer;
-    put64(total_at, *total);
     answer = (uint8_t)sedge_packet_declared_at(address(octets), count, total_at);
-    *total = (size_t)get64(total_at);
+    if (COPIES_COUNTS && answer == 0) *total = (size_t)get64(total_at);
     return answer;
 }
 
-void sedge_gap_check_open(struct sedge_gap_check *check)
+APART void sedge_gap_check_open(struct sedge_gap_check *check)
 {
-    unsigned char check_octets[4096 + 15];
-    const uint64_t check_at = aligned(check_octets);
-    put_sedge_gap_check(check_at, check);
+    unsigned char check_octets[COPIES_NUMBERS ? 4096 + 15 : 1];
+    const uint64_t check_at = COPIES_NUMBERS ? aligned(check_octets) : address(check);
     sedge_gap_check_open_at(check_at);
-    get_sedge_gap_check(check_at, check);
+    if (COPIES_NUMBERS) get_sedge_gap_check(check_at, check);
 }
 
-uint8_t sedge_gap_check_see(struct sedge_gap_check *check, uint16_t apid, uint16_t count, uint16_t *missing)
+APART uint8_t sedge_gap_check_see(struct sedge_gap_check *check, uint16_t apid, uint16_t count, uint16_t *missing)
 {
-    unsigned char check_octets[4096 + 15];
-    const uint64_t check_at = aligned(check_octets);
-    unsigned char missing_octets[2 + 15];
-    const uint64_t missing_at = aligned(missing_octets);
+    unsigned char check_octets[COPIES_NUMBERS ? 4096 + 15 : 1];
+    const uint64_t check_at = COPIES_NUMBERS ? aligned(check_octets) : address(check);
+    unsigned char missing_octets[COPIES_NUMBERS ? 2 + 15 : 1];
+    const uint64_t missing_at = COPIES_NUMBERS ? aligned(missing_octets) : address(missing);
     uint8_t answer;
-    put_sedge_gap_check(check_at, check);
-    put16(missing_at, *missing);
+    if (COPIES_NUMBERS) put_sedge_gap_check(check_at, check);
     answer = (uint8_t)sedge_gap_check_see_at(check_at, apid, count, missing_at);
-    get_sedge_gap_check(check_at, check);
-    *missing = (uint16_t)get16(missing_at);
+    if (COPIES_NUMBERS) get_sedge_gap_check(check_at, check);
+    if (COPIES_NUMBERS && answer == 0) *missing = (uint16_t)get16(missing_at);
     return answer;
 }
 
-uint8_t sedge_tm_decode(const uint8_t *octets, size_t count, size_t length, struct sedge_tm_frame *frame, struct
+APART uint8_t sedge_tm_decode(const uint8_t *octets, size_t count, size_t length, struct sedge_tm_frame *frame, struct
     sedge_part *data)
 {
-    unsigned char frame_octets[12 + 15];
-    const uint64_t frame_at = aligned(frame_octets);
-    unsigned char data_octets[16 + 15];
-    const uint64_t data_at = aligned(data_octets);
+    unsigned char frame_octets[COPIES_NUMBERS ? 12 + 15 : 1];
+    const uint64_t frame_at = COPIES_NUMBERS ? aligned(frame_octets) : address(frame);
+    unsigned char data_octets[COPIES_COUNTS ? 16 + 15 : 1];
+    const uint64_t data_at = COPIES_COUNTS ? aligned(data_octets) : address(data);
     uint8_t answer;
-    put_sedge_tm_frame(frame_at, frame);
-    put_sedge_part(data_at, data);
     answer = (uint8_t)sedge_tm_decode_at(address(octets), count, length, frame_at, data_at);
-    get_sedge_tm_frame(frame_at, frame);
-    get_sedge_part(data_at, data);
+    if (COPIES_NUMBERS && answer == 0) get_sedge_tm_frame(frame_at, frame);
+    if (COPIES_COUNTS && answer == 0) get_sedge_part(data_at, data);
     return answer;
 }
 
-uint8_t sedge_tm_encode(const struct sedge_tm_frame *frame, const uint8_t *data, size_t data_count, uint8_t *out,
-    size_t room, size_t *total)
+APART uint8_t sedge_tm_encode(const struct sedge_tm_frame *frame, const uint8_t *data, size_t data_count, uint8_t
+    *out, size_t room, size_t *total)
 {
-    unsigned char frame_octets[12 + 15];
-    const uint64_t frame_at = aligned(frame_octets);
-    unsigned char total_octets[8 + 15];
-    const uint64_t total_at = aligned(total_octets);
+    unsigned char frame_octets[COPIES_NUMBERS ? 12 + 15 : 1];
+    const uint64_t frame_at = COPIES_NUMBERS ? aligned(frame_octets) : address(frame);
+    unsigned char total_octets[COPIES_COUNTS ? 8 + 15 : 1];
+    const uint64_t total_at = COPIES_COUNTS ? aligned(total_octets) : address(total);
     uint8_t answer;
-    put_sedge_tm_frame(frame_at, frame);
-    put64(total_at, *total);
+    if (COPIES_NUMBERS) put_sedge_tm_frame(frame_at, frame);
     answer = (uint8_t)sedge_tm_encode_at(frame_at, address(data), data_count, address(out), room, total_at);
-    *total = (size_t)get64(total_at);
+    if (COPIES_COUNTS && answer == 0) *total = (size_t)get64(total_at);
     return answer;
 }
 
-uint8_t sedge_tm_builder_open(struct sedge_tm_builder *builder, uint16_t scid, uint8_t vcid, size_t length)
+APART uint8_t sedge_tm_builder_open(struct sedge_tm_builder *builder, uint16_t scid, uint8_t vcid, size_t length)
 {
-    unsigned char builder_octets[32 + 15];
-    const uint64_t builder_at = aligned(builder_octets);
+    unsigned char builder_octets[COPIES_COUNTS ? 32 + 15 : 1];
+    const uint64_t builder_at = COPIES_COUNTS ? aligned(builder_octets) : address(builder);
     uint8_t answer;
-    put_sedge_tm_builder(builder_at, builder);
     answer = (uint8_t)sedge_tm_builder_open_at(builder_at, scid, vcid, length);
-    get_sedge_tm_builder(builder_at, builder);
+    if (COPIES_COUNTS && answer == 0) get_sedge_tm_builder(builder_at, builder);
     return answer;
 }
 
-uint8_t sedge_tm_builder_queue(struct sedge_tm_builder *builder, const uint8_t *packet, size_t count, uint8_t *memory,
-    size_t room)
+APART uint8_t sedge_tm_builder_queue(struct sedge_tm_builder *builder, const uint8_t *packet, size_t count, uint8_t
+    *memory, size_t room)
 {
-    unsigned char builder_octets[32 + 15];
-    const uint64_t builder_at = aligned(builder_octets);
+    unsigned char builder_octets[COPIES_COUNTS ? 32 + 15 : 1];
+    const uint64_t builder_at = COPIES_COUNTS ? aligned(builder_octets) : address(builder);
     uint8_t answer;
-    put_sedge_tm_builder(builder_at, builder);
+    if (COPIES_COUNTS) put_sedge_tm_builder(builder_at, builder);
     answer = (uint8_t)sedge_tm_builder_queue_at(builder_at, address(packet), count, address(memory), room);
-    get_sedge_tm_builder(builder_at, builder);
+    if (COPIES_COUNTS) get_sedge_tm_builder(builder_at, builder);
     return answer;
 }
 
-uint8_t sedge_tm_builder_build(struct sedge_tm_builder *builder, const uint8_t *ocf, size_t ocf_count, const uint8_t
-    *memory, size_t memory_count, uint8_t *out, size_t room, size_t *total)
+APART uint8_t sedge_tm_builder_build(struct sedge_tm_builder *builder, const uint8_t *ocf, size_t ocf_count, const
+    uint8_t *memory, size_t memory_count, uint8_t *out, size_t room, size_t *total)
 {
-    unsigned char builder_octets[32 + 15];
-    const uint64_t builder_at = aligned(builder_octets);
-    unsigned char total_octets[8 + 15];
-    const uint64_t total_at = aligned(total_octets);
+    unsigned char builder_octets[COPIES_COUNTS ? 32 + 15 : 1];
+    const uint64_t builder_at = COPIES_COUNTS ? aligned(builder_octets) : address(builder);
+    unsigned char total_octets[COPIES_COUNTS ? 8 + 15 : 1];
+    const uint64_t total_at = COPIES_COUNTS ? aligned(total_octets) : address(total);
     uint8_t answer;
-    put_sedge_tm_builder(builder_at, builder);
-    put64(total_at, *total);
+    if (COPIES_COUNTS) put_sedge_tm_builder(builder_at, builder);
     answer = (uint8_t)sedge_tm_builder_build_at(builder_at, address(ocf), ocf_count, address(memory), memory_count,
         address(out), room, total_at);
-    get_sedge_tm_builder(builder_at, builder);
-    *total = (size_t)get64(total_at);
+    if (COPIES_COUNTS) get_sedge_tm_builder(builder_at, builder);
+    if (COPIES_COUNTS && answer == 0) *total = (size_t)get64(total_at);
     return answer;
 }
 
-uint8_t sedge_tm_extractor_frame(struct sedge_tm_extractor *extractor, const struct sedge_tm_frame *frame, const
+APART uint8_t sedge_tm_extractor_frame(struct sedge_tm_extractor *extractor, const struct sedge_tm_frame *frame, const
     uint8_t *data, size_t data_count, uint8_t *memory, size_t room, struct sedge_tm_extracted *extracted)
 {
-    unsigned char extractor_octets[24 + 15];
-    const uint64_t extractor_at = aligned(extractor_octets);
-    unsigned char frame_octets[12 + 15];
-    const uint64_t frame_at = aligned(frame_octets);
-    unsigned char extracted_octets[32 + 15];
-    const uint64_t extracted_at = aligned(extracted_octets);
+    unsigned char extractor_octets[COPIES_COUNTS ? 24 + 15 : 1];
+    const uint64_t extractor_at = COPIES_COUNTS ? aligned(extractor_octets) : address(extractor);
+    unsigned char frame_octets[COPIES_NUMBERS ? 12 + 15 : 1];
+    const uint64_t frame_at = COPIES_NUMBERS ? aligned(frame_octets) : address(frame);
+    unsigned char extracted_octets[COPIES_COUNTS ? 32 + 15 : 1];
+    const uint64_t extracted_at = COPIES_COUNTS ? aligned(extracted_octets) : address(extracted);
     uint8_t answer;
-    put_sedge_tm_extractor(extractor_at, extractor);
-    put_sedge_tm_frame(frame_at, frame);
-    put_sedge_tm_extracted(extracted_at, extracted);
+    if (COPIES_COUNTS) put_sedge_tm_extractor(extractor_at, extractor);
+    if (COPIES_NUMBERS) put_sedge_tm_frame(frame_at, frame);
     answer = (uint8_t)sedge_tm_extractor_frame_at(extractor_at, frame_at, address(data), data_count, address(memory),
         room, extracted_at);
-    get_sedge_tm_extractor(extractor_at, extractor);
-    get_sedge_tm_extracted(extracted_at, extracted);
+    if (COPIES_COUNTS) get_sedge_tm_extractor(extractor_at, extractor);
+    if (COPIES_COUNTS && answer == 0) get_sedge_tm_extracted(extracted_at, extracted);
     return answer;
 }
 
-bool sedge_tm_packet(const uint8_t *data, size_t data_count, struct sedge_part *packet)
+APART bool sedge_tm_packet(const uint8_t *data, size_t data_count, struct sedge_part *packet)
 {
-    unsigned char packet_octets[16 + 15];
-    const uint64_t packet_at = aligned(packet_octets);
+    unsigned char packet_octets[COPIES_COUNTS ? 16 + 15 : 1];
+    const uint64_t packet_at = COPIES_COUNTS ? aligned(packet_octets) : address(packet);
     bool answer;
-    put_sedge_part(packet_at, packet);
+    if (COPIES_COUNTS) put_sedge_part(packet_at, packet);
     answer = sedge_tm_packet_at(address(data), data_count, packet_at) != 0;
-    get_sedge_part(packet_at, packet);
+    if (COPIES_COUNTS) get_sedge_part(packet_at, packet);
     return answer;
 }
 
-size_t sedge_tm_extractor_frames(struct sedge_tm_extractor *extractor, const uint8_t *octets, size_t count, size_t
-    frame_length, uint8_t *memory, size_t memory_room, uint8_t *out, size_t out_room, uint8_t *packets, size_t
+APART size_t sedge_tm_extractor_frames(struct sedge_tm_extractor *extractor, const uint8_t *octets, size_t count,
+    size_t frame_length, uint8_t *memory, size_t memory_room, uint8_t *out, size_t out_room, uint8_t *packets, size_t
     packets_room, size_t *total)
 {
-    unsigned char extractor_octets[24 + 15];
-    const uint64_t extractor_at = aligned(extractor_octets);
-    unsigned char total_octets[8 + 15];
-    const uint64_t total_at = aligned(total_octets);
+    unsigned char extractor_octets[COPIES_COUNTS ? 24 + 15 : 1];
+    const uint64_t extractor_at = COPIES_COUNTS ? aligned(extractor_octets) : address(extractor);
+    unsigned char total_octets[COPIES_COUNTS ? 8 + 15 : 1];
+    const uint64_t total_at = COPIES_COUNTS ? aligned(total_octets) : address(total);
     size_t answer;
-    put_sedge_tm_extractor(extractor_at, extractor);
-    put64(total_at, *total);
+    if (COPIES_COUNTS) put_sedge_tm_extractor(extractor_at, extractor);
     answer = (size_t)sedge_tm_extractor_frames_at(extractor_at, address(octets), count, frame_length, address(memory),
         memory_room, address(out), out_room, address(packets), packets_room, total_at);
-    get_sedge_tm_extractor(extractor_at, extractor);
-    *total = (size_t)get64(total_at);
+    if (COPIES_COUNTS) get_sedge_tm_extractor(extractor_at, extractor);
+    if (COPIES_COUNTS) *total = (size_t)get64(total_at);
     return answer;
 }
 
-uint8_t sedge_map_take(struct sedge_map *map, uint8_t flags, const uint8_t *data, size_t data_count, uint8_t *memory,
-    size_t room, struct sedge_taken *taken)
+APART uint8_t sedge_map_take(struct sedge_map *map, uint8_t flags, const uint8_t *data, size_t data_count, uint8_t
+    *memory, size_t room, struct sedge_taken *taken)
 {
-    unsigned char map_octets[16 + 15];
-    const uint64_t map_at = aligned(map_octets);
-    unsigned char taken_octets[16 + 15];
-    const uint64_t taken_at = aligned(taken_octets);
+    unsigned char map_octets[COPIES_COUNTS ? 16 + 15 : 1];
+    const uint64_t map_at = COPIES_COUNTS ? aligned(map_octets) : address(map);
+    unsigned char taken_octets[COPIES_COUNTS ? 16 + 15 : 1];
+    const uint64_t taken_at = COPIES_COUNTS ? aligned(taken_octets) : address(taken);
     uint8_t answer;
-    put_sedge_map(map_at, map);
-    put_sedge_taken(taken_at, taken);
+    if (COPIES_COUNTS) put_sedge_map(map_at, map);
     answer = (uint8_t)sedge_map_take_at(map_at, flags, address(data), data_count, address(memory), room, taken_at);
-    get_sedge_map(map_at, map);
-    get_sedge_taken(taken_at, taken);
+    if (COPIES_COUNTS) get_sedge_map(map_at, map);
+    if (COPIES_COUNTS && answer == 0) get_sedge_taken(taken_at, taken);
     return answer;
 }
 
-bool sedge_map_packet(const uint8_t *octets, size_t count, struct sedge_part *packet)
+APART bool sedge_map_packet(const uint8_t *octets, size_t count, struct sedge_part *packet)
 {
-    unsigned char packet_octets[16 + 15];
-    const uint64_t packet_at = aligned(packet_octets);
+    unsigned char packet_octets[COPIES_COUNTS ? 16 + 15 : 1];
+    const uint64_t packet_at = COPIES_COUNTS ? aligned(packet_octets) : address(packet);
     bool answer;
-    put_sedge_part(packet_at, packet);
+    if (COPIES_COUNTS) put_sedge_part(packet_at, packet);
     answer = sedge_map_packet_at(address(octets), count, packet_at) != 0;
-    get_sedge_part(packet_at, packet);
+    if (COPIES_COUNTS) get_sedge_part(packet_at, packet);
     return answer;
 }
 
-uint8_t sedge_map_count(const uint8_t *octets, size_t count, const struct sedge_limits *limits, size_t *segments)
+APART uint8_t sedge_map_count(const uint8_t *octets, size_t count, const struct sedge_limits *limits, size_t
+    *segments)
 {
-    unsigned char limits_octets[12 + 15];
-    const uint64_t limits_at = aligned(limits_octets);
-    unsigned char segments_octets[8 + 15];
-    const uint64_t segments_at = aligned(segments_octets);
+    unsigned char limits_octets[COPIES_NUMBERS ? 12 + 15 : 1];
+    const uint64_t limits_at = COPIES_NUMBERS ? aligned(limits_octets) : address(limits);
+    unsigned char segments_octets[COPIES_COUNTS ? 8 + 15 : 1];
+    const uint64_t segments_at = COPIES_COUNTS ? aligned(segments_octets) : address(segments);
     uint8_t answer;
-    put_sedge_limits(limits_at, limits);
-    put64(segments_at, *segments);
+    if (COPIES_NUMBERS) put_sedge_limits(limits_at, limits);
     answer = (uint8_t)sedge_map_count_at(address(octets), count, limits_at, segments_at);
-    *segments = (size_t)get64(segments_at);
+    if (COPIES_COUNTS && answer == 0) *segments = (size_t)get64(segments_at);
     return answer;
 }
 
-uint8_t sedge_map_segment(const uint8_t *octets, size_t count, const struct sedge_limits *limits, size_t k, uint8_t
-    *flags, struct sedge_part *data)
+APART uint8_t sedge_map_segment(const uint8_t *octets, size_t count, const struct sedge_limits *limits, size_t k,
+    uint8_t *flags, struct sedge_part *data)
 {
-    unsigned char limits_octets[12 + 15];
-    const uint64_t limits_at = aligned(limits_octets);
-    unsigned char data_octets[16 + 15];
-    const uint64_t data_at = aligned(data_octets);
+    unsigned char limits_octets[COPIES_NUMBERS ? 12 + 15 : 1];
+    const uint64_t limits_at = COPIES_NUMBERS ? aligned(limits_octets) : address(limits);
+    unsigned char data_octets[COPIES_COUNTS ? 16 + 15 : 1];
+    const uint64_t data_at = COPIES_COUNTS ? aligned(data_octets) : address(data);
     uint8_t answer;
-    put_sedge_limits(limits_at, limits);
-    put_sedge_part(data_at, data);
+    if (COPIES_NUMBERS) put_sedge_limits(limits_at, limits);
     answer = (uint8_t)sedge_map_segment_at(address(octets), count, limits_at, k, address(flags), data_at);
-    get_sedge_part(data_at, data);
+    if (COPIES_COUNTS && answer == 0) get_sedge_part(data_at, data);
     return answer;
 }
 

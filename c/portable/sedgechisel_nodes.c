@@ -13514,6 +13514,25 @@ l3:;
 
 /* ---- The structs of the header, in the layout that the functions know. ---- */
 
+/* Whether those with a size_t or numbers of 64 bits are; they need not be where a size_t has 64 bits besides. One with an
+ * address is copied on each machine. */
+#if defined LITTLE && SIZE_MAX == 0xffffffffffffffff
+#define COPIES_COUNTS 0
+#else
+#define COPIES_COUNTS 1
+#endif
+
+#define IS(name, size, align)                                                                                          \
+    (sizeof(struct name) == (size) && sizeof(struct { char before; struct name it; }) == (size) + (align))
+#define AT(name, field, place) (offsetof(struct name, field) == (place))
+
+typedef char sedge_config_is_laid_out_so[COPIES_COUNTS || (IS(sedge_config, 72, 8) && AT(sedge_config, scid, 0) &&
+    AT(sedge_config, vcid, 4) && AT(sedge_config, tm_vcid, 8) && AT(sedge_config, width, 12) && AT(sedge_config,
+    window, 16) && AT(sedge_config, limit, 20) && AT(sedge_config, timer, 24) && AT(sedge_config, part, 28) &&
+    AT(sedge_config, max_packet, 32) && AT(sedge_config, maps, 40) && AT(sedge_config, ready_slots, 48) &&
+    AT(sedge_config, bypass_slots, 52) && AT(sedge_config, queue_slots, 56) && AT(sedge_config, frame_length, 60) &&
+    AT(sedge_config, blocking, 64)) ? 1 : -1];
+
 static void put_sedge_config(uint64_t at, const struct sedge_config *it)
 {
     put32(at, it->scid);
@@ -13562,17 +13581,9 @@ static void get_sedge_ground(uint64_t at, struct sedge_ground *it)
     it->node = OCTETS(get64(at));
 }
 
-static void put_sedge_heard(uint64_t at, const struct sedge_heard *it)
-{
-    put64(at, it->packets);
-    put8(at + 8, it->kind);
-    put8(at + 9, it->fault);
-    put8(at + 10, it->first);
-    put8(at + 11, it->missing);
-    put8(at + 12, it->report);
-    put8(at + 13, it->word_fault);
-    put8(at + 14, it->alert);
-}
+typedef char sedge_heard_is_laid_out_so[COPIES_COUNTS || (IS(sedge_heard, 16, 8) && AT(sedge_heard, packets, 0) &&
+    AT(sedge_heard, kind, 8) && AT(sedge_heard, fault, 9) && AT(sedge_heard, first, 10) && AT(sedge_heard, missing,
+    11) && AT(sedge_heard, report, 12) && AT(sedge_heard, word_fault, 13) && AT(sedge_heard, alert, 14)) ? 1 : -1];
 
 static void get_sedge_heard(uint64_t at, struct sedge_heard *it)
 {
@@ -13586,22 +13597,13 @@ static void get_sedge_heard(uint64_t at, struct sedge_heard *it)
     it->alert = (uint8_t)get8(at + 14);
 }
 
-static void put_sedge_ground_reading(uint64_t at, const struct sedge_ground_reading *it)
-{
-    put64(at, it->submitted);
-    put64(at + 8, it->sent_whole);
-    put64(at + 16, it->acknowledged_whole);
-    put64(at + 24, it->outstanding);
-    put64(at + 32, it->unsent);
-    put64(at + 40, it->due);
-    put64(at + 48, it->bypassed);
-    put64(at + 56, it->frame_length);
-    put16(at + 64, it->ticks);
-    put8(at + 66, it->state);
-    put8(at + 67, it->vs);
-    put8(at + 68, it->nn);
-    put8(at + 69, it->count);
-}
+typedef char sedge_ground_reading_is_laid_out_so[COPIES_COUNTS || (IS(sedge_ground_reading, 72, 8) &&
+    AT(sedge_ground_reading, submitted, 0) && AT(sedge_ground_reading, sent_whole, 8) && AT(sedge_ground_reading,
+    acknowledged_whole, 16) && AT(sedge_ground_reading, outstanding, 24) && AT(sedge_ground_reading, unsent, 32) &&
+    AT(sedge_ground_reading, due, 40) && AT(sedge_ground_reading, bypassed, 48) && AT(sedge_ground_reading,
+    frame_length, 56) && AT(sedge_ground_reading, ticks, 64) && AT(sedge_ground_reading, state, 66) &&
+    AT(sedge_ground_reading, vs, 67) && AT(sedge_ground_reading, nn, 68) && AT(sedge_ground_reading, count, 69)) ? 1 :
+    -1];
 
 static void get_sedge_ground_reading(uint64_t at, struct sedge_ground_reading *it)
 {
@@ -13630,18 +13632,10 @@ static void get_sedge_spacecraft(uint64_t at, struct sedge_spacecraft *it)
     it->node = OCTETS(get64(at));
 }
 
-static void put_sedge_received(uint64_t at, const struct sedge_received *it)
-{
-    put64(at, it->ready);
-    put8(at + 8, it->kind);
-    put8(at + 9, it->fault);
-    put8(at + 10, it->n);
-    put8(at + 11, it->verdict);
-    put8(at + 12, it->dropped);
-    copy(at + 13, address(&it->kept), 1);
-    put8(at + 14, it->command);
-    put8(at + 15, it->vr);
-}
+typedef char sedge_received_is_laid_out_so[COPIES_COUNTS || (IS(sedge_received, 16, 8) && AT(sedge_received, ready, 0)
+    && AT(sedge_received, kind, 8) && AT(sedge_received, fault, 9) && AT(sedge_received, n, 10) && AT(sedge_received,
+    verdict, 11) && AT(sedge_received, dropped, 12) && AT(sedge_received, kept, 13) && AT(sedge_received, command, 14)
+    && AT(sedge_received, vr, 15)) ? 1 : -1];
 
 static void get_sedge_received(uint64_t at, struct sedge_received *it)
 {
@@ -13655,6 +13649,13 @@ static void get_sedge_received(uint64_t at, struct sedge_received *it)
     it->command = (uint8_t)get8(at + 14);
     it->vr = (uint8_t)get8(at + 15);
 }
+
+typedef char sedge_spacecraft_reading_is_laid_out_so[COPIES_COUNTS || (IS(sedge_spacecraft_reading, 32, 8) &&
+    AT(sedge_spacecraft_reading, frame_length, 0) && AT(sedge_spacecraft_reading, ready, 8) &&
+    AT(sedge_spacecraft_reading, bypassed, 16) && AT(sedge_spacecraft_reading, status, 24) &&
+    AT(sedge_spacecraft_reading, vcid, 25) && AT(sedge_spacecraft_reading, flags, 26) && AT(sedge_spacecraft_reading,
+    farm_b, 27) && AT(sedge_spacecraft_reading, value, 28) && AT(sedge_spacecraft_reading, state, 29) &&
+    AT(sedge_spacecraft_reading, mc_count, 30) && AT(sedge_spacecraft_reading, vc_count, 31)) ? 1 : -1];
 
 static void put_sedge_spacecraft_reading(uint64_t at, const struct sedge_spacecraft_reading *it)
 {
@@ -13696,38 +13697,17 @@ static void get_sedge_sim(uint64_t at, struct sedge_sim *it)
     it->link = OCTETS(get64(at));
 }
 
-static void put_sedge_reply(uint64_t at, const struct sedge_reply *it)
-{
-    put64(at, it->count);
-    put64(at + 8, it->whole);
-    put64(at + 16, it->up.ready);
-    put8(at + 24, it->up.kind);
-    put8(at + 25, it->up.fault);
-    put8(at + 26, it->up.n);
-    put8(at + 27, it->up.verdict);
-    put8(at + 28, it->up.dropped);
-    copy(at + 29, address(&it->up.kept), 1);
-    put8(at + 30, it->up.command);
-    put8(at + 31, it->up.vr);
-    put64(at + 32, it->down.packets);
-    put8(at + 40, it->down.kind);
-    put8(at + 41, it->down.fault);
-    put8(at + 42, it->down.first);
-    put8(at + 43, it->down.missing);
-    put8(at + 44, it->down.report);
-    put8(at + 45, it->down.word_fault);
-    put8(at + 46, it->down.alert);
-    put8(at + 48, it->report.status);
-    put8(at + 49, it->report.vcid);
-    put8(at + 50, it->report.flags);
-    put8(at + 51, it->report.farm_b);
-    put8(at + 52, it->report.value);
-    put8(at + 53, it->kind);
-    put8(at + 54, it->by);
-    put8(at + 55, it->fault);
-    put8(at + 56, it->alert);
-    put8(at + 57, it->map);
-}
+typedef char sedge_reply_is_laid_out_so[COPIES_COUNTS || (IS(sedge_reply, 64, 8) && AT(sedge_reply, count, 0) &&
+    AT(sedge_reply, whole, 8) && AT(sedge_reply, up, 16) && AT(sedge_reply, up.ready, 16) && AT(sedge_reply, up.kind,
+    24) && AT(sedge_reply, up.fault, 25) && AT(sedge_reply, up.n, 26) && AT(sedge_reply, up.verdict, 27) &&
+    AT(sedge_reply, up.dropped, 28) && AT(sedge_reply, up.kept, 29) && AT(sedge_reply, up.command, 30) &&
+    AT(sedge_reply, up.vr, 31) && AT(sedge_reply, down, 32) && AT(sedge_reply, down.packets, 32) && AT(sedge_reply,
+    down.kind, 40) && AT(sedge_reply, down.fault, 41) && AT(sedge_reply, down.first, 42) && AT(sedge_reply,
+    down.missing, 43) && AT(sedge_reply, down.report, 44) && AT(sedge_reply, down.word_fault, 45) && AT(sedge_reply,
+    down.alert, 46) && AT(sedge_reply, report, 48) && AT(sedge_reply, report.status, 48) && AT(sedge_reply,
+    report.vcid, 49) && AT(sedge_reply, report.flags, 50) && AT(sedge_reply, report.farm_b, 51) && AT(sedge_reply,
+    report.value, 52) && AT(sedge_reply, kind, 53) && AT(sedge_reply, by, 54) && AT(sedge_reply, fault, 55) &&
+    AT(sedge_reply, alert, 56) && AT(sedge_reply, map, 57)) ? 1 : -1];
 
 static void get_sedge_reply(uint64_t at, struct sedge_reply *it)
 {
@@ -13772,17 +13752,10 @@ static void put_sedge_event(uint64_t at, const struct sedge_event *it)
     put64(at + 16, it->count);
 }
 
-static void put_sedge_sim_reading(uint64_t at, const struct sedge_sim_reading *it)
-{
-    put64(at, it->outstanding);
-    put64(at + 8, it->acknowledged);
-    put8(at + 16, it->state);
-    put8(at + 17, it->begun);
-    put8(at + 18, it->vr);
-    copy(at + 19, address(&it->clean), 1);
-    copy(at + 20, address(&it->idle), 1);
-    copy(at + 21, address(&it->confirmed), 1);
-}
+typedef char sedge_sim_reading_is_laid_out_so[COPIES_COUNTS || (IS(sedge_sim_reading, 24, 8) && AT(sedge_sim_reading,
+    outstanding, 0) && AT(sedge_sim_reading, acknowledged, 8) && AT(sedge_sim_reading, state, 16) &&
+    AT(sedge_sim_reading, begun, 17) && AT(sedge_sim_reading, vr, 18) && AT(sedge_sim_reading, clean, 19) &&
+    AT(sedge_sim_reading, idle, 20) && AT(sedge_sim_reading, confirmed, 21)) ? 1 : -1];
 
 static void get_sedge_sim_reading(uint64_t at, struct sedge_sim_reading *it)
 {
@@ -13798,20 +13771,29 @@ static void get_sedge_sim_reading(uint64_t at, struct sedge_sim_reading *it)
 
 /* ---- The calls of the header. ---- */
 
-void sedge_config_default(struct sedge_config *config)
+/* A call that writes is compiled apart from the program: gcc does not see in the code of such a call that it has written
+ * what it answers to have written, and would warn of the program that it is compiled into (-flto). */
+#ifndef APART
+#if defined __GNUC__ && __GNUC__ >= 8 && !defined __clang__
+#define APART __attribute__((noipa))
+#else
+#define APART
+#endif
+#endif
+
+APART void sedge_config_default(struct sedge_config *config)
 {
-    unsigned char config_octets[72 + 15];
-    const uint64_t config_at = aligned(config_octets);
-    put_sedge_config(config_at, config);
+    unsigned char config_octets[COPIES_COUNTS ? 72 + 15 : 1];
+    const uint64_t config_at = COPIES_COUNTS ? aligned(config_octets) : address(config);
     sedge_config_default_at(config_at);
-    get_sedge_config(config_at, config);
+    if (COPIES_COUNTS) get_sedge_config(config_at, config);
 }
 
 uint8_t sedge_config_fault(const struct sedge_config *config)
 {
-    unsigned char config_octets[72 + 15];
-    const uint64_t config_at = aligned(config_octets);
-    put_sedge_config(config_at, config);
+    unsigned char config_octets[COPIES_COUNTS ? 72 + 15 : 1];
+    const uint64_t config_at = COPIES_COUNTS ? aligned(config_octets) : address(config);
+    if (COPIES_COUNTS) put_sedge_config(config_at, config);
     return (uint8_t)sedge_config_fault_at(config_at);
 }
 
@@ -13829,21 +13811,21 @@ struct sedge_text sedge_link_fault_name(uint8_t number)
     return result;
 }
 
-uint8_t sedge_ground_open(const struct sedge_config *config, struct sedge_ground *ground)
+APART uint8_t sedge_ground_open(const struct sedge_config *config, struct sedge_ground *ground)
 {
-    unsigned char config_octets[72 + 15];
-    const uint64_t config_at = aligned(config_octets);
+    unsigned char config_octets[COPIES_COUNTS ? 72 + 15 : 1];
+    const uint64_t config_at = COPIES_COUNTS ? aligned(config_octets) : address(config);
     unsigned char ground_octets[8 + 15];
     const uint64_t ground_at = aligned(ground_octets);
     uint8_t answer;
-    put_sedge_config(config_at, config);
+    if (COPIES_COUNTS) put_sedge_config(config_at, config);
     put_sedge_ground(ground_at, ground);
     answer = (uint8_t)sedge_ground_open_at(config_at, ground_at);
     get_sedge_ground(ground_at, ground);
     return answer;
 }
 
-void sedge_ground_close(struct sedge_ground *ground)
+APART void sedge_ground_close(struct sedge_ground *ground)
 {
     unsigned char ground_octets[8 + 15];
     const uint64_t ground_at = aligned(ground_octets);
@@ -13852,7 +13834,7 @@ void sedge_ground_close(struct sedge_ground *ground)
     get_sedge_ground(ground_at, ground);
 }
 
-uint8_t sedge_ground_directive(struct sedge_ground *ground, uint8_t directive, uint16_t value)
+APART uint8_t sedge_ground_directive(struct sedge_ground *ground, uint8_t directive, uint16_t value)
 {
     unsigned char ground_octets[8 + 15];
     const uint64_t ground_at = aligned(ground_octets);
@@ -13863,7 +13845,7 @@ uint8_t sedge_ground_directive(struct sedge_ground *ground, uint8_t directive, u
     return answer;
 }
 
-uint8_t sedge_ground_submit(struct sedge_ground *ground, uint8_t map, const uint8_t *octets, size_t count)
+APART uint8_t sedge_ground_submit(struct sedge_ground *ground, uint8_t map, const uint8_t *octets, size_t count)
 {
     unsigned char ground_octets[8 + 15];
     const uint64_t ground_at = aligned(ground_octets);
@@ -13874,7 +13856,7 @@ uint8_t sedge_ground_submit(struct sedge_ground *ground, uint8_t map, const uint
     return answer;
 }
 
-uint8_t sedge_ground_bypass(struct sedge_ground *ground, uint8_t map, const uint8_t *octets, size_t count)
+APART uint8_t sedge_ground_bypass(struct sedge_ground *ground, uint8_t map, const uint8_t *octets, size_t count)
 {
     unsigned char ground_octets[8 + 15];
     const uint64_t ground_at = aligned(ground_octets);
@@ -13885,52 +13867,49 @@ uint8_t sedge_ground_bypass(struct sedge_ground *ground, uint8_t map, const uint
     return answer;
 }
 
-uint8_t sedge_ground_next(struct sedge_ground *ground, size_t *count)
+APART uint8_t sedge_ground_next(struct sedge_ground *ground, size_t *count)
 {
     unsigned char ground_octets[8 + 15];
     const uint64_t ground_at = aligned(ground_octets);
-    unsigned char count_octets[8 + 15];
-    const uint64_t count_at = aligned(count_octets);
+    unsigned char count_octets[COPIES_COUNTS ? 8 + 15 : 1];
+    const uint64_t count_at = COPIES_COUNTS ? aligned(count_octets) : address(count);
     uint8_t answer;
     put_sedge_ground(ground_at, ground);
-    put64(count_at, *count);
     answer = (uint8_t)sedge_ground_next_at(ground_at, count_at);
     get_sedge_ground(ground_at, ground);
-    *count = (size_t)get64(count_at);
+    if (COPIES_COUNTS && answer == 0) *count = (size_t)get64(count_at);
     return answer;
 }
 
-uint8_t sedge_ground_pull(struct sedge_ground *ground, uint8_t *out, size_t room, size_t *count)
+APART uint8_t sedge_ground_pull(struct sedge_ground *ground, uint8_t *out, size_t room, size_t *count)
 {
     unsigned char ground_octets[8 + 15];
     const uint64_t ground_at = aligned(ground_octets);
-    unsigned char count_octets[8 + 15];
-    const uint64_t count_at = aligned(count_octets);
+    unsigned char count_octets[COPIES_COUNTS ? 8 + 15 : 1];
+    const uint64_t count_at = COPIES_COUNTS ? aligned(count_octets) : address(count);
     uint8_t answer;
     put_sedge_ground(ground_at, ground);
-    put64(count_at, *count);
     answer = (uint8_t)sedge_ground_pull_at(ground_at, address(out), room, count_at);
     get_sedge_ground(ground_at, ground);
-    *count = (size_t)get64(count_at);
+    if (COPIES_COUNTS && answer == 0) *count = (size_t)get64(count_at);
     return answer;
 }
 
-uint8_t sedge_ground_peek(struct sedge_ground *ground, uint8_t *out, size_t room, size_t *count)
+APART uint8_t sedge_ground_peek(struct sedge_ground *ground, uint8_t *out, size_t room, size_t *count)
 {
     unsigned char ground_octets[8 + 15];
     const uint64_t ground_at = aligned(ground_octets);
-    unsigned char count_octets[8 + 15];
-    const uint64_t count_at = aligned(count_octets);
+    unsigned char count_octets[COPIES_COUNTS ? 8 + 15 : 1];
+    const uint64_t count_at = COPIES_COUNTS ? aligned(count_octets) : address(count);
     uint8_t answer;
     put_sedge_ground(ground_at, ground);
-    put64(count_at, *count);
     answer = (uint8_t)sedge_ground_peek_at(ground_at, address(out), room, count_at);
     get_sedge_ground(ground_at, ground);
-    *count = (size_t)get64(count_at);
+    if (COPIES_COUNTS && answer == 0) *count = (size_t)get64(count_at);
     return answer;
 }
 
-uint8_t sedge_ground_advance(struct sedge_ground *ground)
+APART uint8_t sedge_ground_advance(struct sedge_ground *ground)
 {
     unsigned char ground_octets[8 + 15];
     const uint64_t ground_at = aligned(ground_octets);
@@ -13941,38 +13920,37 @@ uint8_t sedge_ground_advance(struct sedge_ground *ground)
     return answer;
 }
 
-uint8_t sedge_ground_telemetry(struct sedge_ground *ground, const uint8_t *octets, size_t count, struct sedge_heard
+APART uint8_t sedge_ground_telemetry(struct sedge_ground *ground, const uint8_t *octets, size_t count, struct
+    sedge_heard *heard)
+{
+    unsigned char ground_octets[8 + 15];
+    const uint64_t ground_at = aligned(ground_octets);
+    unsigned char heard_octets[COPIES_COUNTS ? 16 + 15 : 1];
+    const uint64_t heard_at = COPIES_COUNTS ? aligned(heard_octets) : address(heard);
+    uint8_t answer;
+    put_sedge_ground(ground_at, ground);
+    answer = (uint8_t)sedge_ground_telemetry_at(ground_at, address(octets), count, heard_at);
+    get_sedge_ground(ground_at, ground);
+    if (COPIES_COUNTS && answer == 0) get_sedge_heard(heard_at, heard);
+    return answer;
+}
+
+APART uint8_t sedge_ground_clcw(struct sedge_ground *ground, const uint8_t *octets, size_t count, struct sedge_heard
     *heard)
 {
     unsigned char ground_octets[8 + 15];
     const uint64_t ground_at = aligned(ground_octets);
-    unsigned char heard_octets[16 + 15];
-    const uint64_t heard_at = aligned(heard_octets);
+    unsigned char heard_octets[COPIES_COUNTS ? 16 + 15 : 1];
+    const uint64_t heard_at = COPIES_COUNTS ? aligned(heard_octets) : address(heard);
     uint8_t answer;
     put_sedge_ground(ground_at, ground);
-    put_sedge_heard(heard_at, heard);
-    answer = (uint8_t)sedge_ground_telemetry_at(ground_at, address(octets), count, heard_at);
-    get_sedge_ground(ground_at, ground);
-    get_sedge_heard(heard_at, heard);
-    return answer;
-}
-
-uint8_t sedge_ground_clcw(struct sedge_ground *ground, const uint8_t *octets, size_t count, struct sedge_heard *heard)
-{
-    unsigned char ground_octets[8 + 15];
-    const uint64_t ground_at = aligned(ground_octets);
-    unsigned char heard_octets[16 + 15];
-    const uint64_t heard_at = aligned(heard_octets);
-    uint8_t answer;
-    put_sedge_ground(ground_at, ground);
-    put_sedge_heard(heard_at, heard);
     answer = (uint8_t)sedge_ground_clcw_at(ground_at, address(octets), count, heard_at);
     get_sedge_ground(ground_at, ground);
-    get_sedge_heard(heard_at, heard);
+    if (COPIES_COUNTS && answer == 0) get_sedge_heard(heard_at, heard);
     return answer;
 }
 
-uint8_t sedge_ground_forget_telemetry(struct sedge_ground *ground)
+APART uint8_t sedge_ground_forget_telemetry(struct sedge_ground *ground)
 {
     unsigned char ground_octets[8 + 15];
     const uint64_t ground_at = aligned(ground_octets);
@@ -13983,7 +13961,7 @@ uint8_t sedge_ground_forget_telemetry(struct sedge_ground *ground)
     return answer;
 }
 
-uint8_t sedge_ground_clcw_in(struct sedge_ground *ground, const uint8_t *octets, size_t count, struct sedge_clcw
+APART uint8_t sedge_ground_clcw_in(struct sedge_ground *ground, const uint8_t *octets, size_t count, struct sedge_clcw
     *word)
 {
     unsigned char ground_octets[8 + 15];
@@ -13995,37 +13973,35 @@ uint8_t sedge_ground_clcw_in(struct sedge_ground *ground, const uint8_t *octets,
     return answer;
 }
 
-uint8_t sedge_ground_next_telemetry(struct sedge_ground *ground, size_t *count)
+APART uint8_t sedge_ground_next_telemetry(struct sedge_ground *ground, size_t *count)
 {
     unsigned char ground_octets[8 + 15];
     const uint64_t ground_at = aligned(ground_octets);
-    unsigned char count_octets[8 + 15];
-    const uint64_t count_at = aligned(count_octets);
+    unsigned char count_octets[COPIES_COUNTS ? 8 + 15 : 1];
+    const uint64_t count_at = COPIES_COUNTS ? aligned(count_octets) : address(count);
     uint8_t answer;
     put_sedge_ground(ground_at, ground);
-    put64(count_at, *count);
     answer = (uint8_t)sedge_ground_next_telemetry_at(ground_at, count_at);
     get_sedge_ground(ground_at, ground);
-    *count = (size_t)get64(count_at);
+    if (COPIES_COUNTS && answer == 0) *count = (size_t)get64(count_at);
     return answer;
 }
 
-uint8_t sedge_ground_take_telemetry(struct sedge_ground *ground, uint8_t *out, size_t room, size_t *count)
+APART uint8_t sedge_ground_take_telemetry(struct sedge_ground *ground, uint8_t *out, size_t room, size_t *count)
 {
     unsigned char ground_octets[8 + 15];
     const uint64_t ground_at = aligned(ground_octets);
-    unsigned char count_octets[8 + 15];
-    const uint64_t count_at = aligned(count_octets);
+    unsigned char count_octets[COPIES_COUNTS ? 8 + 15 : 1];
+    const uint64_t count_at = COPIES_COUNTS ? aligned(count_octets) : address(count);
     uint8_t answer;
     put_sedge_ground(ground_at, ground);
-    put64(count_at, *count);
     answer = (uint8_t)sedge_ground_take_telemetry_at(ground_at, address(out), room, count_at);
     get_sedge_ground(ground_at, ground);
-    *count = (size_t)get64(count_at);
+    if (COPIES_COUNTS && answer == 0) *count = (size_t)get64(count_at);
     return answer;
 }
 
-uint8_t sedge_ground_tick(struct sedge_ground *ground)
+APART uint8_t sedge_ground_tick(struct sedge_ground *ground)
 {
     unsigned char ground_octets[8 + 15];
     const uint64_t ground_at = aligned(ground_octets);
@@ -14036,22 +14012,21 @@ uint8_t sedge_ground_tick(struct sedge_ground *ground)
     return answer;
 }
 
-uint8_t sedge_ground_read(struct sedge_ground *ground, struct sedge_ground_reading *read)
+APART uint8_t sedge_ground_read(struct sedge_ground *ground, struct sedge_ground_reading *read)
 {
     unsigned char ground_octets[8 + 15];
     const uint64_t ground_at = aligned(ground_octets);
-    unsigned char read_octets[72 + 15];
-    const uint64_t read_at = aligned(read_octets);
+    unsigned char read_octets[COPIES_COUNTS ? 72 + 15 : 1];
+    const uint64_t read_at = COPIES_COUNTS ? aligned(read_octets) : address(read);
     uint8_t answer;
     put_sedge_ground(ground_at, ground);
-    put_sedge_ground_reading(read_at, read);
     answer = (uint8_t)sedge_ground_read_at(ground_at, read_at);
     get_sedge_ground(ground_at, ground);
-    get_sedge_ground_reading(read_at, read);
+    if (COPIES_COUNTS && answer == 0) get_sedge_ground_reading(read_at, read);
     return answer;
 }
 
-uint8_t sedge_ground_accepted_beyond(struct sedge_ground *ground, uint8_t value, uint8_t *accepted)
+APART uint8_t sedge_ground_accepted_beyond(struct sedge_ground *ground, uint8_t value, uint8_t *accepted)
 {
     unsigned char ground_octets[8 + 15];
     const uint64_t ground_at = aligned(ground_octets);
@@ -14062,51 +14037,49 @@ uint8_t sedge_ground_accepted_beyond(struct sedge_ground *ground, uint8_t value,
     return answer;
 }
 
-uint8_t sedge_ground_known_on_board(struct sedge_ground *ground, uint8_t value, uint64_t *whole)
+APART uint8_t sedge_ground_known_on_board(struct sedge_ground *ground, uint8_t value, uint64_t *whole)
 {
     unsigned char ground_octets[8 + 15];
     const uint64_t ground_at = aligned(ground_octets);
-    unsigned char whole_octets[8 + 15];
-    const uint64_t whole_at = aligned(whole_octets);
+    unsigned char whole_octets[COPIES_COUNTS ? 8 + 15 : 1];
+    const uint64_t whole_at = COPIES_COUNTS ? aligned(whole_octets) : address(whole);
     uint8_t answer;
     put_sedge_ground(ground_at, ground);
-    put64(whole_at, *whole);
     answer = (uint8_t)sedge_ground_known_on_board_at(ground_at, value, whole_at);
     get_sedge_ground(ground_at, ground);
-    *whole = get64(whole_at);
+    if (COPIES_COUNTS && answer == 0) *whole = get64(whole_at);
     return answer;
 }
 
-uint8_t sedge_ground_resume(struct sedge_ground *ground, uint8_t value, uint64_t *whole)
+APART uint8_t sedge_ground_resume(struct sedge_ground *ground, uint8_t value, uint64_t *whole)
 {
     unsigned char ground_octets[8 + 15];
     const uint64_t ground_at = aligned(ground_octets);
-    unsigned char whole_octets[8 + 15];
-    const uint64_t whole_at = aligned(whole_octets);
+    unsigned char whole_octets[COPIES_COUNTS ? 8 + 15 : 1];
+    const uint64_t whole_at = COPIES_COUNTS ? aligned(whole_octets) : address(whole);
     uint8_t answer;
     put_sedge_ground(ground_at, ground);
-    put64(whole_at, *whole);
     answer = (uint8_t)sedge_ground_resume_at(ground_at, value, whole_at);
     get_sedge_ground(ground_at, ground);
-    *whole = get64(whole_at);
+    if (COPIES_COUNTS && answer == 0) *whole = get64(whole_at);
     return answer;
 }
 
-uint8_t sedge_spacecraft_open(const struct sedge_config *config, struct sedge_spacecraft *spacecraft)
+APART uint8_t sedge_spacecraft_open(const struct sedge_config *config, struct sedge_spacecraft *spacecraft)
 {
-    unsigned char config_octets[72 + 15];
-    const uint64_t config_at = aligned(config_octets);
+    unsigned char config_octets[COPIES_COUNTS ? 72 + 15 : 1];
+    const uint64_t config_at = COPIES_COUNTS ? aligned(config_octets) : address(config);
     unsigned char spacecraft_octets[8 + 15];
     const uint64_t spacecraft_at = aligned(spacecraft_octets);
     uint8_t answer;
-    put_sedge_config(config_at, config);
+    if (COPIES_COUNTS) put_sedge_config(config_at, config);
     put_sedge_spacecraft(spacecraft_at, spacecraft);
     answer = (uint8_t)sedge_spacecraft_open_at(config_at, spacecraft_at);
     get_sedge_spacecraft(spacecraft_at, spacecraft);
     return answer;
 }
 
-void sedge_spacecraft_close(struct sedge_spacecraft *spacecraft)
+APART void sedge_spacecraft_close(struct sedge_spacecraft *spacecraft)
 {
     unsigned char spacecraft_octets[8 + 15];
     const uint64_t spacecraft_at = aligned(spacecraft_octets);
@@ -14115,85 +14088,80 @@ void sedge_spacecraft_close(struct sedge_spacecraft *spacecraft)
     get_sedge_spacecraft(spacecraft_at, spacecraft);
 }
 
-uint8_t sedge_spacecraft_receive(struct sedge_spacecraft *spacecraft, const uint8_t *octets, size_t count, struct
-    sedge_received *received)
+APART uint8_t sedge_spacecraft_receive(struct sedge_spacecraft *spacecraft, const uint8_t *octets, size_t count,
+    struct sedge_received *received)
 {
     unsigned char spacecraft_octets[8 + 15];
     const uint64_t spacecraft_at = aligned(spacecraft_octets);
-    unsigned char received_octets[16 + 15];
-    const uint64_t received_at = aligned(received_octets);
+    unsigned char received_octets[COPIES_COUNTS ? 16 + 15 : 1];
+    const uint64_t received_at = COPIES_COUNTS ? aligned(received_octets) : address(received);
     uint8_t answer;
     put_sedge_spacecraft(spacecraft_at, spacecraft);
-    put_sedge_received(received_at, received);
     answer = (uint8_t)sedge_spacecraft_receive_at(spacecraft_at, address(octets), count, received_at);
     get_sedge_spacecraft(spacecraft_at, spacecraft);
-    get_sedge_received(received_at, received);
+    if (COPIES_COUNTS && answer == 0) get_sedge_received(received_at, received);
     return answer;
 }
 
-uint8_t sedge_spacecraft_next(struct sedge_spacecraft *spacecraft, uint8_t *map, size_t *count)
+APART uint8_t sedge_spacecraft_next(struct sedge_spacecraft *spacecraft, uint8_t *map, size_t *count)
 {
     unsigned char spacecraft_octets[8 + 15];
     const uint64_t spacecraft_at = aligned(spacecraft_octets);
-    unsigned char count_octets[8 + 15];
-    const uint64_t count_at = aligned(count_octets);
+    unsigned char count_octets[COPIES_COUNTS ? 8 + 15 : 1];
+    const uint64_t count_at = COPIES_COUNTS ? aligned(count_octets) : address(count);
     uint8_t answer;
     put_sedge_spacecraft(spacecraft_at, spacecraft);
-    put64(count_at, *count);
     answer = (uint8_t)sedge_spacecraft_next_at(spacecraft_at, address(map), count_at);
     get_sedge_spacecraft(spacecraft_at, spacecraft);
-    *count = (size_t)get64(count_at);
+    if (COPIES_COUNTS && answer == 0) *count = (size_t)get64(count_at);
     return answer;
 }
 
-uint8_t sedge_spacecraft_take(struct sedge_spacecraft *spacecraft, uint8_t *map, uint8_t *out, size_t room, size_t
-    *count)
-{
-    unsigned char spacecraft_octets[8 + 15];
-    const uint64_t spacecraft_at = aligned(spacecraft_octets);
-    unsigned char count_octets[8 + 15];
-    const uint64_t count_at = aligned(count_octets);
-    uint8_t answer;
-    put_sedge_spacecraft(spacecraft_at, spacecraft);
-    put64(count_at, *count);
-    answer = (uint8_t)sedge_spacecraft_take_at(spacecraft_at, address(map), address(out), room, count_at);
-    get_sedge_spacecraft(spacecraft_at, spacecraft);
-    *count = (size_t)get64(count_at);
-    return answer;
-}
-
-uint8_t sedge_spacecraft_next_bypass(struct sedge_spacecraft *spacecraft, uint8_t *map, size_t *count)
-{
-    unsigned char spacecraft_octets[8 + 15];
-    const uint64_t spacecraft_at = aligned(spacecraft_octets);
-    unsigned char count_octets[8 + 15];
-    const uint64_t count_at = aligned(count_octets);
-    uint8_t answer;
-    put_sedge_spacecraft(spacecraft_at, spacecraft);
-    put64(count_at, *count);
-    answer = (uint8_t)sedge_spacecraft_next_bypass_at(spacecraft_at, address(map), count_at);
-    get_sedge_spacecraft(spacecraft_at, spacecraft);
-    *count = (size_t)get64(count_at);
-    return answer;
-}
-
-uint8_t sedge_spacecraft_take_bypass(struct sedge_spacecraft *spacecraft, uint8_t *map, uint8_t *out, size_t room,
+APART uint8_t sedge_spacecraft_take(struct sedge_spacecraft *spacecraft, uint8_t *map, uint8_t *out, size_t room,
     size_t *count)
 {
     unsigned char spacecraft_octets[8 + 15];
     const uint64_t spacecraft_at = aligned(spacecraft_octets);
-    unsigned char count_octets[8 + 15];
-    const uint64_t count_at = aligned(count_octets);
+    unsigned char count_octets[COPIES_COUNTS ? 8 + 15 : 1];
+    const uint64_t count_at = COPIES_COUNTS ? aligned(count_octets) : address(count);
     uint8_t answer;
     put_sedge_spacecraft(spacecraft_at, spacecraft);
-    put64(count_at, *count);
-    answer = (uint8_t)sedge_spacecraft_take_bypass_at(spacecraft_at, address(map), address(out), room, count_at);
+    answer = (uint8_t)sedge_spacecraft_take_at(spacecraft_at, address(map), address(out), room, count_at);
     get_sedge_spacecraft(spacecraft_at, spacecraft);
-    *count = (size_t)get64(count_at);
+    if (COPIES_COUNTS && answer == 0) *count = (size_t)get64(count_at);
     return answer;
 }
 
-uint8_t sedge_spacecraft_telemetry(struct sedge_spacecraft *spacecraft, const uint8_t *packet, size_t count)
+APART uint8_t sedge_spacecraft_next_bypass(struct sedge_spacecraft *spacecraft, uint8_t *map, size_t *count)
+{
+    unsigned char spacecraft_octets[8 + 15];
+    const uint64_t spacecraft_at = aligned(spacecraft_octets);
+    unsigned char count_octets[COPIES_COUNTS ? 8 + 15 : 1];
+    const uint64_t count_at = COPIES_COUNTS ? aligned(count_octets) : address(count);
+    uint8_t answer;
+    put_sedge_spacecraft(spacecraft_at, spacecraft);
+    answer = (uint8_t)sedge_spacecraft_next_bypass_at(spacecraft_at, address(map), count_at);
+    get_sedge_spacecraft(spacecraft_at, spacecraft);
+    if (COPIES_COUNTS && answer == 0) *count = (size_t)get64(count_at);
+    return answer;
+}
+
+APART uint8_t sedge_spacecraft_take_bypass(struct sedge_spacecraft *spacecraft, uint8_t *map, uint8_t *out, size_t
+    room, size_t *count)
+{
+    unsigned char spacecraft_octets[8 + 15];
+    const uint64_t spacecraft_at = aligned(spacecraft_octets);
+    unsigned char count_octets[COPIES_COUNTS ? 8 + 15 : 1];
+    const uint64_t count_at = COPIES_COUNTS ? aligned(count_octets) : address(count);
+    uint8_t answer;
+    put_sedge_spacecraft(spacecraft_at, spacecraft);
+    answer = (uint8_t)sedge_spacecraft_take_bypass_at(spacecraft_at, address(map), address(out), room, count_at);
+    get_sedge_spacecraft(spacecraft_at, spacecraft);
+    if (COPIES_COUNTS && answer == 0) *count = (size_t)get64(count_at);
+    return answer;
+}
+
+APART uint8_t sedge_spacecraft_telemetry(struct sedge_spacecraft *spacecraft, const uint8_t *packet, size_t count)
 {
     unsigned char spacecraft_octets[8 + 15];
     const uint64_t spacecraft_at = aligned(spacecraft_octets);
@@ -14204,70 +14172,68 @@ uint8_t sedge_spacecraft_telemetry(struct sedge_spacecraft *spacecraft, const ui
     return answer;
 }
 
-uint8_t sedge_spacecraft_telemetry_frame(struct sedge_spacecraft *spacecraft, uint8_t *out, size_t room, size_t
+APART uint8_t sedge_spacecraft_telemetry_frame(struct sedge_spacecraft *spacecraft, uint8_t *out, size_t room, size_t
     *count)
 {
     unsigned char spacecraft_octets[8 + 15];
     const uint64_t spacecraft_at = aligned(spacecraft_octets);
-    unsigned char count_octets[8 + 15];
-    const uint64_t count_at = aligned(count_octets);
+    unsigned char count_octets[COPIES_COUNTS ? 8 + 15 : 1];
+    const uint64_t count_at = COPIES_COUNTS ? aligned(count_octets) : address(count);
     uint8_t answer;
     put_sedge_spacecraft(spacecraft_at, spacecraft);
-    put64(count_at, *count);
     answer = (uint8_t)sedge_spacecraft_telemetry_frame_at(spacecraft_at, address(out), room, count_at);
     get_sedge_spacecraft(spacecraft_at, spacecraft);
-    *count = (size_t)get64(count_at);
+    if (COPIES_COUNTS && answer == 0) *count = (size_t)get64(count_at);
     return answer;
 }
 
-uint8_t sedge_spacecraft_read(struct sedge_spacecraft *spacecraft, struct sedge_spacecraft_reading *read)
+APART uint8_t sedge_spacecraft_read(struct sedge_spacecraft *spacecraft, struct sedge_spacecraft_reading *read)
 {
     unsigned char spacecraft_octets[8 + 15];
     const uint64_t spacecraft_at = aligned(spacecraft_octets);
-    unsigned char read_octets[32 + 15];
-    const uint64_t read_at = aligned(read_octets);
+    unsigned char read_octets[COPIES_COUNTS ? 32 + 15 : 1];
+    const uint64_t read_at = COPIES_COUNTS ? aligned(read_octets) : address(read);
     uint8_t answer;
     put_sedge_spacecraft(spacecraft_at, spacecraft);
-    put_sedge_spacecraft_reading(read_at, read);
     answer = (uint8_t)sedge_spacecraft_read_at(spacecraft_at, read_at);
     get_sedge_spacecraft(spacecraft_at, spacecraft);
-    get_sedge_spacecraft_reading(read_at, read);
+    if (COPIES_COUNTS && answer == 0) get_sedge_spacecraft_reading(read_at, read);
     return answer;
 }
 
-uint8_t sedge_spacecraft_open_kept(const struct sedge_config *config, const struct sedge_spacecraft_reading *kept,
-    struct sedge_spacecraft *spacecraft)
+APART uint8_t sedge_spacecraft_open_kept(const struct sedge_config *config, const struct sedge_spacecraft_reading
+    *kept, struct sedge_spacecraft *spacecraft)
 {
-    unsigned char config_octets[72 + 15];
-    const uint64_t config_at = aligned(config_octets);
-    unsigned char kept_octets[32 + 15];
-    const uint64_t kept_at = aligned(kept_octets);
+    unsigned char config_octets[COPIES_COUNTS ? 72 + 15 : 1];
+    const uint64_t config_at = COPIES_COUNTS ? aligned(config_octets) : address(config);
+    unsigned char kept_octets[COPIES_COUNTS ? 32 + 15 : 1];
+    const uint64_t kept_at = COPIES_COUNTS ? aligned(kept_octets) : address(kept);
     unsigned char spacecraft_octets[8 + 15];
     const uint64_t spacecraft_at = aligned(spacecraft_octets);
     uint8_t answer;
-    put_sedge_config(config_at, config);
-    put_sedge_spacecraft_reading(kept_at, kept);
+    if (COPIES_COUNTS) put_sedge_config(config_at, config);
+    if (COPIES_COUNTS) put_sedge_spacecraft_reading(kept_at, kept);
     put_sedge_spacecraft(spacecraft_at, spacecraft);
     answer = (uint8_t)sedge_spacecraft_open_kept_at(config_at, kept_at, spacecraft_at);
     get_sedge_spacecraft(spacecraft_at, spacecraft);
     return answer;
 }
 
-uint8_t sedge_sim_open(const struct sedge_config *config, struct sedge_sim *sim)
+APART uint8_t sedge_sim_open(const struct sedge_config *config, struct sedge_sim *sim)
 {
-    unsigned char config_octets[72 + 15];
-    const uint64_t config_at = aligned(config_octets);
+    unsigned char config_octets[COPIES_COUNTS ? 72 + 15 : 1];
+    const uint64_t config_at = COPIES_COUNTS ? aligned(config_octets) : address(config);
     unsigned char sim_octets[8 + 15];
     const uint64_t sim_at = aligned(sim_octets);
     uint8_t answer;
-    put_sedge_config(config_at, config);
+    if (COPIES_COUNTS) put_sedge_config(config_at, config);
     put_sedge_sim(sim_at, sim);
     answer = (uint8_t)sedge_sim_open_at(config_at, sim_at);
     get_sedge_sim(sim_at, sim);
     return answer;
 }
 
-void sedge_sim_close(struct sedge_sim *sim)
+APART void sedge_sim_close(struct sedge_sim *sim)
 {
     unsigned char sim_octets[8 + 15];
     const uint64_t sim_at = aligned(sim_octets);
@@ -14283,171 +14249,161 @@ struct sedge_text sedge_sim_fault_name(uint8_t number)
     return result;
 }
 
-uint8_t sedge_sim_step(struct sedge_sim *sim, const struct sedge_event *event, struct sedge_reply *reply)
+APART uint8_t sedge_sim_step(struct sedge_sim *sim, const struct sedge_event *event, struct sedge_reply *reply)
 {
     unsigned char sim_octets[8 + 15];
     const uint64_t sim_at = aligned(sim_octets);
     unsigned char event_octets[24 + 15];
     const uint64_t event_at = aligned(event_octets);
-    unsigned char reply_octets[64 + 15];
-    const uint64_t reply_at = aligned(reply_octets);
+    unsigned char reply_octets[COPIES_COUNTS ? 64 + 15 : 1];
+    const uint64_t reply_at = COPIES_COUNTS ? aligned(reply_octets) : address(reply);
     uint8_t answer;
     put_sedge_sim(sim_at, sim);
     put_sedge_event(event_at, event);
-    put_sedge_reply(reply_at, reply);
     answer = (uint8_t)sedge_sim_step_at(sim_at, event_at, reply_at);
     get_sedge_sim(sim_at, sim);
-    get_sedge_reply(reply_at, reply);
+    if (COPIES_COUNTS && answer == 0) get_sedge_reply(reply_at, reply);
     return answer;
 }
 
-uint8_t sedge_sim_octets(struct sedge_sim *sim, uint8_t *out, size_t room, size_t *count)
+APART uint8_t sedge_sim_octets(struct sedge_sim *sim, uint8_t *out, size_t room, size_t *count)
 {
     unsigned char sim_octets[8 + 15];
     const uint64_t sim_at = aligned(sim_octets);
-    unsigned char count_octets[8 + 15];
-    const uint64_t count_at = aligned(count_octets);
+    unsigned char count_octets[COPIES_COUNTS ? 8 + 15 : 1];
+    const uint64_t count_at = COPIES_COUNTS ? aligned(count_octets) : address(count);
     uint8_t answer;
     put_sedge_sim(sim_at, sim);
-    put64(count_at, *count);
     answer = (uint8_t)sedge_sim_octets_at(sim_at, address(out), room, count_at);
     get_sedge_sim(sim_at, sim);
-    *count = (size_t)get64(count_at);
+    if (COPIES_COUNTS && answer == 0) *count = (size_t)get64(count_at);
     return answer;
 }
 
-uint8_t sedge_sim_read(struct sedge_sim *sim, struct sedge_sim_reading *read)
+APART uint8_t sedge_sim_read(struct sedge_sim *sim, struct sedge_sim_reading *read)
 {
     unsigned char sim_octets[8 + 15];
     const uint64_t sim_at = aligned(sim_octets);
-    unsigned char read_octets[24 + 15];
-    const uint64_t read_at = aligned(read_octets);
+    unsigned char read_octets[COPIES_COUNTS ? 24 + 15 : 1];
+    const uint64_t read_at = COPIES_COUNTS ? aligned(read_octets) : address(read);
     uint8_t answer;
     put_sedge_sim(sim_at, sim);
-    put_sedge_sim_reading(read_at, read);
     answer = (uint8_t)sedge_sim_read_at(sim_at, read_at);
     get_sedge_sim(sim_at, sim);
-    get_sedge_sim_reading(read_at, read);
+    if (COPIES_COUNTS && answer == 0) get_sedge_sim_reading(read_at, read);
     return answer;
 }
 
-uint8_t sedge_sim_ground_read(struct sedge_sim *sim, struct sedge_ground_reading *read)
+APART uint8_t sedge_sim_ground_read(struct sedge_sim *sim, struct sedge_ground_reading *read)
 {
     unsigned char sim_octets[8 + 15];
     const uint64_t sim_at = aligned(sim_octets);
-    unsigned char read_octets[72 + 15];
-    const uint64_t read_at = aligned(read_octets);
+    unsigned char read_octets[COPIES_COUNTS ? 72 + 15 : 1];
+    const uint64_t read_at = COPIES_COUNTS ? aligned(read_octets) : address(read);
     uint8_t answer;
     put_sedge_sim(sim_at, sim);
-    put_sedge_ground_reading(read_at, read);
     answer = (uint8_t)sedge_sim_ground_read_at(sim_at, read_at);
     get_sedge_sim(sim_at, sim);
-    get_sedge_ground_reading(read_at, read);
+    if (COPIES_COUNTS && answer == 0) get_sedge_ground_reading(read_at, read);
     return answer;
 }
 
-uint8_t sedge_sim_spacecraft_read(struct sedge_sim *sim, struct sedge_spacecraft_reading *read)
+APART uint8_t sedge_sim_spacecraft_read(struct sedge_sim *sim, struct sedge_spacecraft_reading *read)
 {
     unsigned char sim_octets[8 + 15];
     const uint64_t sim_at = aligned(sim_octets);
-    unsigned char read_octets[32 + 15];
-    const uint64_t read_at = aligned(read_octets);
+    unsigned char read_octets[COPIES_COUNTS ? 32 + 15 : 1];
+    const uint64_t read_at = COPIES_COUNTS ? aligned(read_octets) : address(read);
     uint8_t answer;
     put_sedge_sim(sim_at, sim);
-    put_sedge_spacecraft_reading(read_at, read);
     answer = (uint8_t)sedge_sim_spacecraft_read_at(sim_at, read_at);
     get_sedge_sim(sim_at, sim);
-    get_sedge_spacecraft_reading(read_at, read);
+    if (COPIES_COUNTS && answer == 0) get_sedge_spacecraft_reading(read_at, read);
     return answer;
 }
 
-uint8_t sedge_sim_submissions(struct sedge_sim *sim, size_t *count)
+APART uint8_t sedge_sim_submissions(struct sedge_sim *sim, size_t *count)
 {
     unsigned char sim_octets[8 + 15];
     const uint64_t sim_at = aligned(sim_octets);
-    unsigned char count_octets[8 + 15];
-    const uint64_t count_at = aligned(count_octets);
+    unsigned char count_octets[COPIES_COUNTS ? 8 + 15 : 1];
+    const uint64_t count_at = COPIES_COUNTS ? aligned(count_octets) : address(count);
     uint8_t answer;
     put_sedge_sim(sim_at, sim);
-    put64(count_at, *count);
     answer = (uint8_t)sedge_sim_submissions_at(sim_at, count_at);
     get_sedge_sim(sim_at, sim);
-    *count = (size_t)get64(count_at);
+    if (COPIES_COUNTS && answer == 0) *count = (size_t)get64(count_at);
     return answer;
 }
 
-uint8_t sedge_sim_submission_length(struct sedge_sim *sim, size_t k, uint8_t *map, size_t *count)
+APART uint8_t sedge_sim_submission_length(struct sedge_sim *sim, size_t k, uint8_t *map, size_t *count)
 {
     unsigned char sim_octets[8 + 15];
     const uint64_t sim_at = aligned(sim_octets);
-    unsigned char count_octets[8 + 15];
-    const uint64_t count_at = aligned(count_octets);
+    unsigned char count_octets[COPIES_COUNTS ? 8 + 15 : 1];
+    const uint64_t count_at = COPIES_COUNTS ? aligned(count_octets) : address(count);
     uint8_t answer;
     put_sedge_sim(sim_at, sim);
-    put64(count_at, *count);
     answer = (uint8_t)sedge_sim_submission_length_at(sim_at, k, address(map), count_at);
     get_sedge_sim(sim_at, sim);
-    *count = (size_t)get64(count_at);
+    if (COPIES_COUNTS && answer == 0) *count = (size_t)get64(count_at);
     return answer;
 }
 
-uint8_t sedge_sim_submission(struct sedge_sim *sim, size_t k, uint8_t *map, uint8_t *out, size_t room, size_t *count)
+APART uint8_t sedge_sim_submission(struct sedge_sim *sim, size_t k, uint8_t *map, uint8_t *out, size_t room, size_t
+    *count)
 {
     unsigned char sim_octets[8 + 15];
     const uint64_t sim_at = aligned(sim_octets);
-    unsigned char count_octets[8 + 15];
-    const uint64_t count_at = aligned(count_octets);
+    unsigned char count_octets[COPIES_COUNTS ? 8 + 15 : 1];
+    const uint64_t count_at = COPIES_COUNTS ? aligned(count_octets) : address(count);
     uint8_t answer;
     put_sedge_sim(sim_at, sim);
-    put64(count_at, *count);
     answer = (uint8_t)sedge_sim_submission_at(sim_at, k, address(map), address(out), room, count_at);
     get_sedge_sim(sim_at, sim);
-    *count = (size_t)get64(count_at);
+    if (COPIES_COUNTS && answer == 0) *count = (size_t)get64(count_at);
     return answer;
 }
 
-uint8_t sedge_sim_count(struct sedge_sim *sim, uint8_t record, uint8_t map, size_t *entries)
+APART uint8_t sedge_sim_count(struct sedge_sim *sim, uint8_t record, uint8_t map, size_t *entries)
 {
     unsigned char sim_octets[8 + 15];
     const uint64_t sim_at = aligned(sim_octets);
-    unsigned char entries_octets[8 + 15];
-    const uint64_t entries_at = aligned(entries_octets);
+    unsigned char entries_octets[COPIES_COUNTS ? 8 + 15 : 1];
+    const uint64_t entries_at = COPIES_COUNTS ? aligned(entries_octets) : address(entries);
     uint8_t answer;
     put_sedge_sim(sim_at, sim);
-    put64(entries_at, *entries);
     answer = (uint8_t)sedge_sim_count_at(sim_at, record, map, entries_at);
     get_sedge_sim(sim_at, sim);
-    *entries = (size_t)get64(entries_at);
+    if (COPIES_COUNTS && answer == 0) *entries = (size_t)get64(entries_at);
     return answer;
 }
 
-uint8_t sedge_sim_entry_length(struct sedge_sim *sim, uint8_t record, uint8_t map, size_t k, size_t *count)
+APART uint8_t sedge_sim_entry_length(struct sedge_sim *sim, uint8_t record, uint8_t map, size_t k, size_t *count)
 {
     unsigned char sim_octets[8 + 15];
     const uint64_t sim_at = aligned(sim_octets);
-    unsigned char count_octets[8 + 15];
-    const uint64_t count_at = aligned(count_octets);
+    unsigned char count_octets[COPIES_COUNTS ? 8 + 15 : 1];
+    const uint64_t count_at = COPIES_COUNTS ? aligned(count_octets) : address(count);
     uint8_t answer;
     put_sedge_sim(sim_at, sim);
-    put64(count_at, *count);
     answer = (uint8_t)sedge_sim_entry_length_at(sim_at, record, map, k, count_at);
     get_sedge_sim(sim_at, sim);
-    *count = (size_t)get64(count_at);
+    if (COPIES_COUNTS && answer == 0) *count = (size_t)get64(count_at);
     return answer;
 }
 
-uint8_t sedge_sim_entry(struct sedge_sim *sim, uint8_t record, uint8_t map, size_t k, uint8_t *out, size_t room,
+APART uint8_t sedge_sim_entry(struct sedge_sim *sim, uint8_t record, uint8_t map, size_t k, uint8_t *out, size_t room,
     size_t *count)
 {
     unsigned char sim_octets[8 + 15];
     const uint64_t sim_at = aligned(sim_octets);
-    unsigned char count_octets[8 + 15];
-    const uint64_t count_at = aligned(count_octets);
+    unsigned char count_octets[COPIES_COUNTS ? 8 + 15 : 1];
+    const uint64_t count_at = COPIES_COUNTS ? aligned(count_octets) : address(count);
     uint8_t answer;
     put_sedge_sim(sim_at, sim);
-    put64(count_at, *count);
     answer = (uint8_t)sedge_sim_entry_at(sim_at, record, map, k, address(out), room, count_at);
     get_sedge_sim(sim_at, sim);
-    *count = (size_t)get64(count_at);
+    if (COPIES_COUNTS && answer == 0) *count = (size_t)get64(count_at);
     return answer;
 }

@@ -62,7 +62,7 @@ def alerts(it):
     broken = [one.name for one in it.Alert if one.shows_a_broken_condition]
     assert broken == ["LOCKOUT", "NNR", "CLCW", "SYNCH"] and it.Alert.NONE.advice == ""
     for one in [*it.Alert][1:]:
-        looks_for = "restart on board" in one.advice and "do not resume" in one.advice
+        looks_for = "restart on board" in one.advice and one.advice.endswith("begin anew")
         assert looks_for == one.shows_a_broken_condition != ("resume by the next CLCW" in one.advice), one.advice
     return [*(alert for alert, _ in found), active_alert(it)]
 
@@ -311,7 +311,7 @@ def longest_machines(it):
     assert {fop.accepted_beyond(value) for value in range(256)} == {0}
     assert {it.accepted_beyond(126, 126, value) for value in range(256)} == {0}
     assert it.version.count(".") == 2 and it.Alert.NNR.word == "NnR" and it.Verdict.AHEAD.word == "ahead"
-    assert len(max((one.advice for one in it.Alert if one.shows_a_broken_condition), key=len)) > 120
+    assert it.Alert.TERMINATED.advice and not it.Alert.TERMINATED.shows_a_broken_condition
     for kind in (fault for fault in vars(it).values() if isinstance(fault, type) and issubclass(fault, it.Fault)):
         assert kind(255).number == 255
 

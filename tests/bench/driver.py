@@ -176,7 +176,7 @@ class Bench:
         """The model after lines, and what is given of them to a program, with the model's answers and the cells."""
         node, given = self.model(), []
         for line in lines:
-            while line and self.speaks.fits(node, line):
+            while line is not None and self.speaks.fits(node, line):
                 self.watch.cell = None
                 given.append((line, node.answer(line), self.watch.cell))
                 line = "send" if self.is_due(node) and line != "send" else None

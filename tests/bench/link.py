@@ -1,5 +1,7 @@
 """What crosses the link: which lines a program is given that is a FARM-1 or a FOP-1 alone, and what of its answers is
 compared (driver.py --link)."""
+import re
+
 from frames import ALONE, Fault, are_packets, read_clcw, read_tc
 
 LINES = {"spacecraft": {"frame", "report", "take"},
@@ -86,11 +88,11 @@ class Link:
     def compared(self, answer):
         """Of an answer, the frame, the control word, the packet or the alert; of any other one nothing."""
         word, _, rest = answer.partition(" ")
-        if word == "report" and len(rest) == 8:
+        if re.fullmatch("report [0-9A-Fa-f]{8}", answer):
             return f"report {int(rest, 16) & ~CARRIED:08X}"
         if word == "alert":
             return f"alert {ALERTS.get(rest.lower(), rest.lower())}"
-        return answer.upper() if word in ("sent", "packet", "nothing") else "-"
+        return answer.upper() if word in ("sent", "report", "packet", "nothing") else "-"
 
 
 def is_invalid(octets):

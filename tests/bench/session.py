@@ -1,5 +1,5 @@
 #!/usr/bin/env python3
-"""A session of a FOP-1 with a FARM-1 of another program, each a command: `session.py GROUND SPACECRAFT [FIELD=N ..]`."""
+"""A session of a FOP-1 with the FARM-1 of another program, by commands: `session.py GROUND SPACECRAFT [FIELD=N ..]`."""
 import subprocess
 import sys
 

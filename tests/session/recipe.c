@@ -1,14 +1,16 @@
-/* Follows the steps after an alert (docs/TOUR.md, "After an alert") over random links with delays and losses,
- * until that many sessions have begun: `recipe SESSIONS`. On board each packet has to be the next one that was wanted
- * on its MAP: none twice, and none left out that was said to be on board. recipe.py and recipe.rs do the same, and
- * write the same lines. With a second word, `early`, it believes the first report after an alert, whenever that was
- * made, and begins a session by it even where the ground refuses. */
+/* Follows the ways on after an alert and after a reset (docs/C.md, "After an alert"; docs/TOUR.md) over random links,
+ * until that many sessions have begun: `recipe SESSIONS`. Frames are delayed and lost; in some runs they overtake each
+ * other, and in some the spacecraft restarts. On board each packet has to be the next one that was wanted on its MAP:
+ * none twice, and none left out that was said to be on board. recipe.py and recipe.rs do the same, and write the same
+ * lines. A second word takes a step away, and is found out: with `early` it believes the first report after an alert,
+ * whenever that was made, and begins a session by it even where the ground refuses; with `numbers` it goes by the
+ * numbers of the ground and of the report alone, whatever the alert says, and whether the spacecraft has restarted. */
 #include "sedgechisel_nodes.h"
 #include <stdio.h>
 #include <stdlib.h>
 #include <string.h>
 
-enum { PACKETS = 12, SLOWEST = 4, LONGEST = 30, ON_THEIR_WAY = 4096, LONGEST_RUN = 600 };
+enum { PACKETS = 12, SLOWEST = 4, LONGEST = 30, ON_THEIR_WAY = 512, LONGEST_RUN = 600 };
 
 struct frame {
     long arrives;
@@ -16,11 +18,12 @@ struct frame {
     uint8_t octets[1024];
 };
 
-/* One direction: frames arrive in order, each within `delay` ticks, or are lost. */
+/* One direction: frames arrive within `delay` ticks, in order unless it swaps them, or are lost. */
 struct way {
     uint32_t delay, losses;
+    int swaps;
     long last;
-    size_t first, count;
+    size_t count;
     struct frame frames[ON_THEIR_WAY];
 };
 
@@ -30,8 +33,14 @@ struct packet {
     uint8_t octets[LONGEST];
 };
 
+/* What the spacecraft says of itself in a packet of each telemetry frame: how often it was started, the packets that
+ * are on board, and of these those that were taken. */
+struct board {
+    uint8_t starts, whole, taken;
+};
+
 static uint32_t state, sessions;
-static int is_early;
+static int is_early, by_numbers;
 static unsigned long begun, alerts, taken_in_all, ticks;
 static struct way up, down;
 static struct sedge_ground ground;
@@ -40,11 +49,15 @@ static struct sedge_config config;
 /* The packets of a run; ticks between takes. */
 static struct packet packets[PACKETS];
 static uint32_t pause;
-/* Whether a session of the run came to S1; the tick at which a frame was last sent up; packets submitted, and of them
- * those that earlier sessions have brought on board; packets taken. */
-static int was_active;
-static long sent;
-static size_t submitted, done, taken[2];
+/* Whether the run has begun a session; whether a condition was broken since, so that nothing is known of it; the tick
+ * from which nothing has gone up; packets submitted, and of them those that earlier sessions have brought on board.
+ * Whether the spacecraft restarts at times; what it says of itself, and what of that has come; packets taken. */
+static int has_begun, is_broken;
+static long quiet;
+static size_t submitted, done;
+static int restarts;
+static struct board board, heard_of;
+static size_t taken[2];
 
 static uint32_t draw(uint32_t below) {
     state = state * 1664525 + 1013904223;
@@ -66,33 +79,31 @@ static struct sedge_ground_reading read_ground(void) {
     return reading;
 }
 
-/* A place for the next frame on a way, which `send` then sends. */
-static struct frame *place_on(struct way *way) {
-    expect(way->count < ON_THEIR_WAY, "too many frames are on their way");
-    return &way->frames[(way->first + way->count) % ON_THEIR_WAY];
-}
-
-static void send(struct way *way, long now, struct frame *frame) {
+static void send(struct way *way, long now, const struct frame *frame) {
     long soonest = now + 1 + (long)draw(way->delay);
-    way->last = soonest > way->last ? soonest : way->last;
-    frame->arrives = way->last;
-    if (draw(10) >= way->losses) way->count++;
+    size_t at;
+    way->last = soonest > way->last || way->swaps ? soonest : way->last;
+    if (draw(10) < way->losses) return;
+    expect(way->count < ON_THEIR_WAY, "too many frames are on their way");
+    for (at = way->count++; at > 0 && way->frames[at - 1].arrives > way->last; at--) way->frames[at] = way->frames[at - 1];
+    way->frames[at] = *frame;
+    way->frames[at].arrives = way->last;
 }
 
-/* The next frame that has arrived, or none. */
-static struct frame *arrived(struct way *way, long now) {
-    struct frame *frame = &way->frames[way->first];
-    if (way->count == 0 || frame->arrives > now) return NULL;
-    way->first = (way->first + 1) % ON_THEIR_WAY;
-    way->count--;
-    return frame;
+/* Takes the next frame that has arrived; whether there is one. */
+static int arrived(struct way *way, long now, struct frame *frame) {
+    if (way->count == 0 || way->frames[0].arrives > now) return 0;
+    *frame = way->frames[0];
+    memmove(way->frames, way->frames + 1, --way->count * sizeof *frame);
+    return 1;
 }
 
 static void begin_way(struct way *way, uint32_t delay) {
     way->delay = delay;
     way->losses = draw(5);
+    way->swaps = draw(6) == 0;
     way->last = 0;
-    way->first = way->count = 0;
+    way->count = 0;
 }
 
 static void begin_packets(void) {
@@ -118,16 +129,19 @@ static void begin_run(void) {
     config.window = 1 + draw(8);
     config.width = 2 * config.window + 2 * draw(4);
     config.limit = 1 + draw(4);
-    config.part = 4 + draw(24);
+    config.part = by_numbers ? LONGEST : 4 + draw(24);
     config.ready_slots = 1 + draw(4);
     delay = 1 + draw(SLOWEST);
     config.timer = 2 * delay + 1 + draw(3);
     begin_way(&up, delay);
     begin_way(&down, delay);
     pause = 1 + draw(3);
+    restarts = draw(3) == 0;
     begin_packets();
-    sent = -99;
-    was_active = 0;
+    quiet = -99;
+    has_begun = is_broken = 0;
+    memset(&board, 0, sizeof board);
+    memset(&heard_of, 0, sizeof heard_of);
     submitted = done = taken[0] = taken[1] = 0;
     expect(sedge_ground_open(&config, &ground) == 0, "sedge_ground_open");
     expect(sedge_spacecraft_open(&config, &spacecraft) == 0, "sedge_spacecraft_open");
@@ -158,10 +172,40 @@ static int take(void) {
     return 1;
 }
 
-/* Begins a session by an initiation, where none has sent a packet yet. */
+/* The spacecraft restarts: what was not taken is gone. It begins in Lockout, by a frame whose number is in neither
+ * window, so that no report of the new receiver is believed. */
+static void restart(void) {
+    const struct sedge_tc_frame own = {1, 2, SEDGE_TC_AD, 128, SEDGE_SEGMENT_ALONE, 0, 0, 0};
+    const uint8_t octet = 0;
+    struct sedge_received received;
+    uint8_t octets[16];
+    size_t count;
+    expect(sedge_spacecraft_open(&config, &spacecraft) == 0, "sedge_spacecraft_open");
+    expect(sedge_tc_encode(&own, &octet, 1, true, octets, sizeof octets, &count) == 0, "sedge_tc_encode");
+    expect(sedge_spacecraft_receive(&spacecraft, octets, count, &received) == 0, "sedge_spacecraft_receive");
+    expect(received.verdict == SEDGE_OUTSIDE, "it begins in Lockout");
+    board.starts++;
+}
+
+/* The next telemetry frame: a report, and beside it what the spacecraft says of itself. */
+static void report(long now) {
+    struct sedge_spacecraft_reading reading;
+    uint8_t packet[] = {0, 1, 0xc0, 0, 0, 2, 0, 0, 0};
+    struct frame frame;
+    expect(sedge_spacecraft_read(&spacecraft, &reading) == 0, "sedge_spacecraft_read");
+    board.taken = (uint8_t)(taken[0] + taken[1]);
+    board.whole = (uint8_t)(board.taken + reading.ready);
+    memcpy(packet + 6, &board, sizeof board);
+    expect(sedge_spacecraft_telemetry(&spacecraft, packet, sizeof packet) == 0, "sedge_spacecraft_telemetry");
+    expect(sedge_spacecraft_telemetry_frame(&spacecraft, frame.octets, sizeof frame.octets, &frame.count) == 0, "report");
+    send(&down, now, &frame);
+}
+
+/* Begins a session by an initiation, where nothing is known of one before. Where frames overtake each other no number
+ * is chosen, since a report of the one before might come later. */
 static void begin_first(uint8_t value) {
     uint32_t how = draw(4);
-    if (how == 0) {
+    if (how == 0 && !down.swaps) {
         expect(sedge_ground_init_set_vr(&ground, (uint8_t)draw(256)) == 0, "sedge_ground_init_set_vr");
     } else {
         expect(sedge_ground_set_vs(&ground, value) == 0, "sedge_ground_set_vs");
@@ -170,7 +214,7 @@ static void begin_first(uint8_t value) {
 }
 
 /* Begins the next session where the last one has got to. */
-static void resume(uint8_t value) {
+static void resume(uint8_t value, const struct board *it) {
     uint64_t known = 0, whole = 0;
     if (sedge_ground_known_on_board(&ground, value, &known) != 0 || sedge_ground_resume(&ground, value, &whole) != 0) {
         if (!is_early) wrong("nothing is known of how far the session has come");
@@ -179,14 +223,30 @@ static void resume(uint8_t value) {
     }
     expect(whole == known, "sedge_ground_resume");
     done += (size_t)whole;
+    if (!is_early && done != it->whole) wrong("it is not what the spacecraft says");
 }
 
-static void begin(uint8_t value) {
-    if (was_active) {
-        resume(value);
-    } else {
+/* The same by the numbers alone: each packet is one segment. */
+static void go_by_numbers(uint8_t value) {
+    uint64_t whole = read_ground().acknowledged_whole;
+    uint8_t accepted = 0;
+    if (sedge_ground_accepted_beyond(&ground, value, &accepted) == 0) whole += accepted;
+    done += (size_t)whole;
+    begin_first(value);
+}
+
+/* Begins a session by a report, and by what the spacecraft said of itself beside it. */
+static void begin(uint8_t value, const struct board *it) {
+    if (by_numbers) {
+        go_by_numbers(value);
+    } else if (is_broken || !has_begun) {
         begin_first(value);
+        done = it->whole;
+    } else {
+        resume(value, it);
     }
+    has_begun = 1;
+    is_broken = 0;
     submitted = done;
     begun++;
     if (begun % 1000 == 0) {
@@ -194,43 +254,69 @@ static void begin(uint8_t value) {
     }
 }
 
+/* An alert that shows a broken condition: nothing is known of the session from then on. */
+static void see(uint8_t alert) {
+    uint64_t whole;
+    alerts += alert != SEDGE_NO_ALERT;
+    if (!sedge_alert_shows_broken_condition(alert)) return;
+    is_broken = 1;
+    if (sedge_ground_resume(&ground, read_ground().nn, &whole) != SEDGE_NODE_NOT_KNOWN) wrong("it resumes after such an alert");
+}
+
+/* What the spacecraft says of itself. Where it was started again, the session ends, and nothing is known of it; a round
+ * trip has to go by from now on. */
+static struct board take_telemetry(long now) {
+    struct board it;
+    uint8_t packet[16];
+    size_t count;
+    expect(sedge_ground_take_telemetry(&ground, packet, sizeof packet, &count) == 0 && count == 9, "take_telemetry");
+    memcpy(&it, packet + 6, sizeof it);
+    if (it.starts > heard_of.starts && !by_numbers) {
+        is_broken = 1;
+        quiet = now;
+        if (read_ground().state != SEDGE_FOP_S6) expect(sedge_ground_terminate(&ground) == 0, "sedge_ground_terminate");
+    }
+    if (it.starts > heard_of.starts || (it.starts == heard_of.starts && it.taken > heard_of.taken)) heard_of = it;
+    return it;
+}
+
 static void hear(const struct frame *frame, long now) {
     struct sedge_heard heard;
     struct sedge_clcw report;
+    struct board it;
     expect(sedge_ground_telemetry(&ground, frame->octets, frame->count, &heard) == 0, "sedge_ground_telemetry");
-    alerts += heard.alert != 0;
-    was_active |= read_ground().state == SEDGE_FOP_S1;
+    see(heard.alert);
+    it = take_telemetry(now);
     if (heard.alert != SEDGE_NO_ALERT || read_ground().state != SEDGE_FOP_S6) return;
     if (heard.kind != SEDGE_HEARD_FRAME || heard.report != SEDGE_REPORT_USED) return;
     expect(sedge_ground_clcw_in(&ground, frame->octets, frame->count, &report) == 0, "sedge_ground_clcw_in");
-    if (is_early || now - sent > 2 * (long)up.delay) begin(report.value);
+    if (is_early || now - quiet > 2 * (long)up.delay) begin(report.value, &it);
 }
 
 static void submit_and_send(long now) {
+    struct frame frame;
     for (; submitted < PACKETS; submitted++) {
         const struct packet *it = &packets[submitted];
         expect(sedge_ground_submit(&ground, it->map, it->octets, it->count) == 0, "sedge_ground_submit");
     }
     for (;;) {
-        struct frame *frame = place_on(&up);
-        expect(sedge_ground_pull(&ground, frame->octets, sizeof frame->octets, &frame->count) == 0, "pull");
-        if (frame->count == 0) return;
-        sent = now;
-        send(&up, now, frame);
+        expect(sedge_ground_pull(&ground, frame.octets, sizeof frame.octets, &frame.count) == 0, "pull");
+        if (frame.count == 0) return;
+        quiet = now;
+        send(&up, now, &frame);
     }
 }
 
 static void tick(long now) {
-    struct frame *frame;
+    struct frame frame;
     struct sedge_received received;
-    while ((frame = arrived(&up, now)) != NULL) {
-        expect(sedge_spacecraft_receive(&spacecraft, frame->octets, frame->count, &received) == 0, "receive");
+    while (arrived(&up, now, &frame)) {
+        expect(sedge_spacecraft_receive(&spacecraft, frame.octets, frame.count, &received) == 0, "receive");
     }
     while (draw(pause) == 0 && take()) continue;
-    frame = place_on(&down);
-    expect(sedge_spacecraft_telemetry_frame(&spacecraft, frame->octets, sizeof frame->octets, &frame->count) == 0, "report");
-    send(&down, now, frame);
-    while ((frame = arrived(&down, now)) != NULL) hear(frame, now);
+    if (restarts && draw(60) == 0) restart();
+    report(now);
+    while (arrived(&down, now, &frame)) hear(&frame, now);
     alerts += sedge_ground_tick(&ground) != 0;
     if (draw(50) == 0 && read_ground().state != SEDGE_FOP_S6) {
         expect(sedge_ground_terminate(&ground) == 0, "sedge_ground_terminate");
@@ -239,35 +325,26 @@ static void tick(long now) {
     if (read_ground().state != SEDGE_FOP_S6) submit_and_send(now);
 }
 
-/* The number of packets on a MAP that are on board, as the ground says. */
-static size_t done_on(uint8_t map) {
-    size_t k, count = 0;
-    for (k = 0; k < done; k++) count += packets[k].map == map;
-    return count;
-}
-
-/* Goes on until all packets came, as long as a run may be; those that were said to be on board have come then. */
+/* Goes on until all packets were taken, as the spacecraft says, as long as a run may be. What was said to be on board
+ * has come then, unless the spacecraft has restarted and not said so yet. */
 static void play(void) {
     long now;
-    int has_ended = 0;
     begin_run();
-    for (now = 0; now < LONGEST_RUN && !has_ended && begun < sessions; now++) {
-        struct sedge_ground_reading reading;
+    for (now = 0; now < LONGEST_RUN && heard_of.taken < PACKETS && begun < sessions; now++) {
         ticks++;
         tick(now);
-        reading = read_ground();
-        has_ended = submitted == PACKETS && reading.state == SEDGE_FOP_S1 && reading.outstanding == 0;
     }
     while (take()) continue;
-    done += (size_t)read_ground().acknowledged_whole;
-    if (has_ended) expect(done == PACKETS, "the submissions that are acknowledged whole");
-    if (taken[0] < done_on(4) || taken[1] < done_on(5)) wrong("a packet that was said to be on board did not come");
+    if (!is_broken && board.starts == heard_of.starts) done += (size_t)read_ground().acknowledged_whole;
+    else done = heard_of.taken;
+    if (taken[0] + taken[1] < done) wrong("a packet that was said to be on board did not come");
 }
 
 int main(int count, char **words) {
     if (count < 2) return 2;
     sessions = (uint32_t)strtoul(words[1], NULL, 10);
     is_early = count > 2 && strcmp(words[2], "early") == 0;
+    by_numbers = count > 2 && strcmp(words[2], "numbers") == 0;
     while (begun < sessions) play();
     sedge_ground_close(&ground);
     sedge_spacecraft_close(&spacecraft);

@@ -444,7 +444,8 @@ module _ (c : Config) (d : Directive) (base : ℕ) (w : World) (k : Sound c w) (
           commanded = λ state confirms. let on : is_closed s.state ≡ false = rw state refl in
               goes_late (record s { state = S1; ticks = None; control = Idle }) on (rw state refl) refl refl refl refl
               refl (confirming on confirms);
-          same = inl (stays_early (goes_on s) g.stage.early g.stage.command_is (moves s refl (λ pending n units was. was)));
+          same = inl (stays_early (goes_on s) g.stage.early g.stage.command_is
+              (moves s refl (λ pending n units was. was)));
         })
 
   down_early : (bs : List (List ℕ)) (rs : List Clcw) (vs : List ℕ) → g.reports ≡ rs → g.plain.down ≡ vs

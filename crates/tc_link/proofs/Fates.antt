@@ -131,7 +131,8 @@ with_report : (s : GroundState) (o : FopOutcome SegmentView (Option Alert)) → 
 with_report s o =
     let counted : GroundState = acknowledging s o in
     let nn : (with_fop counted o.after).fop.nn ≡ o.after.nn =
-    refilled_keeps (λ t. t.fop.nn ≡ o.after.nn) (record counted { fop = o.after }) (λ waiting pending on closed. refl) in
+    refilled_keeps (λ t. t.fop.nn ≡ o.after.nn) (record counted { fop = o.after })
+    (λ waiting pending on closed. refl) in
     inr (
       o.answer,
       with_fates counted o.after

@@ -215,8 +215,8 @@ joined = take 4 queued ++ drop 4 queued_later
 abbrev pub lent : List ℕ → Bor (List ℕ)
 lent octets = record { ref_ptr = (0, 0); now = octets }
 
--- The command is lost. The program resumes by 1, as if it had come; this session is never confirmed.
--- Then it resumes by the value of a report, which is 0, and goes on after the command.
+-- The command is lost. The program resumes by 1, as if it had come; this session is never
+-- confirmed. Then it resumes by the value of a report, which is 0, and goes on after the command.
 abbrev pub resumed_by_another : List Event
 resumed_by_another =
     events.Directive InitUnlock ∷ events.Send ∷ events.UpDeliver ∷ events.Report

@@ -18,9 +18,10 @@ ghost use Rattle.tc_link.specs.Seen.{seen};
 /// spacecraft that restarts (`restart`), a ground that does so while its frame is on its way
 /// (`ground_restart`), a MAP that is closed on board alone (`maps`), blocking on the ground alone
 /// (`blocks`). A program that resumes by a value that no report has leaves a command out, though each
-/// session begins after silence, and submits what is wanted next (`value`). With a sender's window of one more than half the width the receiver locks (`window`). After
-/// 256 telemetry frames lost in a row a packet comes down that was never queued (`outage`). The
-/// configurations are in their ranges, but for that window (`ranges`).
+/// session begins after silence, and submits what is wanted next (`value`). With a sender's window of one
+/// more than half the width the receiver locks (`window`). After 256 telemetry frames lost in a row a packet
+/// comes down that was never queued (`outage`). The configurations are in their ranges, but for that window
+/// (`ranges`).
 pub fn law_of_premises()
     ensures frame { EndsWith (loose_run (new_world small) frame_overtaken) true
         (command ∷ []) (command ∷ command ∷ []) }

@@ -1,8 +1,11 @@
-//! Follows the steps after an alert (docs/TOUR.md, "After an alert") over random links with delays and losses,
-//! until that many sessions have begun: `recipe SESSIONS`. On board each packet has to be the next one that was wanted
-//! on its MAP: none twice, and none left out that was said to be on board. recipe.c and recipe.py do the same, and
-//! write the same lines. With a second word, `early`, it believes the first report after an alert, whenever that was
-//! made, and begins a session by it even where the ground refuses.
+//! Follows the ways on after an alert and after a reset (docs/TOUR.md, "After an alert", "After a reset") over random
+//! links, until that many sessions have begun: `recipe SESSIONS`. Frames are delayed and lost; in some runs they
+//! overtake each other, and in some the spacecraft restarts. On board each packet has to be the next one that was
+//! wanted on its MAP: none twice, and none left out that was said to be on board. recipe.c and recipe.py do the same,
+//! and write the same lines. A second word takes a step away, and is found out: with `early` it believes the first
+//! report after an alert, whenever that was made, and begins a session by it even where the ground refuses; with
+//! `numbers` it goes by the numbers of the ground and of the report alone, whatever the alert says, and whether the
+//! spacecraft has restarted.
 
 use sedgechisel::*;
 use std::collections::VecDeque;
@@ -14,6 +17,7 @@ type Outcome = Result<(), Box<dyn Error>>;
 
 const PACKETS: usize = 12;
 const SLOWEST: u32 = 4;
+const LONGEST: u8 = 30;
 const LONGEST_RUN: i64 = 600;
 
 /// The numbers that all runs share: of what is drawn, and of what came.
@@ -21,6 +25,7 @@ struct Totals {
     state: u32,
     sessions: u64,
     is_early: bool,
+    by_numbers: bool,
     begun: u64,
     alerts: u64,
     taken: u64,
@@ -40,23 +45,27 @@ impl Totals {
     }
 }
 
-/// One direction: frames arrive in order, each within `delay` ticks, or are lost.
+/// One direction: frames arrive within `delay` ticks, in order unless it swaps them, or are lost.
 struct Way {
     delay: u8,
     losses: u8,
+    swaps: bool,
     last: i64,
     frames: VecDeque<(i64, Vec<u8>)>,
 }
 
 impl Way {
-    fn new(delay: u8, losses: u8) -> Way {
-        Way { delay, losses, last: 0, frames: VecDeque::new() }
+    fn new(all: &mut Totals, delay: u8) -> Way {
+        let (losses, swaps) = (all.draw(5), all.draw(6) == 0);
+        Way { delay, losses, swaps, last: 0, frames: VecDeque::new() }
     }
 
     fn send(&mut self, all: &mut Totals, now: i64, frame: Vec<u8>) {
-        self.last = self.last.max(now + 1 + i64::from(all.draw(self.delay.into())));
+        let soonest = now + 1 + i64::from(all.draw(self.delay.into()));
+        self.last = if self.swaps { soonest } else { self.last.max(soonest) };
         if all.draw(10) >= self.losses {
-            self.frames.push_back((self.last, frame));
+            let at = self.frames.partition_point(|it| it.0 <= self.last);
+            self.frames.insert(at, (self.last, frame));
         }
     }
 
@@ -64,6 +73,15 @@ impl Way {
         self.frames.front().filter(|it| it.0 <= now)?;
         self.frames.pop_front().map(|it| it.1)
     }
+}
+
+/// What the spacecraft says of itself in a packet of each telemetry frame: how often it was started, the packets that
+/// are on board, and of these those that were taken.
+#[derive(Clone, Copy, Default)]
+struct Board {
+    starts: u8,
+    whole: u8,
+    taken: u8,
 }
 
 /// Two new nodes over a link, and packets that are wanted on board, each with its MAP.
@@ -74,21 +92,29 @@ struct Run {
     down: Way,
     pause: u8,
     packets: Vec<(u8, Vec<u8>)>,
-    /// Whether a session came to S1.
-    was_active: bool,
-    /// The tick at which a frame was last sent up.
-    sent: i64,
+    /// Whether a session has begun; whether a condition was broken since, so that nothing is known of it.
+    has_begun: bool,
+    is_broken: bool,
+    /// The tick from which nothing has gone up.
+    quiet: i64,
     submitted: usize,
     /// The packets that earlier sessions have brought on board.
     done: usize,
+    /// Whether the spacecraft restarts at times; how often it was started; and what of that has come.
+    restarts: bool,
+    starts: u8,
+    heard_of: Board,
     taken: [usize; 2],
+    config: Config,
 }
 
 impl Run {
     fn new(all: &mut Totals) -> Result<Run, Box<dyn Error>> {
         let window = 1 + all.draw(8);
         let width = 2 * window + 2 * all.draw(4);
-        let (limit, part, ready_slots) = (1 + all.draw(4), 4 + all.draw(24), 1 + all.draw(4));
+        let limit = 1 + all.draw(4);
+        let part = if all.by_numbers { LONGEST } else { 4 + all.draw(24) };
+        let ready_slots = 1 + all.draw(4);
         let delay = 1 + all.draw(SLOWEST);
         let timer = 2 * delay + 1 + all.draw(3);
         let (queue_slots, frame_length) = (500, 32);
@@ -103,8 +129,9 @@ impl Run {
             frame_length,
             ..Config::default()
         };
-        let (up, down) = (Way::new(delay, all.draw(5)), Way::new(delay, all.draw(5)));
+        let (up, down) = (Way::new(all, delay), Way::new(all, delay));
         let pause = 1 + all.draw(3);
+        let restarts = all.draw(3) == 0;
         let mut packets = Vec::new();
         for k in 0..PACKETS as u8 {
             let (map, length) = (4 + all.draw(2), 1 + all.draw(24));
@@ -113,8 +140,54 @@ impl Run {
             packets.push((map, octets));
         }
         let (ground, spacecraft) = (Ground::new(&config)?, Spacecraft::new(&config)?);
-        let (was_active, sent, submitted, done, taken) = (false, -99, 0, 0, [0; 2]);
-        Ok(Run { ground, spacecraft, up, down, pause, packets, was_active, sent, submitted, done, taken })
+        Ok(Run {
+            ground,
+            spacecraft,
+            up,
+            down,
+            pause,
+            packets,
+            has_begun: false,
+            is_broken: false,
+            quiet: -99,
+            submitted: 0,
+            done: 0,
+            restarts,
+            starts: 0,
+            heard_of: Board::default(),
+            taken: [0; 2],
+            config,
+        })
+    }
+
+    fn taken(&self) -> usize {
+        self.taken.iter().sum()
+    }
+
+    /// The spacecraft restarts: what was not taken is gone. It begins in Lockout, by a frame whose number is in neither
+    /// window, so that no report of the new receiver is believed.
+    fn restart(&mut self) -> Outcome {
+        self.spacecraft = Spacecraft::new(&self.config)?;
+        let segment = Segment { flags: SegmentFlags::Alone, map: 0, data: &[0] };
+        let frame = TcFrame { scid: 1, vcid: 2, body: Body::Ad { n: 128, segment } };
+        let mut room = [0; 16];
+        let own = frame.encode(Fecf::Present, &mut room)?;
+        let Received::Sequence { verdict: Verdict::Outside, .. } = self.spacecraft.receive(own)? else {
+            return Err("it begins in Lockout".into());
+        };
+        self.starts += 1;
+        Ok(())
+    }
+
+    /// The next telemetry frame: a report, and beside it what the spacecraft says of itself.
+    fn report(&mut self, all: &mut Totals, now: i64) -> Outcome {
+        let taken = u8::try_from(self.taken())?;
+        let whole = taken + u8::try_from(self.spacecraft.ready())?;
+        self.spacecraft.telemetry(&[0, 1, 0xc0, 0, 0, 2, self.starts, whole, taken])?;
+        let mut room = [0; TmFrame::LONGEST];
+        let frame = self.spacecraft.telemetry_frame(&mut room).to_vec();
+        self.down.send(all, now, frame);
+        Ok(())
     }
 
     /// Takes a packet on board, which has to be the next of its MAP; whether there was one.
@@ -133,7 +206,7 @@ impl Run {
     }
 
     /// Begins the next session where the last one has got to.
-    fn resume(&mut self, all: &mut Totals, value: u8) -> Outcome {
+    fn resume(&mut self, all: &mut Totals, value: u8, board: Board) -> Outcome {
         let known = self.ground.known_on_board(value);
         let Ok(whole) = self.ground.resume(value) else {
             if !all.is_early {
@@ -143,32 +216,43 @@ impl Run {
         };
         assert_eq!(known, Some(whole));
         self.done += usize::try_from(whole)?;
+        if !all.is_early && self.done != usize::from(board.whole) {
+            all.wrong("it is not what the spacecraft says");
+        }
         Ok(())
     }
 
-    /// Begins a session by an initiation, where none has sent a packet yet.
+    /// Begins a session by an initiation, where nothing is known of one before. Where frames overtake each other no
+    /// number is chosen, since a report of the one before might come later.
     fn begin_first(&mut self, all: &mut Totals, value: u8) -> Outcome {
-        match all.draw(4) {
-            0 => self.ground.init_set_vr(all.draw(256))?,
-            how => {
-                self.ground.set_vs(value)?;
-                if how == 1 {
-                    self.ground.init_with_check()?;
-                } else {
-                    self.ground.init_unlock()?;
-                }
-            }
+        let how = all.draw(4);
+        if how == 0 && !self.down.swaps {
+            self.ground.init_set_vr(all.draw(256))?;
+            return Ok(());
+        }
+        self.ground.set_vs(value)?;
+        if how == 1 {
+            self.ground.init_with_check()?;
+        } else {
+            self.ground.init_unlock()?;
         }
         Ok(())
     }
 
-    fn begin(&mut self, all: &mut Totals, value: u8) -> Outcome {
-        if self.was_active {
-            self.resume(all, value)?;
-        } else {
+    /// Begins a session by a report, and by what the spacecraft said of itself beside it.
+    fn begin(&mut self, all: &mut Totals, value: u8, board: Board) -> Outcome {
+        if all.by_numbers {
+            // each packet is one segment
+            self.done += usize::try_from(self.ground.acknowledged_whole())?;
+            self.done += usize::from(self.ground.accepted_beyond(value).unwrap_or(0));
             self.begin_first(all, value)?;
+        } else if self.is_broken || !self.has_begun {
+            self.begin_first(all, value)?;
+            self.done = board.whole.into();
+        } else {
+            self.resume(all, value, board)?;
         }
-        self.submitted = self.done;
+        (self.has_begun, self.is_broken, self.submitted) = (true, false, self.done);
         all.begun += 1;
         if all.begun % 1000 == 0 {
             println!(
@@ -179,20 +263,46 @@ impl Run {
         Ok(())
     }
 
+    /// An alert that shows a broken condition: nothing is known of the session from then on.
+    fn see(&mut self, all: &mut Totals, alert: Option<Alert>) {
+        all.alerts += u64::from(alert.is_some());
+        if alert.is_some_and(|it| it.shows_a_broken_condition()) {
+            self.is_broken = true;
+            if self.ground.resume(self.ground.nn()).is_ok() {
+                all.wrong("it resumes after such an alert");
+            }
+        }
+    }
+
+    /// What the spacecraft says of itself. Where it was started again, the session ends, and nothing is known of it; a
+    /// round trip has to go by from now on.
+    fn take_telemetry(&mut self, all: &Totals, now: i64) -> Result<Board, Box<dyn Error>> {
+        let packet = self.ground.take_telemetry()?.ok_or("a frame without its packet")?;
+        let board = Board { starts: packet[6], whole: packet[7], taken: packet[8] };
+        if board.starts > self.heard_of.starts && !all.by_numbers {
+            (self.is_broken, self.quiet) = (true, now);
+            if self.ground.state() != FopState::S6 {
+                self.ground.terminate()?;
+            }
+        }
+        if (board.starts, board.taken) > (self.heard_of.starts, self.heard_of.taken) {
+            self.heard_of = board;
+        }
+        Ok(board)
+    }
+
     fn hear(&mut self, all: &mut Totals, frame: &[u8], now: i64) -> Outcome {
-        let heard = self.ground.telemetry(frame)?;
-        self.was_active |= self.ground.state() == FopState::S1;
-        let Heard::Frame { report: HeardReport::Used, alert, .. } = heard else {
+        let Heard::Frame { report: HeardReport::Used, alert, .. } = self.ground.telemetry(frame)? else {
             all.wrong("a report was not used")
         };
-        all.alerts += u64::from(alert.is_some());
+        self.see(all, alert);
+        let board = self.take_telemetry(all, now)?;
         if alert.is_some() || self.ground.state() != FopState::S6 {
             return Ok(());
         }
         let report = self.ground.clcw_in(frame).ok_or("a frame without a report")?;
-        let is_made_after = now - self.sent > 2 * i64::from(self.up.delay);
-        if all.is_early || is_made_after {
-            self.begin(all, report.value)?;
+        if all.is_early || now - self.quiet > 2 * i64::from(self.up.delay) {
+            self.begin(all, report.value, board)?;
         }
         Ok(())
     }
@@ -204,7 +314,7 @@ impl Run {
         self.submitted = PACKETS;
         let mut room = [0; TcFrame::LONGEST];
         while let Some(frame) = self.ground.pull(&mut room) {
-            self.sent = now;
+            self.quiet = now;
             self.up.send(all, now, frame.to_vec());
         }
         Ok(())
@@ -215,9 +325,10 @@ impl Run {
             self.spacecraft.receive(&frame)?;
         }
         while all.draw(self.pause.into()) == 0 && self.take(all)? {}
-        let mut room = [0; TmFrame::LONGEST];
-        let report = self.spacecraft.telemetry_frame(&mut room).to_vec();
-        self.down.send(all, now, report);
+        if self.restarts && all.draw(60) == 0 {
+            self.restart()?;
+        }
+        self.report(all, now)?;
         while let Some(frame) = self.down.arrived(now) {
             self.hear(all, &frame, now)?;
         }
@@ -232,27 +343,22 @@ impl Run {
         Ok(())
     }
 
-    /// Goes on until all packets came, as long as a run may be; those that were said to be on board have come then.
+    /// Goes on until all packets were taken, as the spacecraft says, as long as a run may be. What was said to be on
+    /// board has come then, unless the spacecraft has restarted and not said so yet.
     fn play(&mut self, all: &mut Totals) -> Outcome {
-        let mut has_ended = false;
         for now in 0..LONGEST_RUN {
-            all.ticks += 1;
-            self.tick(all, now)?;
-            has_ended = self.submitted == PACKETS
-                && self.ground.state() == FopState::S1
-                && self.ground.outstanding() == 0;
-            if has_ended || all.begun >= all.sessions {
+            if usize::from(self.heard_of.taken) == PACKETS || all.begun >= all.sessions {
                 break;
             }
+            all.ticks += 1;
+            self.tick(all, now)?;
         }
         while self.take(all)? {}
-        self.done += usize::try_from(self.ground.acknowledged_whole())?;
-        assert!(!has_ended || self.done == PACKETS);
-        for (map, taken) in (4..).zip(self.taken) {
-            let done = self.packets[..self.done].iter();
-            if taken < done.filter(|it| it.0 == map).count() {
-                all.wrong("a packet that was said to be on board did not come");
-            }
+        let is_known = !self.is_broken && self.starts == self.heard_of.starts;
+        let acknowledged = usize::try_from(self.ground.acknowledged_whole())?;
+        let done = if is_known { self.done + acknowledged } else { self.heard_of.taken.into() };
+        if self.taken() < done {
+            all.wrong("a packet that was said to be on board did not come");
         }
         Ok(())
     }
@@ -260,9 +366,11 @@ impl Run {
 
 fn main() -> Outcome {
     let words: Vec<String> = env::args().collect();
-    let sessions = words.get(1).ok_or("recipe SESSIONS [early]")?.parse()?;
+    let sessions = words.get(1).ok_or("recipe SESSIONS [early|numbers]")?.parse()?;
     let is_early = words.get(2).is_some_and(|it| it == "early");
-    let mut all = Totals { state: 0, sessions, is_early, begun: 0, alerts: 0, taken: 0, ticks: 0 };
+    let by_numbers = words.get(2).is_some_and(|it| it == "numbers");
+    let mut all =
+        Totals { state: 0, sessions, is_early, by_numbers, begun: 0, alerts: 0, taken: 0, ticks: 0 };
     while all.begun < all.sessions {
         Run::new(&mut all)?.play(&mut all)?;
     }

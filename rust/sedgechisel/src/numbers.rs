@@ -105,6 +105,17 @@ pub(crate) fn done(answer: u8) {
 mod tests {
     use crate::*;
 
+    /// What each alert says is what the library says of it.
+    #[test]
+    fn what_alerts_say_is_what_the_library_says() {
+        for it in 0..=u8::MAX {
+            let (alert, said) = (Alert::from_number(it), ffi::sedge_alert_advice(it));
+            assert_eq!(alert.map_or("?", Alert::advice), said.as_str());
+            let is_broken = alert.is_some_and(Alert::shows_a_broken_condition);
+            assert_eq!(is_broken, ffi::sedge_alert_shows_broken_condition(it));
+        }
+    }
+
     /// Each number below 253 has the word of the library here. The library has two words more, of faults that no call
     /// for C has. The numbers from 253 on are those that all kinds of calls share, which have no word.
     #[test]

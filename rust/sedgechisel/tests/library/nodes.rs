@@ -532,16 +532,38 @@ fn a_session_that_goes_on() {
     assert_eq!(spacecraft.take(), Ok(None));
 }
 
-/// Where V(S) = NN(R) a session goes on at that number alone, and where V(S) was set at none.
+/// After one of four alerts nothing is known of what is on board, and no session goes on, until one begins.
+#[test]
+fn a_session_that_ends_by_a_broken_condition() {
+    let word = Clcw { vcid: 2, ..Clcw::default() };
+    for (word, alert) in [
+        (Clcw { lockout: true, ..word }, Alert::Lockout),
+        (Clcw { value: 2, ..word }, Alert::NnR),
+        (Clcw { wait: true, ..word }, Alert::Clcw),
+        (Clcw { retransmit: true, value: 1, ..word }, Alert::Synch),
+    ] {
+        let mut ground = Ground::new(&Config::default()).unwrap();
+        ground.init_without_check().unwrap();
+        assert_eq!((ground.submit(4, &packet(0)), ground.frames().count()), (Ok(0), 1));
+        assert_eq!(ground.known_on_board(1), Some(1));
+        assert_eq!(ground.clcw(&word.encode().unwrap()).alert, Some(alert));
+        assert!((0..=255).all(|value| ground.known_on_board(value).is_none()));
+        does_not_resume(&mut ground, 0);
+        does_not_resume(&mut ground, 1);
+        assert_eq!((ground.set_vs(word.value), ground.init_unlock()), (Ok(()), Ok(())));
+        assert_eq!((ground.known_on_board(word.value), ground.terminate()), (Some(0), Ok(())));
+        assert_eq!((ground.resume(word.value), ground.state()), (Ok(0), FopState::S5));
+    }
+}
+
+/// Where V(S) = NN(R) a session goes on at any number, and where V(S) was set at none.
 #[test]
 fn a_session_of_which_nothing_is_known() {
     let mut ground = Ground::new(&Config::default()).unwrap();
     ground.init_set_vr(7).unwrap();
     ground.terminate().unwrap();
     assert_eq!([7, 8, 99].map(|value| ground.known_on_board(value)), [Some(0); 3]);
-    does_not_resume(&mut ground, 6);
-    does_not_resume(&mut ground, 8);
-    assert_eq!((ground.resume(7), ground.terminate()), (Ok(0), Ok(())));
+    assert_eq!((ground.resume(8), ground.vs(), ground.terminate()), (Ok(0), 8, Ok(())));
     ground.set_vs(7).unwrap();
     assert_eq!(ground.known_on_board(7), None);
     does_not_resume(&mut ground, 7);

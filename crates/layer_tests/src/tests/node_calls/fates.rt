@@ -25,8 +25,11 @@ fn report(value: u8) -> Ask<'static> {
 
 // The flags of a report's third octet, of which none is set, or one (CCSDS 232.0-B-4, 4.2.1).
 const NONE: u8 = 0x00;
+
 const LOCKOUT: u8 = 0x20;
+
 const WAIT: u8 = 0x10;
+
 const RETRANSMIT: u8 = 0x08;
 
 // A report with such flags and this value, by which this alert comes.
@@ -163,7 +166,10 @@ fn a_condition_is_broken(rt: HostRuntime) {
 fn the_limit_is_reached(rt: HostRuntime) {
     use FopMode::{S1, S5, S6};
     let rows = [
-        (Ask::Directive(Directive::SetLimit(1), Ok(None)), (S6, 0, 0, 0)),
+        (
+            Ask::Directive(Directive::SetLimit(1), Ok(None)),
+            (S6, 0, 0, 0),
+        ),
         (INIT, (S1, 0, 0, 0)),
         (Ask::Submit(&P0, Ok(())), (S1, 0, 0, 2)),
         (Ask::Submit(&P1, Ok(())), (S1, 0, 0, 4)),

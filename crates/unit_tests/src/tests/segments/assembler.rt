@@ -139,6 +139,36 @@ fn several_packets_in_a_segment(rt: HostRuntime) {
     joins(&rt, rt.alloc(), limits(20, true), &rows);
 }
 
+// The same in lists in which one packet takes no memory of its own.
+#[test]
+fn packets_inline(rt: HostRuntime) {
+    let mut assembler = Assembler::new(rt.alloc(), limits(20, true));
+    takes_inline(&rt, &mut assembler, &P0, &[&P0]);
+    takes_inline(&rt, &mut assembler, &THREE[..14], &[&P0, &P1]);
+    takes_inline(&rt, &mut assembler, &[], &[]);
+}
+
+// Takes an alone segment with this data, which drops nothing but data that are no packet.
+fn takes_inline(
+    rt: &(impl Abort + Eprint),
+    assembler: &mut Assembler,
+    payload: &[u8],
+    packets: &[&[u8]],
+) {
+    let dropped = match packets.is_empty() {
+        true => Some(NotAPacket),
+        false => None,
+    };
+    let segment = segment(Alone, 4, payload);
+    match again(rt, MapFault::Memory, || assembler.take_inline(&segment)) {
+        Ok(taken) => {
+            equal(rt, &taken.dropped, &dropped);
+            are_packets(rt, taken.packets.as_slice(), packets);
+        }
+        Err(fault) => equal(rt, &fault.name(), &"none"),
+    }
+}
+
 // MAP 4 alone is open, and packets have at most 7 octets.
 fn short(blocking: bool) -> Limits {
     Limits {
