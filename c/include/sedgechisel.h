@@ -734,7 +734,8 @@ SEDGE_CHECK uint8_t sedge_map_count(const uint8_t *octets, size_t count, const s
                                     size_t *segments);
 
 /* Writes segment k of these, counted from 0: its flags of sedge_segment_flags, and where its data are in the octets.
- * Returns what sedge_map_count does, or SEDGE_ABSENT if there are not that many. */
+ * Each call goes through the packets from the first, so with blocking all segments of n packets take time in proportion
+ * to n * n. Returns what sedge_map_count does, or SEDGE_ABSENT if there are not that many. */
 SEDGE_CHECK uint8_t sedge_map_segment(const uint8_t *octets, size_t count, const struct sedge_limits *limits,
                                       size_t k, uint8_t *flags, struct sedge_part *data);
 

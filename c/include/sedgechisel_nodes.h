@@ -131,7 +131,8 @@ SEDGE_CHECK uint8_t sedge_config_fault(const struct sedge_config *config);
 /* Names, as tctool writes them; "?" for a number out of the enum. */
 struct sedge_text sedge_parameter_name(uint8_t number);
     /* the name of a sedge_parameter, which is that of its field in sedge_config */
-struct sedge_text sedge_link_fault_name(uint8_t number); /* the name of a sedge_node_status, 1 to 7 */
+struct sedge_text sedge_link_fault_name(uint8_t number);
+    /* the name of a sedge_node_status, 1 to 6 and 10; "?" for another number */
 
 /* ---- The ground. ---- */
 
@@ -182,7 +183,9 @@ static inline SEDGE_CHECK uint8_t sedge_ground_set_timer(struct sedge_ground *gr
 }
 
 /* Submits packets on a MAP, to be sent under sequence control: one, or several where blocking is on. Returns 0, or the
- * first of 1 to 5 of sedge_node_status that applies, or SEDGE_NODE_MEMORY. */
+ * first of 1 to 5 of sedge_node_status that applies, or SEDGE_NODE_MEMORY. sedge_map_count says in how many segments
+ * they go. That sedge_ground_resume counts a submission right is promised of one packet, and of packets that go in one
+ * segment together. */
 SEDGE_CHECK uint8_t sedge_ground_submit(struct sedge_ground *ground, uint8_t map, const uint8_t *octets, size_t count);
 
 /* Submits one packet on a MAP past the sequence control. Returns 0, or the first of 2 to 5 of sedge_node_status that
@@ -294,16 +297,20 @@ uint8_t sedge_ground_read(struct sedge_ground *ground, struct sedge_ground_readi
 SEDGE_CHECK uint8_t sedge_ground_accepted_beyond(struct sedge_ground *ground, uint8_t value, uint8_t *accepted);
 
 /* Writes how many first ones of the session's submissions are known to be on board whole by a report of this value:
- * those that are acknowledged, and those all of whose segments it says were accepted (232.1-B-2, 5.1). It does so after
- * an alert too. Returns 0, or SEDGE_NODE_ABSENT where nothing is known: no session has begun, V(S) was set since, or
- * the value does not lie from NN(R) to V(S), which are not equal. */
+ * those that are acknowledged, and those all of whose segments it says were accepted (232.1-B-2, 5.1). It does so
+ * after an alert too. Returns 0, or SEDGE_NODE_ABSENT where nothing is known: no session has begun, V(S) was set
+ * since, an alert came since that shows a broken condition, or V(S) is not NN(R) and the value does not lie from
+ * NN(R) to V(S). */
 SEDGE_CHECK uint8_t sedge_ground_known_on_board(struct sedge_ground *ground, uint8_t value, uint64_t *whole);
 
 /* Begins the next session after an alert, where the last one has got to: sets V(S) to the value of a report that was
  * made when nothing was on its way up, begins by Unlock (232.1-B-2, 5.2.4), and writes how many first ones of the
- * submissions of the session that ended are on board whole; those after them are to be submitted again. Returns 0, or
- * SEDGE_NODE_NOT_KNOWN, and nothing has changed, where nothing is known: the sender is not in S6, no session has begun,
- * V(S) was set since, or the value does not lie from NN(R) to V(S). */
+ * submissions of the session that ended are on board whole, counted within that session; those after them are to be
+ * submitted again. A submission of more octets than a segment takes (part) that holds several packets is whole only
+ * with its last one, so that some of its packets may be on board before, and come again. Returns 0, or
+ * SEDGE_NODE_NOT_KNOWN (10), and nothing has changed: the sender is not in S6, no session has begun, V(S) was set
+ * since, an alert came since that shows a broken condition, or V(S) is not NN(R) and the value does not lie from NN(R)
+ * to V(S). */
 SEDGE_CHECK uint8_t sedge_ground_resume(struct sedge_ground *ground, uint8_t value, uint64_t *whole);
 
 /* ---- The spacecraft. ---- */

@@ -5,14 +5,12 @@
  * how many there are, and what it is.
  *
  * NAME is a managed parameter; one that is not given has its default. Or it is one of these, by default 0 but for the
- * first two, which are 1, and the last:
+ * first two, which are 1:
  *     packets           the most packets of a submission of the ground
  *     segments          the most segments of a submission; at least as many as the longest packet has
  *     bypass            the most segments past the sequence control that wait on the ground
  *     telemetry         the most packets of telemetry that wait
- *     telemetry_octets  the octets of the longest of these; on board the first that is queued has as many
- *     spare             the places on board for a long packet while short ones are in places of something else; by
- *                       default as many as are enough for packets of any length */
+ *     telemetry_octets  the octets of the longest of these */
 #include <sedgechisel_nodes.h>
 #include <errno.h>
 #include <stdio.h>
@@ -24,10 +22,24 @@ enum { GROUND = 400, SPACECRAFT = 2368 };
 enum { UNIT = 16, PLACE = 32, COUNT = 8, CUT = 24, SLICE = 16, PACKET = 24, NUMBER = 4 };
 /* The longest packet; the most segments that are sent and not acknowledged; the most data of a frame, and packets in
  * them; the places on board past the ready slots; and the sizes that a list of places may have. */
-enum { LONGEST = 65542, SENT = 127, DATA = 1016, MOST = DATA / 7, FURTHER = 170, SIZES = 128, DEFAULT = 65536 };
+enum { LONGEST = 65542, SHORTEST = 7, SENT = 127, DATA = 1016, MOST = DATA / SHORTEST, FURTHER = 170, SIZES = 512 };
+enum { KINDS = 32 };
 
 struct traffic {
-    uint32_t packets, segments, bypass, telemetry, telemetry_octets, spare;
+    uint32_t packets, segments, bypass, telemetry, telemetry_octets;
+};
+
+/* What takes memory: blocks of `least` to `most` octets, of which `count` are there at once, whatever their lengths.
+ * PACKETS: beside them those of one segment, one or, where several may be in its data, as many as these have room for;
+ * `parts` that have room for the longest; and `past` that came past the sequence control, in one frame each, and one
+ * more while it comes. (Where a packet is ready for each ready slot, some open MAP has no part: that of the last one.
+ * So of all lengths together there is none more.) LIST: the places of a list, of `least` octets and then twice as many,
+ * to the first that has `most`. GROWS: the room of octets, which is at least doubled whenever it grows. Of these two
+ * the old one is let go of when the new one is found. */
+enum form { ANY, PACKETS, LIST, GROWS };
+struct kind {
+    enum form form;
+    size_t least, most, count, data, past, parts;
 };
 
 /* Places of a size, and how many. */
@@ -35,14 +47,22 @@ struct row {
     size_t octets, count;
 };
 
+static struct kind kinds[KINDS];
+static size_t kinds_count;
 static struct row rows[SIZES];
 static size_t rows_count;
 
+static struct kind *add_kind(enum form form, size_t least, size_t most, size_t count) {
+    if (kinds_count == KINDS) exit(3);
+    kinds[kinds_count] = (struct kind){form, least, most, count, 0, 0, 0};
+    return &kinds[kinds_count++];
+}
+
 /* So many places more of as many octets, in ascending order. */
-static void add(size_t octets, size_t count) {
+static void add_row(size_t octets, size_t count) {
     size_t at = 0, k;
     octets = (octets + 15) / 16 * 16;
-    if (count == 0 || octets == 0) return;
+    if (octets == 0 || count == 0) return;
     while (at < rows_count && rows[at].octets < octets) at++;
     if (at == rows_count || rows[at].octets != octets) {
         if (rows_count == SIZES) exit(3);
@@ -53,11 +73,77 @@ static void add(size_t octets, size_t count) {
     rows[at].count += count;
 }
 
-/* A list of as many things grows to 4, 8, .. places: the old ones are let go of when the new ones are found. */
+/* A block that a node takes when it is opened, while all places are free, and keeps: it gets the place of its size. */
+static void add(size_t octets) { add_row(octets, 1); }
+
+/* A list of as many things grows to 4, 8, .. places. */
 static void add_list(size_t octets, size_t most) {
     size_t count = 4;
-    if (most == 0) return;
-    for (add(octets * count, 1); count < most; add(octets * count, 1)) count *= 2;
+    while (count < most) count *= 2;
+    if (most > 0) (void)add_kind(LIST, 4 * octets, count * octets, 2);
+}
+
+static size_t smaller(size_t a, size_t b) { return a < b ? a : b; }
+
+/* How many blocks of a kind there may be at once of more than `from` and at most `to` octets. */
+static size_t at_once(const struct kind *kind, size_t from, size_t to) {
+    size_t least = from < kind->least ? kind->least : from + 1, most = smaller(to, kind->most), octets, count = 0;
+    if (least > most) return 0;
+    switch (kind->form) {
+    case PACKETS:
+        count = kind->data / least;
+        count = kind->count + (count < 1 ? 1 : count) + (most < kind->most ? 0 : kind->parts);
+        if (least <= DATA) count += kind->past + (most < kind->most);
+        return count;
+    case LIST:
+        for (octets = kind->least; octets <= most; octets *= 2) count += octets >= least;
+        return smaller(count, kind->count);
+    case GROWS: return 2 * least <= most ? 2 : 1;
+    default: return kind->count;
+    }
+}
+
+/* The sizes that places may have, in ascending order: multiples of 16. */
+static size_t sizes_of[SIZES], sizes_count;
+
+static void add_size(size_t octets) {
+    size_t at = 0, k;
+    octets = (octets + 15) / 16 * 16;
+    while (at < sizes_count && sizes_of[at] < octets) at++;
+    if (octets == 0 || (at < sizes_count && sizes_of[at] == octets)) return;
+    if (sizes_count == SIZES) exit(3);
+    for (k = sizes_count++; k > at; k--) sizes_of[k] = sizes_of[k - 1];
+    sizes_of[at] = octets;
+}
+
+static void add_sizes(const struct kind *kind) {
+    size_t octets;
+    add_size(kind->most);
+    if (kind->form == PACKETS)
+        for (octets = 16; octets < kind->most && octets <= DATA + 15; octets += 16) add_size(octets);
+    if (kind->form == LIST)
+        for (octets = kind->least; octets < kind->most; octets *= 2) add_size(octets);
+    if (kind->form == GROWS)
+        for (octets = kind->most; octets > kind->least; octets /= 2) add_size(octets);
+}
+
+/* The places of some of these sizes that take the fewest octets. Each block goes to a place of the first size that is
+ * enough, so where each size has as many places as there may be blocks at once that are longer than the size before and
+ * no longer than this one, such a place is always free, and none goes to a longer one. */
+static void list_places(void) {
+    static size_t least[SIZES + 1], before[SIZES + 1], counts[SIZES + 1];
+    size_t k, to, from, count, sum;
+    for (k = sizes_count = 0; k < kinds_count; k++) add_sizes(&kinds[k]);
+    for (to = 1; to <= sizes_count; to++) {
+        least[to] = SIZE_MAX;
+        for (from = 0; from < to; from++) {
+            for (k = count = 0; k < kinds_count; k++)
+                count += at_once(&kinds[k], from == 0 ? 0 : sizes_of[from - 1], sizes_of[to - 1]);
+            sum = least[from] + count * sizes_of[to - 1];
+            if (sum < least[to]) least[to] = sum, before[to] = from, counts[to] = count;
+        }
+    }
+    for (to = sizes_count; to > 0; to = before[to]) add_row(sizes_of[to - 1], counts[to]);
 }
 
 static size_t most_segments(const struct sedge_config *config, const struct traffic *traffic) {
@@ -67,18 +153,17 @@ static size_t most_segments(const struct sedge_config *config, const struct traf
 
 static void places_of_ground(const struct sedge_config *config, const struct traffic *traffic) {
     size_t segments = most_segments(config, traffic), list;
-    add(GROUND, 1);
-    add(UNIT * config->width, 1);
-    add(PLACE * config->queue_slots, 1);
-    add(COUNT * (config->queue_slots + SENT), 1);
-    add(LONGEST, 1);
-    add(config->part, config->queue_slots + config->width / 2 + traffic->bypass);
+    kinds_count = rows_count = 0;
+    add(GROUND), add(UNIT * config->width), add(PLACE * config->queue_slots), add(COUNT * (config->queue_slots + SENT));
+    add(LONGEST);
+    add_kind(ANY, 1, config->part, config->queue_slots + config->width / 2 + traffic->bypass);
     if (config->blocking == 1) add_list(SLICE, traffic->packets);
     if (segments > 1) add_list(CUT, segments), add_list(PLACE, segments);
     add_list(PLACE, traffic->bypass);
-    add(traffic->telemetry_octets, traffic->telemetry);
+    add_kind(ANY, SHORTEST, traffic->telemetry_octets, traffic->telemetry);
     add_list(PACKET, traffic->telemetry);
     for (list = 0; list < 2; list++) add_list(PACKET, 2 * (size_t)traffic->telemetry);
+    list_places();
 }
 
 static size_t open_maps(const struct sedge_config *config) {
@@ -89,31 +174,25 @@ static size_t open_maps(const struct sedge_config *config) {
 
 /* The octets that wait stand after some that were sent, which are fewer than they were before the last packet. */
 static void add_telemetry(const struct traffic *traffic) {
-    size_t octets = traffic->telemetry_octets < 8 ? 8 : traffic->telemetry_octets;
-    size_t most = 2 * (size_t)traffic->telemetry * traffic->telemetry_octets;
+    size_t most = (2 * (size_t)traffic->telemetry - 1) * traffic->telemetry_octets;
     if (traffic->telemetry == 0) return;
-    for (add(octets, 1); octets + traffic->telemetry_octets < most; add(octets, 1)) octets *= 2;
+    add_kind(GROWS, 8, traffic->telemetry == 1 && most < 9 ? 8 : 2 * most - 2, 2);
     add_list(NUMBER, traffic->telemetry);
 }
 
-/* The places that a short packet may leave to something else that is as short, as many as of that are used at once: two
- * of a list that grows, two of the telemetry that waits, and three while that grows. */
-static size_t spare(const struct sedge_config *config, const struct traffic *traffic) {
-    if (traffic->spare != DEFAULT) return traffic->spare;
-    if (traffic->telemetry == 0) return config->blocking == 1 ? 2 : 0;
-    return config->blocking == 1 ? 4 : 3;
-}
-
+/* The packets that are ready are fewer than the ready slots when a frame comes, and then those of its segment more;
+ * those past the sequence control are one more while one comes. The part that is open on each MAP has room for the
+ * longest. */
 static void places_of_spacecraft(const struct sedge_config *config, const struct traffic *traffic) {
-    add(SPACECRAFT, 1);
-    add(PLACE * (config->ready_slots + FURTHER), 1);
-    add(PLACE * config->bypass_slots, 1);
-    add(config->max_packet, config->ready_slots + open_maps(config) + config->bypass_slots + spare(config, traffic));
-    if (config->blocking == 1) {
-        add(config->max_packet < DATA ? config->max_packet : DATA, MOST - 1);
-        add_list(PACKET, MOST);
-    }
+    struct kind *packets;
+    kinds_count = rows_count = 0;
+    packets = add_kind(PACKETS, SHORTEST, config->max_packet, config->ready_slots - 1);
+    packets->data = config->blocking == 1 ? DATA : 0, packets->past = config->bypass_slots;
+    packets->parts = open_maps(config);
+    add(SPACECRAFT), add(PLACE * (config->ready_slots + FURTHER)), add(PLACE * config->bypass_slots);
+    if (config->blocking == 1) add_list(PACKET, MOST);
     add_telemetry(traffic);
+    list_places();
 }
 
 static void print_places(void) {
@@ -149,8 +228,8 @@ static void print_board(const struct sedge_config *config, const struct traffic 
 /* Sets what a word names. */
 static bool set(struct sedge_config *config, struct traffic *traffic, const char *word) {
     uint32_t *others[] = {&traffic->packets, &traffic->segments, &traffic->bypass, &traffic->telemetry,
-                          &traffic->telemetry_octets, &traffic->spare};
-    static const char *const names[] = {"packets", "segments", "bypass", "telemetry", "telemetry_octets", "spare"};
+                          &traffic->telemetry_octets};
+    static const char *const names[] = {"packets", "segments", "bypass", "telemetry", "telemetry_octets"};
     const char *at = strchr(word, '=');
     size_t count = at == NULL ? 0 : (size_t)(at - word), k;
     struct sedge_text name;
@@ -179,7 +258,7 @@ static int refuse(const char *what, const char *word) {
 
 int main(int count, char **words) {
     struct sedge_config config;
-    struct traffic traffic = {1, 1, 0, 0, 0, DEFAULT};
+    struct traffic traffic = {1, 1, 0, 0, 0};
     struct sedge_text name;
     const char *node = count > 1 ? words[1] : "";
     int at;

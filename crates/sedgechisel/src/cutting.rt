@@ -47,7 +47,8 @@ pub extern "C" fn sedge_map_count(octets: &[u8], limits: &CutLimits, segments: &
 }
 
 /// Writes segment `k` of these, counted from 0: its flags of `sedge_segment_flags`, and where its data are in the
-/// octets. Returns what `sedge_map_count` does, or `SEDGE_ABSENT` if there are not that many.
+/// octets. Each call goes through the packets from the first, so with blocking all segments of n packets take time in
+/// proportion to n * n. Returns what `sedge_map_count` does, or `SEDGE_ABSENT` if there are not that many.
 #[unsafe(no_mangle)]
 #[must_use]
 pub extern "C" fn sedge_map_segment(

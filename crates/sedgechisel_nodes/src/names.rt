@@ -19,14 +19,14 @@ pub extern "C" fn sedge_parameter_name(number: u8) -> Text
         13 => QueueSlots, 14 => FrameLength, 15 => Blocking)
 }
 
-/// The name of a `sedge_node_status`, 1 to 7.
+/// The name of a `sedge_node_status`, 1 to 6 and 10; "?" for another number.
 #[unsafe(no_mangle)]
 pub extern "C" fn sedge_link_fault_name(number: u8) -> Text
     ensures { result.text ≡ text_of (link_fault_word number) }
 {
     named!(number, LinkFault:
         1 => NotOpen, 2 => ClosedMap, 3 => NotCommand, 4 => TooLong, 5 => QueueFull, 6 => Memory,
-        7 => NotKnown)
+        10 => NotKnown)
 }
 
 /// The name of a `sedge_sim_fault`; "?" for another number.

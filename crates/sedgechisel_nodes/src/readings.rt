@@ -177,7 +177,8 @@ pub extern "C" fn sedge_ground_accepted_beyond(
 /// Writes how many first ones of the session's submissions are known to be on board whole by a report of this value:
 /// those that are acknowledged, and those all of whose segments it says were accepted (232.1-B-2, 5.1). It does so
 /// after an alert too. Returns 0, or `SEDGE_NODE_ABSENT` where nothing is known: no session has begun, V(S) was set
-/// since, or the value does not lie from NN(R) to V(S), which are not equal.
+/// since, an alert came since that shows a broken condition, or V(S) is not NN(R) and the value does not lie from NN(R)
+/// to V(S).
 #[unsafe(no_mangle)]
 #[must_use]
 pub extern "C" fn sedge_ground_known_on_board(

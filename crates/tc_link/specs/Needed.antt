@@ -1,7 +1,8 @@
 -- Runs that show that each condition of a link is needed: what goes wrong where one is not kept.
 -- Their link lets more happen than `AnyPast` does within a session.
 use Rattle.std.specs.Prelude.{◌≡◌, ℕ, zero, suc, List, [], ◌∷◌, ◌++◌, take, drop, Bool, true}
-use Rattle.std.specs.Prelude.{Some, option_map}
+use Rattle.std.specs.Prelude.{Some, map, option_map}
+use Rattle.std.specs.Borrow.{Bor}
 use Rattle.tc_frame.specs.declared.frame.Check.TheVariants.{On}
 use Rattle.tc_frame.specs.declared.frame.SegmentFlags.TheVariants.{Alone}
 use Rattle.tc_frame.specs.Layout.{Ad}
@@ -24,6 +25,7 @@ use Rattle.simulated_link.specs.declared.session_start.Opening.{Opening}
 use Rattle.simulated_link.specs.World.{World, world_step, new_world, world_after_submission}
 use Rattle.simulated_link.specs.World.{world_after_queueing, submitted, delivered}
 use Rattle.simulated_link.specs.World.{directive_of, IsIdle}
+use Rattle.tc_link.specs.Seen.{Part, Seen}
 
 -- ---- a link that lets more happen
 
@@ -207,3 +209,30 @@ frames_lost =
 -- the first half of one packet, and the second half of the other
 abbrev pub joined : List ℕ
 joined = take 4 queued ++ drop 4 queued_later
+
+-- ---- what a program sees where it resumes by a value that no report has
+
+abbrev pub lent : List ℕ → Bor (List ℕ)
+lent octets = record { ref_ptr = (0, 0); now = octets }
+
+-- The command is lost. The program resumes by 1, as if it had come; this session is never
+-- confirmed. Then it resumes by the value of a report, which is 0, and goes on after the command.
+abbrev pub resumed_by_another : List Event
+resumed_by_another =
+    events.Directive InitUnlock ∷ events.Send ∷ events.UpDeliver ∷ events.Report
+    ∷ events.DownDeliver ∷ events.Submit 4 (lent command) ∷ events.Send ∷ events.UpLose
+    ∷ events.Directive Terminate ∷ events.Resume 1 ∷ events.Directive Terminate ∷ events.Report
+    ∷ events.DownLose ∷ events.Resume 0 ∷ events.Send ∷ events.UpDeliver ∷ events.Report
+    ∷ events.DownDeliver ∷ events.Submit 4 (lent another) ∷ events.Send ∷ events.UpDeliver
+    ∷ events.Take ∷ []
+
+abbrev pub part_of : ℕ → List (List ℕ) → Part
+part_of from packets = record { from = from; submissions = map (packet_on 4) packets }
+
+-- each session began after silence, and submitted what is wanted next of both commands, but the
+-- first was left out
+pub record SkipsTheFirst (s : Seen) : Type 0 where
+  pub idle : s.idle ≡ true
+  pub parts : s.before ++ s.session ∷ []
+      ≡ part_of 0 [] ∷ part_of 0 (command ∷ []) ∷ part_of 1 [] ∷ part_of 1 (another ∷ []) ∷ []
+  pub taken : s.taken ≡ packet_on 4 another ∷ []

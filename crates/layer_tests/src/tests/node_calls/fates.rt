@@ -23,6 +23,26 @@ fn report(value: u8) -> Ask<'static> {
     )
 }
 
+// The flags of a report's third octet, of which none is set, or one (CCSDS 232.0-B-4, 4.2.1).
+const NONE: u8 = 0x00;
+
+const LOCKOUT: u8 = 0x20;
+
+const WAIT: u8 = 0x10;
+
+const RETRANSMIT: u8 = 0x08;
+
+// A report with such flags and this value, by which this alert comes.
+fn alerts(flags: u8, value: u8, alert: Alert) -> Ask<'static> {
+    Ask::Clcw(
+        [0x01, 0x08, flags, value],
+        HeardClcw {
+            report: HeardReport::Used,
+            alert: Some(alert),
+        },
+    )
+}
+
 // Each packet is two segments, with numbers 0 and 1, 2 and 3, 4 and 5. Three of them are acknowledged.
 #[test]
 fn submissions_of_two_segments(rt: HostRuntime) {
@@ -102,8 +122,63 @@ fn a_number_is_set(rt: HostRuntime) {
         (INIT, (S1, 9, 9, 0)),
         (TERMINATE, (S6, 9, 9, 0)),
         (Ask::KnownOnBoard(7, Some(0)), (S6, 9, 9, 0)),
-        (Ask::Resume(7, NOT_KNOWN), (S6, 9, 9, 0)),
-        (Ask::Resume(9, Ok(0)), (S5, 9, 9, 0)),
+        (Ask::Resume(7, Ok(0)), (S5, 7, 7, 0)),
+    ];
+    asks(&rt, rt.alloc(), &with_parts(4, 0), &rows);
+}
+
+// After an alert that shows a broken condition nothing is known, up to the next initiation; what was counted
+// stands. A value that no report of the session has is such an alert, and so is one that asks for nothing.
+#[test]
+fn a_condition_is_broken(rt: HostRuntime) {
+    use FopMode::{S1, S5, S6};
+    let rows = [
+        (INIT, (S1, 0, 0, 0)),
+        (Ask::Submit(&P0, Ok(())), (S1, 0, 0, 2)),
+        (Ask::Submit(&P1, Ok(())), (S1, 0, 0, 4)),
+        (Ask::Advance, (S1, 1, 0, 4)),
+        (Ask::Advance, (S1, 2, 0, 4)),
+        (report(2), (S1, 2, 2, 2)),
+        (Ask::KnownOnBoard(2, Some(1)), (S1, 2, 2, 2)),
+        (alerts(NONE, 5, Alert::NnR), (S6, 2, 2, 0)),
+        (Ask::Counts([2, 1, 1]), (S6, 2, 2, 0)),
+        (Ask::KnownOnBoard(2, None), (S6, 2, 2, 0)),
+        (Ask::Resume(2, NOT_KNOWN), (S6, 2, 2, 0)),
+        (INIT, (S1, 2, 2, 0)),
+        (Ask::KnownOnBoard(2, Some(0)), (S1, 2, 2, 0)),
+        (alerts(RETRANSMIT, 2, Alert::Synch), (S6, 2, 2, 0)),
+        (Ask::Resume(2, NOT_KNOWN), (S6, 2, 2, 0)),
+        (INIT, (S1, 2, 2, 0)),
+        (alerts(LOCKOUT, 2, Alert::Lockout), (S6, 2, 2, 0)),
+        (Ask::Resume(2, NOT_KNOWN), (S6, 2, 2, 0)),
+        (INIT, (S1, 2, 2, 0)),
+        (alerts(WAIT, 2, Alert::Clcw), (S6, 2, 2, 0)),
+        (Ask::Resume(2, NOT_KNOWN), (S6, 2, 2, 0)),
+        (INIT, (S1, 2, 2, 0)),
+        (TERMINATE, (S6, 2, 2, 0)),
+        (Ask::Resume(2, Ok(0)), (S5, 2, 2, 0)),
+    ];
+    asks(&rt, rt.alloc(), &with_parts(4, 0), &rows);
+}
+
+// One that may be sent once is asked for again: losses alone bring it, and what is on board is known.
+#[test]
+fn the_limit_is_reached(rt: HostRuntime) {
+    use FopMode::{S1, S5, S6};
+    let rows = [
+        (
+            Ask::Directive(Directive::SetLimit(1), Ok(None)),
+            (S6, 0, 0, 0),
+        ),
+        (INIT, (S1, 0, 0, 0)),
+        (Ask::Submit(&P0, Ok(())), (S1, 0, 0, 2)),
+        (Ask::Submit(&P1, Ok(())), (S1, 0, 0, 4)),
+        (Ask::Advance, (S1, 1, 0, 4)),
+        (Ask::Advance, (S1, 2, 0, 4)),
+        (Ask::Advance, (S1, 3, 0, 4)),
+        (alerts(RETRANSMIT, 2, Alert::Limit), (S6, 3, 2, 0)),
+        (Ask::KnownOnBoard(2, Some(1)), (S6, 3, 2, 0)),
+        (Ask::Resume(2, Ok(1)), (S5, 2, 2, 0)),
     ];
     asks(&rt, rt.alloc(), &with_parts(4, 0), &rows);
 }

@@ -67,5 +67,11 @@ returns-clause-window = runs.10
 pub returns-clause-outage : goal.returns-clause-outage
 returns-clause-outage = runs.11
 
+-- and what a program sees
+pub returns-clause-value : goal.returns-clause-value
+unfolding tc.frame_at tc.body_at tc.command_at tc.segment_at tm.frame_at check_of remainder clcw_at records_of rest_of
+    extent_at packet_at groups_of pieces_of
+returns-clause-value c = record { idle = refl; parts = refl; taken = refl }
+
 pub returns-clause-ranges : goal.returns-clause-ranges
 returns-clause-ranges c = (config_is _ refl, config_is _ refl, config_is _ refl)
