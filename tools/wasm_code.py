@@ -594,10 +594,8 @@ class Translation:
             return self.stack.append(number_of(ENOUGH[sign, b.number], I32))
         if POINTER in a.derived | b.derived:
             raise Refused("the stack pointer is compared")
-        # (a program compares one with an end that it has read from memory)
-        is_alone = FRAME in a.derived | b.derived and not a.derived == b.derived == {FRAME}
-        if is_alone and sign not in ("==", "!=") and not self.program.object.is_program:
-            raise Refused(f"an address of the frame is compared by {sign} with what is none")
+        if {FRAME} in (a.derived, b.derived) and sign not in ("==", "!=") and not (a.number is b.number is None):
+            raise Refused(f"an address of the frame is compared by {sign} with a number: {a.text} {sign} {b.text}")
         x, y = self.operands(a, b)
         if sign.endswith("s"):
             half = 2 ** (BITS[kind] - 1)

@@ -157,13 +157,37 @@ static uint32_t extend32(uint32_t x, uint32_t highest)
 
 /* ---- Constants. ---- */
 
+/* Of sedge_alert_advice_at. */
+static const unsigned char constant_1[81] = {
+    97, 32, 99, 111, 110, 100, 105, 116, 105, 111, 110, 32, 105, 115, 32, 98, 114, 111, 107, 101, 110, 32, 40, 114,
+    101, 115, 116, 97, 114, 116, 32, 111, 110, 32, 98, 111, 97, 114, 100, 44, 32, 114, 101, 111, 114, 100, 101, 114,
+    105, 110, 103, 44, 32, 115, 101, 99, 111, 110, 100, 32, 115, 116, 97, 116, 105, 111, 110, 63, 41, 58, 32, 98, 101,
+    103, 105, 110, 32, 97, 110, 101, 119
+};
+
+/* Of sedge_alert_advice_at. */
+static const unsigned char constant_2[85] = {
+    102, 114, 97, 109, 101, 115, 32, 111, 114, 32, 114, 101, 112, 111, 114, 116, 115, 32, 119, 101, 114, 101, 32, 108,
+    111, 115, 116, 58, 32, 97, 102, 116, 101, 114, 32, 111, 110, 101, 32, 114, 111, 117, 110, 100, 32, 116, 114, 105,
+    112, 32, 111, 102, 32, 115, 105, 108, 101, 110, 99, 101, 44, 32, 114, 101, 115, 117, 109, 101, 32, 98, 121, 32,
+    116, 104, 101, 32, 110, 101, 120, 116, 32, 67, 76, 67, 87
+};
+
+/* Of sedge_alert_advice_at. */
+static const unsigned char constant_3[84] = {
+    116, 104, 101, 32, 115, 101, 115, 115, 105, 111, 110, 32, 119, 97, 115, 32, 116, 101, 114, 109, 105, 110, 97, 116,
+    101, 100, 58, 32, 97, 102, 116, 101, 114, 32, 111, 110, 101, 32, 114, 111, 117, 110, 100, 32, 116, 114, 105, 112,
+    32, 111, 102, 32, 115, 105, 108, 101, 110, 99, 101, 44, 32, 114, 101, 115, 117, 109, 101, 32, 98, 121, 32, 116,
+    104, 101, 32, 110, 101, 120, 116, 32, 67, 76, 67, 87
+};
+
 /* Of sedge_alert_name_at. */
-static const unsigned char constant_7[10] = {
+static const unsigned char constant_10[10] = {
     84, 101, 114, 109, 105, 110, 97, 116, 101, 100
 };
 
 /* Of octets_frame_check_check. */
-static const unsigned char constant_8[8192] = {
+static const unsigned char constant_11[8192] = {
     0, 0, 33, 16, 66, 32, 99, 48, 132, 64, 165, 80, 198, 96, 231, 112, 8, 129, 41, 145, 74, 161, 107, 177, 140, 193,
     173, 209, 206, 225, 239, 241, 49, 18, 16, 2, 115, 50, 82, 34, 181, 82, 148, 66, 247, 114, 214, 98, 57, 147, 24,
     131, 123, 179, 90, 163, 189, 211, 156, 195, 255, 243, 222, 227, 98, 36, 67, 52, 32, 4, 1, 20, 230, 100, 199, 116,
@@ -498,32 +522,32 @@ static const unsigned char constant_8[8192] = {
 };
 
 /* Of sedge_map_fault_name_at. */
-static const unsigned char constant_17[6] = {
+static const unsigned char constant_20[6] = {
     77, 101, 109, 111, 114, 121
 };
 
 /* Of sedge_map_fault_name_at. */
-static const unsigned char constant_25[10] = {
+static const unsigned char constant_28[10] = {
     78, 111, 116, 65, 80, 97, 99, 107, 101, 116
 };
 
 /* Of sedge_map_fault_name_at. */
-static const unsigned char constant_26[7] = {
+static const unsigned char constant_29[7] = {
     84, 111, 111, 76, 111, 110, 103
 };
 
 /* Of sedge_packet_fault_name_at. */
-static const unsigned char constant_28[17] = {
+static const unsigned char constant_31[17] = {
     73, 100, 108, 101, 87, 105, 116, 104, 83, 101, 99, 111, 110, 100, 97, 114, 121
 };
 
 /* Of sedge_version_at. */
-static const unsigned char constant_48[5] = {
+static const unsigned char constant_51[5] = {
     48, 46, 51, 46, 48
 };
 
 /* Of sedge_tm_builder_build_at. */
-static const unsigned char constant_55[7] = {
+static const unsigned char constant_58[7] = {
     7, 255, 192, 0, 0, 0, 85
 };
 
@@ -567,7 +591,9 @@ static uint32_t sedgechisel_telemetry_extractor_sedge_tm_extractor_frame(uint64_
     uint64_t p3, uint64_t p4, uint64_t p5, uint64_t p6);
 static void sedgechisel_telemetry_extractor_start(uint64_t p0, uint64_t p1, uint64_t p2, uint64_t p3, uint64_t p4,
     uint64_t p5, uint64_t p6, uint64_t p7, uint64_t p8);
+static void sedge_alert_advice_at(uint64_t result, uint32_t alert);
 static void sedge_alert_name_at(uint64_t result, uint32_t alert);
+static uint32_t sedge_alert_shows_broken_condition_at(uint32_t alert);
 static uint32_t sedge_check_at(uint64_t octets, uint64_t count);
 static uint32_t sedge_check_append_at(uint64_t octets, uint64_t count);
 static uint32_t sedge_check_holds_at(uint64_t octets, uint64_t count);
@@ -640,36 +666,36 @@ static uint32_t octets_frame_check_check(uint64_t p0, uint64_t p1)
         v2 = 255;
         v3 = 255;
         do {
-            t1 = get16(((uint64_t)get8(p0 + 14) << 1) + address(constant_8 + 512)) ^ get16(((uint64_t)get8(p0 + 15) <<
-                1) + address(constant_8));
-            t2 = (t1 ^ get16(((uint64_t)get8(p0 + 13) << 1) + address(constant_8 + 1024))) ^ get16(((uint64_t)get8(p0
-                + 12) << 1) + address(constant_8 + 1536));
-            t3 = (t2 ^ get16(((uint64_t)get8(p0 + 11) << 1) + address(constant_8 + 2048))) ^ get16(((uint64_t)get8(p0
-                + 10) << 1) + address(constant_8 + 2560));
-            t4 = (t3 ^ get16(((uint64_t)get8(p0 + 9) << 1) + address(constant_8 + 3072))) ^ get16(((uint64_t)get8(p0 +
-                8) << 1) + address(constant_8 + 3584));
-            t5 = (t4 ^ get16(((uint64_t)get8(p0 + 7) << 1) + address(constant_8 + 4096))) ^ get16(((uint64_t)get8(p0 +
-                6) << 1) + address(constant_8 + 4608));
-            t6 = (t5 ^ get16(((uint64_t)get8(p0 + 5) << 1) + address(constant_8 + 5120))) ^ get16(((uint64_t)get8(p0 +
-                4) << 1) + address(constant_8 + 5632));
-            t7 = (t6 ^ get16(((uint64_t)get8(p0 + 3) << 1) + address(constant_8 + 6144))) ^ get16(((uint64_t)get8(p0 +
-                2) << 1) + address(constant_8 + 6656));
-            v2 = (t7 ^ get16((((uint64_t)(get8(p0 + 1) ^ v2) & 255) << 1) + address(constant_8 + 7168))) ^
-                get16((((uint64_t)(get8(p0) ^ v3) & 255) << 1) + address(constant_8 + 7680));
+            t1 = get16(((uint64_t)get8(p0 + 14) << 1) + address(constant_11 + 512)) ^ get16(((uint64_t)get8(p0 + 15)
+                << 1) + address(constant_11));
+            t2 = (t1 ^ get16(((uint64_t)get8(p0 + 13) << 1) + address(constant_11 + 1024))) ^ get16(((uint64_t)get8(p0
+                + 12) << 1) + address(constant_11 + 1536));
+            t3 = (t2 ^ get16(((uint64_t)get8(p0 + 11) << 1) + address(constant_11 + 2048))) ^ get16(((uint64_t)get8(p0
+                + 10) << 1) + address(constant_11 + 2560));
+            t4 = (t3 ^ get16(((uint64_t)get8(p0 + 9) << 1) + address(constant_11 + 3072))) ^ get16(((uint64_t)get8(p0
+                + 8) << 1) + address(constant_11 + 3584));
+            t5 = (t4 ^ get16(((uint64_t)get8(p0 + 7) << 1) + address(constant_11 + 4096))) ^ get16(((uint64_t)get8(p0
+                + 6) << 1) + address(constant_11 + 4608));
+            t6 = (t5 ^ get16(((uint64_t)get8(p0 + 5) << 1) + address(constant_11 + 5120))) ^ get16(((uint64_t)get8(p0
+                + 4) << 1) + address(constant_11 + 5632));
+            t7 = (t6 ^ get16(((uint64_t)get8(p0 + 3) << 1) + address(constant_11 + 6144))) ^ get16(((uint64_t)get8(p0
+                + 2) << 1) + address(constant_11 + 6656));
+            v2 = (t7 ^ get16((((uint64_t)(get8(p0 + 1) ^ v2) & 255) << 1) + address(constant_11 + 7168))) ^
+                get16((((uint64_t)(get8(p0) ^ v3) & 255) << 1) + address(constant_11 + 7680));
             v3 = (v2 & 0xff00) >> 8;
             p0 = p0 + 16;
             p1 = p1 - 16;
         } while (p1 >= 16);
     }
     if (p1 >= 8) {
-        t9 = get16(((uint64_t)get8(p0 + 6) << 1) + address(constant_8 + 512)) ^ get16(((uint64_t)get8(p0 + 7) << 1) +
-            address(constant_8));
-        t10 = (t9 ^ get16(((uint64_t)get8(p0 + 5) << 1) + address(constant_8 + 1024))) ^ get16(((uint64_t)get8(p0 + 4)
-            << 1) + address(constant_8 + 1536));
-        t11 = (t10 ^ get16(((uint64_t)get8(p0 + 3) << 1) + address(constant_8 + 2048))) ^ get16(((uint64_t)get8(p0 +
-            2) << 1) + address(constant_8 + 2560));
-        v2 = (t11 ^ get16((((uint64_t)(get8(p0 + 1) ^ v2) & 255) << 1) + address(constant_8 + 3072))) ^
-            get16((((uint64_t)(get8(p0) ^ (v2 >> 8)) & 255) << 1) + address(constant_8 + 3584));
+        t9 = get16(((uint64_t)get8(p0 + 6) << 1) + address(constant_11 + 512)) ^ get16(((uint64_t)get8(p0 + 7) << 1) +
+            address(constant_11));
+        t10 = (t9 ^ get16(((uint64_t)get8(p0 + 5) << 1) + address(constant_11 + 1024))) ^ get16(((uint64_t)get8(p0 +
+            4) << 1) + address(constant_11 + 1536));
+        t11 = (t10 ^ get16(((uint64_t)get8(p0 + 3) << 1) + address(constant_11 + 2048))) ^ get16(((uint64_t)get8(p0 +
+            2) << 1) + address(constant_11 + 2560));
+        v2 = (t11 ^ get16((((uint64_t)(get8(p0 + 1) ^ v2) & 255) << 1) + address(constant_11 + 3072))) ^
+            get16((((uint64_t)(get8(p0) ^ (v2 >> 8)) & 255) << 1) + address(constant_11 + 3584));
         p0 = p0 + 8;
         p1 = p1 - 8;
     }
@@ -681,14 +707,14 @@ static uint32_t octets_frame_check_check(uint64_t p0, uint64_t p1)
         v4 = 0;
         do {
             p1 = p0 + v4;
-            v3 = get16((((uint64_t)(get8(p1) ^ (v2 >> 8)) & 255) << 1) + address(constant_8));
-            v2 = get16((((uint64_t)(get8(p1 + 1) ^ ((v3 ^ (v2 << 8)) >> 8)) & 255) << 1) + address(constant_8)) ^ (v3
+            v3 = get16((((uint64_t)(get8(p1) ^ (v2 >> 8)) & 255) << 1) + address(constant_11));
+            v2 = get16((((uint64_t)(get8(p1 + 1) ^ ((v3 ^ (v2 << 8)) >> 8)) & 255) << 1) + address(constant_11)) ^ (v3
                 << 8);
             v4 = v4 + 2;
         } while (v6 != v4);
         if (v5 == 0) return v2;
     }
-    v2 = get16((((uint64_t)(get8(p0 + v4) ^ (v2 >> 8)) & 255) << 1) + address(constant_8)) ^ (v2 << 8);
+    v2 = get16((((uint64_t)(get8(p0 + v4) ^ (v2 >> 8)) & 255) << 1) + address(constant_11)) ^ (v2 << 8);
     return v2;
 }
 
@@ -1410,6 +1436,52 @@ l2:;
     return;
 }
 
+static void sedge_alert_advice_at(uint64_t result, uint32_t alert)
+{
+    unsigned char frame_octets[320 + 15];
+    uint64_t v2 = 0, v3 = 0, v4 = 0, v5 = 0, v6 = 0;
+    v2 = aligned(frame_octets);
+    v3 = 84;
+    v4 = v2 + 160 + 84;
+    v5 = address(constant_3);
+    switch ((alert & 255) - 1) {
+    case 0:
+    case 1:
+    case 2:
+    case 3:
+        goto l5;
+    case 4:
+    case 5:
+        v4 = v2 + 245;
+        v5 = address(constant_2);
+        v3 = 85;
+        goto l4;
+    case 6:
+        goto l4;
+    default:
+        goto l2;
+    }
+l5:;
+    v4 = v2 + 241;
+    v5 = address(constant_1);
+    v3 = 81;
+l4:;
+    v6 = 160 - v3;
+    if (v6 != 0) fill(v4, 0, v6);
+    if (v3 != 0) copy(v2 + 160, v5, v3);
+    alert = get8(v2 + 160);
+    copy(v2 + 1, v2 + 161, 159);
+    put8(result, alert);
+    copy(result + 1, v2 + 1, 159);
+    return;
+l2:;
+    fill(v2 + 1, 0, 159);
+    alert = 63;
+    put8(result, alert);
+    copy(result + 1, v2 + 1, 159);
+    return;
+}
+
 static void sedge_alert_name_at(uint64_t result, uint32_t alert)
 {
     unsigned char frame_octets[16 + 15];
@@ -1458,8 +1530,8 @@ static void sedge_alert_name_at(uint64_t result, uint32_t alert)
     case 6:
         put16(v2 + 11, 0);
         put64(v2 + 3, 0);
-        put16(v2, get16(address(constant_7 + 7)));
-        put8(v2 + 2, get8(address(constant_7 + 9)));
+        put16(v2, get16(address(constant_10 + 7)));
+        put8(v2 + 2, get8(address(constant_10 + 9)));
         alert = 0x6d726554;
         v3 = 105;
         v4 = 0x616e;
@@ -1482,6 +1554,11 @@ l1:;
     put64(result + 7, get64(v2));
     put64(result + 12, get64(v2 + 5));
     return;
+}
+
+static uint32_t sedge_alert_shows_broken_condition_at(uint32_t alert)
+{
+    return ((alert - 1) & 255) < 4;
 }
 
 static uint32_t sedge_check_at(uint64_t octets, uint64_t count)
@@ -1996,15 +2073,15 @@ static void sedge_map_fault_name_at(uint64_t result, uint32_t fault)
     case 1:
         put64(v2 + 19, 0);
         put64(v2 + 14, 0);
-        put32(v2 + 8, get32(address(constant_26 + 1)));
-        put16(v2 + 12, get16(address(constant_26 + 5)));
+        put32(v2 + 8, get32(address(constant_29 + 1)));
+        put16(v2 + 12, get16(address(constant_29 + 5)));
         fault = 84;
         goto l1;
     case 2:
         put64(v2 + 19, 0);
         put64(v2 + 13, 0);
-        put32(v2 + 8, get32(address(constant_17 + 1)));
-        put8(v2 + 12, get8(address(constant_17 + 5)));
+        put32(v2 + 8, get32(address(constant_20 + 1)));
+        put8(v2 + 12, get8(address(constant_20 + 5)));
         fault = 77;
         goto l1;
     default:
@@ -2017,8 +2094,8 @@ static void sedge_map_fault_name_at(uint64_t result, uint32_t fault)
 l2:;
     put16(v2 + 25, 0);
     put64(v2 + 17, 0);
-    put64(v2 + 8, get64(address(constant_25 + 1)));
-    put8(v2 + 16, get8(address(constant_25 + 9)));
+    put64(v2 + 8, get64(address(constant_28 + 1)));
+    put8(v2 + 16, get8(address(constant_28 + 9)));
     fault = 78;
 l1:;
     put8(result, fault);
@@ -2240,8 +2317,8 @@ static void sedge_packet_fault_name_at(uint64_t result, uint32_t fault)
     case 2:
         put8(v2 + 9, 0);
         put16(v2 + 7, 0);
-        put32(v2, get32(address(constant_28 + 10)));
-        put32(v2 + 3, get32(address(constant_28 + 13)));
+        put32(v2, get32(address(constant_31 + 10)));
+        put32(v2 + 3, get32(address(constant_31 + 13)));
         v3 = 0x656c6449;
         v4 = 0x6957;
         v5 = 116;
@@ -2823,8 +2900,8 @@ static void sedge_version_at(uint64_t result)
     put64(v1 + 17, 0);
     put64(result + 8, get64(v1 + 20));
     put32(result + 16, get32(v1 + 28));
-    put32(v1 + 12, get32(address(constant_48)));
-    put8(v1 + 16, get8(address(constant_48 + 4)));
+    put32(v1 + 12, get32(address(constant_51)));
+    put8(v1 + 16, get8(address(constant_51 + 4)));
     put64(result, get64(v1 + 12));
     return;
 }
@@ -4827,12 +4904,12 @@ l3:;
     v23 = (v20 < v13) ? v20 : v13;
     v21 = v20 - v23;
     v28 = v26 + v23;
-    memory_count = address(constant_55 + 7) - v13;
+    memory_count = address(constant_58 + 7) - v13;
     if ((v26 - memory_count) < v23) {
         ocf = v23 & 3;
         ocf_count = 0;
         if (v23 >= 4) {
-            memory_count = address(constant_55) - v13;
+            memory_count = address(constant_58) - v13;
             room = v23 & 4;
             ocf_count = 0;
             do {
@@ -4841,7 +4918,7 @@ l3:;
             } while (room != ocf_count);
             if (ocf == 0) goto l13;
         }
-        memory_count = ocf_count - v13 + address(constant_55 + 7);
+        memory_count = ocf_count - v13 + address(constant_58 + 7);
         ocf_count = v25 + ocf_count + out + 6;
     l17:;
         put8(ocf_count, get8(memory_count));
@@ -4887,7 +4964,7 @@ l13:;
 l18:;
     memory_count = v28 + v29;
     if (v30 <= 6) {
-        if ((memory_count - address(constant_55)) < v30) {
+        if ((memory_count - address(constant_58)) < v30) {
             ocf = v30 & 3;
             memory = 0;
             if ((v19 - (v29 + v23) - 13) >= 3) {
@@ -4895,13 +4972,13 @@ l18:;
                 ocf_count = out + (v25 + v29 + v23);
                 memory = 0;
                 do {
-                    put32(ocf_count + memory + 6, get32(memory + address(constant_55)));
+                    put32(ocf_count + memory + 6, get32(memory + address(constant_58)));
                     memory = memory + 4;
                 } while (memory_count != memory);
                 if (ocf == 0) goto l23;
             }
             ocf_count = 0 - ocf;
-            memory_count = memory + address(constant_55);
+            memory_count = memory + address(constant_58);
             memory = v25 + memory + v29 + v23 + out + 6;
         l28:;
             put8(memory, get8(memory_count));
@@ -4912,10 +4989,10 @@ l18:;
             goto l23;
         }
         if (v30 == 0) goto l23;
-        copy(memory_count, address(constant_55), v30);
+        copy(memory_count, address(constant_58), v30);
         goto l23;
     }
-    if ((memory_count - address(constant_55)) <= 3) {
+    if ((memory_count - address(constant_58)) <= 3) {
         put32(memory_count, 0xc0ff07);
         goto l29;
     }
@@ -5980,5 +6057,17 @@ struct sedge_text sedge_dropped_name(uint8_t cause)
 {
     struct sedge_text result = {{0}};
     sedge_dropped_name_at(address(&result), cause);
+    return result;
+}
+
+bool sedge_alert_shows_broken_condition(uint8_t alert)
+{
+    return sedge_alert_shows_broken_condition_at(alert) != 0;
+}
+
+struct sedge_advice sedge_alert_advice(uint8_t alert)
+{
+    struct sedge_advice result = {{0}};
+    sedge_alert_advice_at(address(&result), alert);
     return result;
 }

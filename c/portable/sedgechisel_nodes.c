@@ -628,13 +628,13 @@ static const unsigned char constant_30[8192] = {
     143, 24, 16, 112, 52, 216, 121, 48, 93, 152
 };
 
-/* Of nodes_spacecraft_Spacecraft_report. */
+/* Of tm_link_turn_put_next. */
 static const unsigned char constant_33[7] = {
     7, 255, 192, 0, 0, 0, 85
 };
 
 /* Of nodes_config_Config_fault, sedge_config_fault_at. */
-static const unsigned char switch_table_sedge_config_fault_391[120] = {
+static const unsigned char switch_table_sedge_config_fault_395[120] = {
     4, 0, 0, 0, 0, 0, 0, 0, 4, 0, 0, 0, 0, 0, 0, 0, 7, 0, 0, 0, 0, 0, 0, 0, 5, 0, 0, 0, 0, 0, 0, 0, 6, 0, 0, 0, 0, 0,
     0, 0, 5, 0, 0, 0, 0, 0, 0, 0, 5, 0, 0, 0, 0, 0, 0, 0, 4, 0, 0, 0, 0, 0, 0, 0, 10, 0, 0, 0, 0, 0, 0, 0, 4, 0, 0, 0,
     0, 0, 0, 0, 11, 0, 0, 0, 0, 0, 0, 0, 12, 0, 0, 0, 0, 0, 0, 0, 11, 0, 0, 0, 0, 0, 0, 0, 12, 0, 0, 0, 0, 0, 0, 0, 8,
@@ -642,10 +642,20 @@ static const unsigned char switch_table_sedge_config_fault_391[120] = {
 };
 
 /* Of sedge_link_fault_name_at. */
-static const unsigned char switch_table_sedge_link_fault_name[56] = {
+static const unsigned char switch_table_sedge_link_fault_name[10] = {
+    0, 112, 110, 0, 108, 0, 0, 0, 0, 0
+};
+
+/* Of sedge_link_fault_name_at. */
+static const unsigned char switch_table_sedge_link_fault_name_396[10] = {
+    0, 0, 100, 0, 0, 0, 0, 0, 0, 0
+};
+
+/* Of sedge_link_fault_name_at. */
+static const unsigned char switch_table_sedge_link_fault_name_397[80] = {
     78, 111, 116, 79, 112, 101, 110, 0, 67, 108, 111, 115, 101, 100, 77, 97, 78, 111, 116, 67, 111, 109, 109, 97, 84,
-    111, 111, 76, 111, 110, 103, 0, 81, 117, 101, 117, 101, 70, 117, 108, 77, 101, 109, 111, 114, 121, 0, 0, 78, 111,
-    116, 75, 110, 111, 119, 110
+    111, 111, 76, 111, 110, 103, 0, 81, 117, 101, 117, 101, 70, 117, 108, 77, 101, 109, 111, 114, 121, 0, 0, 63, 0, 0,
+    0, 0, 0, 0, 0, 63, 0, 0, 0, 0, 0, 0, 0, 63, 0, 0, 0, 0, 0, 0, 0, 78, 111, 116, 75, 110, 111, 119, 110
 };
 
 /* Of sedge_parameter_name_at. */
@@ -654,19 +664,19 @@ static const unsigned char switch_table_sedge_parameter_name[30] = {
 };
 
 /* Of sedge_parameter_name_at. */
-static const unsigned char switch_table_sedge_parameter_name_392[30] = {
+static const unsigned char switch_table_sedge_parameter_name_398[30] = {
     0, 0, 0, 0, 0, 0, 0, 0, 0, 0, 0, 0, 0, 0, 0, 0, 101, 116, 0, 0, 111, 116, 108, 111, 111, 116, 110, 103, 0, 0
 };
 
 /* Of sedge_parameter_name_at. */
-static const unsigned char switch_table_sedge_parameter_name_393[60] = {
+static const unsigned char switch_table_sedge_parameter_name_399[60] = {
     0, 0, 0, 0, 0, 0, 0, 0, 99, 105, 100, 0, 104, 0, 0, 0, 111, 119, 0, 0, 116, 0, 0, 0, 114, 0, 0, 0, 0, 0, 0, 0,
     112, 97, 99, 107, 0, 0, 0, 0, 121, 95, 115, 108, 115, 115, 95, 115, 101, 95, 115, 108, 101, 95, 108, 101, 107,
     105, 110, 103
 };
 
 /* Of sedge_parameter_name_at. */
-static const unsigned char switch_table_sedge_parameter_name_394[60] = {
+static const unsigned char switch_table_sedge_parameter_name_400[60] = {
     115, 99, 105, 100, 118, 99, 105, 100, 116, 109, 95, 118, 119, 105, 100, 116, 119, 105, 110, 100, 108, 105, 109,
     105, 116, 105, 109, 101, 112, 97, 114, 116, 109, 97, 120, 95, 109, 97, 112, 115, 114, 101, 97, 100, 98, 121, 112,
     97, 113, 117, 101, 117, 102, 114, 97, 109, 98, 108, 111, 99
@@ -732,7 +742,7 @@ static uint32_t std_alloc_vec_Vec_extend_from_slice_672334860c861157(uint64_t p0
 static void map_service_packets_fault_of_one(uint64_t p0, uint32_t p1, uint64_t p2, uint64_t p3);
 static void smallvec_small_vec_SmallVec_push_reserved_ed127ccbaaf726c4(uint64_t p0, uint64_t p1);
 static void nodes_spacecraft_Spacecraft_commit(uint64_t p0, uint64_t p1, uint64_t p2);
-static uint64_t nodes_spacecraft_Spacecraft_report(uint64_t p0, uint64_t p1);
+static void tm_link_turn_put_next(uint64_t p0, uint64_t p1, uint64_t p2, uint32_t p3, uint64_t p4, uint64_t p5);
 static void nodes_spacecraft_Spacecraft_telemetry(uint64_t p0, uint64_t p1, uint64_t p2, uint64_t p3);
 static uint32_t std_alloc_vec_deque_VecDeque_grow_ee377714b7165a56(uint64_t p0);
 static uint32_t std_alloc_vec_Vec_grow_amortized_ee377714b7165a56(uint64_t p0);
@@ -913,7 +923,7 @@ l1:;
     v18 = 0;
     if ((v19 & 1) != 0) {
         v13 = (uint64_t)get8(v16) << 3;
-        v18 = get64(v13 + address(switch_table_sedge_config_fault_391));
+        v18 = get64(v13 + address(switch_table_sedge_config_fault_395));
         v17 = address(switch_table_sedge_config_fault[v13 / 8]);
         v13 = 1;
     }
@@ -2739,6 +2749,8 @@ l4:;
 l25:;
     p2 = p1 + 248;
     put64(p2, v11 - v12 + get64(p2));
+    p2 = p1 + 296;
+    put8(p2, (uint32_t)((v6 & 255) != 1 || (v7 & 255) > 3) & get8(p2));
     nodes_ground_node_Ground_refill(p1);
     v4 = 0;
     v5 = 0;
@@ -3141,63 +3153,72 @@ l1:;
 static void nodes_ground_node_Ground_resume(uint64_t p0, uint64_t p1, uint32_t p2)
 {
     unsigned char frame_octets[16 + 15];
-    uint32_t v4 = 0, v5 = 0, v7 = 0, v8 = 0;
-    uint64_t v3 = 0, v6 = 0, v9 = 0, v10 = 0, v11 = 0, v12 = 0, v13 = 0, v14 = 0, v15 = 0, v16 = 0, v17 = 0;
+    uint32_t v4 = 0, v6 = 0, v8 = 0, v9 = 0, t1;
+    uint64_t v3 = 0, v5 = 0, v7 = 0, v10 = 0, v11 = 0, v12 = 0, v13 = 0, v14 = 0, v15 = 0, v16 = 0, v17 = 0;
     v3 = aligned(frame_octets);
-    v4 = get8(p1 + 75);
-    v5 = get8(p1 + 73);
+    v4 = get8(p1 + 73);
     put32(v3 + 8, 5);
-    v6 = 0;
-    v7 = 6;
-    v8 = 1;
-    if (v5 == 5) {
-        v8 = 1;
-        if (get8(p1 + 296) == 1) {
-            v5 = p2 - v4;
-            if (((get8(p1 + 74) - v4) & 255) >= (v5 & 255)) {
-                v9 = get64(p1 + 248);
-                v10 = get64(p1 + 264);
-                if (v10 == 0) {
-                    v6 = 0;
-                    goto l2;
-                }
-                v11 = (uint64_t)v5 & 255;
-                v6 = get64(p1 + 288);
-                v12 = v6 - v10;
-                v13 = v10 - v6;
-                v14 = get64(p1 + 256);
-                v6 = 0;
-                v15 = p1 + 280;
-                do {
-                    if (v6 < v13) {
-                        v16 = v14 + (get64(v15) << 3);
-                        v17 = v6;
-                        goto l5;
-                    }
-                    v17 = v12 + v6;
-                    v16 = v14;
-                l5:;
-                    v16 = get64(v16 + (v17 << 3));
-                    v16 = (v16 > 1) ? v16 : 1ULL;
-                    if (v11 < v16) goto l2;
-                    v11 = v11 - v16;
-                    v6 = v6 + 1;
-                } while (v10 != v6);
-                v6 = v10;
-            l2:;
-                put8(v3 + 9, p2);
-                nodes_ground_node_Ground_directive(v3 + 13, p1, v3 + 8);
-                put8(v3 + 8, 2);
-                nodes_ground_node_Ground_directive(v3 + 13, p1, v3 + 8);
-                v6 = v6 + v9;
-                v8 = 0;
-                v7 = 0;
-            }
-        }
+    v5 = 0;
+    v6 = 6;
+    if (v4 != 5) {
+        v4 = 1;
+        goto l1;
     }
-    put8(p0, v8);
-    put64(p0 + 8, v6);
-    put8(p0 + 1, v7);
+    v4 = 1;
+    if (get8(p1 + 296) == 1) {
+        v5 = 0;
+        v7 = 0;
+        v8 = get8(p1 + 74);
+        v9 = get8(p1 + 75);
+        if (v8 != v9) {
+            t1 = (v8 - v9) & 255;
+            v9 = p2 - v9;
+            v8 = t1 < (v9 & 255);
+            if (v8 != 0) goto l3;
+            v7 = (uint64_t)((v8 != 0) ? 0U : v9) & 255;
+        }
+        v10 = get64(p1 + 248);
+        v11 = get64(p1 + 264);
+        if (v11 != 0) {
+            v5 = get64(p1 + 288);
+            v12 = v5 - v11;
+            v13 = v11 - v5;
+            v14 = get64(p1 + 256);
+            v5 = 0;
+            v15 = p1 + 280;
+            do {
+                if (v5 < v13) {
+                    v16 = v14 + (get64(v15) << 3);
+                    v17 = v5;
+                    goto l7;
+                }
+                v17 = v12 + v5;
+                v16 = v14;
+            l7:;
+                v16 = get64(v16 + (v17 << 3));
+                v16 = (v16 > 1) ? v16 : 1ULL;
+                if (v7 < v16) goto l5;
+                v7 = v7 - v16;
+                v5 = v5 + 1;
+            } while (v11 != v5);
+            v5 = v11;
+        }
+    l5:;
+        put8(v3 + 9, p2);
+        nodes_ground_node_Ground_directive(v3 + 13, p1, v3 + 8);
+        put8(v3 + 8, 2);
+        nodes_ground_node_Ground_directive(v3 + 13, p1, v3 + 8);
+        v5 = v5 + v10;
+        v4 = 0;
+        v6 = 0;
+        goto l1;
+    l3:;
+        v5 = 0;
+    }
+l1:;
+    put8(p0, v4);
+    put64(p0 + 8, v5);
+    put8(p0 + 1, v6);
     return;
 }
 
@@ -7531,225 +7552,159 @@ l24:;
     return;
 }
 
-static uint64_t nodes_spacecraft_Spacecraft_report(uint64_t p0, uint64_t p1)
+static void tm_link_turn_put_next(uint64_t p0, uint64_t p1, uint64_t p2, uint32_t p3, uint64_t p4, uint64_t p5)
 {
-    uint32_t v2 = 0, v3 = 0, v7 = 0, v8 = 0, v9 = 0, v14 = 0, t1;
-    uint64_t v4 = 0, v5 = 0, v6 = 0, v10 = 0, v11 = 0, v12 = 0, v13 = 0, v15 = 0, v16 = 0, v17 = 0, v18 = 0, v19 = 0,
-        v20 = 0, v21 = 0, v22 = 0, v23 = 0, v24 = 0, v25 = 0;
-    v2 = get32(p0 + 4);
-    if ((v2 & 192) != 0) UNREACHABLE;
-    v3 = get8(p0 + 77);
-    if ((v3 & 255) > 3) UNREACHABLE;
-    t1 = ((((((get8(p0 + 75) << 4) | (v3 << 1)) | (get8(p0 + 74) << 5)) | (get8(p0 + 76) << 3)) & 254) << 16) | ((v2
-        << 10) & 0xfc00);
-    v2 = (t1 | (get8(p0 + 73) << 24)) | 1;
-    v4 = p1 + 6;
-    v5 = get64(p0 + 0x8d8);
-    v6 = v5 - 12;
-    v3 = get8(p0 + 0x8e1);
-    v7 = get8(p0 + 0x8e0);
-    v8 = get8(p0 + 0x8d2);
-    v9 = get16(p0 + 0x8d0);
-    v10 = get64(p0 + 0x908);
-    v11 = get64(p0 + 0x8f8) - v10;
-    v12 = get64(p0 + 0x8e8);
-    if ((v11 | v12) == 0) {
-        if (v6 != 0) {
-            v13 = v5 - 13;
-            v14 = v13 == 0;
-            if (v14 == 0) {
-                if (v14 == 0) fill(v4, 85, v13);
-            }
-            put8(v4 + v13, 85);
+    uint32_t v9 = 0, v10 = 0, v12 = 0, v20 = 0;
+    uint64_t v6 = 0, v7 = 0, v8 = 0, v11 = 0, v13 = 0, v14 = 0, v15 = 0, v16 = 0, v17 = 0, v18 = 0, v19 = 0;
+    v6 = p5 - 12;
+    v7 = p4 + 6;
+    v8 = get64(p0 + 8);
+    if ((v8 | p2) == 0) {
+        v9 = 2;
+        v10 = 0;
+        if (v6 == 0) goto l1;
+        v11 = p5 - 13;
+        v12 = v11 == 0;
+        if (v12 == 0) {
+            if (v12 == 0) fill(v7, 85, v11);
         }
-        put8(p1 + 3, v3);
-        put8(p1 + 2, v7);
-        v3 = ((v8 & 255) << 1) + (v9 << 4);
-        put16(p1, ((v3 << 8) | ((v3 & 0xff00) >> 8)) | 256);
-        v3 = 0xfe1f;
-        goto l2;
+        put8(v7 + v11, 85);
+        goto l1;
     }
-    v15 = get64(p0 + 0x8f0);
-    v16 = v15 + v10;
-    v17 = (uint64_t)get32(p0 + 0x910);
-    v18 = (v6 < v12) ? v6 : v12;
-    v19 = v6 - v18;
-    v20 = v4 + v18;
-    v13 = address(constant_33 + 7) - v12;
-    if ((v4 - v13) < v18) {
-        v21 = v18 & 3;
-        v22 = 0;
-        if (v18 >= 4) {
-            v13 = address(constant_33) - v12;
-            v23 = v18 & ~3ULL;
-            v22 = 0;
+    v13 = (v6 < v8) ? v6 : v8;
+    v14 = v6 - v13;
+    v15 = v7 + v13;
+    v11 = address(constant_33 + 7) - v8;
+    if ((v7 - v11) < v13) {
+        v16 = v13 & 3;
+        v17 = 0;
+        if (v13 >= 4) {
+            v11 = address(constant_33) - v8;
+            v18 = v13 & ~3ULL;
+            v17 = 0;
             do {
-                put32(p1 + v22 + 6, get32(v13 + v22 + 7));
-                v22 = v22 + 4;
-            } while (v23 != v22);
-            if (v21 == 0) goto l6;
+                put32(p4 + v17 + 6, get32(v11 + v17 + 7));
+                v17 = v17 + 4;
+            } while (v18 != v17);
+            if (v16 == 0) goto l4;
         }
-        v13 = v22 + p1 + 6;
-        v22 = v22 - v12 + address(constant_33 + 7);
-    l10:;
-        put8(v13, get8(v22));
-        v13 = v13 + 1;
-        v22 = v22 + 1;
-        v21 = v21 - 1;
-        if (v21 != 0) goto l10;
-        goto l6;
+        v11 = v17 + p4 + 6;
+        v17 = v17 - v8 + address(constant_33 + 7);
+    l8:;
+        put8(v11, get8(v17));
+        v11 = v11 + 1;
+        v17 = v17 + 1;
+        v16 = v16 - 1;
+        if (v16 != 0) goto l8;
+        goto l4;
     }
-    if (v18 != 0) copy(v4, v13, v18);
-l6:;
-    v24 = (v19 < v11) ? v19 : v11;
-    v25 = v19 - v24;
-    if ((v20 - v16) < v24) {
-        v23 = v24 & 3;
-        v22 = 0;
-        if (v24 >= 4) {
-            v19 = p1 + v18;
-            v11 = v24 & ~3ULL;
-            v22 = 0;
+    if (v13 != 0) copy(v7, v11, v13);
+l4:;
+    v19 = (v14 < p2) ? v14 : p2;
+    v14 = v14 - v19;
+    if ((v15 - p1) < v19) {
+        v18 = v19 & 3;
+        v17 = 0;
+        if (v19 >= 4) {
+            v8 = p4 + v13;
+            p2 = v19 & ~3ULL;
+            v17 = 0;
             do {
-                v13 = v19 + v22;
-                v21 = v16 + v22;
-                put8(v13 + 6, get8(v21));
-                put8(v13 + 7, get8(v21 + 1));
-                put8(v13 + 8, get8(v21 + 2));
-                put8(v13 + 9, get8(v21 + 3));
-                v22 = v22 + 4;
-            } while (v11 != v22);
-            if (v23 == 0) goto l11;
+                v11 = v8 + v17;
+                v16 = p1 + v17;
+                put8(v11 + 6, get8(v16));
+                put8(v11 + 7, get8(v16 + 1));
+                put8(v11 + 8, get8(v16 + 2));
+                put8(v11 + 9, get8(v16 + 3));
+                v17 = v17 + 4;
+            } while (p2 != v17);
+            if (v18 == 0) goto l9;
         }
-        v13 = v15 + (v22 + v10);
-        v22 = v22 + v18 + p1 + 6;
-    l15:;
-        put8(v22, get8(v13));
-        v22 = v22 + 1;
-        v13 = v13 + 1;
-        v23 = v23 - 1;
-        if (v23 != 0) goto l15;
-        goto l11;
+        v11 = p1 + v17;
+        v17 = v17 + v13 + p4 + 6;
+    l13:;
+        put8(v17, get8(v11));
+        v17 = v17 + 1;
+        v11 = v11 + 1;
+        v18 = v18 - 1;
+        if (v18 != 0) goto l13;
+        goto l9;
     }
-    if (v24 != 0) copy(v20, v16, v24);
-l11:;
-    v13 = v20 + v24;
-    if (v25 <= 6) {
-        if ((v13 - address(constant_33)) < v25) {
-            v23 = v25 & 3;
-            v13 = 0;
-            v16 = v24 + v18;
-            if ((v5 - v16 - 13) >= 3) {
-                v22 = p1 + v16;
-                v21 = v25 & 4;
-                v13 = 0;
+    if (v19 != 0) copy(v15, p1, v19);
+l9:;
+    v11 = v15 + v19;
+    if (v14 <= 6) {
+        if ((v11 - address(constant_33)) < v14) {
+            v18 = v14 & 3;
+            v11 = 0;
+            p1 = v19 + v13;
+            if ((p5 - p1 - 13) >= 3) {
+                v17 = p4 + p1;
+                v16 = v14 & 4;
+                v11 = 0;
                 do {
-                    put32(v22 + v13 + 6, get32(v13 + address(constant_33)));
-                    v13 = v13 + 4;
-                } while (v21 != v13);
-                if (v23 == 0) goto l16;
+                    put32(v17 + v11 + 6, get32(v11 + address(constant_33)));
+                    v11 = v11 + 4;
+                } while (v16 != v11);
+                if (v18 == 0) goto l14;
             }
-            v22 = 0 - v23;
-            v21 = p1 + v16;
-        l21:;
-            put8(v21 + v13 + 6, get8(v13 + address(constant_33)));
-            v13 = v13 + 1;
-            v22 = v22 + 1;
-            if (v22 != 0) goto l21;
-            goto l16;
+            v17 = 0 - v18;
+            v16 = p4 + p1;
+        l19:;
+            put8(v16 + v11 + 6, get8(v11 + address(constant_33)));
+            v11 = v11 + 1;
+            v17 = v17 + 1;
+            if (v17 != 0) goto l19;
+            goto l14;
         }
-        if (v25 == 0) goto l16;
-        copy(v13, address(constant_33), v25);
-        goto l16;
+        if (v14 == 0) goto l14;
+        copy(v11, address(constant_33), v14);
+        goto l14;
     }
-    if ((v13 - address(constant_33)) <= 3) {
-        put32(v13, 0xc0ff07);
-        goto l22;
+    if ((v11 - address(constant_33)) <= 3) {
+        put32(v11, 0xc0ff07);
+        goto l20;
     }
-    put32(v13, 0xc0ff07);
-l22:;
-    v22 = v13 + 6;
-    v14 = (uint32_t)v25 - 7;
-    put16(v13 + 4, (v14 << 8) | ((v14 & 0xff00) >> 8));
-    v13 = v25 - 7;
-    v14 = v13 == 0;
-    if (v14 == 0) {
-        if (v14 == 0) fill(v22, 85, v13);
+    put32(v11, 0xc0ff07);
+l20:;
+    v17 = v11 + 6;
+    v10 = (uint32_t)v14 - 7;
+    put16(v11 + 4, (v10 << 8) | ((v10 & 0xff00) >> 8));
+    v11 = v14 - 7;
+    v10 = v11 == 0;
+    if (v10 == 0) {
+        if (v10 == 0) fill(v17, 85, v11);
     }
-    put8(v22 + v13, 85);
-l16:;
-    put8(p1 + 3, v3);
-    put8(p1 + 2, v7);
-    v3 = ((v8 & 255) << 1) + (v9 << 4);
-    put16(p1, ((v3 << 8) | ((v3 & 0xff00) >> 8)) | 256);
-    v13 = v12 + v17;
-    v3 = (uint32_t)v13 + 0x1800;
-    v3 = (v13 < v6) ? ((v3 << 8) | ((v3 & 0xff00) >> 8)) : ~224U;
-l2:;
-    put16(p1 + 4, v3);
-    put32(v4 + v6, v2);
-    v13 = v5 - 2;
-    v2 = octets_frame_check_check(p1, v13);
-    put16(p1 + v13, (v2 << 8) | ((v2 & 0xff00) >> 8));
-    v6 = get64(p0 + 0x8d8);
-    v13 = get64(p0 + 0x908);
-    v22 = get64(p0 + 0x8f8);
-    v21 = get64(p0 + 0x8e8);
-    if (v21 == 0) {
-        if (v22 == v13) goto l25;
+    put8(v17 + v11, 85);
+l14:;
+    v11 = get64(p0 + 16) + get64(p0 + 8);
+    v9 = v11 >= v6;
+    v10 = (v9 != 0) ? 0U : (uint32_t)v11;
+l1:;
+    v12 = get8(p0 + 2);
+    v20 = get16(p0);
+    put16(p4 + 2, get16(p0 + 3));
+    v12 = (v12 << 1) + (v20 << 4);
+    put16(p4, ((v12 << 8) | ((v12 & 0xff00) >> 8)) | 256);
+    switch (v9) {
+    case 1:
+        v10 = 0x7ff;
+        goto l23;
+    case 2:
+        goto l24;
+    default:
+        goto l23;
     }
-    v23 = v22 - v13;
-    v22 = v6 - 12;
-    v16 = (v22 < v21) ? v22 : v21;
-    v22 = v22 - v16;
-    p1 = (v23 < v22) ? v23 : v22;
-    if (v22 <= v23) {
-        v21 = v21 - v16;
-        goto l27;
-    }
-    v21 = v22 - v23;
-    v21 = (v21 < 7) ? (v21 ^ 7) : 0ULL;
-l27:;
-    put64(p0 + 0x908, p1 + v13);
-    put64(p0 + 0x8e8, v21);
-    v2 = get32(p0 + 0x910);
-    v23 = (uint64_t)v2;
-    if (v22 > v23) {
-        v19 = p0 + 0x920;
-        v13 = get64(v19);
-        p1 = p0 + 0x938;
-        v16 = p0 + 0x930;
-        v11 = p0 + 0x918;
-        do {
-            if (v13 == 0) {
-                v2 = 0;
-                goto l29;
-            }
-            if (v13 != get64(p1)) {
-                v21 = get64(v16);
-                goto l33;
-            }
-            v21 = 0;
-            put64(p1, 0);
-        l33:;
-            v13 = v13 - 1;
-            put64(v19, v13);
-            put64(v16, v21 + 1);
-            v22 = v22 - v23;
-            v2 = get32(get64(v11) + (v21 << 2));
-            v21 = (uint64_t)v2;
-            v23 = v21;
-        } while (v22 > v21);
-    }
-    v2 = v2 - (uint32_t)v22;
-l29:;
-    put32(p0 + 0x910, v2);
-l25:;
-    v13 = p0 + 0x8e0;
-    put8(v13, get8(v13) + 1);
-    v13 = p0 + 0x8e1;
-    put8(v13, get8(v13) + 1);
-    return v6;
+l24:;
+    v10 = 0x7fe;
+l23:;
+    v10 = v10 + 0x1800;
+    put16(p4 + 4, (v10 << 8) | ((v10 & 0xff00) >> 8));
+    put32(v7 + v6, p3);
+    v11 = p5 - 2;
+    v10 = octets_frame_check_check(p4, v11);
+    put16(p4 + v11, (v10 << 8) | ((v10 & 0xff00) >> 8));
+    return;
 }
 
 static void nodes_spacecraft_Spacecraft_telemetry(uint64_t p0, uint64_t p1, uint64_t p2, uint64_t p3)
@@ -8129,115 +8084,121 @@ l2:;
 static uint32_t sedgechisel_nodes_spacecraft_take_taken(uint64_t p0, uint32_t p1, uint64_t p2, uint64_t p3, uint64_t
     p4, uint64_t p5)
 {
-    unsigned char frame_octets[2368 + 15];
-    uint32_t v8 = 0;
-    uint64_t v6 = 0, v7 = 0, v9 = 0, v10 = 0, v11 = 0, v12 = 0, v13 = 0, v14 = 0, t1;
-    v6 = aligned(frame_octets);
-    v7 = get64(p0);
+    uint32_t v9 = 0;
+    uint64_t v6 = 0, v7 = 0, v8 = 0, v10 = 0, v11 = 0, v12 = 0, v13 = 0, t1;
+    v6 = get64(p0);
     put64(p0, 0);
-    if (v7 == 0) {
-        v8 = 255;
-        return v8;
-    }
-    if (p1 != 0) {
-        if (get64(v7 + 0x8c0) == 0) goto l5;
-        v9 = get64(v7 + 0x8c8);
-        v10 = get64(v7 + 0x8b8);
-        v9 = get64(v7 + 0x8b0) + ((v9 - ((v9 < v10) ? 0ULL : v10)) << 5);
-        goto l6;
-    }
-    v10 = get64(v7 + 0x890);
-    if (v10 == 0) goto l5;
-    v9 = get64(v7 + 0x888);
-    if (v10 != get64(v7 + 0x8a8)) v9 = v9 + (get64(v7 + 0x8a0) << 5);
-l6:;
-    v8 = 252;
-    v11 = get64(v9 + 16);
-    if (p4 < v11) goto l3;
-    v8 = get8(v9);
-    v12 = get64(v9 + 8);
-    if ((p3 - v12) < v11) {
-        v13 = v11 & 3;
-        v9 = 0;
-        if (v11 >= 4) {
-            v14 = v11 & ~3ULL;
-            v9 = 0;
-            do {
-                p4 = p3 + v9;
-                v10 = v12 + v9;
-                put8(p4, get8(v10));
-                put8(p4 + 1, get8(v10 + 1));
-                put8(p4 + 2, get8(v10 + 2));
-                put8(p4 + 3, get8(v10 + 3));
-                v9 = v9 + 4;
-            } while (v14 != v9);
-            if (v13 == 0) goto l8;
+    if (v6 != 0) {
+        if (p1 != 0) {
+            if (get64(v6 + 0x8c0) == 0) goto l4;
+            v7 = get64(v6 + 0x8c8);
+            v8 = get64(v6 + 0x8b8);
+            v7 = get64(v6 + 0x8b0) + ((v7 - ((v7 < v8) ? 0ULL : v8)) << 5);
+            goto l5;
         }
-        p4 = p3 + v9;
-        v9 = v12 + v9;
-    l12:;
-        put8(p4, get8(v9));
-        p4 = p4 + 1;
-        v9 = v9 + 1;
-        v13 = v13 - 1;
-        if (v13 != 0) goto l12;
-        goto l8;
-    }
-    if (v11 != 0) copy(p3, v12, v11);
-l8:;
-    put64(p5, v11);
-    put8(p2, v8);
-    goto l4;
-l5:;
-    put64(p5, 0);
-l4:;
-    if (p1 != 0) {
-        v8 = 0;
-        p4 = v7 + 0x8c0;
-        v9 = get64(p4);
-        if (v9 == 0) goto l3;
-        put64(p4, v9 - 1);
-        p4 = v7 + 0x8c8;
-        t1 = p4;
-        p4 = get64(p4);
-        v9 = p4 + 1;
-        v10 = get64(v7 + 0x8b8);
-        put64(t1, v9 - ((v9 < v10) ? 0ULL : v10));
-        p4 = get64(v7 + 0x8b0) + (p4 << 5);
-        if (get64(p4 + 24) == 0) goto l3;
+        v8 = get64(v6 + 0x890);
+        if (v8 == 0) goto l4;
+        v7 = get64(v6 + 0x888);
+        if (v8 != get64(v6 + 0x8a8)) v7 = v7 + (get64(v6 + 0x8a0) << 5);
+    l5:;
+        v9 = 252;
+        v10 = get64(v7 + 16);
+        if (p4 < v10) {
+            put64(p0, v6);
+            return v9;
+        }
+        v9 = get8(v7);
+        v11 = get64(v7 + 8);
+        if ((p3 - v11) < v10) {
+            v12 = v10 & 3;
+            v7 = 0;
+            if (v10 >= 4) {
+                v13 = v10 & ~3ULL;
+                v7 = 0;
+                do {
+                    p4 = p3 + v7;
+                    v8 = v11 + v7;
+                    put8(p4, get8(v8));
+                    put8(p4 + 1, get8(v8 + 1));
+                    put8(p4 + 2, get8(v8 + 2));
+                    put8(p4 + 3, get8(v8 + 3));
+                    v7 = v7 + 4;
+                } while (v13 != v7);
+                if (v12 == 0) goto l7;
+            }
+            p4 = p3 + v7;
+            v7 = v11 + v7;
+        l11:;
+            put8(p4, get8(v7));
+            p4 = p4 + 1;
+            v7 = v7 + 1;
+            v12 = v12 - 1;
+            if (v12 != 0) goto l11;
+            goto l7;
+        }
+        if (v10 != 0) copy(p3, v11, v10);
+    l7:;
+        put64(p5, v10);
+        put8(p2, v9);
+        goto l3;
+    l4:;
+        put64(p5, 0);
+    l3:;
+        if (p1 != 0) {
+            v9 = 0;
+            p4 = v6 + 0x8c0;
+            v7 = get64(p4);
+            if (v7 == 0) {
+                put64(p0, v6);
+                return v9;
+            }
+            put64(p4, v7 - 1);
+            p4 = v6 + 0x8c8;
+            t1 = p4;
+            p4 = get64(p4);
+            v7 = p4 + 1;
+            v8 = get64(v6 + 0x8b8);
+            put64(t1, v7 - ((v7 < v8) ? 0ULL : v8));
+            p4 = get64(v6 + 0x8b0) + (p4 << 5);
+            if (get64(p4 + 24) == 0) {
+                put64(p0, v6);
+                return v9;
+            }
+            p4 = get64(p4 + 8);
+            goto l12;
+        }
+        v9 = 0;
+        p4 = get64(v6 + 0x890);
+        if (p4 == 0) {
+            put64(p0, v6);
+            return v9;
+        }
+        v8 = v6 + 0x8a8;
+        if (get64(v8) != p4) {
+            v7 = get64(v6 + 0x8a0);
+            goto l14;
+        }
+        v7 = 0;
+        put64(v8, 0);
+    l14:;
+        v8 = p4 - 1;
+        put64(v6 + 0x890, v8);
+        put64(v6 + 0x8a0, v7 + 1);
+        p4 = get64(v6 + 0x888) + (v7 << 5);
+        v7 = get64(p4 + 24);
         p4 = get64(p4 + 8);
-        goto l13;
+        if (v8 < (uint64_t)get32(v6 + 48)) put8(v6 + 75, 0);
+        if (v7 == 0) {
+            put64(p0, v6);
+            return v9;
+        }
+    l12:;
+        rattle_dealloc_at(p4);
+        v9 = 0;
+        put64(p0, v6);
+        return v9;
     }
-    v8 = 0;
-    p4 = get64(v7 + 0x890);
-    if (p4 == 0) goto l3;
-    v10 = v7 + 0x8a8;
-    if (get64(v10) != p4) {
-        v9 = get64(v7 + 0x8a0);
-        goto l15;
-    }
-    v9 = 0;
-    put64(v10, 0);
-l15:;
-    v10 = p4 - 1;
-    put64(v7 + 0x890, v10);
-    put64(v7 + 0x8a0, v9 + 1);
-    p4 = get64(v7 + 0x888) + (v9 << 5);
-    v9 = get64(p4 + 24);
-    p4 = get64(p4 + 8);
-    if (v10 < (uint64_t)get32(v7 + 48)) put8(v7 + 75, 0);
-    if (v9 == 0) goto l3;
-l13:;
-    rattle_dealloc_at(p4);
-    v8 = 0;
-l3:;
-    p4 = get64(p0);
-    put64(p0, v7);
-    if (p4 == 0) return v8;
-    copy(v6, p4, 0x940);
-    rattle_dealloc_at(p4);
-    sedgechisel_nodes_nodes_spacecraft_Spacecraft_Destruct_drop(v6);
-    return v8;
+    return 255;
 }
 
 static void sedge_config_default_at(uint64_t config)
@@ -8274,7 +8235,7 @@ static uint32_t sedge_config_fault_at(uint64_t config)
     do {
         v4 = get8(config + address(constant_0 + 15));
         v5 = ((uint64_t)v4 & 255) << 3;
-        if (v2 == get64(v5 + address(switch_table_sedge_config_fault_391))) {
+        if (v2 == get64(v5 + address(switch_table_sedge_config_fault_395))) {
             v5 = address(switch_table_sedge_config_fault[v5 / 8]);
             if (get8(v3) == get8(v5)) {
                 if ((get8(v3 + 1) & 255) == (get8(v5 + 1) & 255)) {
@@ -8342,7 +8303,7 @@ static uint64_t sedge_link_fault_name_at(uint64_t result, uint32_t number)
 {
     unsigned char frame_octets[16 + 15];
     uint32_t v2 = 0, v5 = 0;
-    uint64_t v3 = 0, v4 = 0, v6 = 0;
+    uint64_t v3 = 0, v4 = 0;
     v2 = 0;
     v3 = aligned(frame_octets);
     put16(v3 + 8, 0);
@@ -8350,11 +8311,11 @@ static uint64_t sedge_link_fault_name_at(uint64_t result, uint32_t number)
     v4 = 63;
     v5 = 0;
     number = number - 1;
-    if ((number & 255) <= 6) {
-        v4 = get64((((uint64_t)number & 255) << 3) + address(switch_table_sedge_link_fault_name));
-        v6 = (uint64_t)(number << 3) & 248;
-        v5 = (uint32_t)(0x640000ULL >> (v6 & 63));
-        v2 = (uint32_t)(0x6c006e7000ULL >> (v6 & 63));
+    if ((number & 255) <= 9) {
+        v4 = (uint64_t)number & 255;
+        v5 = get8(v4 + address(switch_table_sedge_link_fault_name_396));
+        v2 = get8(v4 + address(switch_table_sedge_link_fault_name));
+        v4 = get64((v4 << 3) + address(switch_table_sedge_link_fault_name_397));
     }
     put8(result + 9, v5);
     put8(result + 8, v2);
@@ -8378,10 +8339,10 @@ static uint64_t sedge_parameter_name_at(uint64_t result, uint32_t number)
     }
     v5 = (uint64_t)number & 255;
     v6 = v5 << 2;
-    number = get32(v6 + address(switch_table_sedge_parameter_name_394));
-    v4 = get32(v6 + address(switch_table_sedge_parameter_name_393));
+    number = get32(v6 + address(switch_table_sedge_parameter_name_400));
+    v4 = get32(v6 + address(switch_table_sedge_parameter_name_399));
     v5 = v5 << 1;
-    v3 = get16(v5 + address(switch_table_sedge_parameter_name_392));
+    v3 = get16(v5 + address(switch_table_sedge_parameter_name_398));
     v2 = get16(v5 + address(switch_table_sedge_parameter_name));
 l1:;
     put64(result + 12, 0);
@@ -9466,31 +9427,20 @@ static uint32_t sedge_spacecraft_open_kept_at(uint64_t config, uint64_t kept, ui
 
 static uint32_t sedge_ground_advance_at(uint64_t ground)
 {
-    unsigned char frame_octets[400 + 15];
-    uint32_t v3 = 0;
-    uint64_t v1 = 0, v2 = 0, v4 = 0;
-    v1 = aligned(frame_octets);
-    v2 = get64(ground);
+    uint64_t v1 = 0;
+    v1 = get64(ground);
     put64(ground, 0);
-    if (v2 == 0) {
-        v3 = 255;
-        return v3;
+    if (v1 != 0) {
+        nodes_ground_node_Ground_advance(v1);
+        put64(ground, v1);
+        return 0;
     }
-    nodes_ground_node_Ground_advance(v2);
-    v4 = get64(ground);
-    put64(ground, v2);
-    v3 = 0;
-    if (v4 == 0) return v3;
-    copy(v1, v4, 400);
-    rattle_dealloc_at(v4);
-    sedgechisel_nodes_nodes_ground_node_Ground_Destruct_drop(v1);
-    return v3;
+    return 255;
 }
 
 static uint32_t sedge_ground_bypass_at(uint64_t ground, uint32_t map, uint64_t octets, uint64_t count)
 {
-    unsigned char frame_octets[416 + 15];
-    uint32_t v6 = 0;
+    unsigned char frame_octets[16 + 15];
     uint64_t v4 = 0, v5 = 0;
     v4 = aligned(frame_octets);
     v5 = get64(ground);
@@ -9500,21 +9450,16 @@ static uint32_t sedge_ground_bypass_at(uint64_t ground, uint32_t map, uint64_t o
         return map;
     }
     nodes_ground_node_Ground_bypass(v4 + 8, v5, map, some(octets), count);
-    octets = get64(ground);
-    map = get8(v4 + 9);
-    v6 = get8(v4 + 8);
+    octets = (uint64_t)get8(v4 + 9);
+    map = get8(v4 + 8);
     put64(ground, v5);
-    map = ((v6 & 1) != 0) ? (map + 1) : 0U;
-    if (octets == 0) return map;
-    copy(v4 + 16, octets, 400);
-    rattle_dealloc_at(octets);
-    sedgechisel_nodes_nodes_ground_node_Ground_Destruct_drop(v4 + 16);
+    map = ((map & 1) != 0) ? (uint32_t)(0xa060504030201ULL >> ((octets << 3) & 63)) : 0U;
     return map;
 }
 
 static uint32_t sedge_ground_clcw_at(uint64_t ground, uint64_t octets, uint64_t count, uint64_t heard)
 {
-    unsigned char frame_octets[416 + 15];
+    unsigned char frame_octets[16 + 15];
     uint32_t v6 = 0, v7 = 0, v8 = 0, v9 = 0, v10 = 0;
     uint64_t v4 = 0, v5 = 0;
     v4 = aligned(frame_octets);
@@ -9524,65 +9469,58 @@ static uint32_t sedge_ground_clcw_at(uint64_t ground, uint64_t octets, uint64_t 
         v6 = 255;
         return v6;
     }
-    if (count != 4) {
-        put64(ground, v5);
-        v6 = 253;
-        return v6;
+    v6 = 253;
+    if (count == 4) {
+        octets = some(octets);
+        v7 = get8(octets + 3);
+        v8 = get8(octets + 2);
+        v9 = get8(octets + 1);
+        v6 = extend32(get8(octets), 0x80);
+        put32(v4 + 12, 0);
+        put32(v4 + 4, 0);
+        put16(v4 + 8, 0);
+        if (v6 > 0x7fffffffU) {
+            put32(v4 + 5, 0);
+            put8(v4 + 4, 1);
+            put8(v4 + 9, 0);
+            goto l4;
+        }
+        if (v6 >= 32) {
+            put16(v4 + 4, 257);
+            goto l4;
+        }
+        if ((v6 & 3) != 1) {
+            put16(v4 + 4, 513);
+            goto l4;
+        }
+        if ((v9 & 3) != 0) {
+            put16(v4 + 4, 769);
+            goto l4;
+        }
+        if ((v8 & 1) != 0) {
+            put16(v4 + 4, 769);
+            goto l4;
+        }
+        put8(v4 + 9, v7);
+        put8(v4 + 7, v8 & 248);
+        put8(v4 + 8, (v8 >> 1) & 3);
+        put8(v4 + 6, (v9 & 252) >> 2);
+        put8(v4 + 5, (v6 & 252) >> 2);
+    l4:;
+        nodes_ground_node_Ground_report(v4 + 12, v5, v4 + 4);
+        v8 = get8(v4 + 13);
+        v9 = get8(v4 + 12);
+        v7 = get8(v4 + 14);
+        v10 = get8(v4 + 15);
+        v6 = 0;
+        put8(heard + 15, 0);
+        put8(heard + 14, (v7 != 0) ? (v10 + 1) : 0U);
+        put8(heard + 13, (v9 == 1) ? (v8 + 1) : 0U);
+        put8(heard + 12, v9);
+        put32(heard + 8, 4);
+        put64(heard, 0);
     }
-    octets = some(octets);
-    v7 = get8(octets + 3);
-    v8 = get8(octets + 2);
-    v9 = get8(octets + 1);
-    v6 = extend32(get8(octets), 0x80);
-    put32(v4 + 12, 0);
-    put32(v4 + 16, 0);
-    put16(v4 + 20, 0);
-    if (v6 > 0x7fffffffU) {
-        put32(v4 + 17, 0);
-        put8(v4 + 16, 1);
-        put8(v4 + 21, 0);
-        goto l4;
-    }
-    if (v6 >= 32) {
-        put16(v4 + 16, 257);
-        goto l4;
-    }
-    if ((v6 & 3) != 1) {
-        put16(v4 + 16, 513);
-        goto l4;
-    }
-    if ((v9 & 3) != 0) {
-        put16(v4 + 16, 769);
-        goto l4;
-    }
-    if ((v8 & 1) != 0) {
-        put16(v4 + 16, 769);
-        goto l4;
-    }
-    put8(v4 + 21, v7);
-    put8(v4 + 19, v8 & 248);
-    put8(v4 + 20, (v8 >> 1) & 3);
-    put8(v4 + 18, (v9 & 252) >> 2);
-    put8(v4 + 17, (v6 & 252) >> 2);
-l4:;
-    nodes_ground_node_Ground_report(v4 + 12, v5, v4 + 16);
-    v8 = get8(v4 + 13);
-    v9 = get8(v4 + 12);
-    v7 = get8(v4 + 14);
-    v10 = get8(v4 + 15);
-    v6 = 0;
-    put8(heard + 15, 0);
-    put8(heard + 14, (v7 != 0) ? (v10 + 1) : 0U);
-    put8(heard + 13, (v9 == 1) ? (v8 + 1) : 0U);
-    put8(heard + 12, v9);
-    put32(heard + 8, 4);
-    put64(heard, 0);
-    heard = get64(ground);
     put64(ground, v5);
-    if (heard == 0) return v6;
-    copy(v4 + 16, heard, 400);
-    rattle_dealloc_at(heard);
-    sedgechisel_nodes_nodes_ground_node_Ground_Destruct_drop(v4 + 16);
     return v6;
 }
 
@@ -9602,9 +9540,9 @@ static void sedge_ground_close_at(uint64_t ground)
 
 static uint32_t sedge_ground_directive_at(uint64_t ground, uint32_t directive, uint32_t value)
 {
-    unsigned char frame_octets[416 + 15];
+    unsigned char frame_octets[16 + 15];
     uint32_t v4 = 0, v5 = 0, v6 = 0, v7 = 0, v8 = 0, v9 = 0;
-    uint64_t v3 = 0, v10 = 0, v11 = 0;
+    uint64_t v3 = 0, v10 = 0;
     v3 = aligned(frame_octets);
     v4 = 0;
     put8(v3 + 10, 0);
@@ -9668,44 +9606,33 @@ l2:;
     put8(v3 + 12, v9);
     if (v10 == 0) return v8;
     nodes_ground_node_Ground_directive(v3 + 8, v10, v3 + 12);
-    v11 = get64(ground);
     put64(ground, v10);
     v8 = (get8(v3 + 8) != 0) ? (get8(v3 + 9) + 1) : 0U;
-    if (v11 == 0) return v8;
-    copy(v3 + 16, v11, 400);
-    rattle_dealloc_at(v11);
-    sedgechisel_nodes_nodes_ground_node_Ground_Destruct_drop(v3 + 16);
     return v8;
 }
 
 static uint32_t sedge_ground_forget_telemetry_at(uint64_t ground)
 {
-    unsigned char frame_octets[400 + 15];
-    uint32_t v3 = 0;
-    uint64_t v1 = 0, v2 = 0, v4 = 0;
-    v1 = aligned(frame_octets);
-    v2 = get64(ground);
+    uint64_t v1 = 0, v2 = 0;
+    v1 = get64(ground);
     put64(ground, 0);
-    if (v2 == 0) {
-        v3 = 255;
-        return v3;
+    if (v1 != 0) {
+        put16(v1 + 304, 0);
+        v2 = v1 + 320;
+        if (get64(v2) == 0) {
+            put64(ground, v1);
+            return 0;
+        }
+        put64(v2, 0);
+        put64(ground, v1);
+        return 0;
     }
-    v3 = 0;
-    put16(v2 + 304, 0);
-    v4 = v2 + 320;
-    if (get64(v4) != 0) put64(v4, 0);
-    v4 = get64(ground);
-    put64(ground, v2);
-    if (v4 == 0) return v3;
-    copy(v1, v4, 400);
-    rattle_dealloc_at(v4);
-    sedgechisel_nodes_nodes_ground_node_Ground_Destruct_drop(v1);
-    return v3;
+    return 255;
 }
 
 static uint32_t sedge_ground_next_at(uint64_t ground, uint64_t count)
 {
-    unsigned char frame_octets[400 + 15];
+    unsigned char frame_octets[48 + 15];
     uint32_t v5 = 0;
     uint64_t v2 = 0, v3 = 0, v4 = 0;
     v2 = aligned(frame_octets);
@@ -9719,135 +9646,112 @@ static uint32_t sedge_ground_next_at(uint64_t ground, uint64_t count)
     nodes_ground_node_Ground_peek(v2, v3);
     if (get8(v2) == 1) v4 = ((get8(v2 + 16) == 2) ? ((get8(v2 + 17) != 0) ? 4ULL : 2ULL) : (get64(v2 + 40) + 2)) + 6;
     put64(count, v4);
-    v4 = get64(ground);
     put64(ground, v3);
     v5 = 0;
-    if (v4 == 0) return v5;
-    copy(v2, v4, 400);
-    rattle_dealloc_at(v4);
-    sedgechisel_nodes_nodes_ground_node_Ground_Destruct_drop(v2);
     return v5;
 }
 
 static uint32_t sedge_ground_next_telemetry_at(uint64_t ground, uint64_t count)
 {
-    unsigned char frame_octets[400 + 15];
-    uint32_t v4 = 0;
-    uint64_t v2 = 0, v3 = 0, v5 = 0, v6 = 0;
-    v2 = aligned(frame_octets);
-    v3 = get64(ground);
+    uint64_t v2 = 0, v3 = 0, v4 = 0;
+    v2 = get64(ground);
     put64(ground, 0);
-    if (v3 == 0) {
-        v4 = 255;
-        return v4;
+    if (v2 != 0) {
+        v3 = get64(v2 + 344);
+        if (v3 != 0) {
+            v4 = get64(v2 + 336);
+            if (v3 == get64(v2 + 368)) goto l3;
+            v4 = v4 + (get64(v2 + 360) * 24);
+            goto l3;
+        }
+        if (get64(v2 + 384) == 0) {
+            v4 = 0;
+            put64(count, v4);
+            put64(ground, v2);
+            return 0;
+        }
+        v4 = get64(v2 + 376);
+    l3:;
+        v4 = get64(v4 + 8);
+        put64(count, v4);
+        put64(ground, v2);
+        return 0;
     }
-    v5 = get64(v3 + 344);
-    if (v5 != 0) {
-        v6 = get64(v3 + 336);
-        if (v5 == get64(v3 + 368)) goto l4;
-        v6 = v6 + (get64(v3 + 360) * 24);
-        goto l4;
-    }
-    if (get64(v3 + 384) == 0) {
-        v6 = 0;
-        goto l3;
-    }
-    v6 = get64(v3 + 376);
-l4:;
-    v6 = get64(v6 + 8);
-l3:;
-    put64(count, v6);
-    count = get64(ground);
-    put64(ground, v3);
-    v4 = 0;
-    if (count == 0) return v4;
-    copy(v2, count, 400);
-    rattle_dealloc_at(count);
-    sedgechisel_nodes_nodes_ground_node_Ground_Destruct_drop(v2);
-    return v4;
+    return 255;
 }
 
 static uint32_t sedge_ground_read_at(uint64_t ground, uint64_t read)
 {
-    unsigned char frame_octets[400 + 15];
-    uint32_t v5 = 0, v6 = 0, v7 = 0, v17 = 0, v18 = 0, v19 = 0, v20 = 0, v21 = 0;
-    uint64_t v2 = 0, v3 = 0, v4 = 0, v8 = 0, v9 = 0, v10 = 0, v11 = 0, v12 = 0, v13 = 0, v14 = 0, v15 = 0, v16 = 0;
-    v2 = aligned(frame_octets);
-    v3 = get64(ground);
-    v4 = 0;
+    uint32_t v4 = 0, v5 = 0, v15 = 0, v16 = 0, v17 = 0, v18 = 0, v19 = 0;
+    uint64_t v2 = 0, v3 = 0, v6 = 0, v7 = 0, v8 = 0, v9 = 0, v10 = 0, v11 = 0, v12 = 0, v13 = 0, v14 = 0;
+    v2 = get64(ground);
+    v3 = 0;
     put64(ground, 0);
-    if (v3 == 0) {
-        v5 = 255;
-        return v5;
+    if (v2 != 0) {
+        v4 = get8(v2 + 75);
+        v5 = get8(v2 + 74);
+        v6 = get64(v2 + 248);
+        v7 = get64(v2 + 264);
+        if (v7 != 0) {
+            v3 = get64(v2 + 288);
+            v8 = v3 - v7;
+            v9 = v7 - v3;
+            v10 = (uint64_t)(v5 - v4) & 255;
+            v11 = get64(v2 + 256);
+            v3 = 0;
+            v12 = v2 + 280;
+            do {
+                if (v3 < v9) {
+                    v13 = v11 + (get64(v12) << 3);
+                    v14 = v3;
+                    goto l4;
+                }
+                v14 = v8 + v3;
+                v13 = v11;
+            l4:;
+                v13 = get64(v13 + (v14 << 3));
+                v13 = (v13 > 1) ? v13 : 1ULL;
+                if (v10 < v13) goto l2;
+                v10 = v10 - v13;
+                v3 = v3 + 1;
+            } while (v7 != v3);
+            v3 = v7;
+        }
+    l2:;
+        v10 = get64(v2 + 152);
+        v13 = get64(v2 + 216);
+        v15 = get8(v2 + 96);
+        v16 = get16(v2 + 86);
+        v17 = get8(v2 + 84);
+        v18 = get8(v2 + 73);
+        v14 = (uint64_t)get8(v2 + 78);
+        v9 = get64(v2 + 176);
+        v11 = (uint64_t)get32(v2 + 60);
+        v19 = get8(v2 + 88);
+        put16(read + 70, 0);
+        put8(read + 69, v19);
+        put8(read + 68, v4);
+        put8(read + 67, v5);
+        put64(read + 56, v11);
+        put64(read + 48, v9);
+        put64(read + 40, v14);
+        put64(read + 16, v6);
+        put64(read + 8, v3 + v6);
+        put64(read, v7 + v6);
+        put8(read + 66, v18 + 1);
+        put16(read + 64, (v17 == 1) ? v16 : 0U);
+        v3 = v13 + (uint64_t)(uint32_t)(v15 == 1);
+        put64(read + 32, v3);
+        put64(read + 24, v3 + v10);
+        put64(ground, v2);
+        return 0;
     }
-    v6 = get8(v3 + 75);
-    v7 = get8(v3 + 74);
-    v8 = get64(v3 + 248);
-    v9 = get64(v3 + 264);
-    if (v9 != 0) {
-        v4 = get64(v3 + 288);
-        v10 = v4 - v9;
-        v11 = v9 - v4;
-        v12 = (uint64_t)(v7 - v6) & 255;
-        v13 = get64(v3 + 256);
-        v4 = 0;
-        v14 = v3 + 280;
-        do {
-            if (v4 < v11) {
-                v15 = v13 + (get64(v14) << 3);
-                v16 = v4;
-                goto l5;
-            }
-            v16 = v10 + v4;
-            v15 = v13;
-        l5:;
-            v15 = get64(v15 + (v16 << 3));
-            v15 = (v15 > 1) ? v15 : 1ULL;
-            if (v12 < v15) goto l3;
-            v12 = v12 - v15;
-            v4 = v4 + 1;
-        } while (v9 != v4);
-        v4 = v9;
-    }
-l3:;
-    v12 = get64(v3 + 152);
-    v15 = get64(v3 + 216);
-    v17 = get8(v3 + 96);
-    v18 = get16(v3 + 86);
-    v19 = get8(v3 + 84);
-    v20 = get8(v3 + 73);
-    v16 = (uint64_t)get8(v3 + 78);
-    v11 = get64(v3 + 176);
-    v13 = (uint64_t)get32(v3 + 60);
-    v21 = get8(v3 + 88);
-    v5 = 0;
-    put16(read + 70, 0);
-    put8(read + 69, v21);
-    put8(read + 68, v6);
-    put8(read + 67, v7);
-    put64(read + 56, v13);
-    put64(read + 48, v11);
-    put64(read + 40, v16);
-    put64(read + 16, v8);
-    put64(read + 8, v4 + v8);
-    put64(read, v9 + v8);
-    put8(read + 66, v20 + 1);
-    put16(read + 64, (v19 == 1) ? v18 : 0U);
-    v4 = v15 + (uint64_t)(uint32_t)(v17 == 1);
-    put64(read + 32, v4);
-    put64(read + 24, v4 + v12);
-    v4 = get64(ground);
-    put64(ground, v3);
-    if (v4 == 0) return v5;
-    copy(v2, v4, 400);
-    rattle_dealloc_at(v4);
-    sedgechisel_nodes_nodes_ground_node_Ground_Destruct_drop(v2);
-    return v5;
+    return 255;
 }
 
 static uint32_t sedge_ground_resume_at(uint64_t ground, uint32_t value, uint64_t whole)
 {
-    unsigned char frame_octets[400 + 15];
+    unsigned char frame_octets[16 + 15];
     uint64_t v3 = 0, v4 = 0;
     v3 = aligned(frame_octets);
     v4 = get64(ground);
@@ -9864,52 +9768,40 @@ static uint32_t sedge_ground_resume_at(uint64_t ground, uint32_t value, uint64_t
         value = 0;
         goto l3;
     }
-    value = get8(v3 + 1) + 1;
+    value = (uint32_t)(0xa060504030201ULL >> (((uint64_t)get8(v3 + 1) << 3) & 63));
 l3:;
-    whole = get64(ground);
     put64(ground, v4);
-    if (whole == 0) return value;
-    copy(v3, whole, 400);
-    rattle_dealloc_at(whole);
-    sedgechisel_nodes_nodes_ground_node_Ground_Destruct_drop(v3);
     return value;
 }
 
 static uint32_t sedge_ground_submit_at(uint64_t ground, uint32_t map, uint64_t octets, uint64_t count)
 {
-    unsigned char frame_octets[400 + 15];
+    unsigned char frame_octets[128 + 15];
     uint32_t v6 = 0;
     uint64_t v4 = 0, v5 = 0;
     v4 = aligned(frame_octets);
     v5 = get64(ground);
     put64(ground, 0);
     if (v5 == 0) {
-        map = 255;
-        return map;
+        v6 = 255;
+        return v6;
     }
+    v6 = 0;
     fill(v4, 0, 128);
     nodes_ground_node_Ground_prepare(v4, v5, map, some(octets), count);
-    map = get8(v4);
-    if (map == 0) {
+    if (get8(v4) == 0) {
         nodes_ground_node_Ground_commit(v5, v4 + 8);
-        v6 = 1;
         goto l3;
     }
-    v6 = get8(v4 + 1) + 1;
+    v6 = (uint32_t)(0xa060504030201ULL >> (((uint64_t)get8(v4 + 1) << 3) & 63));
 l3:;
-    octets = get64(ground);
     put64(ground, v5);
-    map = ((map & 1) != 0) ? v6 : 0U;
-    if (octets == 0) return map;
-    copy(v4, octets, 400);
-    rattle_dealloc_at(octets);
-    sedgechisel_nodes_nodes_ground_node_Ground_Destruct_drop(v4);
-    return map;
+    return v6;
 }
 
 static uint32_t sedge_ground_take_telemetry_at(uint64_t ground, uint64_t out, uint64_t room, uint64_t count)
 {
-    unsigned char frame_octets[416 + 15];
+    unsigned char frame_octets[16 + 15];
     uint32_t v6 = 0;
     uint64_t v4 = 0, v5 = 0, v7 = 0, v8 = 0, v9 = 0, v10 = 0, v11 = 0, v12 = 0, v13 = 0, v14 = 0;
     v4 = aligned(frame_octets);
@@ -9989,7 +9881,7 @@ l4:;
         v11 = get64(v7);
         put64(v7, v13);
         put64(room, v8);
-        put64(v12, v4 + 408);
+        put64(v12, v4 + 8);
         if (v11 != 0) {
             rattle_dealloc_at(v14);
             v8 = get64(v5 + 344);
@@ -10013,18 +9905,13 @@ l15:;
     v8 = get64(v5 + 336) + (room * 24);
     if (get64(v8 + 16) != 0) rattle_dealloc_at(get64(v8));
 l3:;
-    v8 = get64(ground);
     put64(ground, v5);
-    if (v8 == 0) return v6;
-    copy(v4 + 8, v8, 400);
-    rattle_dealloc_at(v8);
-    sedgechisel_nodes_nodes_ground_node_Ground_Destruct_drop(v4 + 8);
     return v6;
 }
 
 static uint32_t sedge_ground_telemetry_at(uint64_t ground, uint64_t octets, uint64_t count, uint64_t heard)
 {
-    unsigned char frame_octets[432 + 15];
+    unsigned char frame_octets[32 + 15];
     uint32_t v6 = 0, v7 = 0, v8 = 0, v9 = 0, v10 = 0, v11 = 0, v12 = 0, v13 = 0, v14 = 0;
     uint64_t v4 = 0, v5 = 0;
     v4 = aligned(frame_octets);
@@ -10087,20 +9974,15 @@ static uint32_t sedge_ground_telemetry_at(uint64_t ground, uint64_t octets, uint
         put8(heard + 8, v7);
         put64(heard, octets);
     }
-    heard = get64(ground);
     put64(ground, v5);
-    if (heard == 0) return v6;
-    copy(v4 + 32, heard, 400);
-    rattle_dealloc_at(heard);
-    sedgechisel_nodes_nodes_ground_node_Ground_Destruct_drop(v4 + 32);
     return v6;
 }
 
 static uint32_t sedge_ground_tick_at(uint64_t ground)
 {
-    unsigned char frame_octets[416 + 15];
-    uint32_t v3 = 0, v5 = 0;
-    uint64_t v1 = 0, v2 = 0, v4 = 0;
+    unsigned char frame_octets[16 + 15];
+    uint32_t v3 = 0, v4 = 0;
+    uint64_t v1 = 0, v2 = 0;
     v1 = aligned(frame_octets);
     v2 = get64(ground);
     put64(ground, 0);
@@ -10109,15 +9991,10 @@ static uint32_t sedge_ground_tick_at(uint64_t ground)
         return v3;
     }
     nodes_ground_node_Ground_tick(v1 + 8, v2);
-    v4 = get64(ground);
     v3 = get8(v1 + 8);
-    v5 = get8(v1 + 9);
+    v4 = get8(v1 + 9);
     put64(ground, v2);
-    v3 = (v3 != 0) ? (v5 + 1) : 0U;
-    if (v4 == 0) return v3;
-    copy(v1 + 16, v4, 400);
-    rattle_dealloc_at(v4);
-    sedgechisel_nodes_nodes_ground_node_Ground_Destruct_drop(v1 + 16);
+    v3 = (v3 != 0) ? (v4 + 1) : 0U;
     return v3;
 }
 
@@ -10137,410 +10014,391 @@ static void sedge_sim_close_at(uint64_t sim)
 
 static uint32_t sedge_sim_count_at(uint64_t sim, uint32_t record, uint32_t map, uint64_t entries)
 {
-    unsigned char frame_octets[6080 + 15];
-    uint64_t v4 = 0, v5 = 0, v6 = 0;
-    v4 = aligned(frame_octets);
-    v5 = get64(sim);
-    v6 = 0;
+    uint64_t v4 = 0, v5 = 0;
+    v4 = get64(sim);
+    v5 = 0;
     put64(sim, 0);
-    if (v5 == 0) {
-        record = 255;
-        return record;
+    if (v4 != 0) {
+        switch ((record & 255) - 1) {
+        case 0:
+            if ((map & 255) > 63) {
+                put64(entries, v5);
+                put64(sim, v4);
+                return 0;
+            }
+            v5 = get64((v4 + (((uint64_t)map & 255) * 24)) + 0xb50);
+            put64(entries, v5);
+            put64(sim, v4);
+            return 0;
+        case 1:
+            if ((map & 255) > 63) {
+                put64(entries, v5);
+                put64(sim, v4);
+                return 0;
+            }
+            v5 = get64((v4 + (((uint64_t)map & 255) * 24)) + 0x1150);
+            put64(entries, v5);
+            put64(sim, v4);
+            return 0;
+        case 2:
+            v5 = get64(v4 + 0x1750);
+            put64(entries, v5);
+            put64(sim, v4);
+            return 0;
+        case 3:
+            goto l3;
+        default:
+            put64(entries, v5);
+            put64(sim, v4);
+            return 0;
+        }
+    l3:;
+        v5 = get64(v4 + 0x1778) - get64(v4 + 0x1768);
+        put64(entries, v5);
+        put64(sim, v4);
+        return 0;
     }
-    switch ((record & 255) - 1) {
-    case 0:
-        if ((map & 255) > 63) goto l3;
-        v6 = get64((v5 + (((uint64_t)map & 255) * 24)) + 0xb50);
-        goto l3;
-    case 1:
-        if ((map & 255) > 63) goto l3;
-        v6 = get64((v5 + (((uint64_t)map & 255) * 24)) + 0x1150);
-        goto l3;
-    case 2:
-        v6 = get64(v5 + 0x1750);
-        goto l3;
-    case 3:
-        goto l4;
-    default:
-        goto l3;
-    }
-l4:;
-    v6 = get64(v5 + 0x1778) - get64(v5 + 0x1768);
-l3:;
-    put64(entries, v6);
-    v6 = get64(sim);
-    put64(sim, v5);
-    record = 0;
-    if (v6 == 0) return record;
-    copy(v4 + 8, v6, 0x17b8);
-    rattle_dealloc_at(v6);
-    sedgechisel_nodes_sedgechisel_nodes_sim_link_Link_Destruct_drop(v4 + 8);
-    return record;
+    return 255;
 }
 
 static uint32_t sedge_sim_entry_at(uint64_t sim, uint32_t record, uint32_t map, uint64_t k, uint64_t out, uint64_t
     room, uint64_t count)
 {
-    unsigned char frame_octets[6080 + 15];
-    uint32_t v9 = 0;
-    uint64_t v7 = 0, v8 = 0, v10 = 0, v11 = 0, v12 = 0, v13 = 0, v14 = 0, v15 = 0, v16 = 0;
-    v7 = aligned(frame_octets);
-    v8 = get64(sim);
+    uint32_t v8 = 0;
+    uint64_t v7 = 0, v9 = 0, v10 = 0, v11 = 0, v12 = 0, v13 = 0, v14 = 0, v15 = 0;
+    v7 = get64(sim);
     put64(sim, 0);
-    if (v8 == 0) {
-        v9 = 255;
-        return v9;
-    }
-    v9 = 253;
-    switch ((record & 255) - 1) {
-    case 0:
-        if ((map & 255) > 63) {
-            put64(sim, v8);
-            return v9;
+    if (v7 != 0) {
+        v8 = 253;
+        switch ((record & 255) - 1) {
+        case 0:
+            if ((map & 255) > 63) {
+                put64(sim, v7);
+                return v8;
+            }
+            v9 = v7 + (((uint64_t)map & 255) * 24);
+            v10 = get64(v9 + 0xb50);
+            v9 = get64(v9 + 0xb48);
+            goto l4;
+        case 1:
+            if ((map & 255) > 63) {
+                put64(sim, v7);
+                return v8;
+            }
+            v9 = v7 + (((uint64_t)map & 255) * 24);
+            v10 = get64(v9 + 0x1150);
+            v9 = get64(v9 + 0x1148);
+            goto l4;
+        case 2:
+            v10 = get64(v7 + 0x1750);
+            v9 = get64(v7 + 0x1748);
+            goto l4;
+        case 3:
+            goto l5;
+        default:
+            put64(sim, v7);
+            return v8;
         }
-        v10 = v8 + (((uint64_t)map & 255) * 24);
-        v11 = get64(v10 + 0xb50);
-        v10 = get64(v10 + 0xb48);
-        goto l5;
-    case 1:
-        if ((map & 255) > 63) {
-            put64(sim, v8);
-            return v9;
+    l5:;
+        v9 = get64(v7 + 0x1768);
+        v10 = get64(v7 + 0x1778) - v9;
+        v9 = get64(v7 + 0x1770) + (v9 * 24);
+    l4:;
+        if (k >= v10) {
+            put64(sim, v7);
+            return v8;
         }
-        v10 = v8 + (((uint64_t)map & 255) * 24);
-        v11 = get64(v10 + 0x1150);
-        v10 = get64(v10 + 0x1148);
-        goto l5;
-    case 2:
-        v11 = get64(v8 + 0x1750);
-        v10 = get64(v8 + 0x1748);
-        goto l5;
-    case 3:
-        goto l6;
-    default:
-        put64(sim, v8);
-        return v9;
-    }
-l6:;
-    v10 = get64(v8 + 0x1768);
-    v11 = get64(v8 + 0x1778) - v10;
-    v10 = get64(v8 + 0x1770) + (v10 * 24);
-l5:;
-    if (k >= v11) {
-        put64(sim, v8);
-        return v9;
-    }
-    v9 = 252;
-    k = v10 + (k * 24);
-    v12 = get64(k + 8);
-    if (room < v12) {
-        put64(sim, v8);
-        return v9;
-    }
-    v13 = (out == 0) ? 0x1000ULL : 0ULL;
-    v14 = out + v13;
-    v15 = get64(k);
-    if ((v14 - v15) < v12) {
-        v10 = v12 & 3;
-        room = 0;
-        if (v12 >= 4) {
-            v16 = v12 & ~3ULL;
-            room = 0;
-            do {
-                k = v14 + room;
-                v11 = v15 + room;
-                put8(k, get8(v11));
-                put8(k + 1, get8(v11 + 1));
-                put8(k + 2, get8(v11 + 2));
-                put8(k + 3, get8(v11 + 3));
+        v8 = 252;
+        k = v9 + (k * 24);
+        v11 = get64(k + 8);
+        if (room >= v11) {
+            v12 = (out == 0) ? 0x1000ULL : 0ULL;
+            v13 = out + v12;
+            v14 = get64(k);
+            if ((v13 - v14) < v11) {
+                v9 = v11 & 3;
+                room = 0;
+                if (v11 < 4) goto l10;
+                v15 = v11 & ~3ULL;
+                room = 0;
+            l13:;
+                k = v13 + room;
+                v10 = v14 + room;
+                put8(k, get8(v10));
+                put8(k + 1, get8(v10 + 1));
+                put8(k + 2, get8(v10 + 2));
+                put8(k + 3, get8(v10 + 3));
                 room = room + 4;
-            } while (v16 != room);
-            if (v10 == 0) goto l3;
+                if (v15 != room) goto l13;
+                goto l11;
+            }
+            if (v11 == 0) {
+                put64(count, v11);
+                put64(sim, v7);
+                return 0;
+            }
+            copy(v13, v14, v11);
+            put64(count, v11);
+            put64(sim, v7);
+            return 0;
+        l11:;
+            if (v9 == 0) {
+                put64(count, v11);
+                put64(sim, v7);
+                return 0;
+            }
+        l10:;
+            k = v14 + room;
+            room = out + (v12 + room);
+            do {
+                put8(room, get8(k));
+                room = room + 1;
+                k = k + 1;
+                v9 = v9 - 1;
+            } while (v9 != 0);
+            put64(count, v11);
+            put64(sim, v7);
+            return 0;
         }
-        k = v15 + room;
-        room = out + (v13 + room);
-    l13:;
-        put8(room, get8(k));
-        room = room + 1;
-        k = k + 1;
-        v10 = v10 - 1;
-        if (v10 != 0) goto l13;
-        goto l3;
+        put64(sim, v7);
+        return v8;
     }
-    if (v12 == 0) goto l3;
-    copy(v14, v15, v12);
-    goto l3;
-l3:;
-    put64(count, v12);
-    k = get64(sim);
-    put64(sim, v8);
-    v9 = 0;
-    if (k == 0) return v9;
-    copy(v7 + 8, k, 0x17b8);
-    rattle_dealloc_at(k);
-    sedgechisel_nodes_sedgechisel_nodes_sim_link_Link_Destruct_drop(v7 + 8);
-    return v9;
+    return 255;
 }
 
 static uint32_t sedge_sim_ground_read_at(uint64_t sim, uint64_t read)
 {
-    unsigned char frame_octets[6080 + 15];
-    uint32_t v5 = 0, v6 = 0, v7 = 0, v17 = 0, v18 = 0, v19 = 0, v20 = 0, v21 = 0;
-    uint64_t v2 = 0, v3 = 0, v4 = 0, v8 = 0, v9 = 0, v10 = 0, v11 = 0, v12 = 0, v13 = 0, v14 = 0, v15 = 0, v16 = 0;
-    v2 = aligned(frame_octets);
-    v3 = get64(sim);
-    v4 = 0;
+    uint32_t v4 = 0, v5 = 0, v15 = 0, v16 = 0, v17 = 0, v18 = 0, v19 = 0;
+    uint64_t v2 = 0, v3 = 0, v6 = 0, v7 = 0, v8 = 0, v9 = 0, v10 = 0, v11 = 0, v12 = 0, v13 = 0, v14 = 0;
+    v2 = get64(sim);
+    v3 = 0;
     put64(sim, 0);
-    if (v3 == 0) {
-        v5 = 255;
-        return v5;
+    if (v2 != 0) {
+        v4 = get8(v2 + 75);
+        v5 = get8(v2 + 74);
+        v6 = get64(v2 + 248);
+        v7 = get64(v2 + 264);
+        if (v7 != 0) {
+            v3 = get64(v2 + 288);
+            v8 = v3 - v7;
+            v9 = v7 - v3;
+            v10 = (uint64_t)(v5 - v4) & 255;
+            v11 = get64(v2 + 256);
+            v3 = 0;
+            v12 = v2 + 280;
+            do {
+                if (v3 < v9) {
+                    v13 = v11 + (get64(v12) << 3);
+                    v14 = v3;
+                    goto l4;
+                }
+                v14 = v8 + v3;
+                v13 = v11;
+            l4:;
+                v13 = get64(v13 + (v14 << 3));
+                v13 = (v13 > 1) ? v13 : 1ULL;
+                if (v10 < v13) goto l2;
+                v10 = v10 - v13;
+                v3 = v3 + 1;
+            } while (v7 != v3);
+            v3 = v7;
+        }
+    l2:;
+        v10 = get64(v2 + 152);
+        v13 = get64(v2 + 216);
+        v15 = get8(v2 + 96);
+        v16 = get16(v2 + 86);
+        v17 = get8(v2 + 84);
+        v18 = get8(v2 + 73);
+        v14 = (uint64_t)get8(v2 + 78);
+        v9 = get64(v2 + 176);
+        v11 = (uint64_t)get32(v2 + 60);
+        v19 = get8(v2 + 88);
+        put16(read + 70, 0);
+        put8(read + 69, v19);
+        put8(read + 68, v4);
+        put8(read + 67, v5);
+        put64(read + 56, v11);
+        put64(read + 48, v9);
+        put64(read + 40, v14);
+        put64(read + 16, v6);
+        put64(read + 8, v3 + v6);
+        put64(read, v7 + v6);
+        put8(read + 66, v18 + 1);
+        put16(read + 64, (v17 == 1) ? v16 : 0U);
+        v3 = v13 + (uint64_t)(uint32_t)(v15 == 1);
+        put64(read + 32, v3);
+        put64(read + 24, v3 + v10);
+        put64(sim, v2);
+        return 0;
     }
-    v6 = get8(v3 + 75);
-    v7 = get8(v3 + 74);
-    v8 = get64(v3 + 248);
-    v9 = get64(v3 + 264);
-    if (v9 != 0) {
-        v4 = get64(v3 + 288);
-        v10 = v4 - v9;
-        v11 = v9 - v4;
-        v12 = (uint64_t)(v7 - v6) & 255;
-        v13 = get64(v3 + 256);
-        v4 = 0;
-        v14 = v3 + 280;
-        do {
-            if (v4 < v11) {
-                v15 = v13 + (get64(v14) << 3);
-                v16 = v4;
-                goto l5;
-            }
-            v16 = v10 + v4;
-            v15 = v13;
-        l5:;
-            v15 = get64(v15 + (v16 << 3));
-            v15 = (v15 > 1) ? v15 : 1ULL;
-            if (v12 < v15) goto l3;
-            v12 = v12 - v15;
-            v4 = v4 + 1;
-        } while (v9 != v4);
-        v4 = v9;
-    }
-l3:;
-    v12 = get64(v3 + 152);
-    v15 = get64(v3 + 216);
-    v17 = get8(v3 + 96);
-    v18 = get16(v3 + 86);
-    v19 = get8(v3 + 84);
-    v20 = get8(v3 + 73);
-    v16 = (uint64_t)get8(v3 + 78);
-    v11 = get64(v3 + 176);
-    v13 = (uint64_t)get32(v3 + 60);
-    v21 = get8(v3 + 88);
-    v5 = 0;
-    put16(read + 70, 0);
-    put8(read + 69, v21);
-    put8(read + 68, v6);
-    put8(read + 67, v7);
-    put64(read + 56, v13);
-    put64(read + 48, v11);
-    put64(read + 40, v16);
-    put64(read + 16, v8);
-    put64(read + 8, v4 + v8);
-    put64(read, v9 + v8);
-    put8(read + 66, v20 + 1);
-    put16(read + 64, (v19 == 1) ? v18 : 0U);
-    v4 = v15 + (uint64_t)(uint32_t)(v17 == 1);
-    put64(read + 32, v4);
-    put64(read + 24, v4 + v12);
-    v4 = get64(sim);
-    put64(sim, v3);
-    if (v4 == 0) return v5;
-    copy(v2 + 8, v4, 0x17b8);
-    rattle_dealloc_at(v4);
-    sedgechisel_nodes_sedgechisel_nodes_sim_link_Link_Destruct_drop(v2 + 8);
-    return v5;
+    return 255;
 }
 
 static uint32_t sedge_sim_octets_at(uint64_t sim, uint64_t out, uint64_t room, uint64_t count)
 {
-    unsigned char frame_octets[6080 + 15];
-    uint32_t v6 = 0;
-    uint64_t v4 = 0, v5 = 0, v7 = 0, v8 = 0, v9 = 0, v10 = 0, v11 = 0, v12 = 0, v13 = 0, v14 = 0;
-    v4 = aligned(frame_octets);
-    v5 = get64(sim);
+    uint64_t v4 = 0, v5 = 0, v6 = 0, v7 = 0, v8 = 0, v9 = 0, v10 = 0, v11 = 0, v12 = 0;
+    v4 = get64(sim);
     put64(sim, 0);
-    if (v5 == 0) {
-        v6 = 255;
-        return v6;
-    }
-    v7 = get64(v5 + 0x17a8);
-    if (room < v7) {
-        put64(sim, v5);
-        v6 = 252;
-        return v6;
-    }
-    v8 = (out == 0) ? 0x1000ULL : 0ULL;
-    v9 = out + v8;
-    v10 = get64(v5 + 0x17a0);
-    if ((v9 - v10) < v7) {
-        v11 = v7 & 3;
-        v12 = 0;
-        if (v7 >= 4) {
-            v13 = v7 & ~3ULL;
-            v12 = 0;
+    if (v4 != 0) {
+        v5 = get64(v4 + 0x17a8);
+        if (room >= v5) {
+            v6 = (out == 0) ? 0x1000ULL : 0ULL;
+            v7 = out + v6;
+            v8 = get64(v4 + 0x17a0);
+            if ((v7 - v8) < v5) {
+                v9 = v5 & 3;
+                v10 = 0;
+                if (v5 < 4) goto l4;
+                v11 = v5 & ~3ULL;
+                v10 = 0;
+            l7:;
+                room = v7 + v10;
+                v12 = v8 + v10;
+                put8(room, get8(v12));
+                put8(room + 1, get8(v12 + 1));
+                put8(room + 2, get8(v12 + 2));
+                put8(room + 3, get8(v12 + 3));
+                v10 = v10 + 4;
+                if (v11 != v10) goto l7;
+                goto l5;
+            }
+            if (v5 == 0) {
+                put64(count, v5);
+                put64(sim, v4);
+                return 0;
+            }
+            copy(v7, v8, v5);
+            put64(count, v5);
+            put64(sim, v4);
+            return 0;
+        l5:;
+            if (v9 == 0) {
+                put64(count, v5);
+                put64(sim, v4);
+                return 0;
+            }
+        l4:;
+            room = v8 + v10;
+            v10 = out + (v6 + v10);
             do {
-                room = v9 + v12;
-                v14 = v10 + v12;
-                put8(room, get8(v14));
-                put8(room + 1, get8(v14 + 1));
-                put8(room + 2, get8(v14 + 2));
-                put8(room + 3, get8(v14 + 3));
-                v12 = v12 + 4;
-            } while (v13 != v12);
-            if (v11 == 0) goto l4;
+                put8(v10, get8(room));
+                v10 = v10 + 1;
+                room = room + 1;
+                v9 = v9 - 1;
+            } while (v9 != 0);
+            put64(count, v5);
+            put64(sim, v4);
+            return 0;
         }
-        room = v10 + v12;
-        v12 = out + (v8 + v12);
-    l8:;
-        put8(v12, get8(room));
-        v12 = v12 + 1;
-        room = room + 1;
-        v11 = v11 - 1;
-        if (v11 != 0) goto l8;
-        goto l4;
+        put64(sim, v4);
+        return 252;
     }
-    if (v7 != 0) copy(v9, v10, v7);
-l4:;
-    put64(count, v7);
-    room = get64(sim);
-    put64(sim, v5);
-    v6 = 0;
-    if (room == 0) return v6;
-    copy(v4 + 8, room, 0x17b8);
-    rattle_dealloc_at(room);
-    sedgechisel_nodes_sedgechisel_nodes_sim_link_Link_Destruct_drop(v4 + 8);
-    return v6;
+    return 255;
 }
 
 static uint32_t sedge_sim_read_at(uint64_t sim, uint64_t read)
 {
-    unsigned char frame_octets[6080 + 15];
-    uint32_t v4 = 0, v5 = 0, v6 = 0, v7 = 0, v8 = 0, v11 = 0, v12 = 0, v13 = 0, v15 = 0;
-    uint64_t v2 = 0, v3 = 0, v9 = 0, v10 = 0, v14 = 0;
-    v2 = aligned(frame_octets);
-    v3 = get64(sim);
+    uint32_t v3 = 0, v4 = 0, v5 = 0, v6 = 0, v9 = 0, v10 = 0, v11 = 0, v13 = 0;
+    uint64_t v2 = 0, v7 = 0, v8 = 0, v12 = 0;
+    v2 = get64(sim);
     put64(sim, 0);
-    if (v3 == 0) {
-        v4 = 255;
-        return v4;
-    }
-    v5 = 1;
-    v6 = get8(v3 + 0xb20);
-    if (v6 == 1) {
-        v7 = get8(v3 + 0xb22);
-        switch ((uint32_t)((uint64_t)v7 & 255)) {
-        case 1:
-            v7 = 0;
-            v5 = 2;
-            goto l3;
-        case 2:
-            v7 = 0;
-            v5 = 3;
-            goto l3;
-        case 3:
-            v7 = get8(v3 + 0xb23);
-            v5 = 4;
-            goto l3;
-        case 4:
-        case 5:
-        case 6:
-        case 7:
-        case 8:
-            goto l4;
-        default:
-            goto l3;
+    if (v2 != 0) {
+        v3 = 1;
+        v4 = get8(v2 + 0xb20);
+        if (v4 == 1) {
+            v5 = get8(v2 + 0xb22);
+            switch ((uint32_t)((uint64_t)v5 & 255)) {
+            case 1:
+                v5 = 0;
+                v3 = 2;
+                goto l2;
+            case 2:
+                v5 = 0;
+                v3 = 3;
+                goto l2;
+            case 3:
+                v5 = get8(v2 + 0xb23);
+                v3 = 4;
+                goto l2;
+            case 4:
+            case 5:
+            case 6:
+            case 7:
+            case 8:
+                goto l3;
+            default:
+                goto l2;
+            }
         }
+    l3:;
+        v3 = 0;
+        v5 = 0;
+    l2:;
+        v6 = get8(v2 + 96);
+        v7 = get64(v2 + 216);
+        v8 = get64(v2 + 152);
+        v9 = get8(v2 + 0xb26);
+        v10 = get8(v2 + 0xb27);
+        v11 = get8(v2 + 73);
+        v12 = get64(v2 + 0x1760);
+        v13 = get8(v2 + 0xb28);
+        put16(read + 22, 0);
+        put8(read + 21, v13);
+        put8(read + 18, v5);
+        put8(read + 17, v3);
+        put64(read + 8, v12);
+        put8(read + 16, v11 + 1);
+        v3 = v4 == 1;
+        put8(read + 20, v10 & v3);
+        put8(read + 19, v3 & v9);
+        put64(read, v7 + v8 + (uint64_t)(uint32_t)(v6 == 1));
+        put64(sim, v2);
+        return 0;
     }
-l4:;
-    v5 = 0;
-    v7 = 0;
-l3:;
-    v8 = get8(v3 + 96);
-    v9 = get64(v3 + 216);
-    v10 = get64(v3 + 152);
-    v11 = get8(v3 + 0xb26);
-    v12 = get8(v3 + 0xb27);
-    v13 = get8(v3 + 73);
-    v14 = get64(v3 + 0x1760);
-    v15 = get8(v3 + 0xb28);
-    v4 = 0;
-    put16(read + 22, 0);
-    put8(read + 21, v15);
-    put8(read + 18, v7);
-    put8(read + 17, v5);
-    put64(read + 8, v14);
-    put8(read + 16, v13 + 1);
-    v5 = v6 == 1;
-    put8(read + 20, v12 & v5);
-    put8(read + 19, v5 & v11);
-    put64(read, v9 + v10 + (uint64_t)(uint32_t)(v8 == 1));
-    read = get64(sim);
-    put64(sim, v3);
-    if (read == 0) return v4;
-    copy(v2 + 8, read, 0x17b8);
-    rattle_dealloc_at(read);
-    sedgechisel_nodes_sedgechisel_nodes_sim_link_Link_Destruct_drop(v2 + 8);
-    return v4;
+    return 255;
 }
 
 static uint32_t sedge_sim_spacecraft_read_at(uint64_t sim, uint64_t read)
 {
-    unsigned char frame_octets[6080 + 15];
-    uint32_t v4 = 0, v5 = 0, v6 = 0, v7 = 0, v9 = 0, v10 = 0, v11 = 0, v12 = 0;
-    uint64_t v2 = 0, v3 = 0, v8 = 0, v13 = 0;
-    v2 = aligned(frame_octets);
-    v3 = get64(sim);
+    uint32_t v3 = 0, v4 = 0, v5 = 0, v7 = 0, v8 = 0, v9 = 0, v10 = 0;
+    uint64_t v2 = 0, v6 = 0, v11 = 0;
+    v2 = get64(sim);
     put64(sim, 0);
-    if (v3 == 0) {
-        v4 = 255;
-        return v4;
+    if (v2 != 0) {
+        v3 = get8(v2 + 476);
+        v4 = get8(v2 + 475);
+        v5 = get8(v2 + 474);
+        v6 = (uint64_t)get32(v2 + 460);
+        v7 = get16(v2 + 0xa70);
+        v8 = get8(v2 + 473);
+        v9 = get8(v2 + 477);
+        v10 = get32(v2 + 404);
+        v11 = get64(v2 + 0xa50);
+        put64(read + 8, get64(v2 + 0xa20));
+        put64(read + 16, v11);
+        put8(read + 24, 0);
+        put8(read + 25, v10);
+        put8(read + 27, v9);
+        put8(read + 28, v8);
+        put16(read + 30, v7);
+        put64(read, v6);
+        put8(read + 29, (v5 != 0) ? 2U : v4);
+        put8(read + 26, ((v4 << 4) | (v5 << 5)) | (v3 << 3));
+        put64(sim, v2);
+        return 0;
     }
-    v5 = get8(v3 + 476);
-    v6 = get8(v3 + 475);
-    v7 = get8(v3 + 474);
-    v8 = (uint64_t)get32(v3 + 460);
-    v9 = get16(v3 + 0xa70);
-    v10 = get8(v3 + 473);
-    v11 = get8(v3 + 477);
-    v12 = get32(v3 + 404);
-    v13 = get64(v3 + 0xa50);
-    put64(read + 8, get64(v3 + 0xa20));
-    put64(read + 16, v13);
-    v4 = 0;
-    put8(read + 24, 0);
-    put8(read + 25, v12);
-    put8(read + 27, v11);
-    put8(read + 28, v10);
-    put16(read + 30, v9);
-    put64(read, v8);
-    put8(read + 29, (v7 != 0) ? 2U : v6);
-    put8(read + 26, ((v6 << 4) | (v7 << 5)) | (v5 << 3));
-    read = get64(sim);
-    put64(sim, v3);
-    if (read == 0) return v4;
-    copy(v2 + 8, read, 0x17b8);
-    rattle_dealloc_at(read);
-    sedgechisel_nodes_sedgechisel_nodes_sim_link_Link_Destruct_drop(v2 + 8);
-    return v4;
+    return 255;
 }
 
 static uint32_t sedge_sim_step_at(uint64_t sim, uint64_t event, uint64_t reply)
 {
-    unsigned char frame_octets[6608 + 15];
-    uint32_t v4 = 0, v5 = 0, v6 = 0, v9 = 0, v10 = 0, v11 = 0, v12 = 0, v13 = 0, v14 = 0, v15 = 0, v16 = 0, v23 = 0,
-        v24 = 0, v26 = 0, v27 = 0, v31 = 0, v32 = 0, v33 = 0, v34 = 0, v35 = 0, v36 = 0, v37 = 0, v43 = 0, v44 = 0,
-        v45 = 0, v46 = 0, v47 = 0, t2, t3, t4, t5, t6, t7, t8, t10, t14, t15, t16;
-    uint64_t v3 = 0, v7 = 0, v8 = 0, v17 = 0, v18 = 0, v19 = 0, v20 = 0, v21 = 0, v22 = 0, v25 = 0, v28 = 0, v29 = 0,
-        v30 = 0, v38 = 0, v39 = 0, v40 = 0, v41 = 0, v42 = 0, t11, t12, t17;
+    unsigned char frame_octets[2576 + 15];
+    uint32_t v4 = 0, v5 = 0, v6 = 0, v9 = 0, v10 = 0, v11 = 0, v12 = 0, v13 = 0, v14 = 0, v15 = 0, v16 = 0, v17 = 0,
+        v24 = 0, v25 = 0, v27 = 0, v28 = 0, v32 = 0, v33 = 0, v34 = 0, v35 = 0, v36 = 0, v37 = 0, v43 = 0, v44 = 0,
+        v45 = 0, v46 = 0, v47 = 0, t2, t3, t4, t5, t6, t7, t8, t11, t15, t16, t17;
+    uint64_t v3 = 0, v7 = 0, v8 = 0, v18 = 0, v19 = 0, v20 = 0, v21 = 0, v22 = 0, v23 = 0, v26 = 0, v29 = 0, v30 = 0,
+        v31 = 0, v38 = 0, v39 = 0, v40 = 0, v41 = 0, v42 = 0, t9, t10, t12, t13, t18;
     v3 = aligned(frame_octets);
     v4 = 1;
     v5 = 0;
@@ -10724,263 +10582,263 @@ l2:;
     put64(sim, 0);
     v6 = 255;
     if (event == 0) return v6;
-    v14 = 0;
-    put16(v3 + 228, 0);
-    put32(v3 + 224, 0);
+    v17 = 0;
+    put16(v3 + 220, 0);
+    put32(v3 + 216, 0);
     switch (v13) {
     case 1:
-        nodes_ground_node_Ground_bypass(v3 + 56, event, v12, v7, v8);
-        v24 = 0;
-        v11 = get8(v3 + 57);
+        nodes_ground_node_Ground_bypass(v3 + 48, event, v12, v7, v8);
+        v25 = 0;
+        v11 = get8(v3 + 49);
         v13 = v11 == 5;
-        v12 = get8(v3 + 56);
+        v12 = get8(v3 + 48);
         v6 = (v12 != 0) ? ((v13 != 0) ? 0U : 3U) : 0U;
-        if ((v13 & (uint32_t)(v12 != 0)) != 0) goto l48;
-        v23 = (v12 != 0) ? ((v13 != 0) ? 0U : v11) : 0U;
-        v21 = 0;
-        goto l49;
+        if ((v13 & (uint32_t)(v12 != 0)) != 0) goto l51;
+        v24 = (v12 != 0) ? ((v13 != 0) ? 0U : v11) : 0U;
+        v22 = 0;
+        goto l52;
     case 2:
-        put16(v3 + 530, v5);
-        put8(v3 + 529, v9);
-        put8(v3 + 528, v11);
+        put16(v3 + 498, v5);
+        put8(v3 + 497, v9);
+        put8(v3 + 496, v11);
         v6 = 0;
-        put16(v3 + 280, 0);
-        put8(v3 + 282, 0);
+        put16(v3 + 248, 0);
+        put8(v3 + 250, 0);
         if (v10 == 0) {
-            if (v4 != 0) goto l54;
+            if (v4 != 0) goto l57;
             v13 = v11;
             v12 = 0;
-            goto l53;
+            goto l56;
         }
         v13 = 0;
         v12 = 0;
         v6 = 0;
-        if (get8(event + 473) != get8(event + 74)) goto l53;
-        goto l54;
+        if (get8(event + 473) != get8(event + 74)) goto l56;
+        goto l57;
     case 3:
-        put64(v3 + 528, 0);
-        put64(v3 + 536, 0);
-        put32(v3 + 280, 2);
+        put64(v3 + 496, 0);
+        put64(v3 + 504, 0);
+        put32(v3 + 248, 2);
         v6 = 0;
         if (get64(event + 0xad8) == 0) v6 = get64(event + 0xb00) == 0;
         v13 = simulated_link_world_World_is_idle(event);
-        nodes_ground_node_Ground_resume(v3 + 528, event, v12);
-        if (get8(v3 + 528) == 0) {
-            v7 = get64(v3 + 536);
-            simulated_link_world_World_begin(event, v3 + 280, v6, v13);
-            v23 = 0;
+        nodes_ground_node_Ground_resume(v3 + 496, event, v12);
+        if (get8(v3 + 496) == 0) {
+            v7 = get64(v3 + 504);
+            simulated_link_world_World_begin(event, v3 + 248, v6, v13);
+            v24 = 0;
             v6 = 10;
-            goto l111;
+            goto l114;
         }
         v7 = 0;
         v6 = 3;
-        v23 = get8(v3 + 529);
-    l111:;
-        v25 = v7 & 0xffffffffff000000ULL;
-        v24 = (uint32_t)(v7 >> 16);
-        v26 = (uint32_t)(v7 >> 8);
-        v27 = (uint32_t)v7;
+        v24 = get8(v3 + 497);
+    l114:;
+        v26 = v7 & 0xffffffffff000000ULL;
+        v25 = (uint32_t)(v7 >> 16);
+        v27 = (uint32_t)(v7 >> 8);
+        v28 = (uint32_t)v7;
         v13 = 0;
-        v21 = 0;
+        v22 = 0;
         v7 = 0;
-        v14 = 0;
-        goto l47;
+        v17 = 0;
+        goto l50;
     case 4:
-        v25 = 0;
-        put64(v3 + 288, 0);
-        put64(v3 + 280, 0);
-        nodes_ground_node_Ground_peek(v3 + 528, event);
-        if (get8(v3 + 528) != 1) {
+        v26 = 0;
+        put64(v3 + 256, 0);
+        put64(v3 + 248, 0);
+        nodes_ground_node_Ground_peek(v3 + 496, event);
+        if (get8(v3 + 496) != 1) {
             nodes_ground_node_Ground_advance(event);
+            v28 = 0;
             v27 = 0;
-            v26 = 0;
-            v24 = 0;
+            v25 = 0;
             v7 = 0;
-            v21 = 0;
-            goto l44;
+            v22 = 0;
+            goto l48;
         }
-        v25 = get64(v3 + 560);
-        v11 = get8(v3 + 553);
-        v10 = get8(v3 + 552);
-        v6 = get8(v3 + 545);
-        v17 = get64(v3 + 568);
-        v13 = get8(v3 + 544);
-        v7 = (v13 == 2) ? ((v6 != 0) ? 4ULL : 2ULL) : (v17 + 2);
-        v28 = v7 + 6;
-        v12 = v28 == 0;
+        v26 = get64(v3 + 528);
+        v11 = get8(v3 + 521);
+        v10 = get8(v3 + 520);
+        v6 = get8(v3 + 513);
+        v18 = get64(v3 + 536);
+        v13 = get8(v3 + 512);
+        v7 = (v13 == 2) ? ((v6 != 0) ? 4ULL : 2ULL) : (v18 + 2);
+        v29 = v7 + 6;
+        v12 = v29 == 0;
         if (v12 != 0) {
             v7 = 0;
-            v18 = v3 + 0x19c8;
-            goto l113;
+            v19 = v3 + 0xa08;
+            goto l116;
         }
-        if (v28 > 0x7fffffffffffffffULL) goto l55;
-        rattle_alloc_at(v3 + 96, v28, 1);
-        if (((uint32_t)get64(v3 + 96) & 1) == 0) goto l55;
-        v18 = get64(v3 + 104);
+        if (v29 > 0x7fffffffffffffffULL) goto l58;
+        rattle_alloc_at(v3 + 88, v29, 1);
+        if (((uint32_t)get64(v3 + 88) & 1) == 0) goto l58;
+        v19 = get64(v3 + 96);
         v8 = 0;
-        if (v28 != 1) {
+        if (v29 != 1) {
             v8 = v7 + 5;
-            if (v8 != 0) fill(v18, 0, v8);
+            if (v8 != 0) fill(v19, 0, v8);
         }
-        put8(v18 + v8, 0);
+        put8(v19 + v8, 0);
         v7 = v8 + 1;
-    l113:;
-        tc_frame_encoding_encode(v3 + 280, v3 + 536, v18, v7);
-        if (get8(v3 + 280) != 0) UNREACHABLE;
+    l116:;
+        tc_frame_encoding_encode(v3 + 248, v3 + 504, v19, v7);
+        if (get8(v3 + 248) != 0) UNREACHABLE;
         v5 = v7 == 0;
         if (v5 != 0) {
-            v20 = v3 + 0x19c8;
-            goto l120;
+            v21 = v3 + 0xa08;
+            goto l123;
         }
-        rattle_alloc_at(v3 + 80, v7, 1);
-        if (((uint32_t)get64(v3 + 80) & 1) == 0) {
-            if (v12 == 0) goto l117;
-            goto l55;
+        rattle_alloc_at(v3 + 72, v7, 1);
+        if (((uint32_t)get64(v3 + 72) & 1) == 0) {
+            if (v12 == 0) goto l120;
+            goto l58;
         }
-        v20 = get64(v3 + 88);
-    l120:;
-        if ((v20 - v18) < v7) {
-            v22 = v7 & 3;
-            v21 = 0;
+        v21 = get64(v3 + 80);
+    l123:;
+        if ((v21 - v19) < v7) {
+            v23 = v7 & 3;
+            v22 = 0;
             if (v7 >= 4) {
-                v29 = v7 & ~3ULL;
-                v21 = 0;
+                v30 = v7 & ~3ULL;
+                v22 = 0;
                 do {
-                    v8 = v20 + v21;
-                    v19 = v18 + v21;
-                    put8(v8, get8(v19));
-                    put8(v8 + 1, get8(v19 + 1));
-                    put8(v8 + 2, get8(v19 + 2));
-                    put8(v8 + 3, get8(v19 + 3));
-                    v21 = v21 + 4;
-                } while (v29 != v21);
-                if (v22 == 0) goto l122;
+                    v8 = v21 + v22;
+                    v20 = v19 + v22;
+                    put8(v8, get8(v20));
+                    put8(v8 + 1, get8(v20 + 1));
+                    put8(v8 + 2, get8(v20 + 2));
+                    put8(v8 + 3, get8(v20 + 3));
+                    v22 = v22 + 4;
+                } while (v30 != v22);
+                if (v23 == 0) goto l125;
             }
-            v8 = v20 + v21;
-            v21 = v18 + v21;
-        l126:;
-            put8(v8, get8(v21));
+            v8 = v21 + v22;
+            v22 = v19 + v22;
+        l129:;
+            put8(v8, get8(v22));
             v8 = v8 + 1;
-            v21 = v21 + 1;
-            v22 = v22 - 1;
-            if (v22 != 0) goto l126;
-            goto l122;
+            v22 = v22 + 1;
+            v23 = v23 - 1;
+            if (v23 != 0) goto l129;
+            goto l125;
         }
-        if (v5 == 0) copy(v20, v18, v7);
-    l122:;
-        v30 = 0;
-        v22 = 0;
+        if (v5 == 0) copy(v21, v19, v7);
+    l125:;
+        v31 = 0;
+        v23 = 0;
         v13 = v13 != 0 || (v6 & 255) != (get8(event + 74) & 255);
         if (v13 == 0) {
-            v22 = v3 + 0x19c8;
-            v30 = v17 + 1;
-            if (v30 != 0) {
-                if (v30 > 0x7fffffffffffffffULL) goto l118;
-                rattle_alloc_at(v3 + 64, v30, 1);
-                if (((uint32_t)get64(v3 + 64) & 1) == 0) goto l118;
-                v22 = get64(v3 + 72);
+            v23 = v3 + 0xa08;
+            v31 = v18 + 1;
+            if (v31 != 0) {
+                if (v31 > 0x7fffffffffffffffULL) goto l121;
+                rattle_alloc_at(v3 + 56, v31, 1);
+                if (((uint32_t)get64(v3 + 56) & 1) == 0) goto l121;
+                v23 = get64(v3 + 64);
             }
-            put8(v22, (v10 << 6) + v11);
-            v8 = v22 + 1;
-            if ((v8 - v25) < v17) {
-                v29 = v17 & 3;
+            put8(v23, (v10 << 6) + v11);
+            v8 = v23 + 1;
+            if ((v8 - v26) < v18) {
+                v30 = v18 & 3;
                 v8 = 0;
-                if (v17 >= 4) {
-                    v17 = v17 & ~3ULL;
+                if (v18 >= 4) {
+                    v18 = v18 & ~3ULL;
                     v8 = 0;
                     do {
-                        v21 = v22 + v8;
-                        v19 = v25 + v8;
-                        put8(v21 + 1, get8(v19));
-                        put8(v21 + 2, get8(v19 + 1));
-                        put8(v21 + 3, get8(v19 + 2));
-                        put8(v21 + 4, get8(v19 + 3));
+                        v22 = v23 + v8;
+                        v20 = v26 + v8;
+                        put8(v22 + 1, get8(v20));
+                        put8(v22 + 2, get8(v20 + 1));
+                        put8(v22 + 3, get8(v20 + 2));
+                        put8(v22 + 4, get8(v20 + 3));
                         v8 = v8 + 4;
-                    } while (v17 != v8);
-                    if (v29 == 0) goto l127;
+                    } while (v18 != v8);
+                    if (v30 == 0) goto l130;
                 }
-            l132:;
-                put8(v22 + v8 + 1, get8(v25 + v8));
+            l135:;
+                put8(v23 + v8 + 1, get8(v26 + v8));
                 v8 = v8 + 1;
-                v29 = v29 - 1;
-                if (v29 != 0) goto l132;
-                goto l127;
+                v30 = v30 - 1;
+                if (v30 != 0) goto l135;
+                goto l130;
             }
-            if (v17 != 0) copy(v8, v25, v17);
+            if (v18 != 0) copy(v8, v26, v18);
         }
-    l127:;
+    l130:;
         if (get64(event + 0xae0) == get64(event + 0xad8)) {
             t2 = std_alloc_vec_deque_VecDeque_grow_1598ebf9113514c4(event + 0xad0);
-            if (t2 == 0) goto l133;
+            if (t2 == 0) goto l136;
         }
-        if (get64(event + 0x1758) != get64(event + 0x1750)) goto l116;
+        if (get64(event + 0x1758) != get64(event + 0x1750)) goto l119;
         t3 = std_alloc_vec_Vec_grow_amortized_1598ebf9113514c4(event + 0x1748, 1);
-        if (t3 != 0) goto l116;
-    l133:;
-        if (v12 == 0) rattle_dealloc_at(v18);
-        if (v5 == 0) rattle_dealloc_at(v20);
+        if (t3 != 0) goto l119;
+    l136:;
+        if (v12 == 0) rattle_dealloc_at(v19);
+        if (v5 == 0) rattle_dealloc_at(v21);
         v6 = 0;
-        if ((v13 | (uint32_t)(v30 == 0)) != 0) goto l48;
-        rattle_dealloc_at(v22);
-        goto l48;
-    l118:;
-        if (v5 == 0) rattle_dealloc_at(v20);
-        if (v12 != 0) goto l55;
-    l117:;
-        rattle_dealloc_at(v18);
-        goto l55;
-    l116:;
+        if ((v13 | (uint32_t)(v31 == 0)) != 0) goto l51;
+        rattle_dealloc_at(v23);
+        goto l51;
+    l121:;
+        if (v5 == 0) rattle_dealloc_at(v21);
+        if (v12 != 0) goto l58;
+    l120:;
+        rattle_dealloc_at(v19);
+        goto l58;
+    l119:;
         nodes_ground_node_Ground_advance(event);
         v8 = get64(event + 0xad0);
-        v21 = get64(event + 0xad8);
-        v25 = event + 0xaf0;
-        v19 = get64(v25);
-        v29 = v21 - v19;
-        v17 = get64(event + 0xae8);
-        if (v29 < (get64(event + 0xae0) - v17)) {
-            v8 = v8 + ((v17 + v29) * 24);
-            put64(v8 + 16, v28);
+        v22 = get64(event + 0xad8);
+        v26 = event + 0xaf0;
+        v20 = get64(v26);
+        v30 = v22 - v20;
+        v18 = get64(event + 0xae8);
+        if (v30 < (get64(event + 0xae0) - v18)) {
+            v8 = v8 + ((v18 + v30) * 24);
+            put64(v8 + 16, v29);
             put64(v8 + 8, v7);
-            put64(v8, v18);
-            goto l138;
+            put64(v8, v19);
+            goto l141;
         }
-        v8 = v8 + (v19 * 24);
-        put64(v8 + 16, v28);
+        v8 = v8 + (v20 * 24);
+        put64(v8 + 16, v29);
         put64(v8 + 8, v7);
-        put64(v8, v18);
-        put64(v25, v19 + 1);
-    l138:;
-        put64(event + 0xad8, v21 + 1);
+        put64(v8, v19);
+        put64(v26, v20 + 1);
+    l141:;
+        put64(event + 0xad8, v22 + 1);
         if (v13 == 0) {
-            v21 = event + 0x1750;
-            v19 = get64(v21);
-            v8 = get64(event + 0x1748) + (v19 * 24);
-            put64(v8 + 16, v30);
-            put64(v8 + 8, v30);
-            put64(v8, v22);
-            put64(v21, v19 + 1);
+            v22 = event + 0x1750;
+            v20 = get64(v22);
+            v8 = get64(event + 0x1748) + (v20 * 24);
+            put64(v8 + 16, v31);
+            put64(v8 + 8, v31);
+            put64(v8, v23);
+            put64(v22, v20 + 1);
         }
         v13 = 0;
-        put16(v3 + 532, 0);
-        put32(v3 + 528, 0);
-        v25 = v20 & 0xffffffffff000000ULL;
-        v24 = (uint32_t)(v20 >> 16);
-        v26 = (uint32_t)(v20 >> 8);
-        v27 = (uint32_t)v20;
+        put16(v3 + 500, 0);
+        put32(v3 + 496, 0);
+        v26 = v21 & 0xffffffffff000000ULL;
+        v25 = (uint32_t)(v21 >> 16);
+        v27 = (uint32_t)(v21 >> 8);
+        v28 = (uint32_t)v21;
         v8 = 0;
         v6 = 5;
-        v21 = v7;
-        v19 = v7;
-        v22 = 0;
-        v18 = 0;
-        v31 = 0;
+        v22 = v7;
+        v20 = v7;
+        v23 = 0;
+        v19 = 0;
         v12 = 0;
         v11 = 0;
         v10 = 0;
         v5 = 0;
         v9 = 0;
         v4 = 0;
-        v20 = 0;
+        v14 = 0;
+        v21 = 0;
         v16 = 0;
         v15 = 0;
         v32 = 0;
@@ -10991,197 +10849,197 @@ l2:;
         v37 = 5;
         goto l30;
     case 5:
-        v25 = 0;
+        v26 = 0;
+        put64(v3 + 472, 0);
         put64(v3 + 480, 0);
         put64(v3 + 488, 0);
-        put64(v3 + 496, 0);
-        v27 = 0;
-        fill(v3 + 528, 0, 208);
-        put64(v3 + 272, 0);
-        put64(v3 + 264, 0);
-        put64(v3 + 256, 0);
+        v28 = 0;
+        fill(v3 + 496, 0, 208);
+        put64(v3 + 464, 0);
+        put64(v3 + 456, 0);
+        put64(v3 + 448, 0);
+        put64(v3 + 224, 0);
         put64(v3 + 232, 0);
         put64(v3 + 240, 0);
-        put64(v3 + 248, 0);
         v13 = 1;
         v8 = get64(event + 0xad8);
         if (v8 != 0) {
             v7 = get64(event + 0xad0);
             if (v8 != get64(event + 0xaf0)) v7 = v7 + (get64(event + 0xae8) * 24);
-            v30 = event + 400;
-            nodes_spacecraft_Spacecraft_prepare(v3 + 528, v30, get64(v7), get64(v7 + 8));
+            v31 = event + 400;
+            nodes_spacecraft_Spacecraft_prepare(v3 + 496, v31, get64(v7), get64(v7 + 8));
             v6 = 0;
-            if (get8(v3 + 528) != 0) goto l59;
-            copy(v3 + 280, v3 + 528 + 8, 200);
-            v12 = get8(v3 + 328);
+            if (get8(v3 + 496) != 0) goto l62;
+            copy(v3 + 248, v3 + 496 + 8, 200);
+            v12 = get8(v3 + 296);
             if (v12 == 1) {
-                v20 = get64(v3 + 376);
-                v5 = get8(v3 + 368);
-                v38 = get64((v5 != 0) ? (v3 + 384) : (v3 + 400));
-                v13 = get8(v3 + 337);
-                v22 = get64(v3 + 344);
-                v11 = get8(v3 + 336);
-                v7 = get64(v3 + 352);
+                v21 = get64(v3 + 344);
+                v5 = get8(v3 + 336);
+                v38 = get64((v5 != 0) ? (v3 + 352) : (v3 + 368));
+                v13 = get8(v3 + 305);
+                v23 = get64(v3 + 312);
+                v11 = get8(v3 + 304);
+                v7 = get64(v3 + 320);
                 v39 = v7 + 1;
                 v10 = v39 == 0;
                 if (v10 != 0) {
-                    v17 = v3 + 0x19c8;
-                    goto l149;
+                    v18 = v3 + 0xa08;
+                    goto l152;
                 }
-                if (v39 > 0x7fffffffffffffffULL) goto l148;
-                rattle_alloc_at(v3 + 144, v39, 1);
-                if (((uint32_t)get64(v3 + 144) & 1) == 0) goto l148;
-                v17 = get64(v3 + 152);
-            l149:;
-                put8(v17, (v11 << 6) + v13);
-                v8 = v17 + 1;
-                if ((v8 - v22) < v7) {
-                    v19 = v7 & 3;
+                if (v39 > 0x7fffffffffffffffULL) goto l151;
+                rattle_alloc_at(v3 + 136, v39, 1);
+                if (((uint32_t)get64(v3 + 136) & 1) == 0) goto l151;
+                v18 = get64(v3 + 144);
+            l152:;
+                put8(v18, (v11 << 6) + v13);
+                v8 = v18 + 1;
+                if ((v8 - v23) < v7) {
+                    v20 = v7 & 3;
                     v8 = 0;
                     if (v7 >= 4) {
-                        v18 = v7 & ~3ULL;
+                        v19 = v7 & ~3ULL;
                         v8 = 0;
                         do {
-                            v7 = v17 + v8;
-                            v21 = v22 + v8;
-                            put8(v7 + 1, get8(v21));
-                            put8(v7 + 2, get8(v21 + 1));
-                            put8(v7 + 3, get8(v21 + 2));
-                            put8(v7 + 4, get8(v21 + 3));
+                            v7 = v18 + v8;
+                            v22 = v23 + v8;
+                            put8(v7 + 1, get8(v22));
+                            put8(v7 + 2, get8(v22 + 1));
+                            put8(v7 + 3, get8(v22 + 2));
+                            put8(v7 + 4, get8(v22 + 3));
                             v8 = v8 + 4;
-                        } while (v18 != v8);
-                        if (v19 == 0) goto l151;
+                        } while (v19 != v8);
+                        if (v20 == 0) goto l154;
                     }
-                    v7 = v22 + v8;
-                    v8 = v8 + v17 + 1;
-                l155:;
+                    v7 = v23 + v8;
+                    v8 = v8 + v18 + 1;
+                l158:;
                     put8(v8, get8(v7));
                     v8 = v8 + 1;
                     v7 = v7 + 1;
-                    v19 = v19 - 1;
-                    if (v19 != 0) goto l155;
-                    goto l151;
+                    v20 = v20 - 1;
+                    if (v20 != 0) goto l158;
+                    goto l154;
                 }
-                if (v7 != 0) copy(v8, v22, v7);
-            l151:;
+                if (v7 != 0) copy(v8, v23, v7);
+            l154:;
                 if (v38 == 0) {
-                    v40 = v3 + 0x19c8;
+                    v40 = v3 + 0xa08;
                     v38 = 0;
-                    v29 = 0;
-                    goto l160;
+                    v30 = 0;
+                    goto l163;
                 }
-                if (v38 > 0x555555555555555ULL) goto l156;
-                rattle_alloc_at(v3 + 128, v38 * 24, 8);
-                if (((uint32_t)get64(v3 + 128) & 1) == 0) goto l156;
-                v41 = (v5 != 0) ? v20 : (v3 + 376);
-                v42 = get64(v3 + 136);
-                put64(v3 + 520, v38);
-                put64(v3 + 512, 0);
-                put64(v3 + 504, v42);
-                v29 = 0;
+                if (v38 > 0x555555555555555ULL) goto l159;
+                rattle_alloc_at(v3 + 120, v38 * 24, 8);
+                if (((uint32_t)get64(v3 + 120) & 1) == 0) goto l159;
+                v41 = (v5 != 0) ? v21 : (v3 + 344);
+                v42 = get64(v3 + 128);
+                put64(v3 + 2560, v38);
+                put64(v3 + 2552, 0);
+                put64(v3 + 2544, v42);
+                v30 = 0;
                 v40 = 0;
                 do {
                     v7 = v41 + (v40 * 24);
-                    v18 = get64(v7);
-                    v28 = get64(v7 + 8);
-                    v11 = v28 == 0;
+                    v19 = get64(v7);
+                    v29 = get64(v7 + 8);
+                    v11 = v29 == 0;
                     if (v11 != 0) {
-                        v22 = v3 + 0x19c8;
-                        goto l163;
+                        v23 = v3 + 0xa08;
+                        goto l166;
                     }
-                    if (v28 > 0x7fffffffffffffffULL) goto l159;
-                    rattle_alloc_at(v3 + 112, v28, 1);
-                    if (((uint32_t)get64(v3 + 112) & 1) == 0) goto l159;
-                    v22 = get64(v3 + 120);
-                l163:;
-                    if ((v22 - v18) < v28) {
-                        v19 = v28 & 3;
+                    if (v29 > 0x7fffffffffffffffULL) goto l162;
+                    rattle_alloc_at(v3 + 104, v29, 1);
+                    if (((uint32_t)get64(v3 + 104) & 1) == 0) goto l162;
+                    v23 = get64(v3 + 112);
+                l166:;
+                    if ((v23 - v19) < v29) {
+                        v20 = v29 & 3;
                         v8 = 0;
-                        if (v28 >= 4) {
-                            v20 = v28 & ~3ULL;
+                        if (v29 >= 4) {
+                            v21 = v29 & ~3ULL;
                             v8 = 0;
                             do {
-                                v7 = v22 + v8;
-                                v21 = v18 + v8;
-                                put8(v7, get8(v21));
-                                put8(v7 + 1, get8(v21 + 1));
-                                put8(v7 + 2, get8(v21 + 2));
-                                put8(v7 + 3, get8(v21 + 3));
+                                v7 = v23 + v8;
+                                v22 = v19 + v8;
+                                put8(v7, get8(v22));
+                                put8(v7 + 1, get8(v22 + 1));
+                                put8(v7 + 2, get8(v22 + 2));
+                                put8(v7 + 3, get8(v22 + 3));
                                 v8 = v8 + 4;
-                            } while (v20 != v8);
-                            if (v19 == 0) goto l165;
+                            } while (v21 != v8);
+                            if (v20 == 0) goto l168;
                         }
-                        v7 = v22 + v8;
-                        v8 = v18 + v8;
-                    l169:;
+                        v7 = v23 + v8;
+                        v8 = v19 + v8;
+                    l172:;
                         put8(v7, get8(v8));
                         v7 = v7 + 1;
                         v8 = v8 + 1;
-                        v19 = v19 - 1;
-                        if (v19 != 0) goto l169;
-                        goto l165;
+                        v20 = v20 - 1;
+                        if (v20 != 0) goto l172;
+                        goto l168;
                     }
-                    if (v11 == 0) copy(v22, v18, v28);
-                l165:;
-                    if (get64(v3 + 520) == v29) {
-                        t4 = std_alloc_vec_Vec_grow_amortized_1598ebf9113514c4(v3 + 504, 1);
-                        if (t4 == 0) goto l158;
-                        v42 = get64(v3 + 504);
-                        v29 = get64(v3 + 512);
+                    if (v11 == 0) copy(v23, v19, v29);
+                l168:;
+                    if (get64(v3 + 2560) == v30) {
+                        t4 = std_alloc_vec_Vec_grow_amortized_1598ebf9113514c4(v3 + 0x9f0, 1);
+                        if (t4 == 0) goto l161;
+                        v42 = get64(v3 + 2544);
+                        v30 = get64(v3 + 2552);
                     }
-                    v7 = v42 + (v29 * 24);
-                    put64(v7 + 16, v28);
-                    put64(v7 + 8, v28);
-                    put64(v7, v22);
-                    v29 = v29 + 1;
-                    put64(v3 + 512, v29);
+                    v7 = v42 + (v30 * 24);
+                    put64(v7 + 16, v29);
+                    put64(v7 + 8, v29);
+                    put64(v7, v23);
+                    v30 = v30 + 1;
+                    put64(v3 + 2552, v30);
                     v40 = v40 + 1;
                 } while (v40 != v38);
-                v38 = get64(v3 + 520);
-                v40 = get64(v3 + 504);
-            l160:;
+                v38 = get64(v3 + 2560);
+                v40 = get64(v3 + 2544);
+            l163:;
                 if (get64(event + 0x1780) == get64(event + 0x1778)) {
                     t5 = std_alloc_vec_Vec_grow_amortized_1598ebf9113514c4(event + 0x1770, 1);
-                    if (t5 == 0) goto l171;
+                    if (t5 == 0) goto l174;
                 }
                 v7 = event + 0x1148 + (((uint64_t)v13 & 255) * 24);
-                if (v29 <= (get64(v7 + 16) - get64(v7 + 8))) goto l143;
-                t6 = std_alloc_vec_Vec_grow_amortized_1598ebf9113514c4(v7, v29);
-                if (t6 != 0) goto l143;
-            l171:;
-                if (v10 == 0) rattle_dealloc_at(v17);
-                put64(v3 + 272, v38);
-                put64(v3 + 264, v29);
-                put64(v3 + 256, v40);
-                std_alloc_vec_Vec_drop_b0c2e3ac61d256b1(v3 + 256);
+                if (v30 <= (get64(v7 + 16) - get64(v7 + 8))) goto l146;
+                t6 = std_alloc_vec_Vec_grow_amortized_1598ebf9113514c4(v7, v30);
+                if (t6 != 0) goto l146;
+            l174:;
+                if (v10 == 0) rattle_dealloc_at(v18);
+                put64(v3 + 464, v38);
+                put64(v3 + 456, v30);
+                put64(v3 + 448, v40);
+                std_alloc_vec_Vec_drop_b0c2e3ac61d256b1(v3 + 448);
                 v13 = 1;
-                if (get8(v3 + 328) != 1) goto l145;
-                v21 = get64(v3 + 432);
-                v19 = get64(v3 + 416);
-                v12 = get8(v3 + 408);
-                v7 = get64(v3 + 392);
-                v8 = get64(v3 + 376);
-                if (get8(v3 + 368) != 0) goto l147;
-                if (v7 == 0) goto l146;
+                if (get8(v3 + 296) != 1) goto l148;
+                v22 = get64(v3 + 400);
+                v20 = get64(v3 + 384);
+                v12 = get8(v3 + 376);
+                v7 = get64(v3 + 360);
+                v8 = get64(v3 + 344);
+                if (get8(v3 + 336) != 0) goto l150;
+                if (v7 == 0) goto l149;
                 rattle_dealloc_at(v8);
-                goto l146;
-            l159:;
-                v8 = get64(v3 + 520);
-                if (v29 != 0) {
+                goto l149;
+            l162:;
+                v8 = get64(v3 + 2560);
+                if (v30 != 0) {
                     v7 = v42;
                     do {
                         if (get64(v7 + 16) != 0) rattle_dealloc_at(get64(v7));
                         v7 = v7 + 24;
-                        v29 = v29 - 1;
-                    } while (v29 != 0);
+                        v30 = v30 - 1;
+                    } while (v30 != 0);
                 }
-                if (v8 != 0) goto l157;
-                goto l156;
-            l158:;
-                if (v11 == 0) rattle_dealloc_at(v22);
-                v21 = get64(v3 + 520);
-                v42 = get64(v3 + 504);
-                v8 = get64(v3 + 512);
+                if (v8 != 0) goto l160;
+                goto l159;
+            l161:;
+                if (v11 == 0) rattle_dealloc_at(v23);
+                v22 = get64(v3 + 2560);
+                v42 = get64(v3 + 2544);
+                v8 = get64(v3 + 2552);
                 if (v8 != 0) {
                     v7 = v42;
                     do {
@@ -11190,80 +11048,80 @@ l2:;
                         v8 = v8 - 1;
                     } while (v8 != 0);
                 }
-                if (v21 == 0) goto l156;
-            l157:;
+                if (v22 == 0) goto l159;
+            l160:;
                 rattle_dealloc_at(v42);
-            l156:;
-                if (v10 == 0) rattle_dealloc_at(v17);
-            l148:;
+            l159:;
+                if (v10 == 0) rattle_dealloc_at(v18);
+            l151:;
                 v13 = 1;
-                if (get8(v3 + 328) == 1) {
-                    v22 = get64(v3 + 432);
-                    v18 = get64(v3 + 416);
-                    v12 = get8(v3 + 408);
-                    v19 = get64(v3 + 392);
-                    v21 = get64(v3 + 376);
-                    if (get8(v3 + 368) == 0) {
-                        if (v19 != 0) goto l183;
-                        goto l182;
+                if (get8(v3 + 296) == 1) {
+                    v23 = get64(v3 + 400);
+                    v19 = get64(v3 + 384);
+                    v12 = get8(v3 + 376);
+                    v20 = get64(v3 + 360);
+                    v22 = get64(v3 + 344);
+                    if (get8(v3 + 336) == 0) {
+                        if (v20 != 0) goto l186;
+                        goto l185;
                     }
-                    v8 = get64(v3 + 384);
+                    v8 = get64(v3 + 352);
                     if (v8 != 0) {
-                        v7 = v21;
+                        v7 = v22;
                         do {
                             if (get64(v7 + 16) != 0) rattle_dealloc_at(get64(v7));
                             v7 = v7 + 24;
                             v8 = v8 - 1;
                         } while (v8 != 0);
                     }
-                    if (v19 == 0) goto l182;
-                l183:;
-                    rattle_dealloc_at(v21);
-                l182:;
+                    if (v20 == 0) goto l185;
+                l186:;
+                    rattle_dealloc_at(v22);
+                l185:;
                     if ((v12 & 255) == 2) {
-                        if (v22 != 0) rattle_dealloc_at(v18);
+                        if (v23 != 0) rattle_dealloc_at(v19);
                     }
                 }
-                if (get8(v3 + 440) != 1) goto l59;
-                if (get64(v3 + 472) == 0) goto l59;
-                rattle_dealloc_at(get64(v3 + 456));
-                v27 = 0;
-                goto l58;
-            l147:;
-                v22 = get64(v3 + 384);
-                put64(v3 + 248, v7);
-                put64(v3 + 240, v22);
-                put64(v3 + 232, v8);
-                std_alloc_vec_Vec_drop_b0c2e3ac61d256b1(v3 + 232);
-            l146:;
+                if (get8(v3 + 408) != 1) goto l62;
+                if (get64(v3 + 440) == 0) goto l62;
+                rattle_dealloc_at(get64(v3 + 424));
+                v28 = 0;
+                goto l61;
+            l150:;
+                v23 = get64(v3 + 352);
+                put64(v3 + 240, v7);
+                put64(v3 + 232, v23);
+                put64(v3 + 224, v8);
+                std_alloc_vec_Vec_drop_b0c2e3ac61d256b1(v3 + 224);
+            l149:;
                 if ((v12 & 255) == 2) {
-                    if (v21 != 0) rattle_dealloc_at(v19);
+                    if (v22 != 0) rattle_dealloc_at(v20);
                 }
-            l145:;
+            l148:;
                 v7 = 0;
-                if (get8(v3 + 440) != 1) goto l60;
-                if (get64(v3 + 472) == 0) goto l60;
-                rattle_dealloc_at(get64(v3 + 456));
-                goto l60;
+                if (get8(v3 + 408) != 1) goto l63;
+                if (get64(v3 + 440) == 0) goto l63;
+                rattle_dealloc_at(get64(v3 + 424));
+                goto l63;
             }
             v13 = 0;
             v40 = 0;
-            v29 = 0;
+            v30 = 0;
             v38 = 0;
-            v17 = 0;
+            v18 = 0;
             v39 = 0;
-        l143:;
-            nodes_spacecraft_Spacecraft_commit(v3 + 480, v30, v3 + 280);
+        l146:;
+            nodes_spacecraft_Spacecraft_commit(v3 + 472, v31, v3 + 248);
             v7 = get64(event + 0xad8);
             if (v7 != 0) {
-                v21 = event + 0xaf0;
-                if (get64(v21) != v7) {
+                v22 = event + 0xaf0;
+                if (get64(v22) != v7) {
                     v8 = get64(event + 0xae8);
-                    goto l189;
+                    goto l192;
                 }
                 v8 = 0;
-                put64(v21, 0);
-            l189:;
+                put64(v22, 0);
+            l192:;
                 put64(event + 0xad8, v7 - 1);
                 put64(event + 0xae8, v8 + 1);
                 v7 = get64(event + 0xad0) + (v8 * 24);
@@ -11271,300 +11129,378 @@ l2:;
             }
             if (v12 == 1) {
                 v8 = event + 0x1778;
-                v21 = get64(v8);
-                v7 = get64(event + 0x1770) + (v21 * 24);
+                v22 = get64(v8);
+                v7 = get64(event + 0x1770) + (v22 * 24);
                 put64(v7 + 16, v39);
                 put64(v7 + 8, v39);
-                put64(v7, v17);
-                put64(v8, v21 + 1);
-                if (v29 != 0) {
-                    v22 = (event + (((uint64_t)v13 & 255) * 24)) + 0x1148;
-                    v18 = v22 + 8;
-                    v17 = get64(v18);
-                    v21 = 0;
-                    if (v29 != 1) {
-                        v39 = v29 & 1;
-                        v8 = v17 * 24;
-                        v30 = v29 & ~1ULL;
-                        v21 = 0;
+                put64(v7, v18);
+                put64(v8, v22 + 1);
+                if (v30 != 0) {
+                    v23 = (event + (((uint64_t)v13 & 255) * 24)) + 0x1148;
+                    v19 = v23 + 8;
+                    v18 = get64(v19);
+                    v22 = 0;
+                    if (v30 != 1) {
+                        v39 = v30 & 1;
+                        v8 = v18 * 24;
+                        v31 = v30 & ~1ULL;
+                        v22 = 0;
                         v7 = v40;
                         do {
-                            v20 = get64(v7);
-                            v29 = get64(v7 + 8);
-                            v19 = get64(v22) + v8;
-                            put64(v19 + 16, get64(v7 + 16));
-                            put64(v19 + 8, v29);
-                            put64(v19, v20);
-                            v20 = v17 + v21;
-                            put64(v18, v20 + 1);
-                            v29 = get64(v7 + 24);
-                            v28 = get64(v7 + 32);
-                            v19 = get64(v22) + v8;
-                            put64(v19 + 40, get64(v7 + 40));
-                            put64(v19 + 32, v28);
-                            put64(v19 + 24, v29);
-                            put64(v18, v20 + 2);
+                            v21 = get64(v7);
+                            v30 = get64(v7 + 8);
+                            v20 = get64(v23) + v8;
+                            put64(v20 + 16, get64(v7 + 16));
+                            put64(v20 + 8, v30);
+                            put64(v20, v21);
+                            v21 = v18 + v22;
+                            put64(v19, v21 + 1);
+                            v30 = get64(v7 + 24);
+                            v29 = get64(v7 + 32);
+                            v20 = get64(v23) + v8;
+                            put64(v20 + 40, get64(v7 + 40));
+                            put64(v20 + 32, v29);
+                            put64(v20 + 24, v30);
+                            put64(v19, v21 + 2);
                             v7 = v7 + 48;
                             v8 = v8 + 48;
-                            v21 = v21 + 2;
-                        } while (v30 != v21);
-                        if (v39 == 0) goto l192;
-                        v17 = v17 + v21;
+                            v22 = v22 + 2;
+                        } while (v31 != v22);
+                        if (v39 == 0) goto l195;
+                        v18 = v18 + v22;
                     }
-                    v7 = v40 + (v21 * 24);
-                    v21 = get64(v7);
-                    v19 = get64(v7 + 8);
-                    v8 = get64(v22) + (v17 * 24);
+                    v7 = v40 + (v22 * 24);
+                    v22 = get64(v7);
+                    v20 = get64(v7 + 8);
+                    v8 = get64(v23) + (v18 * 24);
                     put64(v8 + 16, get64(v7 + 16));
-                    put64(v8 + 8, v19);
-                    put64(v8, v21);
-                    put64(v18, v17 + 1);
+                    put64(v8 + 8, v20);
+                    put64(v8, v22);
+                    put64(v19, v18 + 1);
                 }
-            l192:;
+            l195:;
                 if (v38 != 0) rattle_dealloc_at(v40);
             }
             v6 = 7;
             v13 = 0;
-            v21 = (uint64_t)get16(v3 + 496);
-            v7 = get64(v3 + 488);
-            v24 = get8(v3 + 482);
-            v26 = get8(v3 + 481);
-            v27 = get8(v3 + 480);
-            goto l57;
+            v22 = (uint64_t)get16(v3 + 488);
+            v7 = get64(v3 + 480);
+            v25 = get8(v3 + 474);
+            v27 = get8(v3 + 473);
+            v28 = get8(v3 + 472);
+            goto l60;
         }
         v6 = 1;
-        goto l58;
+        goto l61;
     case 6:
         v7 = get64(event + 0xad8);
         if (v7 != 0) {
-            v21 = event + 0xaf0;
-            if (get64(v21) != v7) {
+            v22 = event + 0xaf0;
+            if (get64(v22) != v7) {
                 v8 = get64(event + 0xae8);
-                goto l196;
+                goto l199;
             }
             v8 = 0;
-            put64(v21, 0);
-        l196:;
+            put64(v22, 0);
+        l199:;
             put64(event + 0xad8, v7 - 1);
             put64(event + 0xae8, v8 + 1);
             v7 = get64(event + 0xad0) + (v8 * 24);
-            if (get64(v7 + 16) != 0) goto l79;
-            goto l61;
+            if (get64(v7 + 16) != 0) goto l82;
+            goto l64;
         }
         v6 = 1;
-        goto l48;
+        goto l51;
     case 7:
-        v21 = get64(event + 0xad8);
-        if (v21 != 0) {
+        v22 = get64(event + 0xad8);
+        if (v22 != 0) {
             if (v8 < 5) {
-                v26 = 0;
-                goto l199;
+                v27 = 0;
+                goto l202;
             }
             v6 = get8(v7);
             if (v6 > 63) {
-                v26 = 1;
-                goto l199;
+                v27 = 1;
+                goto l202;
             }
             if ((v6 & 48) == 16) {
-                v26 = 2;
-                goto l199;
+                v27 = 2;
+                goto l202;
             }
             if ((v6 & 12) != 0) {
-                v26 = 3;
-                goto l199;
+                v27 = 3;
+                goto l202;
             }
-            v26 = 4;
-            v19 = (((uint64_t)get8(v7 + 2) << 8) & 768) | (uint64_t)get8(v7 + 3);
-            if (v8 == (v19 + 1)) {
-                if (v19 >= 6) {
-                    v19 = v8 - 2;
-                    v13 = get16(v7 + v19);
-                    t7 = octets_frame_check_check(v7, v19);
+            v27 = 4;
+            v20 = (((uint64_t)get8(v7 + 2) << 8) & 768) | (uint64_t)get8(v7 + 3);
+            if (v8 == (v20 + 1)) {
+                if (v20 >= 6) {
+                    v20 = v8 - 2;
+                    v13 = get16(v7 + v20);
+                    t7 = octets_frame_check_check(v7, v20);
                     if ((((v13 << 8) | (v13 >> 8)) & 0xffff) != (t7 & 0xffff)) {
-                        v26 = 5;
-                        goto l199;
+                        v27 = 5;
+                        goto l202;
                     }
                     if (v6 >= 32) {
                         if ((get8(v7 + 4) & 255) != 0) {
-                            v26 = 6;
-                            goto l199;
+                            v27 = 6;
+                            goto l202;
                         }
                     }
                     if ((v6 & 16) != 0) {
                         v8 = v8 - 7;
                         if (v8 <= 3) {
-                            v26 = 7;
+                            v27 = 7;
                             switch ((uint32_t)v8) {
                             case 1:
-                                goto l209;
+                                goto l212;
                             case 2:
-                                goto l208;
+                                goto l211;
                             case 3:
-                                v26 = 8;
-                                if (get8(v7 + 5) != 130) goto l199;
-                                if (get8(v7 + 6) != 0) goto l199;
-                                goto l62;
+                                v27 = 8;
+                                if (get8(v7 + 5) != 130) goto l202;
+                                if (get8(v7 + 6) != 0) goto l202;
+                                goto l65;
                             default:
-                                goto l199;
+                                goto l202;
                             }
-                        l209:;
-                            if (get8(v7 + 5) == 0) goto l62;
+                        l212:;
+                            if (get8(v7 + 5) == 0) goto l65;
                         }
-                    l208:;
-                        v26 = 8;
-                        goto l199;
+                    l211:;
+                        v27 = 8;
+                        goto l202;
                     }
-                    if ((v8 - 9) < ~1ULL) goto l62;
-                    v26 = 7;
+                    if ((v8 - 9) < ~1ULL) goto l65;
+                    v27 = 7;
                 }
             }
-        l199:;
+        l202:;
             v8 = event + 0xaf0;
-            if (get64(v8) != v21) {
+            if (get64(v8) != v22) {
                 v7 = get64(event + 0xae8);
-                goto l210;
+                goto l213;
             }
             v7 = 0;
             put64(v8, 0);
-        l210:;
-            put64(event + 0xad8, v21 - 1);
+        l213:;
+            put64(event + 0xad8, v22 - 1);
             put64(event + 0xae8, v7 + 1);
             v7 = get64(event + 0xad0) + (v7 * 24);
             if (get64(v7 + 16) != 0) rattle_dealloc_at(get64(v7));
-            v24 = 0;
-            put16(v3 + 532, 0);
-            put32(v3 + 528, 0);
-            v21 = 0;
-            v7 = 0;
             v25 = 0;
+            put16(v3 + 500, 0);
+            put32(v3 + 496, 0);
+            v22 = 0;
+            v7 = 0;
+            v26 = 0;
             goto l35;
         }
         v6 = 1;
-        goto l48;
+        goto l51;
     case 8:
-        put64(v3 + 504, 0);
-        put64(v3 + 512, 0);
-        put64(v3 + 520, 0);
-        put64(v3 + 280, 0);
-        put64(v3 + 288, 0);
-        put64(v3 + 296, 0);
-        put16(v3 + 304, 0);
-        v6 = get32(event + 460);
-        v7 = (uint64_t)v6;
-        if (v6 == 0) {
-            v21 = v3 + 0x19c8;
-            goto l213;
-        }
-        rattle_alloc_at(v3 + 160, v7, 1);
-        v13 = 1;
-        if (((uint32_t)get64(v3 + 160) & 1) == 0) {
-            v8 = 0;
-            put64(v3 + 512, 0);
-            put64(v3 + 504, 0);
-            v7 = v3 + 504;
-            goto l64;
-        }
-        v21 = get64(v3 + 168);
-    l213:;
-        put64(v3 + 496, v7);
+        put64(v3 + 472, 0);
+        put64(v3 + 480, 0);
         put64(v3 + 488, 0);
-        put64(v3 + 480, v21);
+        put64(v3 + 248, 0);
+        put64(v3 + 256, 0);
+        put64(v3 + 264, 0);
+        put16(v3 + 272, 0);
+        v6 = get32(event + 460);
+        v21 = (uint64_t)v6;
+        if (v6 == 0) {
+            v18 = v3 + 0xa08;
+            goto l216;
+        }
+        rattle_alloc_at(v3 + 152, v21, 1);
+        v13 = 1;
+        if (((uint32_t)get64(v3 + 152) & 1) == 0) {
+            v8 = 0;
+            put64(v3 + 480, 0);
+            put64(v3 + 472, 0);
+            v7 = v3 + 472;
+            goto l67;
+        }
+        v18 = get64(v3 + 160);
+    l216:;
+        put64(v3 + 464, v21);
+        put64(v3 + 456, 0);
+        put64(v3 + 448, v18);
         if (get64(event + 0xb08) == get64(event + 0xb00)) {
             t8 = std_alloc_vec_deque_VecDeque_grow_1598ebf9113514c4(event + 0xaf8);
             if (t8 == 0) {
                 v8 = 0;
-                put64(v3 + 512, 0);
-                put64(v3 + 504, 0);
-                v7 = v3 + 504;
+                put64(v3 + 480, 0);
+                put64(v3 + 472, 0);
+                v7 = v3 + 472;
                 v13 = 1;
-                if (v6 == 0) goto l64;
-                rattle_dealloc_at(v21);
-                goto l64;
+                if (v6 == 0) goto l67;
+                rattle_dealloc_at(v18);
+                goto l67;
             }
         }
-        v6 = get8(event + 473);
-        v13 = get8(event + 477);
-        v12 = get32(event + 404);
-        v11 = get8(event + 476);
+        v11 = get8(event + 473);
+        v12 = get8(event + 477);
+        v13 = get32(event + 404);
+        v6 = get8(event + 476);
         v10 = get8(event + 475);
         v5 = get8(event + 474);
-        fill(v3 + 528, 0, 0x800);
-        v10 = (v10 << 4) | (v5 << 5);
-        v11 = v11 << 3;
-        v19 = 0;
-        v8 = nodes_spacecraft_Spacecraft_report(event + 400, v3 + 528);
-        if (v8 > v7) {
-            t10 = std_alloc_vec_Vec_grow_amortized_49bbd27f022ae39a(v3 + 480, v8);
-            if (t10 == 0) goto l216;
-            v21 = get64(v3 + 480);
-            v7 = get64(v3 + 496);
-            v19 = get64(v3 + 488);
+        fill(v3 + 496, 0, 0x800);
+        if ((v13 & 192) != 0) UNREACHABLE;
+        if ((v12 & 255) > 3) UNREACHABLE;
+        put16(v3 + 2549, 0);
+        put8(v3 + 2551, 0);
+        put8(v3 + 2548, get8(event + 0xa71));
+        put8(v3 + 2547, get8(event + 0xa70));
+        put8(v3 + 2546, get8(event + 0xa62));
+        put16(v3 + 2544, get16(event + 0xa60));
+        put64(v3 + 2560, (uint64_t)get32(event + 0xaa0));
+        v22 = event + 0xa78;
+        put64(v3 + 2552, get64(v22));
+        v7 = event + 0xa98;
+        v8 = get64(v7);
+        v20 = event + 0xa88;
+        v5 = v5 << 5;
+        v10 = v10 << 4;
+        v9 = v6 << 3;
+        t9 = get64(event + 0xa80) + v8;
+        t10 = get64(v20) - v8;
+        v8 = event + 0xa68;
+        tm_link_turn_put_next(v3 + 0x9f0, t9, t10, (((((((v5 | (v12 << 1)) | v10) | v9) & 255) << 16) | ((v13 << 10) &
+            0xfc00)) | (v11 << 24)) | 1, v3 + 496, get64(v8));
+        v26 = get64(v8);
+        v7 = get64(v7);
+        v8 = get64(v20);
+        v22 = get64(v22);
+        if (v22 == 0) {
+            if (v8 == v7) goto l219;
         }
-        if (v8 != 0) copy(v21 + v19, v3 + 528, v8);
-        put64(v3 + 496, v7);
-        put64(v3 + 488, v19 + v8);
-    l216:;
-        v11 = v10 | v11;
+        v20 = v8 - v7;
+        v8 = v26 - 12;
+        v19 = (v8 < v22) ? v8 : v22;
+        v8 = v8 - v19;
+        v23 = (v20 < v8) ? v20 : v8;
+        if (v8 <= v20) {
+            v22 = v22 - v19;
+            goto l221;
+        }
+        v22 = v8 - v20;
+        v22 = (v22 < 7) ? (v22 ^ 7) : 0ULL;
+    l221:;
+        put64(event + 0xa98, v23 + v7);
+        put64(event + 0xa78, v22);
+        v6 = get32(event + 0xaa0);
+        v20 = (uint64_t)v6;
+        if (v8 > v20) {
+            v30 = event + 0xab0;
+            v7 = get64(v30);
+            v23 = event + 0xac8;
+            v19 = event + 0xac0;
+            v29 = event + 0xaa8;
+            do {
+                if (v7 == 0) {
+                    v6 = 0;
+                    goto l223;
+                }
+                if (v7 != get64(v23)) {
+                    v22 = get64(v19);
+                    goto l227;
+                }
+                v22 = 0;
+                put64(v23, 0);
+            l227:;
+                v7 = v7 - 1;
+                put64(v30, v7);
+                put64(v19, v22 + 1);
+                v8 = v8 - v20;
+                v6 = get32(get64(v29) + (v22 << 2));
+                v22 = (uint64_t)v6;
+                v20 = v22;
+            } while (v8 > v22);
+        }
+        v6 = v6 - (uint32_t)v8;
+    l223:;
+        put32(event + 0xaa0, v6);
+    l219:;
+        v6 = v10 | v5;
+        v7 = event + 0xa70;
+        put8(v7, get8(v7) + 1);
+        v7 = event + 0xa71;
+        put8(v7, get8(v7) + 1);
+        v7 = 0;
+        if (v26 > v21) {
+            t11 = std_alloc_vec_Vec_grow_amortized_49bbd27f022ae39a(v3 + 448, v26);
+            if (t11 == 0) goto l229;
+            v18 = get64(v3 + 448);
+            v21 = get64(v3 + 464);
+            v7 = get64(v3 + 456);
+        }
+        if (v26 != 0) copy(v18 + v7, v3 + 496, v26);
+        put64(v3 + 464, v21);
+        put64(v3 + 456, v7 + v26);
+    l229:;
+        v6 = v6 | v9;
         v7 = get64(event + 0xaf8);
         v8 = get64(event + 0xb00);
-        v19 = event + 0xb18;
-        v21 = get64(v19);
-        v22 = v8 - v21;
-        v18 = get64(event + 0xb10);
-        if (v22 < (get64(event + 0xb08) - v18)) {
-            v7 = v7 + ((v18 + v22) * 24);
-            put64(v7 + 16, get64(v3 + 496));
-            put64(v7 + 8, get64(v3 + 488));
-            put64(v7, get64(v3 + 480));
-            goto l219;
+        v20 = event + 0xb18;
+        v22 = get64(v20);
+        v23 = v8 - v22;
+        v19 = get64(event + 0xb10);
+        if (v23 < (get64(event + 0xb08) - v19)) {
+            v7 = v7 + ((v19 + v23) * 24);
+            put64(v7 + 16, get64(v3 + 464));
+            put64(v7 + 8, get64(v3 + 456));
+            put64(v7, get64(v3 + 448));
+            goto l232;
         }
-        v7 = v7 + (v21 * 24);
-        put64(v7 + 16, get64(v3 + 496));
-        put64(v7 + 8, get64(v3 + 488));
-        put64(v7, get64(v3 + 480));
-        put64(v19, v21 + 1);
-    l219:;
+        v7 = v7 + (v22 * 24);
+        put64(v7 + 16, get64(v3 + 464));
+        put64(v7 + 8, get64(v3 + 456));
+        put64(v7, get64(v3 + 448));
+        put64(v20, v22 + 1);
+    l232:;
         put64(event + 0xb00, v8 + 1);
-        t11 = (((((uint64_t)v13 & 255) << 24) | (uint64_t)((v12 << 8) & 0xff00)) | ((uint64_t)v6 << 32)) |
-            (((uint64_t)v11 & 255) << 16);
-        v23 = (uint32_t)(t11 >> 8);
-        v7 = (v3 + 280) | 2;
+        t12 = (((((uint64_t)v12 & 255) << 24) | (uint64_t)((v13 << 8) & 0x3f00)) | ((uint64_t)v11 << 32)) |
+            (((uint64_t)v6 & 255) << 16);
+        v24 = (uint32_t)(t12 >> 8);
+        v7 = (v3 + 248) | 2;
         v6 = 6;
         v13 = 0;
-        v8 = get64(v3 + 282);
-        goto l63;
+        v8 = get64(v3 + 250);
+        goto l66;
     case 9:
-        v25 = 0;
-        put64(v3 + 552, 0);
-        put64(v3 + 544, 0);
-        put64(v3 + 536, 0);
-        put64(v3 + 528, 0);
+        v26 = 0;
+        put64(v3 + 520, 0);
+        put64(v3 + 512, 0);
+        put64(v3 + 504, 0);
+        put64(v3 + 496, 0);
         v8 = get64(event + 0xb00);
         if (v8 != 0) {
             v7 = get64(event + 0xaf8);
             if (v8 != get64(event + 0xb18)) v7 = v7 + (get64(event + 0xb10) * 24);
             v6 = get8(event + 75);
             v13 = get8(event + 73);
-            nodes_ground_node_Ground_telemetry(v3 + 528, event, get64(v7), get64(v7 + 8));
-            if (get8(v3 + 528) == 0) {
-                v21 = (uint64_t)get32(v3 + 552);
-                v7 = get64(v3 + 544);
-                v24 = get8(v3 + 538);
-                v26 = get8(v3 + 537);
-                v27 = get8(v3 + 536);
+            nodes_ground_node_Ground_telemetry(v3 + 496, event, get64(v7), get64(v7 + 8));
+            if (get8(v3 + 496) == 0) {
+                v22 = (uint64_t)get32(v3 + 520);
+                v7 = get64(v3 + 512);
+                v25 = get8(v3 + 506);
+                v27 = get8(v3 + 505);
+                v28 = get8(v3 + 504);
                 v8 = get64(event + 0xb00);
                 if (v8 != 0) {
-                    v22 = event + 0xb18;
-                    if (get64(v22) != v8) {
-                        v19 = get64(event + 0xb10);
-                        goto l225;
+                    v23 = event + 0xb18;
+                    if (get64(v23) != v8) {
+                        v20 = get64(event + 0xb10);
+                        goto l238;
                     }
-                    v19 = 0;
-                    put64(v22, 0);
-                l225:;
+                    v20 = 0;
+                    put64(v23, 0);
+                l238:;
                     put64(event + 0xb00, v8 - 1);
-                    put64(event + 0xb10, v19 + 1);
-                    v8 = get64(event + 0xaf8) + (v19 * 24);
+                    put64(event + 0xb10, v20 + 1);
+                    v8 = get64(event + 0xaf8) + (v20 * 24);
                     if (get64(v8 + 16) != 0) rattle_dealloc_at(get64(v8));
                 }
                 v8 = event + 0x1760;
@@ -11574,95 +11510,95 @@ l2:;
                 if (get8(v8) == 0) v6 = ((v13 - 3) & 255) < 2 && get8(event + 73) == 0;
                 put8(v8, v6);
                 v6 = 8;
-                goto l56;
+                goto l59;
             }
             v6 = 0;
-            v27 = 0;
-            goto l65;
+            v28 = 0;
+            goto l68;
         }
-        v27 = 0;
+        v28 = 0;
         v6 = 1;
-        goto l65;
+        goto l68;
     case 10:
-        goto l80;
+        goto l83;
     case 11:
-        put64(v3 + 568, 0);
-        put64(v3 + 560, 0);
-        put64(v3 + 552, 0);
-        put64(v3 + 544, 0);
         put64(v3 + 536, 0);
         put64(v3 + 528, 0);
-        v26 = 0;
+        put64(v3 + 520, 0);
+        put64(v3 + 512, 0);
+        put64(v3 + 504, 0);
+        put64(v3 + 496, 0);
+        v27 = 0;
         if (get64(event + 0xb00) == 0) {
             v13 = 1;
             v6 = 1;
-            goto l231;
+            goto l244;
         }
-        tm_link_decoding_decode(v3 + 528, v7, v8, (uint64_t)get32(event + 60));
+        tm_link_decoding_decode(v3 + 496, v7, v8, (uint64_t)get32(event + 60));
         v13 = 1;
-        if (get8(v3 + 528) != 1) {
+        if (get8(v3 + 496) != 1) {
             v6 = 2;
-            goto l231;
+            goto l244;
         }
         v6 = 8;
         v13 = 0;
-        v26 = get8(v3 + 529);
+        v27 = get8(v3 + 497);
         v7 = get64(event + 0xb00);
         if (v7 != 0) {
-            v21 = event + 0xb18;
-            if (get64(v21) != v7) {
+            v22 = event + 0xb18;
+            if (get64(v22) != v7) {
                 v8 = get64(event + 0xb10);
-                goto l234;
+                goto l247;
             }
             v8 = 0;
-            put64(v21, 0);
-        l234:;
+            put64(v22, 0);
+        l247:;
             put64(event + 0xb00, v7 - 1);
             put64(event + 0xb10, v8 + 1);
             v7 = get64(event + 0xaf8) + (v8 * 24);
             if (get64(v7 + 16) != 0) rattle_dealloc_at(get64(v7));
         }
-    l231:;
-        if (v13 != 0) goto l48;
-        v21 = 0;
-        v24 = 0;
-        v7 = 0;
+    l244:;
+        if (v13 != 0) goto l51;
+        v22 = 0;
         v25 = 0;
-        v27 = 0;
-        goto l56;
+        v7 = 0;
+        v26 = 0;
+        v28 = 0;
+        goto l59;
     case 12:
-        put64(v3 + 568, 0);
-        put64(v3 + 560, 0);
-        put64(v3 + 552, 0);
-        put64(v3 + 544, 0);
         put64(v3 + 536, 0);
         put64(v3 + 528, 0);
+        put64(v3 + 520, 0);
+        put64(v3 + 512, 0);
+        put64(v3 + 504, 0);
+        put64(v3 + 496, 0);
         v8 = get64(event + 0xb00);
         if (v8 == 0) {
-            v14 = 0;
+            v17 = 0;
             v12 = 1;
             v6 = 1;
-            v23 = 0;
+            v24 = 0;
             v13 = 0;
-            v26 = 0;
-            goto l236;
+            v27 = 0;
+            goto l249;
         }
         v7 = get64(event + 0xaf8);
         if (v8 != get64(event + 0xb18)) v7 = v7 + (get64(event + 0xb10) * 24);
-        tm_link_decoding_decode(v3 + 528, get64(v7), get64(v7 + 8), (uint64_t)get32(event + 60));
-        v26 = get8(v3 + 529);
-        v13 = get32(v3 + 568);
-        v6 = get8(v3 + 528);
+        tm_link_decoding_decode(v3 + 496, get64(v7), get64(v7 + 8), (uint64_t)get32(event + 60));
+        v27 = get8(v3 + 497);
+        v13 = get32(v3 + 536);
+        v6 = get8(v3 + 496);
         v7 = get64(event + 0xb00);
         if (v7 != 0) {
-            v21 = event + 0xb18;
-            if (get64(v21) != v7) {
+            v22 = event + 0xb18;
+            if (get64(v22) != v7) {
                 v8 = get64(event + 0xb10);
-                goto l240;
+                goto l253;
             }
             v8 = 0;
-            put64(v21, 0);
-        l240:;
+            put64(v22, 0);
+        l253:;
             put64(event + 0xb00, v7 - 1);
             put64(event + 0xb10, v8 + 1);
             v7 = get64(event + 0xaf8) + (v8 * 24);
@@ -11671,121 +11607,121 @@ l2:;
         v12 = 0;
         if ((v6 & 255) != 0) {
             v6 = 8;
-            v14 = 0;
-            v23 = 0;
-            goto l242;
+            v17 = 0;
+            v24 = 0;
+            goto l255;
         }
         v6 = get8(event + 75);
         v11 = get8(event + 73);
-        put32(v3 + 504, 0);
-        put32(v3 + 280, 0);
-        put16(v3 + 284, 0);
+        put32(v3 + 2544, 0);
+        put32(v3 + 248, 0);
+        put16(v3 + 252, 0);
         if (extend32(v13, 0x80) > 0x7fffffffU) {
-            put32(v3 + 281, 0);
-            put8(v3 + 280, 1);
-            put8(v3 + 285, 0);
-            goto l244;
+            put32(v3 + 249, 0);
+            put8(v3 + 248, 1);
+            put8(v3 + 253, 0);
+            goto l257;
         }
         if ((v13 & 255) >= 32) {
-            put16(v3 + 280, 257);
-            goto l244;
+            put16(v3 + 248, 257);
+            goto l257;
         }
         if ((v13 & 3) != 1) {
-            put16(v3 + 280, 513);
-            goto l244;
+            put16(v3 + 248, 513);
+            goto l257;
         }
         v10 = v13 >> 8;
         if ((v10 & 3) != 0) {
-            put16(v3 + 280, 769);
-            goto l244;
+            put16(v3 + 248, 769);
+            goto l257;
         }
         v5 = v13 >> 16;
         if ((v5 & 1) != 0) {
-            put16(v3 + 280, 769);
-            goto l244;
+            put16(v3 + 248, 769);
+            goto l257;
         }
-        put8(v3 + 285, v13 >> 24);
-        put8(v3 + 283, v5 & 248);
-        put8(v3 + 284, (v5 >> 1) & 3);
-        put8(v3 + 282, (v10 & 252) >> 2);
-        put8(v3 + 281, (v13 & 252) >> 2);
-    l244:;
-        nodes_ground_node_Ground_report(v3 + 504, event, v3 + 280);
-        v14 = get32(v3 + 504);
+        put8(v3 + 253, v13 >> 24);
+        put8(v3 + 251, v5 & 248);
+        put8(v3 + 252, (v5 >> 1) & 3);
+        put8(v3 + 250, (v10 & 252) >> 2);
+        put8(v3 + 249, (v13 & 252) >> 2);
+    l257:;
+        nodes_ground_node_Ground_report(v3 + 0x9f0, event, v3 + 248);
+        v17 = get32(v3 + 2544);
         v7 = event + 0x1760;
         put64(v7, get64(v7) + ((uint64_t)(get8(event + 75) - v6) & 255));
         v6 = 1;
         v7 = event + 0xb28;
         if (get8(v7) == 0) v6 = ((v11 - 3) & 255) < 2 && get8(event + 73) == 0;
         put8(v7, v6);
-        v23 = v14 >> 8;
-        v26 = 0;
+        v24 = v17 >> 8;
+        v27 = 0;
         v6 = 9;
-    l242:;
-        v13 = v23 & 0xffff00;
-    l236:;
-        if (v12 != 0) goto l48;
-        v21 = 0;
-        v24 = 0;
+    l255:;
+        v13 = v24 & 0xffff00;
+    l249:;
+        if (v12 != 0) goto l51;
+        v22 = 0;
+        v25 = 0;
         v7 = 0;
-        v25 = 0;
-        v27 = 0;
-        goto l47;
-    case 13:
-        nodes_ground_node_Ground_tick(v3 + 176, event);
-        if (get8(v3 + 176) == 0) goto l72;
-        v14 = get8(v3 + 177);
-        v27 = 0;
-        put16(v3 + 532, 0);
-        put32(v3 + 528, 0);
-        v25 = 0;
         v26 = 0;
-        v24 = 0;
+        v28 = 0;
+        goto l50;
+    case 13:
+        nodes_ground_node_Ground_tick(v3 + 168, event);
+        if (get8(v3 + 168) == 0) goto l75;
+        v17 = get8(v3 + 169);
+        v28 = 0;
+        put16(v3 + 500, 0);
+        put32(v3 + 496, 0);
+        v26 = 0;
+        v27 = 0;
+        v25 = 0;
         v7 = 0;
-        v21 = 0;
+        v22 = 0;
         goto l36;
     case 14:
         v13 = 0;
         v7 = get64(event + 0xa20);
         if (v7 != 0) {
-            v21 = event + 0xa38;
-            if (get64(v21) != v7) {
+            v22 = event + 0xa38;
+            if (get64(v22) != v7) {
                 v8 = get64(event + 0xa30);
-                goto l252;
+                goto l265;
             }
             v8 = 0;
-            put64(v21, 0);
-        l252:;
-            v22 = v7 - 1;
-            put64(event + 0xa20, v22);
+            put64(v22, 0);
+        l265:;
+            v23 = v7 - 1;
+            put64(event + 0xa20, v23);
             put64(event + 0xa30, v8 + 1);
             v7 = get64(event + 0xa18) + (v8 << 5);
-            v19 = get64(v7 + 24);
-            v21 = get64(v7 + 16);
+            v20 = get64(v7 + 24);
+            v22 = get64(v7 + 16);
             v8 = get64(v7 + 8);
-            v14 = get8(v7);
-            if (v22 < (uint64_t)get32(event + 448)) put8(event + 475, 0);
+            v17 = get8(v7);
+            if (v23 < (uint64_t)get32(event + 448)) put8(event + 475, 0);
             v6 = 11;
-            if (v19 <= v21) goto l68;
+            if (v20 <= v22) goto l71;
             v7 = 0;
-            if (v21 != 0) {
-                rattle_realloc_at(v3 + 184, v8, v21, v21, 1);
-                if (((uint32_t)get64(v3 + 184) & 1) == 0) goto l68;
-                v8 = get64(v3 + 192);
-                v7 = v21;
-                goto l67;
+            if (v22 != 0) {
+                rattle_realloc_at(v3 + 176, v8, v22, v22, 1);
+                if (((uint32_t)get64(v3 + 176) & 1) == 0) goto l71;
+                v8 = get64(v3 + 184);
+                v7 = v22;
+                goto l70;
             }
             rattle_dealloc_at(v8);
-            v8 = v3 + 0x19c8;
-            v21 = 0;
-            goto l67;
+            v8 = v3 + 0xa08;
+            v22 = 0;
+            goto l70;
         }
         v6 = 1;
         v8 = 0;
         v7 = 0;
-        v21 = 0;
-        v14 = 0;
-        goto l67;
+        v22 = 0;
+        v17 = 0;
+        goto l70;
     case 15:
         v7 = event + 0xa50;
         v8 = get64(v7);
@@ -11793,134 +11729,133 @@ l2:;
             v6 = 1;
             v8 = 0;
             v7 = 0;
-            v21 = 0;
-            goto l256;
+            v22 = 0;
+            goto l269;
         }
         put64(v7, v8 - 1);
         v7 = event + 0xa58;
-        t12 = v7;
+        t13 = v7;
         v7 = get64(v7);
         v8 = v7 + 1;
-        v21 = get64(event + 0xa48);
-        put64(t12, v8 - ((v8 < v21) ? 0ULL : v21));
+        v22 = get64(event + 0xa48);
+        put64(t13, v8 - ((v8 < v22) ? 0ULL : v22));
         v7 = get64(event + 0xa40) + (v7 << 5);
         v8 = get64(v7 + 8);
-        v14 = get8(v7);
+        v17 = get8(v7);
         v6 = 11;
-        v21 = get64(v7 + 24);
+        v22 = get64(v7 + 24);
         v7 = get64(v7 + 16);
-        if (v21 > v7) {
+        if (v22 > v7) {
             if (v7 == 0) {
                 rattle_dealloc_at(v8);
                 v7 = 0;
-                v8 = v3 + 0x19c8;
-                v21 = 0;
-                goto l256;
+                v8 = v3 + 0xa08;
+                v22 = 0;
+                goto l269;
             }
-            rattle_realloc_at(v3 + 200, v8, v7, v7, 1);
-            if (((uint32_t)get64(v3 + 200) & 1) != 0) {
-                v8 = get64(v3 + 208);
-                v21 = v7;
+            rattle_realloc_at(v3 + 192, v8, v7, v7, 1);
+            if (((uint32_t)get64(v3 + 192) & 1) != 0) {
+                v8 = get64(v3 + 200);
+                v22 = v7;
             }
         }
-    l256:;
-        v25 = v8 & 0xffffffffff000000ULL;
-        v24 = (uint32_t)(v8 >> 16);
-        v26 = (uint32_t)(v8 >> 8);
-        v27 = (uint32_t)v8;
+    l269:;
+        v26 = v8 & 0xffffffffff000000ULL;
+        v25 = (uint32_t)(v8 >> 16);
+        v27 = (uint32_t)(v8 >> 8);
+        v28 = (uint32_t)v8;
         v13 = 0;
-        goto l66;
+        goto l69;
     case 16:
-        nodes_spacecraft_Spacecraft_telemetry(v3 + 216, event + 400, v7, v8);
-        if (get8(v3 + 216) == 0) goto l72;
-        v43 = get8(v3 + 217);
-        if ((v43 & 255) == 6) goto l55;
-        v27 = 0;
-        put16(v3 + 532, 0);
-        put32(v3 + 528, 0);
+        nodes_spacecraft_Spacecraft_telemetry(v3 + 208, event + 400, v7, v8);
+        if (get8(v3 + 208) == 0) goto l75;
+        v43 = get8(v3 + 209);
+        if ((v43 & 255) == 6) goto l58;
         v25 = 0;
-        v14 = 2;
-        v26 = 0;
-        v24 = 0;
+        put16(v3 + 500, 0);
+        put32(v3 + 496, 0);
+        v22 = 0;
         v7 = 0;
-        v21 = 0;
-        goto l46;
+        v26 = 0;
+        v27 = 0;
+        v28 = 0;
+        goto l37;
     default:
-        fill(v3 + 528, 0, 128);
-        put64(v3 + 496, 0);
+        fill(v3 + 496, 0, 128);
         put64(v3 + 488, 0);
         put64(v3 + 480, 0);
-        nodes_ground_node_Ground_prepare(v3 + 528, event, v12, v7, v8);
-        if (get8(v3 + 528) != 0) {
-            v6 = get8(v3 + 529);
+        put64(v3 + 472, 0);
+        nodes_ground_node_Ground_prepare(v3 + 496, event, v12, v7, v8);
+        if (get8(v3 + 496) != 0) {
+            v6 = get8(v3 + 497);
             v13 = v6 == 5;
-            v23 = (v13 != 0) ? 0U : v6;
+            v24 = (v13 != 0) ? 0U : v6;
             v6 = (v13 != 0) ? 0U : 3U;
-            goto l50;
+            goto l53;
         }
-        copy(v3 + 280, v3 + 536, 120);
+        copy(v3 + 248, v3 + 504, 120);
         v13 = v8 == 0;
         if (v13 != 0) {
-            v17 = v3 + 0x19c8;
-            goto l93;
+            v18 = v3 + 0xa08;
+            goto l96;
         }
-        if (v8 > 0x7fffffffffffffffULL) goto l91;
-        rattle_alloc_at(v3 + 40, v8, 1);
-        if (((uint32_t)get64(v3 + 40) & 1) == 0) goto l91;
-        v17 = get64(v3 + 48);
-    l93:;
-        if ((v17 - v7) < v8) {
-            v18 = v8 & 3;
-            v19 = 0;
+        if (v8 > 0x7fffffffffffffffULL) goto l94;
+        rattle_alloc_at(v3 + 32, v8, 1);
+        if (((uint32_t)get64(v3 + 32) & 1) == 0) goto l94;
+        v18 = get64(v3 + 40);
+    l96:;
+        if ((v18 - v7) < v8) {
+            v19 = v8 & 3;
+            v20 = 0;
             if (v8 >= 4) {
-                v20 = v8 & ~3ULL;
-                v19 = 0;
+                v21 = v8 & ~3ULL;
+                v20 = 0;
                 do {
-                    v21 = v17 + v19;
-                    v22 = v7 + v19;
-                    put8(v21, get8(v22));
-                    put8(v21 + 1, get8(v22 + 1));
-                    put8(v21 + 2, get8(v22 + 2));
-                    put8(v21 + 3, get8(v22 + 3));
-                    v19 = v19 + 4;
-                } while (v20 != v19);
-                if (v18 == 0) goto l52;
+                    v22 = v18 + v20;
+                    v23 = v7 + v20;
+                    put8(v22, get8(v23));
+                    put8(v22 + 1, get8(v23 + 1));
+                    put8(v22 + 2, get8(v23 + 2));
+                    put8(v22 + 3, get8(v23 + 3));
+                    v20 = v20 + 4;
+                } while (v21 != v20);
+                if (v19 == 0) goto l55;
             }
-            v21 = v17 + v19;
-            v7 = v7 + v19;
-        l98:;
-            put8(v21, get8(v7));
-            v21 = v21 + 1;
+            v22 = v18 + v20;
+            v7 = v7 + v20;
+        l101:;
+            put8(v22, get8(v7));
+            v22 = v22 + 1;
             v7 = v7 + 1;
-            v18 = v18 - 1;
-            if (v18 != 0) goto l98;
-            goto l52;
+            v19 = v19 - 1;
+            if (v19 != 0) goto l101;
+            goto l55;
         }
-        if (v13 != 0) goto l52;
-        copy(v17, v7, v8);
-        goto l52;
-    l91:;
-        if (get8(v3 + 320) == 1) {
-            if (get64(v3 + 344) != 0) rattle_dealloc_at(get64(v3 + 328));
+        if (v13 != 0) goto l55;
+        copy(v18, v7, v8);
+        goto l55;
+    l94:;
+        if (get8(v3 + 288) == 1) {
+            if (get64(v3 + 312) != 0) rattle_dealloc_at(get64(v3 + 296));
         }
-        v7 = get64(v3 + 384);
-        v21 = get64(v3 + 368);
-        if (get8(v3 + 352) != 0) {
-            v22 = get64(v3 + 376);
-            v19 = get64(v3 + 360);
-            if (v21 != 0) {
-                v8 = get64(v3 + 392);
-                v21 = v21 - v8;
-                if (v7 < (v21 + v7)) {
-                    v7 = ((v7 << 5) + v19) + 24;
+        v7 = get64(v3 + 352);
+        v22 = get64(v3 + 336);
+        if (get8(v3 + 320) != 0) {
+            v23 = get64(v3 + 344);
+            v20 = get64(v3 + 328);
+            if (v22 != 0) {
+                v8 = get64(v3 + 360);
+                v22 = v22 - v8;
+                if (v7 < (v22 + v7)) {
+                    v7 = ((v7 << 5) + v20) + 24;
                     do {
                         if (get64(v7) != 0) rattle_dealloc_at(get64(v7 - 16));
                         v7 = v7 + 32;
-                        v21 = v21 - 1;
-                    } while (v21 != 0);
+                        v22 = v22 - 1;
+                    } while (v22 != 0);
                 }
                 if (v8 != 0) {
-                    v7 = v19 + 24;
+                    v7 = v20 + 24;
                     do {
                         if (get64(v7) != 0) rattle_dealloc_at(get64(v7 - 16));
                         v7 = v7 + 32;
@@ -11928,214 +11863,214 @@ l2:;
                     } while (v8 != 0);
                 }
             }
-            if (v22 == 0) goto l51;
-            goto l100;
+            if (v23 == 0) goto l54;
+            goto l103;
         }
-        if (v7 == 0) goto l51;
-        v19 = v21;
-    l100:;
-        rattle_dealloc_at(v19);
-        goto l51;
+        if (v7 == 0) goto l54;
+        v20 = v22;
+    l103:;
+        rattle_dealloc_at(v20);
+        goto l54;
     }
-l80:;
+l83:;
     v7 = get64(event + 0xb00);
     if (v7 == 0) {
         v6 = 1;
-        goto l48;
+        goto l51;
     }
-    v21 = event + 0xb18;
-    if (get64(v21) != v7) {
+    v22 = event + 0xb18;
+    if (get64(v22) != v7) {
         v8 = get64(event + 0xb10);
-        goto l229;
+        goto l242;
     }
     v8 = 0;
-    put64(v21, 0);
-l229:;
+    put64(v22, 0);
+l242:;
     put64(event + 0xb00, v7 - 1);
     put64(event + 0xb10, v8 + 1);
     v7 = get64(event + 0xaf8) + (v8 * 24);
-    if (get64(v7 + 16) == 0) goto l61;
-l79:;
+    if (get64(v7 + 16) == 0) goto l64;
+l82:;
     rattle_dealloc_at(get64(v7));
-    goto l61;
-l72:;
-    v25 = 0;
-    v27 = 0;
+    goto l64;
+l75:;
     v26 = 0;
-    v24 = 0;
+    v28 = 0;
+    v27 = 0;
+    v25 = 0;
     v7 = 0;
-    v21 = 0;
-    goto l45;
+    v22 = 0;
+    goto l49;
+l71:;
+    v7 = v22;
+    v22 = v20;
+l70:;
+    v26 = v8 & 0xffffffffff000000ULL;
+    v25 = (uint32_t)(v8 >> 16);
+    v27 = (uint32_t)(v8 >> 8);
+    v28 = (uint32_t)v8;
+l69:;
+    v24 = 0;
+    goto l50;
 l68:;
-    v7 = v21;
-    v21 = v19;
-l67:;
-    v25 = v8 & 0xffffffffff000000ULL;
-    v24 = (uint32_t)(v8 >> 16);
-    v26 = (uint32_t)(v8 >> 8);
-    v27 = (uint32_t)v8;
-l66:;
-    v23 = 0;
-    goto l47;
-l65:;
-    v26 = 0;
-    v24 = 0;
-    v7 = 0;
-    v21 = 0;
-    goto l48;
-l64:;
-    v6 = 0;
-    v23 = 0;
-l63:;
-    if (v13 != 0) goto l48;
-    v25 = v8 & 0xffffffffff000000ULL;
-    v13 = v23 & ~255U;
-    v24 = (uint32_t)(v8 >> 16);
-    v26 = (uint32_t)(v8 >> 8);
-    v21 = get64(v7 + 16);
-    v7 = get64(v7 + 8);
-    v27 = (uint32_t)v8;
-    v14 = 0;
-    goto l47;
-l62:;
-    v6 = 2;
-    goto l48;
-l61:;
+    v27 = 0;
     v25 = 0;
-    v27 = 0;
-    v26 = 0;
-    v24 = 0;
     v7 = 0;
-    v21 = 0;
-    goto l31;
-l60:;
-    v27 = 0;
-    v26 = 0;
-    v24 = 0;
-    v21 = 0;
-    goto l57;
-l59:;
-    v27 = 0;
-l58:;
-    v26 = 0;
-    v24 = 0;
-    v7 = 0;
-    v21 = 0;
-l57:;
-    if (v13 != 0) goto l48;
-l56:;
-    v13 = 0;
-    v23 = 0;
-    v14 = 0;
-    goto l47;
-l55:;
+    v22 = 0;
+    goto l51;
+l67:;
     v6 = 0;
-    goto l48;
-l54:;
+    v24 = 0;
+l66:;
+    if (v13 != 0) goto l51;
+    v26 = v8 & 0xffffffffff000000ULL;
+    v13 = v24 & ~255U;
+    v25 = (uint32_t)(v8 >> 16);
+    v27 = (uint32_t)(v8 >> 8);
+    v22 = get64(v7 + 16);
+    v7 = get64(v7 + 8);
+    v28 = (uint32_t)v8;
+    v17 = 0;
+    goto l50;
+l65:;
+    v6 = 2;
+    goto l51;
+l64:;
+    v26 = 0;
+    v28 = 0;
+    v27 = 0;
+    v25 = 0;
+    v7 = 0;
+    v22 = 0;
+    goto l31;
+l63:;
+    v28 = 0;
+    v27 = 0;
+    v25 = 0;
+    v22 = 0;
+    goto l60;
+l62:;
+    v28 = 0;
+l61:;
+    v27 = 0;
+    v25 = 0;
+    v7 = 0;
+    v22 = 0;
+l60:;
+    if (v13 != 0) goto l51;
+l59:;
+    v13 = 0;
+    v24 = 0;
+    v17 = 0;
+    goto l50;
+l58:;
+    v6 = 0;
+    goto l51;
+l57:;
     v12 = 0;
     if (get64(event + 0xad8) == 0) v12 = get64(event + 0xb00) == 0;
     if (v10 != 0) {
         v13 = 0;
         if (get8(event + 473) != get8(event + 74)) {
             v6 = 0;
-            goto l53;
+            goto l56;
         }
     }
     v6 = simulated_link_world_World_is_idle(event);
     v13 = v11;
-l53:;
-    nodes_ground_node_Ground_directive(v3 + 280, event, v3 + 528);
-    v23 = get8(v3 + 281);
-    if (get8(v3 + 280) != 0) {
-        v14 = 1;
+l56:;
+    nodes_ground_node_Ground_directive(v3 + 248, event, v3 + 496);
+    v24 = get8(v3 + 249);
+    if (get8(v3 + 248) != 0) {
+        v17 = 1;
         v6 = 3;
-        goto l261;
+        goto l274;
     }
-    v11 = get8(v3 + 282);
-    if (v13 <= 3) simulated_link_world_World_begin(event, v3 + 528, v12, v6);
-    v13 = v23 & 255;
-    v23 = 0;
-    v6 = (v13 != 0) ? 4U : 0U;
-    v14 = (v13 != 0) ? v11 : 0U;
-l261:;
+    v11 = get8(v3 + 250);
+    if (v13 <= 3) simulated_link_world_World_begin(event, v3 + 496, v12, v6);
+    v13 = v24 & 255;
     v24 = 0;
-    v21 = 0;
-    v7 = 0;
+    v6 = (v13 != 0) ? 4U : 0U;
+    v17 = (v13 != 0) ? v11 : 0U;
+l274:;
     v25 = 0;
+    v22 = 0;
+    v7 = 0;
     v26 = 0;
     v27 = 0;
+    v28 = 0;
     v13 = 0;
-    goto l47;
-l52:;
-    v6 = get8(v3 + 320) == 1;
-    v40 = (v6 != 0) ? get64(v3 + 336) : 1ULL;
+    goto l50;
+l55:;
+    v6 = get8(v3 + 288) == 1;
+    v40 = (v6 != 0) ? get64(v3 + 304) : 1ULL;
     if (v40 == 0) {
-        v21 = v3 + 0x19c8;
-        v19 = 0;
-        v29 = 0;
-        goto l271;
+        v22 = v3 + 0xa08;
+        v20 = 0;
+        v30 = 0;
+        goto l284;
     }
-    if (v40 > 0x555555555555555ULL) goto l264;
-    v7 = get64(v3 + 328);
-    rattle_alloc_at(v3 + 24, v40 * 24, 8);
-    if (((uint32_t)get64(v3 + 24) & 1) == 0) goto l264;
-    v38 = (v6 != 0) ? v7 : (v3 + 304);
-    v39 = get64(v3 + 32);
-    put64(v3 + 520, v40);
-    put64(v3 + 512, 0);
-    put64(v3 + 504, v39);
-    v29 = 0;
+    if (v40 > 0x555555555555555ULL) goto l277;
+    v7 = get64(v3 + 296);
+    rattle_alloc_at(v3 + 16, v40 * 24, 8);
+    if (((uint32_t)get64(v3 + 16) & 1) == 0) goto l277;
+    v38 = (v6 != 0) ? v7 : (v3 + 272);
+    v39 = get64(v3 + 24);
+    put64(v3 + 2560, v40);
+    put64(v3 + 2552, 0);
+    put64(v3 + 2544, v39);
     v30 = 0;
+    v31 = 0;
     do {
-        v7 = v38 + (v30 << 4);
-        v20 = get64(v7);
-        v28 = get64(v7 + 8);
-        v6 = v28 == 0;
+        v7 = v38 + (v31 << 4);
+        v21 = get64(v7);
+        v29 = get64(v7 + 8);
+        v6 = v29 == 0;
         if (v6 != 0) {
-            v18 = v3 + 0x19c8;
-            goto l274;
+            v19 = v3 + 0xa08;
+            goto l287;
         }
-        if (v28 > 0x7fffffffffffffffULL) goto l270;
-        rattle_alloc_at(v3 + 8, v28, 1);
-        if (((uint32_t)get64(v3 + 8) & 1) == 0) goto l270;
-        v18 = get64(v3 + 16);
-    l274:;
-        if ((v18 - v20) < v28) {
-            v22 = v28 & 3;
-            v21 = 0;
-            if (v28 >= 4) {
-                v25 = v28 & ~3ULL;
-                v21 = 0;
+        if (v29 > 0x7fffffffffffffffULL) goto l283;
+        rattle_alloc_at(v3, v29, 1);
+        if (((uint32_t)get64(v3) & 1) == 0) goto l283;
+        v19 = get64(v3 + 8);
+    l287:;
+        if ((v19 - v21) < v29) {
+            v23 = v29 & 3;
+            v22 = 0;
+            if (v29 >= 4) {
+                v26 = v29 & ~3ULL;
+                v22 = 0;
                 do {
-                    v7 = v18 + v21;
-                    v19 = v20 + v21;
-                    put8(v7, get8(v19));
-                    put8(v7 + 1, get8(v19 + 1));
-                    put8(v7 + 2, get8(v19 + 2));
-                    put8(v7 + 3, get8(v19 + 3));
-                    v21 = v21 + 4;
-                } while (v25 != v21);
-                if (v22 == 0) goto l276;
+                    v7 = v19 + v22;
+                    v20 = v21 + v22;
+                    put8(v7, get8(v20));
+                    put8(v7 + 1, get8(v20 + 1));
+                    put8(v7 + 2, get8(v20 + 2));
+                    put8(v7 + 3, get8(v20 + 3));
+                    v22 = v22 + 4;
+                } while (v26 != v22);
+                if (v23 == 0) goto l289;
             }
-            v7 = v18 + v21;
-            v21 = v20 + v21;
-        l280:;
-            put8(v7, get8(v21));
+            v7 = v19 + v22;
+            v22 = v21 + v22;
+        l293:;
+            put8(v7, get8(v22));
             v7 = v7 + 1;
-            v21 = v21 + 1;
-            v22 = v22 - 1;
-            if (v22 != 0) goto l280;
-            goto l276;
+            v22 = v22 + 1;
+            v23 = v23 - 1;
+            if (v23 != 0) goto l293;
+            goto l289;
         }
-        if (v6 == 0) copy(v18, v20, v28);
-    l276:;
-        if (get64(v3 + 520) == v29) {
-            t14 = std_alloc_vec_Vec_grow_amortized_1598ebf9113514c4(v3 + 504, 1);
-            if (t14 == 0) {
-                if (v6 == 0) rattle_dealloc_at(v18);
-                v21 = get64(v3 + 520);
-                v39 = get64(v3 + 504);
-                v8 = get64(v3 + 512);
+        if (v6 == 0) copy(v19, v21, v29);
+    l289:;
+        if (get64(v3 + 2560) == v30) {
+            t15 = std_alloc_vec_Vec_grow_amortized_1598ebf9113514c4(v3 + 0x9f0, 1);
+            if (t15 == 0) {
+                if (v6 == 0) rattle_dealloc_at(v19);
+                v22 = get64(v3 + 2560);
+                v39 = get64(v3 + 2544);
+                v8 = get64(v3 + 2552);
                 if (v8 != 0) {
                     v7 = v39;
                     do {
@@ -12144,97 +12079,97 @@ l52:;
                         v8 = v8 - 1;
                     } while (v8 != 0);
                 }
-                if (v21 != 0) goto l265;
-                goto l264;
+                if (v22 != 0) goto l278;
+                goto l277;
             }
-            v39 = get64(v3 + 504);
-            v29 = get64(v3 + 512);
+            v39 = get64(v3 + 2544);
+            v30 = get64(v3 + 2552);
         }
-        v7 = v39 + (v29 * 24);
-        put64(v7 + 16, v28);
-        put64(v7 + 8, v28);
-        put64(v7, v18);
-        v29 = v29 + 1;
-        put64(v3 + 512, v29);
+        v7 = v39 + (v30 * 24);
+        put64(v7 + 16, v29);
+        put64(v7 + 8, v29);
+        put64(v7, v19);
         v30 = v30 + 1;
-    } while (v30 != v40);
-    v19 = get64(v3 + 520);
-    v21 = get64(v3 + 504);
-l271:;
+        put64(v3 + 2552, v30);
+        v31 = v31 + 1;
+    } while (v31 != v40);
+    v20 = get64(v3 + 2560);
+    v22 = get64(v3 + 2544);
+l284:;
     if (get64(event + 0xb40) == get64(event + 0xb38)) {
-        t15 = std_alloc_vec_Vec_grow_amortized_722da43a23cbcade(event + 0xb30);
-        if (t15 == 0) goto l268;
+        t16 = std_alloc_vec_Vec_grow_amortized_722da43a23cbcade(event + 0xb30);
+        if (t16 == 0) goto l281;
     }
-    v22 = event + 0xb48;
-    v7 = v22 + (((uint64_t)v12 & 255) * 24);
-    if (v29 > (get64(v7 + 16) - get64(v7 + 8))) {
-        t16 = std_alloc_vec_Vec_grow_amortized_1598ebf9113514c4(v7, v29);
-        if (t16 == 0) goto l267;
+    v23 = event + 0xb48;
+    v7 = v23 + (((uint64_t)v12 & 255) * 24);
+    if (v30 > (get64(v7 + 16) - get64(v7 + 8))) {
+        t17 = std_alloc_vec_Vec_grow_amortized_1598ebf9113514c4(v7, v30);
+        if (t17 == 0) goto l280;
     }
-    nodes_ground_node_Ground_commit(event, v3 + 280);
+    nodes_ground_node_Ground_commit(event, v3 + 248);
     v13 = 0;
-    v18 = event + 0xb38;
-    v20 = get64(v18);
-    v7 = get64(event + 0xb30) + (v20 << 5);
+    v19 = event + 0xb38;
+    v21 = get64(v19);
+    v7 = get64(event + 0xb30) + (v21 << 5);
     put32(v7 + 1, 0);
     put8(v7, v12);
     put32(v7 + 4, 0);
     put64(v7 + 24, v8);
     put64(v7 + 16, v8);
-    put64(v7 + 8, v17);
-    put64(v18, v20 + 1);
-    put64(v3 + 496, v19);
-    put64(v3 + 488, v29);
-    put64(v3 + 480, v21);
-    simulated_link_map_lists_append_on(v22, v12, v3 + 480);
+    put64(v7 + 8, v18);
+    put64(v19, v21 + 1);
+    put64(v3 + 488, v20);
+    put64(v3 + 480, v30);
+    put64(v3 + 472, v22);
+    simulated_link_map_lists_append_on(v23, v12, v3 + 472);
     v6 = 0;
-    v23 = 0;
-    goto l50;
-l270:;
-    v8 = get64(v3 + 520);
-    if (v29 != 0) {
+    v24 = 0;
+    goto l53;
+l283:;
+    v8 = get64(v3 + 2560);
+    if (v30 != 0) {
         v7 = v39;
         do {
             if (get64(v7 + 16) != 0) rattle_dealloc_at(get64(v7));
             v7 = v7 + 24;
-            v29 = v29 - 1;
-        } while (v29 != 0);
+            v30 = v30 - 1;
+        } while (v30 != 0);
     }
-    if (v8 == 0) goto l264;
-    goto l265;
-l268:;
-    if (v29 == 0) goto l266;
-l267:;
-    v7 = v21;
+    if (v8 == 0) goto l277;
+    goto l278;
+l281:;
+    if (v30 == 0) goto l279;
+l280:;
+    v7 = v22;
     do {
         if (get64(v7 + 16) != 0) rattle_dealloc_at(get64(v7));
         v7 = v7 + 24;
-        v29 = v29 - 1;
-    } while (v29 != 0);
-l266:;
-    if (v19 != 0) rattle_dealloc_at(v21);
-    if (v13 == 0) rattle_dealloc_at(v17);
-    if (get8(v3 + 320) == 1) {
-        if (get64(v3 + 344) != 0) rattle_dealloc_at(get64(v3 + 328));
+        v30 = v30 - 1;
+    } while (v30 != 0);
+l279:;
+    if (v20 != 0) rattle_dealloc_at(v22);
+    if (v13 == 0) rattle_dealloc_at(v18);
+    if (get8(v3 + 288) == 1) {
+        if (get64(v3 + 312) != 0) rattle_dealloc_at(get64(v3 + 296));
     }
-    v7 = get64(v3 + 384);
-    v21 = get64(v3 + 368);
-    if (get8(v3 + 352) != 0) {
-        v22 = get64(v3 + 376);
-        v19 = get64(v3 + 360);
-        if (v21 != 0) {
-            v8 = get64(v3 + 392);
-            v21 = v21 - v8;
-            if (v7 < (v21 + v7)) {
-                v7 = ((v7 << 5) + v19) + 24;
+    v7 = get64(v3 + 352);
+    v22 = get64(v3 + 336);
+    if (get8(v3 + 320) != 0) {
+        v23 = get64(v3 + 344);
+        v20 = get64(v3 + 328);
+        if (v22 != 0) {
+            v8 = get64(v3 + 360);
+            v22 = v22 - v8;
+            if (v7 < (v22 + v7)) {
+                v7 = ((v7 << 5) + v20) + 24;
                 do {
                     if (get64(v7) != 0) rattle_dealloc_at(get64(v7 - 16));
                     v7 = v7 + 32;
-                    v21 = v21 - 1;
-                } while (v21 != 0);
+                    v22 = v22 - 1;
+                } while (v22 != 0);
             }
             if (v8 != 0) {
-                v7 = v19 + 24;
+                v7 = v20 + 24;
                 do {
                     if (get64(v7) != 0) rattle_dealloc_at(get64(v7 - 16));
                     v7 = v7 + 32;
@@ -12242,42 +12177,42 @@ l266:;
                 } while (v8 != 0);
             }
         }
-        if (v22 == 0) goto l51;
-        rattle_dealloc_at(v19);
-        goto l51;
+        if (v23 == 0) goto l54;
+        rattle_dealloc_at(v20);
+        goto l54;
     }
-    if (v7 == 0) goto l51;
-    rattle_dealloc_at(v21);
-    goto l51;
-l265:;
+    if (v7 == 0) goto l54;
+    rattle_dealloc_at(v22);
+    goto l54;
+l278:;
     rattle_dealloc_at(v39);
-l264:;
-    if (v13 == 0) rattle_dealloc_at(v17);
-    if (get8(v3 + 320) == 1) {
-        if (get64(v3 + 344) != 0) rattle_dealloc_at(get64(v3 + 328));
+l277:;
+    if (v13 == 0) rattle_dealloc_at(v18);
+    if (get8(v3 + 288) == 1) {
+        if (get64(v3 + 312) != 0) rattle_dealloc_at(get64(v3 + 296));
     }
-    v7 = get64(v3 + 384);
-    v21 = get64(v3 + 368);
-    if (get8(v3 + 352) == 0) {
-        if (v7 == 0) goto l51;
-        rattle_dealloc_at(v21);
-        goto l51;
+    v7 = get64(v3 + 352);
+    v22 = get64(v3 + 336);
+    if (get8(v3 + 320) == 0) {
+        if (v7 == 0) goto l54;
+        rattle_dealloc_at(v22);
+        goto l54;
     }
-    v22 = get64(v3 + 376);
-    v19 = get64(v3 + 360);
-    if (v21 != 0) {
-        v8 = get64(v3 + 392);
-        v21 = v21 - v8;
-        if (v7 < (v21 + v7)) {
-            v7 = ((v7 << 5) + v19) + 24;
+    v23 = get64(v3 + 344);
+    v20 = get64(v3 + 328);
+    if (v22 != 0) {
+        v8 = get64(v3 + 360);
+        v22 = v22 - v8;
+        if (v7 < (v22 + v7)) {
+            v7 = ((v7 << 5) + v20) + 24;
             do {
                 if (get64(v7) != 0) rattle_dealloc_at(get64(v7 - 16));
                 v7 = v7 + 32;
-                v21 = v21 - 1;
-            } while (v21 != 0);
+                v22 = v22 - 1;
+            } while (v22 != 0);
         }
         if (v8 != 0) {
-            v7 = v19 + 24;
+            v7 = v20 + 24;
             do {
                 if (get64(v7) != 0) rattle_dealloc_at(get64(v7 - 16));
                 v7 = v7 + 32;
@@ -12285,38 +12220,37 @@ l264:;
             } while (v8 != 0);
         }
     }
-    if (v22 != 0) rattle_dealloc_at(v19);
-l51:;
+    if (v23 != 0) rattle_dealloc_at(v20);
+l54:;
     v6 = 0;
     v13 = 1;
-    v23 = 0;
-l50:;
-    if (v13 != 0) goto l48;
-    v21 = 0;
     v24 = 0;
-l49:;
-    v7 = 0;
+l53:;
+    if (v13 != 0) goto l51;
+    v22 = 0;
     v25 = 0;
+l52:;
+    v7 = 0;
     v26 = 0;
     v27 = 0;
+    v28 = 0;
     v13 = 0;
-    v14 = 0;
-    goto l47;
-l48:;
+    v17 = 0;
+    goto l50;
+l51:;
     v6 = v6 + 6;
     goto l27;
-l47:;
-    v31 = 0;
-    put16(v3 + 532, 0);
-    put32(v3 + 528, 0);
-    v43 = v13 | (v23 & 255);
-    v29 = (uint64_t)v43;
-    v28 = v29 >> 16;
-    v17 = v29 >> 8;
+l50:;
+    put16(v3 + 500, 0);
+    put32(v3 + 496, 0);
+    v43 = v13 | (v24 & 255);
+    v30 = (uint64_t)v43;
+    v29 = v30 >> 16;
+    v18 = v30 >> 8;
     v8 = 0;
-    v19 = v7;
-    v22 = 0;
-    v18 = 0;
+    v20 = v7;
+    v23 = 0;
+    v19 = 0;
     v13 = 0;
     v12 = 0;
     v11 = 0;
@@ -12324,7 +12258,8 @@ l47:;
     v5 = 0;
     v9 = 0;
     v4 = 0;
-    v20 = 0;
+    v14 = 0;
+    v21 = 0;
     v16 = 0;
     v15 = 0;
     v32 = 0;
@@ -12339,23 +12274,103 @@ l47:;
     v47 = 0;
     switch (v6) {
     case 1:
-        goto l44;
+        goto l48;
     case 2:
         goto l31;
     case 3:
-        goto l46;
+        switch ((uint32_t)((uint64_t)v17 & 255)) {
+        case 1:
+            v45 = v43 + 1;
+            v44 = 2;
+            v8 = 0;
+            v6 = 3;
+            goto l38;
+        case 2:
+            goto l37;
+        default:
+            v44 = 1;
+            v8 = 0;
+            v6 = 3;
+            v20 = 0;
+            v23 = 0;
+            v19 = 0;
+            v13 = v43;
+            v12 = v43;
+            v11 = v43;
+            v10 = v43;
+            v5 = v43;
+            v9 = v43;
+            v4 = v43;
+            v14 = v43;
+            v21 = 0;
+            v16 = v43;
+            v15 = v43;
+            v32 = v43;
+            v33 = v43;
+            v34 = v43;
+            v35 = v43;
+            v36 = v43;
+            v37 = 3;
+            v45 = 1;
+            v46 = v43;
+            v47 = v43;
+            switch ((uint32_t)(v30 & 255)) {
+            case 1:
+                v45 = 2;
+                goto l39;
+            case 2:
+                v8 = 0;
+                v6 = 3;
+                v20 = 0;
+                v23 = 0;
+                v19 = 0;
+                v13 = 0;
+                v12 = 0;
+                v11 = 0;
+                v10 = 0;
+                v5 = 0;
+                v9 = 0;
+                v4 = 0;
+                v14 = 0;
+                v21 = 0;
+                v16 = 0;
+                v15 = 0;
+                v32 = 0;
+                v33 = 0;
+                v34 = 0;
+                v35 = 0;
+                v36 = 0;
+                v37 = 3;
+                v45 = 3;
+                goto l29;
+            case 3:
+                v45 = 4;
+                goto l39;
+            case 4:
+                v45 = 5;
+                goto l39;
+            case 5:
+                v45 = 6;
+                goto l39;
+            case 6:
+                v45 = 10;
+                goto l39;
+            default:
+                goto l28;
+            }
+        }
     case 4:
         goto l36;
     case 5:
         goto l28;
     case 6:
-        t17 = (((v29 << 8) & 0xff00000000ULL) | ((((uint64_t)v23 & 255) << 8) | ((uint64_t)v14 & 255))) | ((v28 << 24)
+        t18 = (((v30 << 8) & 0xff00000000ULL) | ((((uint64_t)v24 & 255) << 8) | ((uint64_t)v17 & 255))) | ((v29 << 24)
             & 0xff000000ULL);
-        v8 = t17 | ((v17 << 16) & 0xff0000);
-        v19 = 0;
+        v8 = t18 | ((v18 << 16) & 0xff0000);
+        v20 = 0;
         v6 = 6;
-        v22 = 0;
-        v18 = 0;
+        v23 = 0;
+        v19 = 0;
         v13 = 0;
         v12 = 0;
         v11 = 0;
@@ -12363,7 +12378,8 @@ l47:;
         v5 = 0;
         v9 = 0;
         v4 = 0;
-        v20 = 0;
+        v14 = 0;
+        v21 = 0;
         v16 = 0;
         v15 = 0;
         v32 = 0;
@@ -12377,16 +12393,17 @@ l47:;
         v13 = 2;
         v8 = 0;
         v6 = 7;
+        v20 = 0;
+        v23 = 0;
         v19 = 0;
-        v22 = 0;
-        v18 = 0;
         v12 = 0;
         v11 = 0;
         v10 = 0;
         v5 = 0;
         v9 = 0;
         v4 = 0;
-        v20 = 0;
+        v14 = 0;
+        v21 = 0;
         v16 = 0;
         v15 = 0;
         v32 = 0;
@@ -12399,48 +12416,49 @@ l47:;
         v45 = 0;
         v46 = 0;
         v47 = 0;
-        switch ((uint32_t)((uint64_t)v27 & 255)) {
+        switch ((uint32_t)((uint64_t)v28 & 255)) {
         case 1:
             goto l28;
         case 2:
-            v31 = 0;
-            v10 = ((v21 & 255) == 0) ? 0U : ((uint32_t)(v21 >> 8) + 1);
+            v12 = 0;
+            v5 = ((v22 & 255) == 0) ? 0U : ((uint32_t)(v22 >> 8) + 1);
             v13 = 3;
             v8 = 0;
-            v27 = 2;
-            v19 = 0;
-            v22 = 0;
-            v18 = v7;
-            v12 = v26;
-            v11 = v24;
+            v28 = 2;
+            v20 = 0;
+            v23 = 0;
+            v19 = v7;
+            v11 = v27;
+            v10 = v25;
             goto l34;
         case 3:
-            v5 = v26 & 1;
+            v9 = v27 & 1;
             v13 = 4;
             v8 = 0;
-            v27 = 3;
+            v28 = 3;
+            v20 = 0;
+            v23 = 0;
             v19 = 0;
-            v22 = 0;
-            v18 = 0;
-            v12 = 0;
-            v11 = 0;
-            v10 = 0;
-            goto l33;
-        case 4:
-            v31 = 0;
-            v13 = v26 & 255;
-            v4 = (v13 != 0) ? v24 : 0U;
-            v9 = v13 != 0;
-            v13 = 5;
-            v8 = 0;
-            v27 = 4;
-            v19 = 0;
-            v22 = 0;
-            v18 = 0;
             v12 = 0;
             v11 = 0;
             v10 = 0;
             v5 = 0;
+            goto l33;
+        case 4:
+            v12 = 0;
+            v13 = v27 & 255;
+            v14 = (v13 != 0) ? v25 : 0U;
+            v4 = v13 != 0;
+            v13 = 5;
+            v8 = 0;
+            v28 = 4;
+            v20 = 0;
+            v23 = 0;
+            v19 = 0;
+            v11 = 0;
+            v10 = 0;
+            v5 = 0;
+            v9 = 0;
             goto l32;
         default:
             goto l35;
@@ -12449,9 +12467,9 @@ l47:;
         v16 = 2;
         v8 = 0;
         v6 = 8;
+        v20 = 0;
+        v23 = 0;
         v19 = 0;
-        v22 = 0;
-        v18 = 0;
         v13 = 0;
         v12 = 0;
         v11 = 0;
@@ -12459,7 +12477,8 @@ l47:;
         v5 = 0;
         v9 = 0;
         v4 = 0;
-        v20 = 0;
+        v14 = 0;
+        v21 = 0;
         v15 = 0;
         v32 = 0;
         v33 = 0;
@@ -12471,88 +12490,88 @@ l47:;
         v45 = 0;
         v46 = 0;
         v47 = 0;
-        switch ((uint32_t)((uint64_t)v27 & 255)) {
+        switch ((uint32_t)((uint64_t)v28 & 255)) {
         case 1:
             goto l28;
         case 2:
             v13 = 0;
-            v36 = ((v21 & 0xff0000) == 0) ? 0U : ((uint32_t)(v21 >> 24) + 1);
-            v34 = (uint32_t)v21;
-            v35 = ((v34 & 255) == 1) ? ((uint32_t)(v21 >> 8) + 1) : 0U;
-            v12 = v26 & 255;
-            v33 = (v12 != 0) ? v24 : 0U;
+            v36 = ((v22 & 0xff0000) == 0) ? 0U : ((uint32_t)(v22 >> 24) + 1);
+            v34 = (uint32_t)v22;
+            v35 = ((v34 & 255) == 1) ? ((uint32_t)(v22 >> 8) + 1) : 0U;
+            v12 = v27 & 255;
+            v33 = (v12 != 0) ? v25 : 0U;
             v32 = v12 == 0;
             v16 = 3;
             v8 = 0;
-            v27 = 2;
+            v28 = 2;
+            v20 = 0;
+            v23 = 0;
             v19 = 0;
-            v22 = 0;
-            v18 = 0;
-            v31 = 0;
             v12 = 0;
             v11 = 0;
             v10 = 0;
             v5 = 0;
             v9 = 0;
             v4 = 0;
-            v20 = v7;
+            v14 = 0;
+            v21 = v7;
             v15 = 0;
-            goto l37;
+            goto l40;
         default:
             v16 = 1;
-            v15 = v26 + 1;
+            v15 = v27 + 1;
             v8 = 0;
-            v27 = 0;
+            v28 = 0;
+            v20 = 0;
+            v23 = 0;
             v19 = 0;
-            v22 = 0;
-            v18 = 0;
             v13 = 0;
-            v31 = 0;
             v12 = 0;
             v11 = 0;
             v10 = 0;
             v5 = 0;
             v9 = 0;
             v4 = 0;
-            v20 = 0;
+            v14 = 0;
+            v21 = 0;
             v32 = 0;
             v33 = 0;
             v34 = 0;
             v35 = 0;
             v36 = 0;
-            goto l37;
+            goto l40;
         }
     case 9:
         v13 = 0;
-        v36 = (((uint32_t)v17 & 255) != 0) ? ((uint32_t)v28 + 1) : 0U;
-        v35 = ((v14 & 255) == 1) ? (v43 + 1) : 0U;
+        v36 = (((uint32_t)v18 & 255) != 0) ? ((uint32_t)v29 + 1) : 0U;
+        v35 = ((v17 & 255) == 1) ? (v43 + 1) : 0U;
         v37 = 10;
         v16 = 4;
         v8 = 0;
         v6 = 9;
+        v20 = 0;
+        v23 = 0;
         v19 = 0;
-        v22 = 0;
-        v18 = 0;
-        v31 = 0;
         v12 = 0;
         v11 = 0;
         v10 = 0;
         v5 = 0;
         v9 = 0;
         v4 = 0;
-        v20 = 0;
+        v14 = 0;
+        v21 = 0;
         v15 = 0;
         v32 = 0;
         v33 = 0;
-        v34 = v14;
+        v34 = v17;
         goto l30;
     case 10:
-        v22 = (((((uint64_t)v24 & 255) << 16) + v25) + (((uint64_t)v26 & 255) << 8)) + ((uint64_t)v27 & 255);
+        v23 = (((((uint64_t)v25 & 255) << 16) + v26) + (((uint64_t)v27 & 255) << 8)) + ((uint64_t)v28 & 255);
         v37 = 11;
         v8 = 0;
         v6 = 10;
+        v20 = 0;
         v19 = 0;
-        v18 = 0;
         v13 = 0;
         v12 = 0;
         v11 = 0;
@@ -12560,7 +12579,8 @@ l47:;
         v5 = 0;
         v9 = 0;
         v4 = 0;
-        v20 = 0;
+        v14 = 0;
+        v21 = 0;
         v16 = 0;
         v15 = 0;
         v32 = 0;
@@ -12571,10 +12591,10 @@ l47:;
         goto l30;
     case 11:
         v37 = 9;
-        v18 = 0;
+        v19 = 0;
         v8 = 0;
-        v19 = v7;
-        v22 = 0;
+        v20 = v7;
+        v23 = 0;
         v13 = 0;
         v12 = 0;
         v11 = 0;
@@ -12582,7 +12602,8 @@ l47:;
         v5 = 0;
         v9 = 0;
         v4 = 0;
-        v20 = 0;
+        v14 = 0;
+        v21 = 0;
         v16 = 0;
         v15 = 0;
         v32 = 0;
@@ -12593,54 +12614,28 @@ l47:;
         v44 = 0;
         v45 = 0;
         v46 = 0;
-        v47 = v14;
+        v47 = v17;
         goto l28;
     default:
-        goto l45;
+        goto l49;
     }
-l46:;
-    v45 = v43 + 1;
-    v44 = v14 + 1;
-    v13 = 0;
-    v8 = 0;
-    v6 = 3;
-    v19 = 0;
-    v22 = 0;
-    v18 = 0;
-    v31 = 0;
-    v12 = 0;
-    v11 = 0;
-    v10 = 0;
-    v5 = 0;
-    v9 = 0;
-    v4 = 0;
-    v20 = 0;
-    v16 = 0;
-    v15 = 0;
-    v32 = 0;
-    v33 = 0;
-    v34 = 0;
-    v35 = 0;
-    v36 = 0;
-    v37 = 3;
-    goto l29;
-l45:;
+l49:;
     v6 = 0;
-    put16(v3 + 532, 0);
-    put32(v3 + 528, 0);
+    put16(v3 + 500, 0);
+    put32(v3 + 496, 0);
     v8 = 0;
+    v20 = 0;
+    v23 = 0;
     v19 = 0;
-    v22 = 0;
-    v18 = 0;
     v13 = 0;
-    v31 = 0;
     v12 = 0;
     v11 = 0;
     v10 = 0;
     v5 = 0;
     v9 = 0;
     v4 = 0;
-    v20 = 0;
+    v14 = 0;
+    v21 = 0;
     v16 = 0;
     v15 = 0;
     v32 = 0;
@@ -12650,23 +12645,23 @@ l45:;
     v36 = 0;
     v37 = 0;
     goto l30;
-l44:;
+l48:;
     v13 = 0;
-    put16(v3 + 532, 0);
-    put32(v3 + 528, 0);
+    put16(v3 + 500, 0);
+    put32(v3 + 496, 0);
     v8 = 0;
     v6 = 1;
+    v20 = 0;
+    v23 = 0;
     v19 = 0;
-    v22 = 0;
-    v18 = 0;
-    v31 = 0;
     v12 = 0;
     v11 = 0;
     v10 = 0;
     v5 = 0;
     v9 = 0;
     v4 = 0;
-    v20 = 0;
+    v14 = 0;
+    v21 = 0;
     v16 = 0;
     v15 = 0;
     v32 = 0;
@@ -12676,25 +12671,75 @@ l44:;
     v36 = 0;
     v37 = 1;
     goto l30;
-l37:;
+l40:;
     v37 = 8;
     goto l30;
-l36:;
-    v46 = v14 + 1;
-    v13 = 0;
+l39:;
     v8 = 0;
-    v6 = 4;
+l38:;
+    v20 = 0;
+    v23 = 0;
     v19 = 0;
-    v22 = 0;
-    v18 = 0;
-    v31 = 0;
+    v13 = 0;
     v12 = 0;
     v11 = 0;
     v10 = 0;
     v5 = 0;
     v9 = 0;
     v4 = 0;
+    v14 = 0;
+    v21 = 0;
+    v16 = 0;
+    v15 = 0;
+    v32 = 0;
+    v33 = 0;
+    v34 = 0;
+    v35 = 0;
+    v36 = 0;
+    v37 = 3;
+    goto l29;
+l37:;
+    v45 = v43 + 1;
+    v13 = 0;
+    v8 = 0;
+    v6 = 3;
     v20 = 0;
+    v23 = 0;
+    v19 = 0;
+    v12 = 0;
+    v11 = 0;
+    v10 = 0;
+    v5 = 0;
+    v9 = 0;
+    v4 = 0;
+    v14 = 0;
+    v21 = 0;
+    v16 = 0;
+    v15 = 0;
+    v32 = 0;
+    v33 = 0;
+    v34 = 0;
+    v35 = 0;
+    v36 = 0;
+    v37 = 3;
+    v44 = 3;
+    goto l29;
+l36:;
+    v46 = v17 + 1;
+    v13 = 0;
+    v8 = 0;
+    v6 = 4;
+    v20 = 0;
+    v23 = 0;
+    v19 = 0;
+    v12 = 0;
+    v11 = 0;
+    v10 = 0;
+    v5 = 0;
+    v9 = 0;
+    v4 = 0;
+    v14 = 0;
+    v21 = 0;
     v16 = 0;
     v15 = 0;
     v32 = 0;
@@ -12709,23 +12754,23 @@ l36:;
     goto l28;
 l35:;
     v13 = 1;
-    v31 = v26 + 1;
+    v12 = v27 + 1;
     v8 = 0;
-    v27 = 0;
+    v28 = 0;
     v6 = 7;
+    v20 = 0;
+    v23 = 0;
     v19 = 0;
-    v22 = 0;
-    v18 = 0;
-    v12 = 0;
     v11 = 0;
     v10 = 0;
-l34:;
     v5 = 0;
-l33:;
+l34:;
     v9 = 0;
+l33:;
     v4 = 0;
+    v14 = 0;
 l32:;
-    v20 = 0;
+    v21 = 0;
     v16 = 0;
     v15 = 0;
     v32 = 0;
@@ -12737,21 +12782,21 @@ l32:;
     goto l30;
 l31:;
     v13 = 0;
-    put16(v3 + 532, 0);
-    put32(v3 + 528, 0);
+    put16(v3 + 500, 0);
+    put32(v3 + 496, 0);
     v8 = 0;
     v6 = 2;
+    v20 = 0;
+    v23 = 0;
     v19 = 0;
-    v22 = 0;
-    v18 = 0;
-    v31 = 0;
     v12 = 0;
     v11 = 0;
     v10 = 0;
     v5 = 0;
     v9 = 0;
     v4 = 0;
-    v20 = 0;
+    v14 = 0;
+    v21 = 0;
     v16 = 0;
     v15 = 0;
     v32 = 0;
@@ -12767,8 +12812,8 @@ l29:;
     v46 = 0;
     v47 = 0;
 l28:;
-    put16(v3 + 228, get16(v3 + 532));
-    put32(v3 + 224, get32(v3 + 528));
+    put16(v3 + 220, get16(v3 + 500));
+    put32(v3 + 216, get32(v3 + 496));
     put8(reply + 52, (uint32_t)(v8 >> 32));
     put32(reply + 48, (uint32_t)v8);
     put8(reply + 57, v47);
@@ -12784,167 +12829,133 @@ l28:;
     put8(reply + 42, v32);
     put8(reply + 41, v15);
     put8(reply + 40, v16);
-    put64(reply + 32, v20);
-    put8(reply + 31, v4);
-    put8(reply + 30, v9);
-    put8(reply + 29, v5);
-    put8(reply + 28, v10);
-    put8(reply + 27, v11);
-    put8(reply + 26, v12);
-    put8(reply + 25, v31);
+    put64(reply + 32, v21);
+    put8(reply + 31, v14);
+    put8(reply + 30, v4);
+    put8(reply + 29, v9);
+    put8(reply + 28, v5);
+    put8(reply + 27, v10);
+    put8(reply + 26, v11);
+    put8(reply + 25, v12);
     put8(reply + 24, v13);
-    put64(reply + 16, v18);
-    put64(reply + 8, v22);
-    put64(reply, v19);
-    put16(reply + 62, get16(v3 + 228));
-    put32(reply + 58, get32(v3 + 224));
-    reply = (((((uint64_t)v26 & 255) << 8) | ((uint64_t)v27 & 255)) + v25) + (((uint64_t)v24 & 255) << 16);
+    put64(reply + 16, v19);
+    put64(reply + 8, v23);
+    put64(reply, v20);
+    put16(reply + 62, get16(v3 + 220));
+    put32(reply + 58, get32(v3 + 216));
+    reply = (((((uint64_t)v27 & 255) << 8) | ((uint64_t)v28 & 255)) + v26) + (((uint64_t)v25 & 255) << 16);
     if (((1U << (v6 & 31)) & 0x7df) != 0) {
-        reply = v3 + 0x19c8;
+        reply = v3 + 0xa08;
         v7 = 0;
-        v21 = 0;
+        v22 = 0;
     }
     put64(event + 0x17a8, v7);
     v7 = event + 0x17b0;
     v8 = get64(v7);
-    put64(v7, v21);
+    put64(v7, v22);
     v7 = event + 0x17a0;
-    v21 = get64(v7);
+    v22 = get64(v7);
     put64(v7, reply);
     v6 = 0;
-    if (v8 != 0) rattle_dealloc_at(v21);
+    if (v8 != 0) rattle_dealloc_at(v22);
 l27:;
-    reply = get64(sim);
     put64(sim, event);
-    if (reply == 0) return v6;
-    copy(v3 + 528, reply, 0x17b8);
-    rattle_dealloc_at(reply);
-    sedgechisel_nodes_sedgechisel_nodes_sim_link_Link_Destruct_drop(v3 + 528);
     return v6;
 }
 
 static uint32_t sedge_sim_submission_at(uint64_t sim, uint64_t k, uint64_t map, uint64_t out, uint64_t room, uint64_t
     count)
 {
-    unsigned char frame_octets[6080 + 15];
     uint32_t v8 = 0;
-    uint64_t v6 = 0, v7 = 0, v9 = 0, v10 = 0, v11 = 0, v12 = 0, v13 = 0, v14 = 0, v15 = 0;
-    v6 = aligned(frame_octets);
-    v7 = get64(sim);
+    uint64_t v6 = 0, v7 = 0, v9 = 0, v10 = 0, v11 = 0, v12 = 0, v13 = 0, v14 = 0;
+    v6 = get64(sim);
     put64(sim, 0);
-    if (v7 == 0) {
-        v8 = 255;
-        return v8;
-    }
-    if (k >= get64(v7 + 0xb38)) {
-        v8 = 253;
-        put64(sim, v7);
-        return v8;
-    }
-    k = get64(v7 + 0xb30) + (k << 5);
-    v9 = get64(k + 16);
-    if (room < v9) {
-        v8 = 252;
-        put64(sim, v7);
-        return v8;
-    }
-    v8 = get8(k);
-    v10 = (out == 0) ? 0x1000ULL : 0ULL;
-    v11 = out + v10;
-    v12 = get64(k + 8);
-    if ((v11 - v12) < v9) {
-        v13 = v9 & 3;
-        room = 0;
-        if (v9 >= 4) {
-            v14 = v9 & ~3ULL;
-            room = 0;
-            do {
-                k = v11 + room;
-                v15 = v12 + room;
-                put8(k, get8(v15));
-                put8(k + 1, get8(v15 + 1));
-                put8(k + 2, get8(v15 + 2));
-                put8(k + 3, get8(v15 + 3));
-                room = room + 4;
-            } while (v14 != room);
-            if (v13 == 0) goto l5;
+    if (v6 != 0) {
+        if (k < get64(v6 + 0xb38)) {
+            k = get64(v6 + 0xb30) + (k << 5);
+            v7 = get64(k + 16);
+            if (room >= v7) {
+                v8 = get8(k);
+                v9 = (out == 0) ? 0x1000ULL : 0ULL;
+                v10 = out + v9;
+                v11 = get64(k + 8);
+                if ((v10 - v11) < v7) {
+                    v12 = v7 & 3;
+                    room = 0;
+                    if (v7 >= 4) {
+                        v13 = v7 & ~3ULL;
+                        room = 0;
+                        do {
+                            k = v10 + room;
+                            v14 = v11 + room;
+                            put8(k, get8(v14));
+                            put8(k + 1, get8(v14 + 1));
+                            put8(k + 2, get8(v14 + 2));
+                            put8(k + 3, get8(v14 + 3));
+                            room = room + 4;
+                        } while (v13 != room);
+                        if (v12 == 0) goto l4;
+                    }
+                    k = v11 + room;
+                    room = out + (v9 + room);
+                l8:;
+                    put8(room, get8(k));
+                    room = room + 1;
+                    k = k + 1;
+                    v12 = v12 - 1;
+                    if (v12 != 0) goto l8;
+                    goto l4;
+                }
+                if (v7 != 0) copy(v10, v11, v7);
+            l4:;
+                put64(count, v7);
+                put8(map, v8);
+                put64(sim, v6);
+                return 0;
+            }
+            put64(sim, v6);
+            return 252;
         }
-        k = v12 + room;
-        room = out + (v10 + room);
-    l9:;
-        put8(room, get8(k));
-        room = room + 1;
-        k = k + 1;
-        v13 = v13 - 1;
-        if (v13 != 0) goto l9;
-        goto l5;
+        put64(sim, v6);
+        return 253;
     }
-    if (v9 != 0) copy(v11, v12, v9);
-l5:;
-    put64(count, v9);
-    put8(map, v8);
-    k = get64(sim);
-    put64(sim, v7);
-    v8 = 0;
-    if (k == 0) return v8;
-    copy(v6 + 8, k, 0x17b8);
-    rattle_dealloc_at(k);
-    sedgechisel_nodes_sedgechisel_nodes_sim_link_Link_Destruct_drop(v6 + 8);
-    return v8;
+    return 255;
 }
 
 static uint32_t sedge_sim_submission_length_at(uint64_t sim, uint64_t k, uint64_t map, uint64_t count)
 {
-    unsigned char frame_octets[6080 + 15];
-    uint32_t v6 = 0;
-    uint64_t v4 = 0, v5 = 0, v7 = 0;
-    v4 = aligned(frame_octets);
-    v5 = get64(sim);
+    uint32_t v5 = 0;
+    uint64_t v4 = 0, v6 = 0;
+    v4 = get64(sim);
     put64(sim, 0);
-    if (v5 == 0) {
-        v6 = 255;
-        return v6;
+    if (v4 != 0) {
+        v5 = 253;
+        if (k >= get64(v4 + 0xb38)) {
+            put64(sim, v4);
+            return v5;
+        }
+        k = get64(v4 + 0xb30) + (k << 5);
+        v6 = get64(k + 16);
+        put8(map, get8(k));
+        put64(count, v6);
+        v5 = 0;
+        put64(sim, v4);
+        return v5;
     }
-    if (k >= get64(v5 + 0xb38)) {
-        put64(sim, v5);
-        v6 = 253;
-        return v6;
-    }
-    k = get64(v5 + 0xb30) + (k << 5);
-    v7 = get64(k + 16);
-    put8(map, get8(k));
-    put64(count, v7);
-    k = get64(sim);
-    put64(sim, v5);
-    v6 = 0;
-    if (k == 0) return v6;
-    copy(v4 + 8, k, 0x17b8);
-    rattle_dealloc_at(k);
-    sedgechisel_nodes_sedgechisel_nodes_sim_link_Link_Destruct_drop(v4 + 8);
-    return v6;
+    return 255;
 }
 
 static uint32_t sedge_sim_submissions_at(uint64_t sim, uint64_t count)
 {
-    unsigned char frame_octets[6080 + 15];
-    uint32_t v4 = 0;
-    uint64_t v2 = 0, v3 = 0;
-    v2 = aligned(frame_octets);
-    v3 = get64(sim);
+    uint64_t v2 = 0;
+    v2 = get64(sim);
     put64(sim, 0);
-    if (v3 == 0) {
-        v4 = 255;
-        return v4;
+    if (v2 != 0) {
+        put64(count, get64(v2 + 0xb38));
+        put64(sim, v2);
+        return 0;
     }
-    put64(count, get64(v3 + 0xb38));
-    count = get64(sim);
-    put64(sim, v3);
-    v4 = 0;
-    if (count == 0) return v4;
-    copy(v2 + 8, count, 0x17b8);
-    rattle_dealloc_at(count);
-    sedgechisel_nodes_sedgechisel_nodes_sim_link_Link_Destruct_drop(v2 + 8);
-    return v4;
+    return 255;
 }
 
 static void sedge_spacecraft_close_at(uint64_t spacecraft)
@@ -12963,110 +12974,87 @@ static void sedge_spacecraft_close_at(uint64_t spacecraft)
 
 static uint32_t sedge_spacecraft_next_at(uint64_t spacecraft, uint64_t map, uint64_t count)
 {
-    unsigned char frame_octets[2368 + 15];
-    uint32_t v6 = 0;
-    uint64_t v3 = 0, v4 = 0, v5 = 0, v7 = 0, v8 = 0;
-    v3 = aligned(frame_octets);
-    v4 = get64(spacecraft);
-    v5 = 0;
+    uint64_t v3 = 0, v4 = 0, v5 = 0, v6 = 0;
+    v3 = get64(spacecraft);
+    v4 = 0;
     put64(spacecraft, 0);
-    if (v4 == 0) {
-        v6 = 255;
-        return v6;
+    if (v3 != 0) {
+        v5 = get64(v3 + 0x890);
+        if (v5 == 0) {
+            put64(count, v4);
+            put64(spacecraft, v3);
+            return 0;
+        }
+        v6 = get64(v3 + 0x888);
+        if (v5 != get64(v3 + 0x8a8)) v6 = v6 + (get64(v3 + 0x8a0) << 5);
+        v4 = get64(v6 + 16);
+        put8(map, get8(v6));
+        put64(count, v4);
+        put64(spacecraft, v3);
+        return 0;
     }
-    v7 = get64(v4 + 0x890);
-    if (v7 != 0) {
-        v8 = get64(v4 + 0x888);
-        if (v7 != get64(v4 + 0x8a8)) v8 = v8 + (get64(v4 + 0x8a0) << 5);
-        v5 = get64(v8 + 16);
-        put8(map, get8(v8));
-    }
-    put64(count, v5);
-    v5 = get64(spacecraft);
-    put64(spacecraft, v4);
-    v6 = 0;
-    if (v5 == 0) return v6;
-    copy(v3, v5, 0x940);
-    rattle_dealloc_at(v5);
-    sedgechisel_nodes_nodes_spacecraft_Spacecraft_Destruct_drop(v3);
-    return v6;
+    return 255;
 }
 
 static uint32_t sedge_spacecraft_next_bypass_at(uint64_t spacecraft, uint64_t map, uint64_t count)
 {
-    unsigned char frame_octets[2368 + 15];
-    uint32_t v6 = 0;
-    uint64_t v3 = 0, v4 = 0, v5 = 0, v7 = 0;
-    v3 = aligned(frame_octets);
-    v4 = get64(spacecraft);
-    v5 = 0;
+    uint64_t v3 = 0, v4 = 0, v5 = 0;
+    v3 = get64(spacecraft);
+    v4 = 0;
     put64(spacecraft, 0);
-    if (v4 == 0) {
-        v6 = 255;
-        return v6;
+    if (v3 != 0) {
+        if (get64(v3 + 0x8c0) == 0) {
+            put64(count, v4);
+            put64(spacecraft, v3);
+            return 0;
+        }
+        v4 = get64(v3 + 0x8c8);
+        v5 = get64(v3 + 0x8b8);
+        v5 = get64(v3 + 0x8b0) + ((v4 - ((v4 < v5) ? 0ULL : v5)) << 5);
+        v4 = get64(v5 + 16);
+        put8(map, get8(v5));
+        put64(count, v4);
+        put64(spacecraft, v3);
+        return 0;
     }
-    if (get64(v4 + 0x8c0) != 0) {
-        v5 = get64(v4 + 0x8c8);
-        v7 = get64(v4 + 0x8b8);
-        v7 = get64(v4 + 0x8b0) + ((v5 - ((v5 < v7) ? 0ULL : v7)) << 5);
-        v5 = get64(v7 + 16);
-        put8(map, get8(v7));
-    }
-    put64(count, v5);
-    v5 = get64(spacecraft);
-    put64(spacecraft, v4);
-    v6 = 0;
-    if (v5 == 0) return v6;
-    copy(v3, v5, 0x940);
-    rattle_dealloc_at(v5);
-    sedgechisel_nodes_nodes_spacecraft_Spacecraft_Destruct_drop(v3);
-    return v6;
+    return 255;
 }
 
 static uint32_t sedge_spacecraft_read_at(uint64_t spacecraft, uint64_t read)
 {
-    unsigned char frame_octets[2368 + 15];
-    uint32_t v4 = 0, v5 = 0, v6 = 0, v7 = 0, v9 = 0, v10 = 0, v11 = 0, v12 = 0;
-    uint64_t v2 = 0, v3 = 0, v8 = 0, v13 = 0;
-    v2 = aligned(frame_octets);
-    v3 = get64(spacecraft);
+    uint32_t v3 = 0, v4 = 0, v5 = 0, v7 = 0, v8 = 0, v9 = 0, v10 = 0;
+    uint64_t v2 = 0, v6 = 0, v11 = 0;
+    v2 = get64(spacecraft);
     put64(spacecraft, 0);
-    if (v3 == 0) {
-        v4 = 255;
-        return v4;
+    if (v2 != 0) {
+        v3 = get8(v2 + 76);
+        v4 = get8(v2 + 75);
+        v5 = get8(v2 + 74);
+        v6 = (uint64_t)get32(v2 + 60);
+        v7 = get16(v2 + 0x8e0);
+        v8 = get8(v2 + 73);
+        v9 = get8(v2 + 77);
+        v10 = get32(v2 + 4);
+        v11 = get64(v2 + 0x8c0);
+        put64(read + 8, get64(v2 + 0x890));
+        put64(read + 16, v11);
+        put8(read + 24, 0);
+        put8(read + 25, v10);
+        put8(read + 27, v9);
+        put8(read + 28, v8);
+        put16(read + 30, v7);
+        put64(read, v6);
+        put8(read + 29, (v5 != 0) ? 2U : v4);
+        put8(read + 26, ((v4 << 4) | (v5 << 5)) | (v3 << 3));
+        put64(spacecraft, v2);
+        return 0;
     }
-    v5 = get8(v3 + 76);
-    v6 = get8(v3 + 75);
-    v7 = get8(v3 + 74);
-    v8 = (uint64_t)get32(v3 + 60);
-    v9 = get16(v3 + 0x8e0);
-    v10 = get8(v3 + 73);
-    v11 = get8(v3 + 77);
-    v12 = get32(v3 + 4);
-    v13 = get64(v3 + 0x8c0);
-    put64(read + 8, get64(v3 + 0x890));
-    put64(read + 16, v13);
-    v4 = 0;
-    put8(read + 24, 0);
-    put8(read + 25, v12);
-    put8(read + 27, v11);
-    put8(read + 28, v10);
-    put16(read + 30, v9);
-    put64(read, v8);
-    put8(read + 29, (v7 != 0) ? 2U : v6);
-    put8(read + 26, ((v6 << 4) | (v7 << 5)) | (v5 << 3));
-    read = get64(spacecraft);
-    put64(spacecraft, v3);
-    if (read == 0) return v4;
-    copy(v2, read, 0x940);
-    rattle_dealloc_at(read);
-    sedgechisel_nodes_nodes_spacecraft_Spacecraft_Destruct_drop(v2);
-    return v4;
+    return 255;
 }
 
 static uint32_t sedge_spacecraft_receive_at(uint64_t spacecraft, uint64_t octets, uint64_t count, uint64_t received)
 {
-    unsigned char frame_octets[2400 + 15];
+    unsigned char frame_octets[240 + 15];
     uint32_t v6 = 0, v7 = 0, v8 = 0, v9 = 0, v10 = 0, v11 = 0, v12 = 0, v13 = 0, v14 = 0, v15 = 0;
     uint64_t v4 = 0, v5 = 0;
     v4 = aligned(frame_octets);
@@ -13153,18 +13141,13 @@ l5:;
     put64(received, octets);
     v6 = 0;
 l3:;
-    received = get64(spacecraft);
     put64(spacecraft, v5);
-    if (received == 0) return v6;
-    copy(v4 + 32, received, 0x940);
-    rattle_dealloc_at(received);
-    sedgechisel_nodes_nodes_spacecraft_Spacecraft_Destruct_drop(v4 + 32);
     return v6;
 }
 
 static uint32_t sedge_spacecraft_telemetry_at(uint64_t spacecraft, uint64_t packet, uint64_t count)
 {
-    unsigned char frame_octets[2384 + 15];
+    unsigned char frame_octets[16 + 15];
     uint32_t v5 = 0, v6 = 0;
     uint64_t v3 = 0, v4 = 0;
     v3 = aligned(frame_octets);
@@ -13175,23 +13158,18 @@ static uint32_t sedge_spacecraft_telemetry_at(uint64_t spacecraft, uint64_t pack
         return v5;
     }
     nodes_spacecraft_Spacecraft_telemetry(v3 + 8, v4, some(packet), count);
-    packet = get64(spacecraft);
     v5 = get8(v3 + 8);
     v6 = get8(v3 + 9);
     put64(spacecraft, v4);
     v5 = (v5 != 0) ? (v6 + 1) : 0U;
-    if (packet == 0) return v5;
-    copy(v3 + 16, packet, 0x940);
-    rattle_dealloc_at(packet);
-    sedgechisel_nodes_nodes_spacecraft_Spacecraft_Destruct_drop(v3 + 16);
     return v5;
 }
 
 static uint32_t sedge_spacecraft_telemetry_frame_at(uint64_t spacecraft, uint64_t out, uint64_t room, uint64_t count)
 {
-    unsigned char frame_octets[2368 + 15];
-    uint32_t v6 = 0;
-    uint64_t v4 = 0, v5 = 0;
+    unsigned char frame_octets[32 + 15];
+    uint32_t v6 = 0, v7 = 0, v8 = 0, v9 = 0, v10 = 0, v11 = 0, t1;
+    uint64_t v4 = 0, v5 = 0, v12 = 0, v13 = 0, v14 = 0, v15 = 0, v16 = 0, v17 = 0, v18 = 0, t2;
     v4 = aligned(frame_octets);
     v5 = get64(spacecraft);
     put64(spacecraft, 0);
@@ -13199,22 +13177,95 @@ static uint32_t sedge_spacecraft_telemetry_frame_at(uint64_t spacecraft, uint64_
         v6 = 255;
         return v6;
     }
-    if (room < (uint64_t)get32(v5 + 60)) {
-        put64(spacecraft, v5);
-        v6 = 252;
-        return v6;
+    v6 = 252;
+    if (room >= (uint64_t)get32(v5 + 60)) {
+        v6 = get32(v5 + 4);
+        if ((v6 & 192) != 0) UNREACHABLE;
+        v7 = get8(v5 + 77);
+        if ((v7 & 255) > 3) UNREACHABLE;
+        v8 = get8(v5 + 73);
+        v9 = get8(v5 + 76);
+        v10 = get8(v5 + 74);
+        v11 = get8(v5 + 75);
+        put16(v4 + 13, 0);
+        put8(v4 + 15, 0);
+        put8(v4 + 12, get8(v5 + 0x8e1));
+        put8(v4 + 11, get8(v5 + 0x8e0));
+        put8(v4 + 10, get8(v5 + 0x8d2));
+        put16(v4 + 8, get16(v5 + 0x8d0));
+        put64(v4 + 24, (uint64_t)get32(v5 + 0x910));
+        v12 = v5 + 0x8e8;
+        put64(v4 + 16, get64(v12));
+        room = v5 + 0x908;
+        v13 = get64(room);
+        v14 = v5 + 0x8f8;
+        t1 = (((((((v11 << 4) | (v7 << 1)) | (v10 << 5)) | (v9 << 3)) & 254) << 16) | ((v6 << 10) & 0xfc00)) | (v8 <<
+            24);
+        t2 = some(out);
+        out = v5 + 0x8d8;
+        tm_link_turn_put_next(v4 + 8, get64(v5 + 0x8f0) + v13, get64(v14) - v13, t1 | 1, t2, get64(out));
+        v15 = get64(out);
+        room = get64(room);
+        out = get64(v14);
+        v12 = get64(v12);
+        if (v12 == 0) {
+            if (out == room) goto l5;
+        }
+        v13 = out - room;
+        out = v15 - 12;
+        v16 = (out < v12) ? out : v12;
+        out = out - v16;
+        v14 = (v13 < out) ? v13 : out;
+        if (out <= v13) {
+            v12 = v12 - v16;
+            goto l7;
+        }
+        v12 = out - v13;
+        v12 = (v12 < 7) ? (v12 ^ 7) : 0ULL;
+    l7:;
+        put64(v5 + 0x908, v14 + room);
+        put64(v5 + 0x8e8, v12);
+        v6 = get32(v5 + 0x910);
+        v13 = (uint64_t)v6;
+        if (out > v13) {
+            v17 = v5 + 0x920;
+            room = get64(v17);
+            v14 = v5 + 0x938;
+            v16 = v5 + 0x930;
+            v18 = v5 + 0x918;
+            do {
+                if (room == 0) {
+                    v6 = 0;
+                    goto l9;
+                }
+                if (room != get64(v14)) {
+                    v12 = get64(v16);
+                    goto l13;
+                }
+                v12 = 0;
+                put64(v14, 0);
+            l13:;
+                room = room - 1;
+                put64(v17, room);
+                put64(v16, v12 + 1);
+                out = out - v13;
+                v6 = get32(get64(v18) + (v12 << 2));
+                v12 = (uint64_t)v6;
+                v13 = v12;
+            } while (out > v12);
+        }
+        v6 = v6 - (uint32_t)out;
+    l9:;
+        put32(v5 + 0x910, v6);
+    l5:;
+        room = v5 + 0x8e0;
+        put8(room, get8(room) + 1);
+        room = v5 + 0x8e1;
+        put8(room, get8(room) + 1);
+        put64(count, v15);
+        v6 = 0;
     }
-    v6 = 0;
-    fill(v4, 0, 0x800);
-    room = nodes_spacecraft_Spacecraft_report(v5, v4);
-    if (room != 0) copy(some(out), v4, room);
-    put64(count, room);
-    room = get64(spacecraft);
     put64(spacecraft, v5);
-    if (room == 0) return v6;
-    copy(v4, room, 0x940);
-    rattle_dealloc_at(room);
-    sedgechisel_nodes_nodes_spacecraft_Spacecraft_Destruct_drop(v4);
     return v6;
 }
 
@@ -13227,46 +13278,115 @@ static uint32_t sedge_spacecraft_take_at(uint64_t spacecraft, uint64_t map, uint
 static uint32_t sedge_spacecraft_take_bypass_at(uint64_t spacecraft, uint64_t map, uint64_t out, uint64_t room,
     uint64_t count)
 {
-    return sedgechisel_nodes_spacecraft_take_taken(spacecraft, 1, map, some(out), room, count);
+    uint32_t v6 = 0;
+    uint64_t v5 = 0, v7 = 0, v8 = 0, v9 = 0, v10 = 0, v11 = 0, v12 = 0, v13 = 0, v14 = 0, t1;
+    v5 = get64(spacecraft);
+    put64(spacecraft, 0);
+    if (v5 != 0) {
+        if (get64(v5 + 0x8c0) == 0) {
+            put64(count, 0);
+            goto l3;
+        }
+        v6 = 252;
+        v7 = get64(v5 + 0x8c8);
+        v8 = get64(v5 + 0x8b8);
+        v7 = get64(v5 + 0x8b0) + ((v7 - ((v7 < v8) ? 0ULL : v8)) << 5);
+        v9 = get64(v7 + 16);
+        if (room < v9) {
+            put64(spacecraft, v5);
+            return v6;
+        }
+        v6 = get8(v7);
+        v10 = (out == 0) ? 0x1000ULL : 0ULL;
+        v11 = out + v10;
+        v12 = get64(v7 + 8);
+        if ((v11 - v12) < v9) {
+            v13 = v9 & 3;
+            v7 = 0;
+            if (v9 >= 4) {
+                v14 = v9 & ~3ULL;
+                v7 = 0;
+                do {
+                    room = v11 + v7;
+                    v8 = v12 + v7;
+                    put8(room, get8(v8));
+                    put8(room + 1, get8(v8 + 1));
+                    put8(room + 2, get8(v8 + 2));
+                    put8(room + 3, get8(v8 + 3));
+                    v7 = v7 + 4;
+                } while (v14 != v7);
+                if (v13 == 0) goto l4;
+            }
+            room = v12 + v7;
+            v7 = out + (v10 + v7);
+        l9:;
+            put8(v7, get8(room));
+            v7 = v7 + 1;
+            room = room + 1;
+            v13 = v13 - 1;
+            if (v13 != 0) goto l9;
+            goto l4;
+        }
+        if (v9 != 0) copy(v11, v12, v9);
+    l4:;
+        put64(count, v9);
+        put8(map, v6);
+    l3:;
+        v6 = 0;
+        room = v5 + 0x8c0;
+        v7 = get64(room);
+        if (v7 == 0) {
+            put64(spacecraft, v5);
+            return v6;
+        }
+        put64(room, v7 - 1);
+        room = v5 + 0x8c8;
+        t1 = room;
+        room = get64(room);
+        v7 = room + 1;
+        v8 = get64(v5 + 0x8b8);
+        put64(t1, v7 - ((v7 < v8) ? 0ULL : v8));
+        room = get64(v5 + 0x8b0) + (room << 5);
+        if (get64(room + 24) == 0) {
+            put64(spacecraft, v5);
+            return v6;
+        }
+        rattle_dealloc_at(get64(room + 8));
+        put64(spacecraft, v5);
+        return v6;
+    }
+    return 255;
 }
 
 static uint32_t sedge_ground_accepted_beyond_at(uint64_t ground, uint32_t value, uint64_t accepted)
 {
-    unsigned char frame_octets[400 + 15];
-    uint32_t v5 = 0, v6 = 0, v7 = 0, v8 = 0;
-    uint64_t v3 = 0, v4 = 0;
-    v3 = aligned(frame_octets);
-    v4 = get64(ground);
+    uint32_t v4 = 0, v5 = 0, v6 = 0, v7 = 0;
+    uint64_t v3 = 0;
+    v3 = get64(ground);
     put64(ground, 0);
-    if (v4 == 0) {
-        v5 = 255;
-        return v5;
-    }
-    v5 = 0;
-    v6 = 0;
-    v7 = get8(v4 + 74);
-    v8 = get8(v4 + 75);
-    if (v7 != v8) {
-        v6 = value - v8;
-        if (((v7 - v8) & 255) < (v6 & 255)) {
-            put64(ground, v4);
-            v5 = 253;
-            return v5;
+    if (v3 != 0) {
+        v4 = 0;
+        v5 = get8(v3 + 74);
+        v6 = get8(v3 + 75);
+        if (v5 != v6) {
+            v7 = 253;
+            v4 = value - v6;
+            if (((v5 - v6) & 255) < (v4 & 255)) {
+                put64(ground, v3);
+                return v7;
+            }
         }
+        put8(accepted, v4);
+        v7 = 0;
+        put64(ground, v3);
+        return v7;
     }
-    put8(accepted, v6);
-    accepted = get64(ground);
-    put64(ground, v4);
-    if (accepted == 0) return v5;
-    copy(v3, accepted, 400);
-    rattle_dealloc_at(accepted);
-    sedgechisel_nodes_nodes_ground_node_Ground_Destruct_drop(v3);
-    return v5;
+    return 255;
 }
 
 static uint32_t sedge_ground_clcw_in_at(uint64_t ground, uint64_t octets, uint64_t count, uint64_t word)
 {
-    unsigned char frame_octets[400 + 15];
+    unsigned char frame_octets[48 + 15];
     uint32_t v6 = 0, v8 = 0;
     uint64_t v4 = 0, v5 = 0, v7 = 0;
     v4 = aligned(frame_octets);
@@ -13300,148 +13420,127 @@ l4:;
     put32(word + 1, ((((v6 >> 10) & 63) | (v6 & 0xff000000U)) | ((v6 >> 1) & 0x30000)) | ((v8 << 8) & 0xf800));
     v6 = 0;
 l3:;
-    octets = get64(ground);
     put64(ground, v5);
-    if (octets == 0) return v6;
-    copy(v4, octets, 400);
-    rattle_dealloc_at(octets);
-    sedgechisel_nodes_nodes_ground_node_Ground_Destruct_drop(v4);
     return v6;
 }
 
 static uint32_t sedge_ground_known_on_board_at(uint64_t ground, uint32_t value, uint64_t whole)
 {
-    unsigned char frame_octets[400 + 15];
-    uint32_t v7 = 0, v8 = 0;
-    uint64_t v3 = 0, v4 = 0, v5 = 0, v6 = 0, v9 = 0, v10 = 0, v11 = 0, v12 = 0, v13 = 0, v14 = 0, v15 = 0, v16 = 0;
-    v3 = aligned(frame_octets);
-    v4 = get64(ground);
+    uint32_t v4 = 0, v7 = 0, v8 = 0;
+    uint64_t v3 = 0, v5 = 0, v6 = 0, v9 = 0, v10 = 0, v11 = 0, v12 = 0, v13 = 0, v14 = 0, v15 = 0, v16 = 0;
+    v3 = get64(ground);
     put64(ground, 0);
-    if (v4 == 0) {
-        value = 255;
-        return value;
-    }
-    if (get8(v4 + 296) == 1) {
+    if (v3 != 0) {
+        v4 = 253;
+        if (get8(v3 + 296) != 1) {
+            put64(ground, v3);
+            return v4;
+        }
         v5 = 0;
         v6 = 0;
-        v7 = get8(v4 + 74);
-        v8 = get8(v4 + 75);
+        v7 = get8(v3 + 74);
+        v8 = get8(v3 + 75);
         if (v7 != v8) {
             value = value - v8;
             v8 = ((v7 - v8) & 255) < (value & 255);
-            if (v8 != 0) goto l3;
+            if (v8 != 0) {
+                put64(ground, v3);
+                return v4;
+            }
             v6 = (uint64_t)((v8 != 0) ? 0U : value) & 255;
         }
-        v9 = get64(v4 + 248);
-        v10 = get64(v4 + 264);
+        v9 = get64(v3 + 248);
+        v10 = get64(v3 + 264);
         if (v10 != 0) {
-            v5 = get64(v4 + 288);
+            v5 = get64(v3 + 288);
             v11 = v5 - v10;
             v12 = v10 - v5;
-            v13 = get64(v4 + 256);
+            v13 = get64(v3 + 256);
             v5 = 0;
-            v14 = v4 + 280;
+            v14 = v3 + 280;
             do {
                 if (v5 < v12) {
                     v15 = v13 + (get64(v14) << 3);
                     v16 = v5;
-                    goto l7;
+                    goto l6;
                 }
                 v16 = v11 + v5;
                 v15 = v13;
-            l7:;
+            l6:;
                 v15 = get64(v15 + (v16 << 3));
                 v15 = (v15 > 1) ? v15 : 1ULL;
-                if (v6 < v15) goto l5;
+                if (v6 < v15) goto l4;
                 v6 = v6 - v15;
                 v5 = v5 + 1;
             } while (v10 != v5);
             v5 = v10;
         }
-    l5:;
+    l4:;
         put64(whole, v5 + v9);
-        v5 = get64(ground);
-        put64(ground, v4);
-        value = 0;
-        if (v5 == 0) return value;
-        copy(v3, v5, 400);
-        rattle_dealloc_at(v5);
-        sedgechisel_nodes_nodes_ground_node_Ground_Destruct_drop(v3);
-        return value;
+        v4 = 0;
+        put64(ground, v3);
+        return v4;
     }
-l3:;
-    put64(ground, v4);
-    value = 253;
-    return value;
+    return 255;
 }
 
 static uint32_t sedge_sim_entry_length_at(uint64_t sim, uint32_t record, uint32_t map, uint64_t k, uint64_t count)
 {
-    unsigned char frame_octets[6080 + 15];
-    uint64_t v5 = 0, v6 = 0, v7 = 0, v8 = 0;
-    v5 = aligned(frame_octets);
-    v6 = get64(sim);
+    uint32_t v6 = 0;
+    uint64_t v5 = 0, v7 = 0, v8 = 0;
+    v5 = get64(sim);
     put64(sim, 0);
-    if (v6 == 0) {
-        record = 255;
-        return record;
-    }
-    switch ((record & 255) - 1) {
-    case 0:
-        if ((map & 255) > 63) {
-            put64(sim, v6);
-            record = 253;
-            return record;
+    if (v5 != 0) {
+        v6 = 253;
+        switch ((record & 255) - 1) {
+        case 0:
+            if ((map & 255) > 63) {
+                put64(sim, v5);
+                return v6;
+            }
+            v7 = v5 + (((uint64_t)map & 255) * 24);
+            v8 = get64(v7 + 0xb50);
+            v7 = get64(v7 + 0xb48);
+            goto l3;
+        case 1:
+            if ((map & 255) > 63) {
+                put64(sim, v5);
+                return v6;
+            }
+            v7 = v5 + (((uint64_t)map & 255) * 24);
+            v8 = get64(v7 + 0x1150);
+            v7 = get64(v7 + 0x1148);
+            goto l3;
+        case 2:
+            v8 = get64(v5 + 0x1750);
+            v7 = get64(v5 + 0x1748);
+            goto l3;
+        case 3:
+            goto l4;
+        default:
+            put64(sim, v5);
+            return v6;
         }
-        v7 = v6 + (((uint64_t)map & 255) * 24);
-        v8 = get64(v7 + 0xb50);
-        v7 = get64(v7 + 0xb48);
-        goto l5;
-    case 1:
-        if ((map & 255) > 63) {
-            put64(sim, v6);
-            record = 253;
-            return record;
+    l4:;
+        v7 = get64(v5 + 0x1768);
+        v8 = get64(v5 + 0x1778) - v7;
+        v7 = get64(v5 + 0x1770) + (v7 * 24);
+    l3:;
+        if (k >= v8) {
+            put64(sim, v5);
+            return v6;
         }
-        v7 = v6 + (((uint64_t)map & 255) * 24);
-        v8 = get64(v7 + 0x1150);
-        v7 = get64(v7 + 0x1148);
-        goto l5;
-    case 2:
-        v8 = get64(v6 + 0x1750);
-        v7 = get64(v6 + 0x1748);
-        goto l5;
-    case 3:
-        goto l6;
-    default:
-        put64(sim, v6);
-        record = 253;
-        return record;
+        put64(count, get64((v7 + (k * 24)) + 8));
+        v6 = 0;
+        put64(sim, v5);
+        return v6;
     }
-l6:;
-    v7 = get64(v6 + 0x1768);
-    v8 = get64(v6 + 0x1778) - v7;
-    v7 = get64(v6 + 0x1770) + (v7 * 24);
-l5:;
-    if (k < v8) goto l3;
-    put64(sim, v6);
-    record = 253;
-    return record;
-l3:;
-    put64(count, get64((v7 + (k * 24)) + 8));
-    k = get64(sim);
-    put64(sim, v6);
-    record = 0;
-    if (k == 0) return record;
-    copy(v5 + 8, k, 0x17b8);
-    rattle_dealloc_at(k);
-    sedgechisel_nodes_sedgechisel_nodes_sim_link_Link_Destruct_drop(v5 + 8);
-    return record;
+    return 255;
 }
 
 static uint32_t sedge_ground_peek_at(uint64_t ground, uint64_t out, uint64_t room, uint64_t count)
 {
-    unsigned char frame_octets[416 + 15];
+    unsigned char frame_octets[64 + 15];
     uint32_t v6 = 0;
     uint64_t v4 = 0, v5 = 0;
     v4 = aligned(frame_octets);
@@ -13451,32 +13550,27 @@ static uint32_t sedge_ground_peek_at(uint64_t ground, uint64_t out, uint64_t roo
         v6 = 255;
         return v6;
     }
-    nodes_ground_node_Ground_peek(v4 + 16, v5);
-    if (get8(v4 + 16) == 1) {
-        put64(v4 + 8, 0);
-        put64(v4, 0);
-        tc_frame_encoding_encode(v4, v4 + 24, some(out), room);
+    nodes_ground_node_Ground_peek(v4, v5);
+    if (get8(v4) == 1) {
+        put64(v4 + 56, 0);
+        put64(v4 + 48, 0);
+        tc_frame_encoding_encode(v4 + 48, v4 + 8, some(out), room);
         v6 = 252;
-        if (get8(v4) != 0) goto l3;
-        put64(count, get64(v4 + 8));
+        if (get8(v4 + 48) != 0) goto l3;
+        put64(count, get64(v4 + 56));
         goto l4;
     }
     put64(count, 0);
 l4:;
     v6 = 0;
 l3:;
-    out = get64(ground);
     put64(ground, v5);
-    if (out == 0) return v6;
-    copy(v4 + 16, out, 400);
-    rattle_dealloc_at(out);
-    sedgechisel_nodes_nodes_ground_node_Ground_Destruct_drop(v4 + 16);
     return v6;
 }
 
 static uint32_t sedge_ground_pull_at(uint64_t ground, uint64_t out, uint64_t room, uint64_t count)
 {
-    unsigned char frame_octets[416 + 15];
+    unsigned char frame_octets[64 + 15];
     uint32_t v6 = 0;
     uint64_t v4 = 0, v5 = 0;
     v4 = aligned(frame_octets);
@@ -13486,16 +13580,16 @@ static uint32_t sedge_ground_pull_at(uint64_t ground, uint64_t out, uint64_t roo
         v6 = 255;
         return v6;
     }
-    nodes_ground_node_Ground_peek(v4 + 16, v5);
-    if (get8(v4 + 16) == 1) {
-        put64(v4 + 8, 0);
-        put64(v4, 0);
-        tc_frame_encoding_encode(v4, v4 + 24, some(out), room);
-        if (get8(v4) != 0) {
+    nodes_ground_node_Ground_peek(v4, v5);
+    if (get8(v4) == 1) {
+        put64(v4 + 56, 0);
+        put64(v4 + 48, 0);
+        tc_frame_encoding_encode(v4 + 48, v4 + 8, some(out), room);
+        if (get8(v4 + 48) != 0) {
             v6 = 252;
             goto l3;
         }
-        put64(count, get64(v4 + 8));
+        put64(count, get64(v4 + 56));
         goto l4;
     }
     put64(count, 0);
@@ -13503,12 +13597,7 @@ l4:;
     nodes_ground_node_Ground_advance(v5);
     v6 = 0;
 l3:;
-    out = get64(ground);
     put64(ground, v5);
-    if (out == 0) return v6;
-    copy(v4 + 16, out, 400);
-    rattle_dealloc_at(out);
-    sedgechisel_nodes_nodes_ground_node_Ground_Destruct_drop(v4 + 16);
     return v6;
 }
 
