@@ -307,6 +307,8 @@ static void stops(struct sedge_ground *ground, struct sedge_spacecraft *spacecra
 
 /* A session, an alert, the session after it by the value of a report, and what stops that. */
 static void after_an_alert(void) {
+    static const uint8_t locked[] = {0x01, 0x08, 0x20, 99};
+    struct sedge_heard heard = {0};
     struct sedge_config two = config;
     struct sedge_ground ground = {0};
     struct sedge_spacecraft spacecraft = {0};
@@ -333,8 +335,14 @@ static void after_an_alert(void) {
     has_come(&ground, 2, 2, 2);
     WANT(sedge_ground_terminate(&ground) == 0);
     is_known(&ground, 7, 2), is_known(&ground, 99, 2); /* NN(R) = V(S) = 7 */
-    does_not_resume(&ground, 6), does_not_resume(&ground, 8), does_not_resume(&ground, 99);
     resumes(&ground, 7, 2);
+    WANT(sedge_ground_terminate(&ground) == 0);
+    resumes(&ground, 99, 0); /* a session that was never confirmed goes on at any value */
+    WANT(sedge_ground_terminate(&ground) == 0 && sedge_ground_init_with_check(&ground) == 0);
+    WANT(sedge_ground_clcw(&ground, locked, sizeof locked, &heard) == 0 && heard.alert == SEDGE_ALERT_LOCKOUT);
+    is_not_known(&ground, 99), does_not_resume(&ground, 99); /* the alert shows a broken condition */
+    WANT(sedge_ground_init_unlock(&ground) == 0);
+    is_known(&ground, 99, 0);
     WANT(sedge_ground_terminate(&ground) == 0 && sedge_ground_set_vs(&ground, 7) == 0);
     has_come(&ground, 0, 0, 0), is_not_known(&ground, 7), does_not_resume(&ground, 7); /* V(S) was set */
     sedge_ground_close(&ground);
@@ -621,10 +629,10 @@ static void link(void) {
     has_entry(&sim, SEDGE_DELIVERED, 4, 0, packet, sizeof packet);
     has_entry(&sim, SEDGE_SENT, 0, 0, field, sizeof field);
     has_entry(&sim, SEDGE_RECEIVED, 0, 0, field, sizeof field);
+    HAPPENS(sedge_sim_resume(&sim, 8, &reply), SEDGE_REPLY_REFUSED);
+    WANT(reply.by == SEDGE_BY_NODE && reply.fault == SEDGE_NODE_NOT_KNOWN && reply.whole == 0);
     HAPPENS(sedge_sim_terminate(&sim, &reply), SEDGE_REPLY_ALERT);
     WANT(reply.alert == SEDGE_ALERT_TERMINATED);
-    HAPPENS(sedge_sim_resume(&sim, 9, &reply), SEDGE_REPLY_REFUSED);
-    WANT(reply.by == SEDGE_BY_NODE && reply.fault == SEDGE_NODE_NOT_KNOWN && reply.whole == 0);
     HAPPENS(sedge_sim_resume(&sim, 8, &reply), SEDGE_REPLY_RESUMED);
     WANT(reply.whole == 1 && reply.count == 0);
     HAPPENS(sedge_sim_report(&sim, &reply), SEDGE_REPLY_REPORTED);

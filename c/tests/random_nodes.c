@@ -169,6 +169,12 @@ static uint8_t nn_of_ground(void) {
     return read.nn;
 }
 
+/* A report may have acknowledged segments since NN(R) was this, and have shown that a condition is broken. */
+static void fates_hear(const struct sedge_heard *heard, uint8_t nn) {
+    fates.acknowledged += (uint8_t)(nn_of_ground() - nn);
+    if (heard->alert >= SEDGE_ALERT_LOCKOUT && heard->alert <= SEDGE_ALERT_SYNCH) fates.kept = false;
+}
+
 /* One of few MAPs, mostly, or of those below the limit. */
 static uint8_t any_map(uint32_t limit) {
     return (uint8_t)below(below(8) == 0 ? limit : 4);
@@ -357,7 +363,7 @@ static void hears(void) {
     answer = CALL(SEDGE_NODE_MEMORY, sedge_ground_telemetry(&ground, octets, down_count, &heard));
     WANT(is_answer(answer, SEDGE_NODE_MEMORY, ground.node) && (answer == 0 || answer >= SEDGE_NODE_MEMORY));
     WANT(answer == SEDGE_NODE_OK ? heard.kind >= 1 && heard.kind <= 3 && heard.alert <= 7 : heard.kind == 77);
-    fates.acknowledged += (uint8_t)(nn_of_ground() - nn);
+    fates_hear(&heard, nn);
 }
 
 static void hears_words(void) {
@@ -366,7 +372,7 @@ static void hears_words(void) {
     uint8_t nn = nn_of_ground(), answer = sedge_ground_clcw(&ground, any_octets(count), count, &heard);
     WANT(ground.node == NULL ? answer == SEDGE_NODE_NONE : answer == (count == 4 ? SEDGE_NODE_OK : SEDGE_NODE_ABSENT));
     WANT(answer == SEDGE_NODE_OK ? heard.kind == SEDGE_HEARD_CLCW && heard.alert <= 7 : heard.kind == 77);
-    fates.acknowledged += (uint8_t)(nn_of_ground() - nn);
+    fates_hear(&heard, nn);
     if (below(64) == 0) WANT(sedge_ground_forget_telemetry(&ground) == (ground.node == NULL ? SEDGE_NODE_NONE : 0));
 }
 
@@ -412,7 +418,8 @@ static bool has_resumed, has_resumed_within;
 
 /* A session goes on at a value where it may, and there alone; what is refused changes nothing. */
 static void resumes_at(uint8_t value, const struct sedge_ground_reading *before) {
-    uint8_t accepted = (uint8_t)(value - before->nn), sent = (uint8_t)(before->vs - before->nn), answer;
+    uint8_t sent = (uint8_t)(before->vs - before->nn), answer;
+    uint8_t accepted = (uint8_t)(sent == 0 ? 0 : value - before->nn);
     bool may = before->state == SEDGE_FOP_S6 && fates.kept && accepted <= sent;
     struct sedge_ground_reading after = {.nn = 0};
     uint64_t whole = 99;
