@@ -594,9 +594,9 @@ class Translation:
             return self.stack.append(number_of(ENOUGH[sign, b.number], I32))
         if POINTER in a.derived | b.derived:
             raise Refused("the stack pointer is compared")
-        # (a program compares how far two of them are apart)
-        is_library, is_numbered = not self.program.object.is_program, not (a.number is b.number is None)
-        if is_library and is_numbered and {FRAME} in (a.derived, b.derived) and sign not in ("==", "!="):
+        # (a difference of two addresses is none)
+        is_address = any(it.derived == {FRAME} and " - " not in it.text for it in (a, b))
+        if is_address and sign not in ("==", "!=") and not (a.number is b.number is None):
             raise Refused(f"an address of the frame is compared by {sign} with a number: {a.text} {sign} {b.text}")
         x, y = self.operands(a, b)
         if sign.endswith("s"):
