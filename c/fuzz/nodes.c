@@ -133,7 +133,7 @@ static void same_board(struct sedge_spacecraft_reading a, struct sedge_spacecraf
     WANT(SAME(mc_count) && SAME(vc_count));
 }
 
-/* A packet is submitted, once or many times. */
+/* A packet is submitted, once or many times; the answer is that of a single one. */
 static uint8_t submits(struct link *l, struct in *i) {
     uint8_t k = in8(i), answer = 0;
     size_t count, often = k & 0x80 ? in8(i) : 1;
@@ -142,7 +142,7 @@ static uint8_t submits(struct link *l, struct in *i) {
         answer = k & 0x40 ? sedge_ground_bypass(&l->ground, k & 63, o, count)
                           : sedge_ground_submit(&l->ground, k & 63, o, count);
     free(o);
-    return often > 0 ? 0 : answer;
+    return k & 0x80 ? 0 : answer;
 }
 
 static void directs(struct link *l, struct in *i) {

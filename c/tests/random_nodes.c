@@ -448,6 +448,9 @@ static void resumes(void) {
         WANT(sedge_ground_resume(&ground, 0, &known) == SEDGE_NODE_NONE && known == 99);
         return;
     }
+    if (read.state <= SEDGE_FOP_S3 && sent > 0 && below(8) == 0) {
+        WANT(sedge_ground_terminate(&ground) == 0 && sedge_ground_read(&ground, &read) == 0);
+    }
     value = (uint8_t)(below(8) == 0 ? below(256) : read.nn + below(sent + 2u));
     accepted = (uint8_t)(sent == 0 ? 0 : value - read.nn);
     WANT(read.submitted == fates.count && read.acknowledged_whole == whole_with(0));
