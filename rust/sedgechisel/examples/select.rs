@@ -2,7 +2,9 @@
 //! next tick, whichever comes first, and after each sends up what is to be sent. On a loopback socket is a front end with
 //! a spacecraft after it. Both ways are slow and lose frames; for a while the link is dark, and once the spacecraft
 //! restarts. Each command is executed once, in order: after an alert the ground goes on as docs/TOUR.md says, by "After an
-//! alert" or by "After a reset". All channels are std's; with an executor the arms are those of its own select.
+//! alert" or by "After a reset". Control words and housekeeping come in one ordered stream, so housekeeping that comes after
+//! a word was made after it; where they come by two ways, that has to be known otherwise. All channels are std's; with an
+//! executor the arms are those of its own select.
 
 use sedgechisel::{
     Alert, Body, Clcw, Config, Fecf, FopState, Ground, HeardReport, LinkFault, Packet, PacketKind,
