@@ -1,4 +1,5 @@
-/* What tctool asks of its system (tctool_system.h), for POSIX and for Windows, and its main. Tested, not proved. */
+/* What tctool asks of its system (tctool_system.h), for POSIX and for Windows, and its main. Tested on POSIX, not proved;
+ * the part for Windows has not been tried. */
 #ifndef _WIN32
 #define _POSIX_C_SOURCE 200809L
 #define _FILE_OFFSET_BITS 64
