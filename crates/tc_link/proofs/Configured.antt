@@ -7,7 +7,7 @@ use Rattle.tc_link.proofs.Common.{with_fop, unless_refused, submit_fault, is_clo
 use Rattle.tc_link.proofs.Common.{frame_to_send, after_extraction, telemetry_outcome, frame_outcome, body_outcome}
 use Rattle.tc_link.proofs.Common.{sequence_outcome, bypass_outcome, is_free, is_own_frame, verdict_of, directive_step}
 use Rattle.tc_link.proofs.Common.{pull_step, tick_step, clcw_step, extract_step, Extracted, TmFault, AdArrives, is_open}
-use Rattle.tc_link.proofs.Common.{Directive, InitUnlock, SetVs, ahead_by, obeying, submitting, acknowledging}
+use Rattle.tc_link.proofs.Common.{Directive, InitUnlock, SetVs, obeying, submitting, acknowledging}
 use Rattle.std.specs.Prelude.{◌++◌}
 use Rattle.clcw.specs.Decoding.{clcw_at}
 use Rattle.tc_frame.specs.Decoding as command
@@ -32,7 +32,6 @@ use Rattle.nodes.specs.Spacecraft.{Telemetry as Queue, is_accepted, assemble_ste
 use Rattle.nodes.specs.Spacecraft.{spacecraft_take_bypass}
 use Rattle.tc_link.specs.Configured.{made_of, seen_on_board, ground_with, ground_outcome_with, spacecraft_with}
 use Rattle.tc_link.specs.Configured.{spacecraft_outcome_with, IsSpacecraftAs, AlikeIsAsOne}
-use Rattle.nodes.specs.Fates.{whole_with}
 use Rattle.tc_link.proofs.Refilled.{refilled_keeps}
 
 -- what is so in both branches

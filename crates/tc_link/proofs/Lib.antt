@@ -19,14 +19,17 @@ pub mod ProgressSender
 pub mod ProgressNext
 pub mod ProgressSure
 pub mod ProgressFirst
+pub mod FramesAgain
 pub mod Repeated
 pub mod Refilled
 pub mod Silence
 pub mod Silent
 pub mod Sound
 pub mod Telemetry
+pub mod SeenTelemetry
 pub mod Common
 pub mod Lists
+pub mod NoMore
 pub mod Resumed
 pub mod SeenCounts
 pub mod SeenGround

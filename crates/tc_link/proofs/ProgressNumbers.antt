@@ -21,7 +21,6 @@ use Rattle.tc_frame.specs.Encoding.{spelling}
 use Rattle.tm_link.specs.Encoding as telemetry_writing
 use Rattle.cop1.specs.FopPull.{after_send_first}
 use Rattle.cop1.specs.FopWords.{is_outside}
-use Rattle.nodes.specs.declared.received.Received.{Received}
 use Rattle.nodes.specs.declared.event.Event.TheVariants as events
 use Rattle.simulated_link.specs.World.{world_after_telemetry, directed}
 use Rattle.simulated_link.proofs.Unchanged.{up_arrives, down_arrives, resumes, BringsReport, board_after, down_after}
@@ -45,21 +44,20 @@ use Rattle.tc_link.proofs.Beside.{with_telemetry, taken_beside}
 use Rattle.tc_link.proofs.Common.{IsConfig, ExtractorState}
 use Rattle.nodes.specs.Ground.{new_ground}
 use Rattle.tc_link.specs.AnyPast.{LinkStep, Happens, NewGround, NewSpacecraft, IsLinkStep, link_step, link_run}
-use Rattle.tc_link.specs.AnyPast.{with_nodes}
+use Rattle.nodes.specs.declared.received.Received.{Received}
+use Rattle.tc_link.specs.AnyPast.{with_nodes, is_left}
 use Rattle.tc_link.specs.AnyPast.{TakeTelemetry, Receives as ReceivesOctets, Hears, HearsReport, ForgetTelemetry}
 use Rattle.tc_link.specs.AnyPast.{after_receiving, heard, heard_word}
 use Rattle.tc_link.specs.Beside.{CarriesOctets}
 use Rattle.std.specs.Prelude.{IfOk, ◌==◌, Result, Err}
 use Rattle.tc_frame.specs.Layout.{FrameView}
 use Rattle.clcw.specs.Decoding.{clcw_at}
-use Rattle.cop1.specs.declared.farm.Verdict.TheVariants.{Behind, Discarded}
 use Rattle.tm_link.specs.Extractor.{new_extractor}
 use Rattle.tm_link.specs.Layout as telemetry
 use Rattle.tm_link.specs.Decoding as telemetry_reading
 use Rattle.nodes.specs.Ground.{report_outcome, is_own_telemetry, ground_take_telemetry}
 use Rattle.nodes.specs.declared.heard.Heard.{Heard}
 use Rattle.nodes.specs.declared.heard.HeardClcw.{HeardClcw}
-use Rattle.nodes.specs.declared.received.Received.TheVariants as received_cases
 use Rattle.tc_link.proofs.Common.{TcFault, TmFault, ClcwFault, GroundOutcome, frame_outcome, is_own_frame}
 use Rattle.tc_link.proofs.Common.{telemetry_outcome, after_report}
 use Rattle.tc_link.proofs.OctetsRead.{IsOctetIn, IsOctetBody, FineFrame, FineTelemetry, frame_fine, telemetry_fine}
@@ -510,20 +508,12 @@ module _ (c : Config) (w : World) (k : Known c w) where
     down = k.octets.down;
   }
 
-  board_known : (after : SpacecraftState) (answer : Received) → Receives after
-      → KnownOf c (after_receiving w after answer)
-  board_known after (received_cases.Invalid fault) receiver =
-      record { sender = k.sender; octets = assumption (board_octets after receiver) }
-  board_known after received_cases.Foreign receiver =
-      record { sender = k.sender; octets = assumption (board_octets after receiver) }
-  board_known after (received_cases.Bypass kept) receiver =
-      record { sender = k.sender; octets = assumption (board_octets after receiver) }
-  board_known after (received_cases.Sequence n Behind ready dropped) receiver =
-      record { sender = k.sender; octets = assumption (board_octets after receiver) }
-  board_known after (received_cases.Sequence n Discarded ready dropped) receiver =
-      record { sender = k.sender; octets = assumption (board_octets after receiver) }
-  board_known after _ receiver =
-      record { sender = k.sender; octets = assumption (board_octets after receiver) }
+  board_known : (after : SpacecraftState) → Receives after → KnownOf c (after_receiving w after)
+  board_known after receiver =
+      cond_both (is_left w.spacecraft.farm after.farm) (record w { spacecraft = after })
+      (with_nodes w w.ground_node after) (KnownOf c)
+      (λ t. record { sender = k.sender; octets = assumption (board_octets after receiver) })
+      (λ t. record { sender = k.sender; octets = assumption (board_octets after receiver) })
 
   body_receives : (f : BodyView) → IsOctetBody f → Receives (body_outcome w.spacecraft f).after
   body_receives f is = record {
@@ -580,8 +570,8 @@ module _ (c : Config) (w : World) (k : Known c w) where
       record { sender = timed_step w k.sender e; octets = step_octets c w k.holds k.octets e fits }
   step_known TakeTelemetry octets fits = taken_known w.ground_node.telemetry
   step_known (ReceivesOctets octets) are fits =
-      let o = frame_outcome w.spacecraft (frame_at On octets) in
-      board_known o.after o.answer (received_octets (frame_at On octets) (frame_fine octets are))
+      board_known (frame_outcome w.spacecraft (frame_at On octets)).after
+      (received_octets (frame_at On octets) (frame_fine octets are))
   step_known (Hears octets) are fits =
       let total = w.ground_node.config.frame_length in
       heard_known (telemetry_reading.frame_at total octets) (telemetry_fine total octets are)

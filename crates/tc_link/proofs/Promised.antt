@@ -6,13 +6,13 @@ use Rattle.tc_link.proofs.Common.{Clcw, Directive, is_closed, WereAccepted, Rise
 use Rattle.tc_link.proofs.Common.{Result, Ok, Err, OnOk, ap, ◌∙◌, SimFault, ConfirmsExactly, IsHistory, HasPlainHistory}
 use Rattle.tc_link.proofs.Common.{IsConfig, IsPromised, IsPromisedOf, AllReadable, IsReached, SimState, sim_run}
 use Rattle.tc_link.proofs.Common.{new_world, world_run, IsClean, IsIdle, directive_of, IsChecking, HasNoFalseAlarm}
-use Rattle.tc_link.proofs.Common.{TcFault, On, SegmentView, BodyView, Ad, Bd, Bc, Verdict, Accepted, TmFault, clcw_step}
-use Rattle.tc_link.proofs.Common.{GroundState, SpacecraftState, SpacecraftOutcome, frame_outcome, body_outcome}
-use Rattle.tc_link.proofs.Common.{sequence_outcome, bypass_outcome, verdict_of, is_free, is_kept}
-use Rattle.tc_link.proofs.Common.{is_own_frame, telemetry_outcome, FarmState, FarmEvent, AdArrives, farm_step}
-use Rattle.tc_link.proofs.Common.{after_verdict, after_report, acknowledging, length-take-le, length-map}
+use Rattle.tc_link.proofs.Common.{TcFault, On, SegmentView, TmFault, clcw_step}
+use Rattle.tc_link.proofs.Common.{GroundState, SpacecraftState, SpacecraftOutcome, frame_outcome}
+use Rattle.tc_link.proofs.Common.{bypass_outcome}
+use Rattle.tc_link.proofs.Common.{telemetry_outcome}
+use Rattle.tc_link.proofs.Common.{after_report, acknowledging, length-take-le, length-map}
 use Rattle.tc_link.proofs.Common.{segment_octets, IsNear, number_of, numbered, PlainLink, PlainRun, AtMostOneStep}
-use Rattle.tc_link.proofs.Common.{new_link, more, KeepsSession, accepted, Option, CopFault, Alert, directive_step}
+use Rattle.tc_link.proofs.Common.{new_link, more, accepted, Option, CopFault, Alert, directive_step}
 use Rattle.tc_link.proofs.Common.{FopState, FopOutcome, begun, obeyed, is_initiation, directive_outcome, closed_is}
 use Rattle.tc_link.proofs.Common.{obeying, Opening, option_map}
 use Rattle.std.proofs.Common.{OnErr}
@@ -24,8 +24,7 @@ use Rattle.clcw.specs.declared.fault.ClcwFault.{ClcwFault}
 use Rattle.tm_link.specs.Extractor.{ExtractorState, new_extractor, extract_step}
 use Rattle.tm_link.specs.Layout as telemetry
 use Rattle.tm_link.specs.Decoding as telemetry_reading
-use Rattle.cop1.specs.declared.farm.Verdict.TheVariants.{Behind, Discarded}
-use Rattle.nodes.specs.Spacecraft.{after_farm, restarted_spacecraft}
+use Rattle.nodes.specs.Spacecraft.{restarted_spacecraft}
 use Rattle.nodes.specs.Ground.{GroundOutcome, report_outcome, is_own_telemetry, new_ground, ground_take_telemetry}
 use Rattle.nodes.specs.declared.heard.HeardClcw.{HeardClcw}
 use Rattle.nodes.specs.declared.heard.Heard.{Heard}
@@ -37,6 +36,7 @@ use Rattle.tc_link.specs.InTransit.{values_down}
 use Rattle.tc_link.specs.Promises.{HoldsAt, HoldsThroughout}
 use Rattle.tc_link.specs.AnyPast.{LinkStep, Happens, TakeTelemetry, Receives, Hears, HearsReport, ForgetTelemetry}
 use Rattle.tc_link.specs.AnyPast.{NewGround, NewSpacecraft, AreNumbers, IsLinkStep, with_nodes, received, heard}
+use Rattle.tc_link.specs.AnyPast.{is_left}
 use Rattle.tc_link.specs.AnyPast.{EachGoesOnAsKept, heard_word, link_step, link_run, ReportsDoAsFrames, HasAnyPast}
 use Rattle.tc_link.specs.AnyPast.{HoldsAfterAnyPast, RunsAsEvents}
 use Rattle.tc_link.specs.OneLink.{HistoriesAre, HasOneLink, IsUnsent, EachHasOneLink, EachGoesOnAsOne}
@@ -44,17 +44,17 @@ use Rattle.tc_link.specs.PlainLink.{PlainStep, none}
 use Rattle.tc_link.specs.Beside.{LeavesSession, SessionLasts, LeavesNumbers, SetsNone}
 use Rattle.tc_link.specs.CountsOn.{CountsFrom, KeepsWhatIsKnown}
 use Rattle.tc_link.specs.Known.{MovesWithRecords}
-use Rattle.tc_link.proofs.Beside.{with_telemetry, with_bypass, taken_beside, beside_so}
+use Rattle.tc_link.proofs.Beside.{with_telemetry, with_bypass, taken_beside, beside_so, left_so, received_so}
 use Rattle.tc_link.proofs.IdleStart.{InSession, in_session}
 use Rattle.tc_link.proofs.InOrder.{is_history, unsettled, ends_as, said_is, were_accepted, accepted_length, settled_as}
 use Rattle.tc_link.proofs.InOrder.{is_in_order, has_plain_history, delivers_whole}
 use Rattle.tc_link.proofs.Invariant.{late_step, Holding, reached_holds, moves_with_records, new_holds, step_holds}
-use Rattle.tc_link.proofs.Invariant.{early_step, opened, session_stays, run_holds, idle_goes, with_same, octet}
+use Rattle.tc_link.proofs.Invariant.{early_step, opened, session_stays, run_holds, with_same, octet}
 use Rattle.tc_link.proofs.Invariant.{began_at, begun_session}
 use Rattle.tc_link.proofs.Linked.{Next, In, kept_of, DownIs, rises_to, beside, run_to}
 use Rattle.tc_link.proofs.Sound.{step_sound, Sound, all_push, refilled_so, report_so, arrives_so, new_sound}
 use Rattle.tc_link.proofs.Sound.{GroundNodeSteady, SpacecraftSteady}
-use Rattle.nodes.proofs.Arrivals.{AtEachArrival, sequence_comes, bypass_comes, bypass_same, body_comes}
+use Rattle.nodes.proofs.Arrivals.{AtEachArrival, bypass_comes, bypass_same, frame_comes}
 use Rattle.tc_link.proofs.Readable.{accepts_no_more, all_readable, GroundFits, with_fits, heard_fits}
 use Rattle.tc_link.proofs.Locks.{reports_of, has_no_false_alarm, confirms_exactly, keeps_to_window}
 use Rattle.tc_link.proofs.Locks.{is_confirmed_exactly}
@@ -367,36 +367,13 @@ module _ (c : Config) (w : World) (h : Holding c w) where
   arrives : AtEachArrival w.spacecraft (λ o t. SpacecraftSteady c t)
   arrives = arrives_so c w.spacecraft h.sound.spacecraft
 
-  -- the receiver leaves the frame, and is as it was
-  left_holds : (e : FarmEvent) → farm_step w.spacecraft.farm e ≡ w.spacecraft.farm
-      → Holding c (record w { spacecraft = after_farm w.spacecraft e })
-  left_holds e same =
-      subst (λ (farm : FarmState). Holding c (record w { spacecraft = record w.spacecraft { farm = farm } }))
-      (sym same) h
-
-  sequence_holds : (n : ℕ) (u : SegmentView) (v : Verdict) → verdict_of w.spacecraft.farm n (is_free w.spacecraft) ≡ v
-      → Receives_well (sequence_outcome w.spacecraft n u v)
-  sequence_holds n u Behind is =
-      left_holds (AdArrives n (is_free w.spacecraft)) (ap (after_verdict w.spacecraft.farm) is)
-  sequence_holds n u Discarded is =
-      left_holds (AdArrives n (is_free w.spacecraft)) (ap (after_verdict w.spacecraft.farm) is)
-  sequence_holds n u Accepted is = board_holds _ (sequence_comes w.spacecraft _ arrives n u Accepted)
-  sequence_holds n u v is = board_holds _ (sequence_comes w.spacecraft _ arrives n u v)
-
-  bypass_holds : (u : SegmentView) (kept : Bool) → Receives_well (bypass_outcome w.spacecraft u kept)
-  bypass_holds u true = bypassed_holds c w h u true
-  bypass_holds u false = bypassed_holds c w h u false
-
-  body_holds : (f : BodyView) → Receives_well (body_outcome w.spacecraft f)
-  body_holds (Ad n u) = sequence_holds n u (verdict_of w.spacecraft.farm n (is_free w.spacecraft)) refl
-  body_holds (Bd u) = bypass_holds u (is_kept w.spacecraft.config u)
-  body_holds (Bc command) = board_holds _ (body_comes w.spacecraft _ arrives (Bc command))
-
   received_holds : (r : Result FrameView TcFault) → Receives_well (frame_outcome w.spacecraft r)
-  received_holds (Err fault) = h
-  received_holds (Ok frame) =
-      cond_both (is_own_frame w.spacecraft.config frame) (body_outcome w.spacecraft frame.body) _ Receives_well
-      (λ t. body_holds frame.body) (λ t. h)
+  received_holds r =
+      let after : SpacecraftState = (frame_outcome w.spacecraft r).after in
+      cond_both (is_left w.spacecraft.farm after.farm) (record w { spacecraft = after })
+      (with_nodes w w.ground_node after) (Holding c)
+      (λ t. received_so w (Holding c) h (bypassed_holds c w h) r (left_so w.spacecraft.farm after.farm t))
+      (λ t. board_holds after (frame_comes w.spacecraft _ arrives r))
 
   -- ---- the ground hears octets
 
@@ -710,19 +687,42 @@ module _ (c : Config) where
       let step : AtMostOneStep p t.after = subst (λ (x : PlainLink). AtMostOneStep x t.after) old.0 t.step in
       (subst (AtMostOneStep p) new.0 step, sym old.1 ∙ new.1)
 
-  runs : (w : World) → Holding c w → IsIdle w → IsSettled w → (es : List Event) → AllByRecursion IsEvent es
-      → KeepsSession w es → HistoriesAre PlainRun w (world_run w es)
-  runs w h idle settled [] fits keeps b d p q was is =
+  -- what happens beside the session leaves its history
+  stays : (w new : World) → Holding c w → IsSettled w
+      → ((b : ℕ) (p : PlainLink) → IsHistory new b p → IsHistory w b p) → HistoriesAre AtMostOneStep w new
+  stays w new h settled back b d p q was is =
+      let one = one_in c w h.sound settled b d p q was (back d q is) in (inl (sym one.0), one.1)
+
+  bypass_back : (w : World) (u : SegmentView) (kept : Bool) (b : ℕ) (p : PlainLink)
+      → IsHistory (with_bypass w u kept) b p → IsHistory w b p
+  bypass_back w u true b p is = assumption is
+  bypass_back w u false b p is = assumption is
+
+  steps_on : (w : World) → Holding c w → IsIdle w → IsSettled w → (s : LinkStep) → IsLinkStep s → LeavesSession w s
+      → HistoriesAre AtMostOneStep w (link_step w s) × IsSettled (link_step w s)
+  steps_on w h idle settled s fits goes =
+      beside_so w (λ (new : World). HistoriesAre AtMostOneStep w new × IsSettled new) s goes (record {
+        happens = λ e is goes.
+            let event : IsEvent e = subst IsLinkStep is fits in
+            (steps w h idle settled e event goes, settled_goes c w h.sound (h.session idle) e event settled goes);
+        same = (stays w w h settled (λ b p is. is), settled);
+        takes = λ x packets. (stays w (with_telemetry w x packets) h settled (λ b p is. assumption is), settled);
+        passes = λ u kept. (stays w (with_bypass w u kept) h settled (bypass_back w u kept), settled);
+      })
+
+  runs : (w : World) → Holding c w → IsIdle w → IsSettled w → (since : List LinkStep)
+      → AllByRecursion IsLinkStep since → SessionLasts w since → HistoriesAre PlainRun w (link_run w since)
+  runs w h idle settled [] fits lasts b d p q was is =
       let one = one_in c w h.sound settled b d p q was is in
       (subst (PlainRun p) one.0 none, one.1)
-  runs w h idle settled (e ∷ es) fits keeps b d p q was is =
-      let new : World = (world_step w e).after in
-      let holds = step_holds c w h e fits.0 in
-      let started = idle_goes w e idle keeps.0 in
-      let after = settled_goes c w h.sound (h.session idle) e fits.0 settled keeps.0 in
+  runs w h idle settled (s ∷ since) fits lasts b d p q was is =
+      let new : World = link_step w s in
+      let holds = link_step_holds c w h s fits.0 in
+      let started = still_idle w s idle lasts.0 in
+      let on = steps_on w h idle settled s fits.0 lasts.0 in
       let t : HasPlainHistory new = has_plain_history c new holds.sound (holds.session started) in
-      let step = steps w h idle settled e fits.0 keeps.0 b t.base p t.plain was t.is in
-      let rest = runs new holds started after es fits.1 keeps.1 t.base d t.plain q t.is is in
+      let step = on.0 b t.base p t.plain was t.is in
+      let rest = runs new holds started on.1 since fits.1 lasts.1 t.base d t.plain q t.is is in
       (on_by p t.plain q step.0 rest.0, step.1 ∙ rest.1)
 
   ran : (w : World) → Holding c w → IsIdle w → IsSettled w → (b : ℕ) (p : PlainLink) → IsHistory w b p

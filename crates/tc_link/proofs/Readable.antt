@@ -428,7 +428,7 @@ module _ (c : Config) (w : World) (k : Sound c w) (off : IsOff w) (none_up : num
         rw plain (closed_with (record w.ground_node { fates = _ }) f off, refl);
   })
 
-  closed_so : (e : Event) → BeginsNoSession w e → IsOff (world_step w e).after
+  pub closed_so : (e : Event) → BeginsNoSession w e → IsOff (world_step w e).after
   closed_so e goes = ground_after w (λ t session. t.fop.state ≡ S6) e (record {
     same = off;
     submits = λ m octets none. closed_with (submitting w.ground_node m octets) s off;
@@ -478,11 +478,11 @@ module _ (c : Config) (w : World) (k : Sound c w) (off : IsOff w) (none_up : num
       both_none (numbers_in (reading.frame_at On b)) (numbers bs)
       (subst (λ (xs : List (List ℕ)). numbers xs ≡ []) is none_up)
 
-  none_so : (e : Event) → numbers_up (world_step w e).after ≡ []
+  pub none_so : (e : Event) → numbers_up (world_step w e).after ≡ []
   none_so events.Send = send_so
   none_so e = up_after w (λ way. numbers way ≡ []) e (λ is. cc is) none_up (λ b bs is. (up_none b bs is).1)
 
-  same_so : (e : Event) → BeginsNoSession w e → Same (world_step w e).after
+  pub same_so : (e : Event) → BeginsNoSession w e → Same (world_step w e).after
   same_so e goes =
       let receives : e ≡ events.UpDeliver → (b : List ℕ) (bs : List (List ℕ)) → w.up ≡ b ∷ bs
       → Same (record w { up = bs; spacecraft = (spacecraft_receive w.spacecraft b).after }) = λ is b bs first.

@@ -1,8 +1,8 @@
 -- Which resumptions are refused.
 use Rattle.tc_link.proofs.Common.{◌≡◌, ℕ, Bool, true, false, List, [], ◌∷◌, Option, Some, None, Result, Ok, Err, refl}
 use Rattle.tc_link.proofs.Common.{ap, sym, subst, ◌∙◌, inl, inr, cond_both, Directive, Alert}
-use Rattle.tc_link.proofs.Common.{FopState, FopOutcome, SegmentView, CopFault, Clcw, ClcwFault, TmFault, GroundState}
-use Rattle.tc_link.proofs.Common.{GroundOutcome, Config, is_closed, ticked}
+use Rattle.tc_link.proofs.Common.{FopState, SegmentView, CopFault, Clcw, ClcwFault, TmFault, GroundState}
+use Rattle.tc_link.proofs.Common.{GroundOutcome, is_closed, ticked}
 use Rattle.tc_link.proofs.Common.{obeying, submitting, acknowledging, unless_refused, after_submission, after_bypass}
 use Rattle.tc_link.proofs.Common.{submit_fault, bypass_fault, directive_step, tick_step, pull_step, clcw_step}
 use Rattle.tc_link.proofs.Common.{telemetry_outcome, after_extraction, Fates, after_obeying, InitWithoutCheck}
@@ -23,13 +23,12 @@ use Rattle.nodes.specs.Fates.{shows_one, whole_with}
 use Rattle.nodes.specs.Ground.{GroundEvent, Submit, Bypass, Direct, Resume, Pull, Tick, Telemetry, ControlWord}
 use Rattle.nodes.specs.Ground.{TakeTelemetry, ForgetTelemetry, ground_step, ground_take_telemetry, after_directive}
 use Rattle.nodes.specs.Ground.{report_outcome, is_own_telemetry, new_ground, known_on_board, known_at_end, can_resume}
-use Rattle.nodes.specs.Ground.{after_resuming, resumed_from, ground_resume}
+use Rattle.nodes.specs.Ground.{after_resuming, resumed_from}
 use Rattle.nodes.proofs.Resuming.{resumed_or, known_off}
 use Rattle.tc_link.proofs.Resumed.{known_now}
 use Rattle.simulated_link.specs.Replies.{heard_alert}
 use Rattle.tc_link.specs.Repeated.{ground_run}
-use Rattle.tc_link.specs.Resumable.{known_past, known_after, known_by, MayBeReported, KnowsExactly, EachKnowsExactly}
-use Rattle.tc_link.specs.Silent.{alert_of}
+use Rattle.tc_link.specs.Resumable.{known_past, known_after, known_by, MayBeReported, EachKnowsExactly}
 use Rattle.tc_link.proofs.Fates.{refilled_fates, with_fates}
 use Rattle.tc_link.proofs.Invariant.{can_off}
 

@@ -1,7 +1,7 @@
 -- A program that resumes after each alert has a prefix of what it wants delivered.
 use Rattle.tc_link.proofs.Common.{◌≡◌, ℕ, ◌+◌, ◌%◌, ◌<◌, ◌≤◌, true, List, [], ◌∷◌, ◌++◌, length, take, drop, Some}
-use Rattle.tc_link.proofs.Common.{Result, Ok, Err, refl, ap, sym, subst, ◌∙◌, arith, length-append, length-map}
-use Rattle.tc_link.proofs.Common.{take-append-drop, AllByRecursion, inl, inr, Opening, length-drop, option_map, SetVs}
+use Rattle.tc_link.proofs.Common.{Result, Ok, refl, ap, sym, subst, ◌∙◌, arith, length-append, length-map}
+use Rattle.tc_link.proofs.Common.{take-append-drop, AllByRecursion, Opening, length-drop, option_map, SetVs}
 use Rattle.tc_link.proofs.Common.{InitUnlock, is_closed, Config, GroundState, PacketOn, Event, World, world_step}
 use Rattle.tc_link.proofs.Common.{IsIdle, IsEvent, session_begun_by}
 use Rattle.tc_link.proofs.Common.{delivered, accepted, GroundOutcome}

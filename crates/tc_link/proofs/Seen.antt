@@ -11,7 +11,7 @@ use Rattle.tc_link.proofs.Common.{world_after_directive, world_after_pull, IsIdl
 use Rattle.tc_link.proofs.Common.{up_lose_step, up_damage_step, up_damage_outcome, down_deliver_step, down_lose_step}
 use Rattle.tc_link.proofs.Common.{down_damage_step, down_damage_outcome, On, report_now, packet_on, begins_idle}
 use Rattle.tc_link.proofs.Common.{SetVs, ◌<◌, ◌+◌, ◌==◌, take-append-le, drop-append-le, SpacecraftState, new_link}
-use Rattle.tc_link.proofs.Common.{length-append, cond_both, GroundOutcome, ahead_by, ◌/◌}
+use Rattle.tc_link.proofs.Common.{length-append, ◌/◌}
 use Rattle.std.proofs.Math.Seq.{drop-length, take-add}
 use Rattle.std.specs.Borrow.{Bor}
 use Rattle.std.specs.Prelude.{◌^◌, ◌&&◌, is_some}
@@ -34,7 +34,8 @@ use Rattle.simulated_link.specs.World.{is_idle, Session, world_after_submission}
 use Rattle.simulated_link.specs.Replies.{ReplyView, Done, Sent, Reported, Packet, Resumed}
 use Rattle.tc_link.specs.AnyPast.{HasAnyPast, Happens}
 use Rattle.tc_link.specs.Seen.{IsWanted, IsSeenOnce, Seen, Part, seen_step, seen_from, seen, nothing_seen, begins}
-use Rattle.tc_link.specs.Seen.{has_check, is_first, is_silent, ArePrefixes, IsSeenInOrder, EachIsSeen, is_made}
+use Rattle.tc_link.specs.Seen.{has_check, is_first, is_silent, all_packets, ArePrefixes, IsSeenInOrder, EachIsSeen}
+use Rattle.tc_link.specs.Seen.{is_made}
 use Rattle.tc_link.specs.Whole.{on_board}
 use Rattle.tc_link.specs.Taken.{handed_out}
 use Rattle.tc_link.proofs.Linked.{zeros_run, In, run_to, IsGiven, units_of_all, Kept}
@@ -207,7 +208,7 @@ module _ (o : Option Opening) where
 -- ---- prefixes of each session's submissions
 
 push_prefix : (xs ys : List PacketOn) (parts : List Part) (part : Part) → ArePrefixes xs parts
-    → IsBeginning ys part.submissions → ArePrefixes (xs ++ ys) (parts ++ part ∷ [])
+    → IsBeginning ys (all_packets part.submissions) → ArePrefixes (xs ++ ys) (parts ++ part ∷ [])
 push_prefix xs ys [] part all begins = (ys, [], ap (λ zs. zs ++ ys) all ∙ sym (append-nil ys), begins, refl)
 push_prefix xs ys (p ∷ parts) part all begins = (
   all.0,
@@ -274,8 +275,8 @@ record Sessions (c : Config) (s : Seen) (w : World) : Type 0 where
   ready : s.taken ++ w.spacecraft.ready ≡ delivered ++ passed c w
   -- the ground knows what is on board only since the session began
   since : w.ground_node.fates.kept ≡ true → Began c w
-  once : (wanted : List PacketOn) → Small wanted → AllByRecursion (IsWanted wanted) s.before → s.resumed ≡ true
-      → delivered ≡ take s.session.from wanted
+  once : c.blocking ≢ 1 → (wanted : List PacketOn) → Small wanted → AllByRecursion (IsWanted wanted) s.before
+      → s.resumed ≡ true → delivered ≡ take s.session.from wanted
   -- before the first session the sender is in S6, and nothing is submitted
   none_yet : s.before ≡ [] → (is_closed w.ground_node.fop.state ≡ true) × (s.session.submissions ≡ [])
 
@@ -285,26 +286,26 @@ record Tracks (c : Config) (s : Seen) (w : World) : Type 0 where
   sessions : s.idle ≡ true → Sessions c s w
   past : (p : HasAnyPast w) × (p.config ≡ c)
 
-module _ (c : Config) (without : c.blocking ≢ 1) where
+module _ (c : Config) where
   -- the packets of this session are first ones of its submissions
   module _ (w : World) (k : Sound c w) (o : Option Opening) where
     first_in : (early : Bool) (d : Directive) (base : ℕ) → In early c d base (opened_as o w)
-        → IsBeginning (passed c w) w.session.submissions
+        → IsBeginning (passed c w) (all_packets w.session.submissions)
     first_in early d base g =
         let p = g.plain in
         let was : List SegmentView = take w.session.before w.spacecraft.accepted in
         let one = k.ranges.part.0 in
         let lims : Limits = limits_of c in (
           made lims (was ++ take p.r p.units) (drop p.r p.units),
-          sym (all_one c without one w.session.submissions g.linked.given)
-              ∙ sym (all_made c one was w.session.submissions g.linked.given)
+          sym (all_made c one was w.session.submissions g.linked.given)
               ∙ ap (made lims was) (sym g.linked.units_are ∙ sym (take-append-drop p.r p.units))
               ∙ made-append lims was (take p.r p.units) (drop p.r p.units)
               ∙ ap (λ xs. made lims was xs ++ made lims (was ++ take p.r p.units) (drop p.r p.units))
               (sym g.linked.accepted_is),
         )
 
-  are_first : (s : Seen) (w : World) → Sound c w → (t : Sessions c s w) → IsBeginning (passed c w) s.session.submissions
+  are_first : (s : Seen) (w : World) → Sound c w → (t : Sessions c s w)
+      → IsBeginning (passed c w) (all_packets s.session.submissions)
   are_first s w k t =
       rw t.submits (in_session t.session (λ early g. first_in w k t.opening early t.session.directive t.session.base g))
 
@@ -314,6 +315,18 @@ module _ (c : Config) (without : c.blocking ≢ 1) where
     push_prefix t.delivered (passed c w) s.before s.session t.prefixes (are_first s w k t),
     (w.spacecraft.ready, sym t.ready),
   )
+
+module _ (c : Config) (without : c.blocking ≢ 1) where
+  -- without blocking they are the submissions
+  module _ (w : World) (k : Sound c w) (o : Option Opening) where
+    one_in : (early : Bool) (d : Directive) (base : ℕ) → In early c d base (opened_as o w)
+        → all_packets w.session.submissions ≡ w.session.submissions
+    one_in early d base g = all_one c without k.ranges.part.0 w.session.submissions g.linked.given
+
+  are_one : (s : Seen) (w : World) → Sound c w → (t : Sessions c s w)
+      → all_packets s.session.submissions ≡ s.session.submissions
+  are_one s w k t =
+      rw t.submits (in_session t.session (λ early g. one_in w k t.opening early t.session.directive t.session.base g))
 
   -- those of the submissions that are on board whole
   module _ (w : World) (k : Sound c w) (o : Option Opening) where
@@ -346,8 +359,9 @@ module _ (c : Config) (without : c.blocking ≢ 1) where
       → IsSeenOnce wanted s
   in_all s w k t wanted small all so =
       let parts = all_parts (IsWanted wanted) s.before s.session all in
-      let first = are_first s w k t in
-      let given = t.once wanted small parts.0 so in
+      let first : IsBeginning (passed c w) s.session.submissions =
+      subst (IsBeginning (passed c w)) (are_one s w k t) (are_first c s w k t) in
+      let given = t.once without wanted small parts.0 so in
       let rest : List PacketOn = first.0 ++ parts.1.0 in (
         w.spacecraft.ready ++ rest,
         sym (take-append-drop s.session.from wanted)
@@ -402,7 +416,7 @@ none_submitted : (w : World) (e : Event) → is_closed w.ground_node.fop.state �
 none_submitted w (events.Submit m octets) off = rw off refl
 none_submitted w _ off = refl
 
-module _ (c : Config) (without : c.blocking ≢ 1) (s : Seen) (w : World) (t : Tracks c s w) where
+module _ (c : Config) (s : Seen) (w : World) (t : Tracks c s w) where
   -- no session begins
   goes_sessions : (e : Event) → IsEvent e → BeginsNoSession w e
       → (seen_step s e (world_step w e).answer).idle ≡ true
@@ -439,8 +453,8 @@ module _ (c : Config) (without : c.blocking ≢ 1) (s : Seen) (w : World) (t : T
             ∙ ap (λ (xs : List PacketOn). was.delivered ++ xs) (sym grown);
         since = λ kept.
             began_on c w (was.since (kept_stays w e goes kept)) (Happens e) goes (sets_none w e kept) fits;
-        once = λ wanted small all so.
-            was.once wanted small (subst (AllByRecursion (IsWanted wanted)) k.before all) (sym k.resumed ∙ so)
+        once = λ without wanted small all so.
+            was.once without wanted small (subst (AllByRecursion (IsWanted wanted)) k.before all) (sym k.resumed ∙ so)
             ∙ ap (λ (n : ℕ). take n wanted) (sym k.from);
         none_yet = λ none.
             let off = was.none_yet (sym k.before ∙ none) in (
@@ -451,7 +465,7 @@ module _ (c : Config) (without : c.blocking ≢ 1) (s : Seen) (w : World) (t : T
       }
 
   abbrev NowOnce : ℕ → Bool → Sessions c s w → Type 0
-  NowOnce from resumed was = (wanted : List PacketOn) → Small wanted
+  NowOnce from resumed was = c.blocking ≢ 1 → (wanted : List PacketOn) → Small wanted
       → AllByRecursion (IsWanted wanted) (s.before ++ s.session ∷ []) → s.resumed && resumed ≡ true
       → was.delivered ++ passed c w ≡ take from wanted
 
@@ -474,7 +488,7 @@ module _ (c : Config) (without : c.blocking ≢ 1) (s : Seen) (w : World) (t : T
         submits = sym (ap (λ (s : Session). s.submissions) begun);
         delivered = was.delivered ++ passed c w;
         prefixes = push_prefix was.delivered (passed c w) s.before s.session was.prefixes
-            (are_first c without s w t.holds.sound was);
+            (are_first c s w t.holds.sound was);
         ready = ap (λ (x : SpacecraftState). s.taken ++ x.ready) board ∙ was.ready
             ∙ sym (append-nil (was.delivered ++ passed c w))
             ∙ ap (λ (xs : List PacketOn). (was.delivered ++ passed c w) ++ xs)
@@ -495,12 +509,13 @@ module _ (c : Config) (without : c.blocking ≢ 1) (s : Seen) (w : World) (t : T
 
   -- only before the first session nothing was to be delivered
   first_once : (was : Sessions c s w) → NowOnce 0 (is_first s) was
-  first_once was wanted small all so =
+  first_once was without wanted small all so =
       let first = and_parts s.resumed (is_first s) so in
       let none : s.before ≡ [] = none_of s.before (eqb-true (length s.before) 0 first.1) in
       let gone : was.delivered ≡ [] = subst (ArePrefixes was.delivered) none was.prefixes in
-      let front = are_first c without s w t.holds.sound was in
-      let nothing : passed c w ≡ [] = no_front (passed c w) front.0 (sym front.1 ∙ (was.none_yet none).1) in
+      let front = are_first c s w t.holds.sound was in
+      let nothing : passed c w ≡ [] =
+      no_front (passed c w) front.0 (sym front.1 ∙ ap all_packets (was.none_yet none).1) in
       ap (λ xs. xs ++ passed c w) gone ∙ nothing
 
   directed_sessions : (d : Directive) → IsEvent (events.Directive d)
@@ -532,7 +547,7 @@ module _ (c : Config) (without : c.blocking ≢ 1) (s : Seen) (w : World) (t : T
       kept_now = known_kept w.ground_node value whole (known_now w.ground_node value whole known)
 
       resumed_once : (was : Sessions c s w) → NowOnce (s.session.from + whole) (is_made s.made value) was
-      resumed_once was wanted small all so =
+      resumed_once was without wanted small all so =
           let both = and_parts s.resumed (is_made s.made value) so in
           let parts = all_parts (IsWanted wanted) s.before s.session all in
           let now = (t.counts.made_is value (made_value s.made value both.1)).1 in
@@ -541,7 +556,7 @@ module _ (c : Config) (without : c.blocking ≢ 1) (s : Seen) (w : World) (t : T
           let l : Leads c wanted w s.session.from = record { began = was.since kept_now; submits = next } in
           let counted = more_is c wanted w s.session.from l small value whole now
           (ap (λ (o : Option ℕ). (resumed_from w.ground_node value o).answer) known) in
-          ap (λ xs. xs ++ passed c w) (was.once wanted small parts.0 both.0)
+          ap (λ xs. xs ++ passed c w) (was.once without wanted small parts.0 both.0)
           ∙ ap (λ xs. take s.session.from wanted ++ xs) (are_whole c without s w t.holds.sound was)
           ∙ pieces_on wanted w.session.submissions s.session.from (on_board w)
           (board_most c wanted w s.session.from l small) next
@@ -621,7 +636,7 @@ new_session c ranges =
       prefixes = refl;
       ready = refl;
       since = λ kept. cc kept;
-      once = λ wanted small all so. refl;
+      once = λ without wanted small all so. refl;
       none_yet = λ none. (refl, refl);
     }
 
@@ -633,17 +648,17 @@ new_tracks c ranges = record {
   past = (record { config = c; ranges = ranges; steps = []; numbers = tt; led = refl }, refl);
 }
 
-run_tracks : (c : Config) → c.blocking ≢ 1 → (es : List Event) (s : Seen) (w : World) → AllByRecursion IsEvent es
-    → Tracks c s w → Tracks c (seen_from s es (run_answers w es)) (world_run w es)
-run_tracks c without [] s w fits t = t
-run_tracks c without (e ∷ es) s w fits t =
-    run_tracks c without es (seen_step s e (world_step w e).answer) (world_step w e).after fits.1
-    (step_tracks c without s w t e fits.0)
+run_tracks : (c : Config) (es : List Event) (s : Seen) (w : World) → AllByRecursion IsEvent es → Tracks c s w
+    → Tracks c (seen_from s es (run_answers w es)) (world_run w es)
+run_tracks c [] s w fits t = t
+run_tracks c (e ∷ es) s w fits t =
+    run_tracks c es (seen_step s e (world_step w e).answer) (world_step w e).after fits.1
+    (step_tracks c s w t e fits.0)
 
 pub each_is_seen : EachIsSeen
-each_is_seen c events ranges all without idle =
+each_is_seen c events ranges all idle =
     let s : Seen = seen events (run_answers (new_world c) events) in
-    let t = run_tracks c without events nothing_seen (new_world c) all (new_tracks c ranges) in (
-      in_order c without s (world_run (new_world c) events) t.holds.sound (t.sessions idle),
-      in_all c without s (world_run (new_world c) events) t.holds.sound (t.sessions idle),
+    let t = run_tracks c events nothing_seen (new_world c) all (new_tracks c ranges) in (
+      in_order c s (world_run (new_world c) events) t.holds.sound (t.sessions idle),
+      λ without. in_all c without s (world_run (new_world c) events) t.holds.sound (t.sessions idle),
     )

@@ -8,12 +8,9 @@ use Rattle.std.specs.Prelude.{◌≢◌}
 use Rattle.cop1.specs.declared.vocabulary.Directive.TheVariants.{InitWithCheck}
 use Rattle.cop1.specs.declared.vocabulary.Alert.TheVariants.{Lockout, NnR, Clcw as ClcwAlert, Synch}
 use Rattle.nodes.specs.Fates.{shows_one}
-use Rattle.nodes.specs.declared.event.Event.TheVariants as events
-use Rattle.simulated_link.specs.World.{Session, session_after_directive}
+use Rattle.simulated_link.specs.World.{session_after_directive}
 use Rattle.simulated_link.proofs.Unchanged.{ground_after, not_restarted}
 use Rattle.tc_link.specs.AnyPast.{LinkStep, Happens, IsLinkStep, link_step}
-use Rattle.tc_link.specs.AnyPast.{TakeTelemetry, Receives, Hears, HearsReport, ForgetTelemetry, NewGround}
-use Rattle.tc_link.specs.AnyPast.{NewSpacecraft}
 use Rattle.tc_link.specs.Beside.{LeavesSession, SessionLasts, ShowsNothing, ShowsNone}
 use Rattle.tc_link.specs.FalseAlarms.{alert_in, HasCause, IsUnderCheck}
 use Rattle.tc_link.specs.Resumed.{ShowsNoneByItself}

@@ -1,8 +1,11 @@
 -- A run of the link in which more may happen than its events: octets from outside the link reach a
 -- node, and a new node takes the place of one.
-use Rattle.std.specs.Prelude.{◌≡◌, ◌<◌, ℕ, List, [], ◌∷◌, length, map, Result, Ok, Err}
+use Rattle.std.specs.Prelude.{◌≡◌, ◌<◌, ◌==◌, ℕ, List, [], ◌∷◌, length, map, Result, Ok, Err}
+use Rattle.std.specs.Prelude.{Bool, true, false, not, ◌&&◌, if◌then◌else◌}
 use Rattle.std.specs.List.{AllByRecursion}
-use Rattle.cop1.specs.declared.farm.Verdict.TheVariants.{Behind, Discarded}
+use Rattle.cop1.specs.Farm.{FarmState}
+use Rattle.cop1.specs.declared.farm.FarmMode.{FarmMode}
+use Rattle.cop1.specs.declared.farm.FarmMode.TheVariants.{Open, Wait, Lockout}
 use Rattle.cop1.specs.Report.{report_of}
 use Rattle.nodes.specs.declared.config.Config.{Config}
 use Rattle.nodes.specs.declared.heard.Heard.{Heard}
@@ -11,7 +14,6 @@ use Rattle.nodes.specs.declared.heard.HeardClcw.{HeardClcw}
 use Rattle.nodes.specs.declared.heard.HeardReport.{HeardReport}
 use Rattle.nodes.specs.declared.heard.HeardReport.TheVariants.{Used}
 use Rattle.nodes.specs.declared.received.Received.{Received}
-use Rattle.nodes.specs.declared.received.Received.TheVariants as received_cases
 use Rattle.nodes.specs.Ground.{GroundState, GroundOutcome, new_ground, ground_step}
 use Rattle.nodes.specs.Ground as ground_calls
 use Rattle.nodes.specs.Parameters.{IsConfig}
@@ -66,17 +68,29 @@ with_nodes w ground_node spacecraft = record w {
   session = record no_session { before = length spacecraft.accepted };
 }
 
--- a session goes on beside octets of no frame, a frame for another, one of Type-BD, and one of
--- Type-AD that the receiver leaves as behind, which is one that came before, or discards
-abbrev pub after_receiving : World → SpacecraftState → Received → World
-after_receiving w after (received_cases.Invalid fault) = record w { spacecraft = after }
-after_receiving w after received_cases.Foreign = record w { spacecraft = after }
-after_receiving w after (received_cases.Bypass kept) = record w { spacecraft = after }
-after_receiving w after (received_cases.Sequence n Behind ready dropped) =
-    record w { spacecraft = after }
-after_receiving w after (received_cases.Sequence n Discarded ready dropped) =
-    record w { spacecraft = after }
-after_receiving w after _ = with_nodes w w.ground_node after
+-- a receiver has this state, and a flag this value
+abbrev pub is_mode : FarmMode → FarmMode → Bool
+is_mode Open Open = true
+is_mode Wait Wait = true
+is_mode Lockout Lockout = true
+is_mode _ _ = false
+
+abbrev pub is_flag : Bool → Bool → Bool
+is_flag true flag = flag
+is_flag false flag = not flag
+
+-- the receiver is as it was but for FARM-B: V(R), its state, which the lockout flag and the wait
+-- flag give, and the retransmit flag
+abbrev pub is_left : FarmState → FarmState → Bool
+is_left old new =
+    (new.vr == old.vr) && (is_mode old.state new.state && is_flag old.retransmit new.retransmit)
+
+-- a session goes on beside octets that leave the receiver so; they change nothing on board but
+-- FARM-B and the packets that go past the sequence control
+abbrev pub after_receiving : World → SpacecraftState → World
+after_receiving w after =
+    if is_left w.spacecraft.farm after.farm then record w { spacecraft = after }
+    else with_nodes w w.ground_node after
 
 -- and beside a report that does not reach the sender
 abbrev pub after_report : World → GroundState → HeardReport → World
@@ -88,7 +102,7 @@ after_hearing w after (heard_cases.Frame gap packets report alert) = after_repor
 after_hearing w after _ = record w { ground_node = after }
 
 abbrev pub received : World → SpacecraftOutcome Received → World
-received w o = after_receiving w o.after o.answer
+received w o = after_receiving w o.after
 
 abbrev pub heard : World → GroundOutcome Heard → World
 heard w o = after_hearing w o.after o.answer

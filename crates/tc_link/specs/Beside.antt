@@ -1,9 +1,8 @@
 -- What happens on a link while a session goes on: the events that begin none, and what leaves the
 -- session as it is.
-use Rattle.std.specs.Prelude.{◌≡◌, List, [], ◌∷◌, false}
+use Rattle.std.specs.Prelude.{◌≡◌, List, [], ◌∷◌, true, false}
 use Rattle.std.specs.List.{AllByRecursion}
 use Rattle.octets.specs.Number.{IsOctets}
-use Rattle.cop1.specs.declared.farm.Verdict.TheVariants.{Behind, Discarded}
 use Rattle.nodes.specs.declared.config.Config.{Config}
 use Rattle.nodes.specs.Fates.{shows_one}
 use Rattle.nodes.specs.Ground.{ground_step}
@@ -15,24 +14,12 @@ use Rattle.nodes.specs.declared.heard.Heard.{Heard}
 use Rattle.nodes.specs.declared.heard.Heard.TheVariants as heard_cases
 use Rattle.nodes.specs.declared.heard.HeardReport.{HeardReport}
 use Rattle.nodes.specs.declared.heard.HeardReport.TheVariants.{Used}
-use Rattle.nodes.specs.declared.received.Received.{Received}
-use Rattle.nodes.specs.declared.received.Received.TheVariants as received_cases
 use Rattle.simulated_link.specs.World.{World, BeginsNoSession, new_world, world_step}
 use Rattle.tc_link.specs.AnyPast.{LinkStep, Happens, TakeTelemetry, Receives, Hears, HearsReport}
 use Rattle.tc_link.specs.AnyPast.{ForgetTelemetry, NewGround, NewSpacecraft, IsLinkStep, link_step}
-use Rattle.tc_link.specs.AnyPast.{link_run, word_step}
+use Rattle.tc_link.specs.AnyPast.{is_left, link_run, word_step}
 use Rattle.tc_link.specs.FalseAlarms.{alert_in}
 use Rattle.tc_link.specs.Known.{SetsNoNumber}
-
--- octets that reach the spacecraft are no frame, or one for another, one of Type-BD, or one of
--- Type-AD that the receiver leaves as behind or discards
-abbrev pub IsLeft : Received → Type 0
-IsLeft (received_cases.Invalid fault) = Unit {0}
-IsLeft received_cases.Foreign = Unit {0}
-IsLeft (received_cases.Bypass kept) = Unit {0}
-IsLeft (received_cases.Sequence n Behind ready dropped) = Unit {0}
-IsLeft (received_cases.Sequence n Discarded ready dropped) = Unit {0}
-IsLeft _ = ⊥
 
 -- a report does not reach the sender
 abbrev pub IsUnused : HeardReport → Type 0
@@ -45,13 +32,16 @@ BringsNone (heard_cases.Frame gap packets report alert) = IsUnused report
 BringsNone _ = Unit {0}
 
 -- the session goes on with a step: it is an event that begins none, or it takes telemetry or begins
--- anew to; or such octets come from outside the link
+-- anew to; or octets come from outside the link that leave the receiver as it was but for FARM-B,
+-- or bring the ground no report that is used
 abbrev pub LeavesSession : World → LinkStep → Type 0
 LeavesSession w (Happens event) = BeginsNoSession w event
 LeavesSession w TakeTelemetry = Unit {0}
 LeavesSession w ForgetTelemetry = Unit {0}
 LeavesSession w (Receives octets) =
-    IsLeft (spacecraft_step w.spacecraft (spacecraft_calls.Receive octets)).answer
+    is_left w.spacecraft.farm
+    (spacecraft_step w.spacecraft (spacecraft_calls.Receive octets)).after.farm
+    ≡ true
 LeavesSession w (Hears octets) =
     BringsNone (ground_step w.ground_node (ground_calls.Telemetry octets)).answer
 LeavesSession w (HearsReport octets) = IsUnused (word_step w octets).answer.report

@@ -17,6 +17,8 @@ whole_first w k = whole_within k (segments_each w) % 2 ^ 64
 
 -- What the ground says is what the records say: of the submissions, of those that were sent whole
 -- and of those that are acknowledged whole.
+-- (Both sides count by `whole_within`, with which the code counts too. `DeliversWhole` is what ties
+-- that count to packets: what is delivered is those of the submissions that it says are whole.)
 pub record CountsSubmissions (w : World) : Type 0 where
   pub submitted : submissions_of w.ground_node.fates ≡ length w.session.submissions % 2 ^ 64
   pub sent : whole_with (sent_beyond w.ground_node) w.ground_node.fates

@@ -7,6 +7,7 @@ pub mod Confirmation
 pub mod CountsOn
 pub mod FalseAlarms
 pub mod Fates
+pub mod FramesAgain
 pub mod History
 pub mod InOrder
 pub mod InTransit
@@ -21,6 +22,7 @@ pub mod Reached
 pub mod Readable
 pub mod Repeated
 pub mod Seen
+pub mod SeenTelemetry
 pub mod Silence
 pub mod Silent
 pub mod SimFields

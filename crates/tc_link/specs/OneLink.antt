@@ -5,10 +5,10 @@ use Rattle.nodes.specs.Parameters.{IsConfig}
 use Rattle.nodes.specs.declared.event.Event.{Event}
 use Rattle.tc_link.specs.History.{IsHistory}
 use Rattle.tc_link.specs.PlainLink.{PlainLink, PlainRun, AtMostOneStep, new_link}
-use Rattle.tc_link.specs.AnyPast.{HasAnyPast}
+use Rattle.tc_link.specs.AnyPast.{HasAnyPast, LinkStep, IsLinkStep, link_run}
+use Rattle.tc_link.specs.Beside.{SessionLasts}
 use Rattle.tc_link.specs.Reached.{IsEvent}
-use Rattle.simulated_link.specs.World.{KeepsSession, World, IsIdle, IsSettled, BeginsNoSession}
-use Rattle.simulated_link.specs.World.{world_step, world_run}
+use Rattle.simulated_link.specs.World.{World, IsIdle, IsSettled, BeginsNoSession, world_step}
 
 -- Each plain link whose history the one world has is so related to each whose history the other
 -- has, and their bases are one, modulo 256.
@@ -41,9 +41,9 @@ pub record GoesOnAsOne (w : World) : Type 0 where
   -- an event takes it on by at most one step
   pub steps : (event : Event) → IsEvent event → BeginsNoSession w event
       → HistoriesAre AtMostOneStep w (world_step w event).after
-  -- events one after another take it on by a run
-  pub runs : (since : List Event) → AllByRecursion IsEvent since → KeepsSession w since
-      → HistoriesAre PlainRun w (world_run w since)
+  -- steps one after another, beside which the session goes on, take it on by a run
+  pub runs : (since : List LinkStep) → AllByRecursion IsLinkStep since → SessionLasts w since
+      → HistoriesAre PlainRun w (link_run w since)
 
 -- so it is in all worlds
 abbrev pub EachHasOneLink : Type 0

@@ -1,14 +1,15 @@
 -- What a program sees of a link, and nothing else: its events, and what each was answered.
 use Rattle.std.specs.Prelude.{◌≡◌, ◌==◌, ◌≢◌, ◌&&◌, ℕ, suc, ◌+◌, ◌-◌, List, [], ◌∷◌, ◌++◌, length}
-use Rattle.std.specs.Prelude.{drop, ◌<◌, ◌^◌}
+use Rattle.std.specs.Prelude.{drop, flat_map, ◌<◌, ◌^◌}
 use Rattle.std.specs.Prelude.{Bool, true, false, if◌then◌else◌, Option, Some, None, Result, Ok}
 use Rattle.std.specs.List.{AllByRecursion}
 use Rattle.octets.specs.Beginning.{IsBeginning}
+use Rattle.map_service.specs.Packets.{packets_in}
 use Rattle.cop1.specs.FopDirective.{is_initiation}
 use Rattle.cop1.specs.declared.vocabulary.Directive.{Directive}
 use Rattle.cop1.specs.declared.vocabulary.Directive.TheVariants.{InitWithoutCheck}
 use Rattle.nodes.specs.declared.config.Config.{Config}
-use Rattle.nodes.specs.Packets.{PacketOn, packet_on}
+use Rattle.nodes.specs.Packets.{PacketOn, packet_on, put_on_map}
 use Rattle.nodes.specs.Parameters.{IsConfig}
 use Rattle.nodes.specs.declared.event.Event.{Event}
 use Rattle.nodes.specs.declared.event.Event.TheVariants as events
@@ -118,14 +119,19 @@ seen events answers = seen_from nothing_seen events answers
 
 -- ---- what is promised
 
--- a list is a prefix of each of these parts, one after another
+-- the packets of submissions, each with its MAP: without blocking a submission is one packet
+abbrev pub all_packets : List PacketOn → List PacketOn
+all_packets = flat_map (λ (p : PacketOn). put_on_map p.on_map (packets_in p.octets))
+
+-- a list is a prefix of the packets of each of these parts, one after another
 abbrev pub ArePrefixes : List PacketOn → List Part → Type 0
 ArePrefixes delivered [] = delivered ≡ []
 ArePrefixes delivered (part ∷ parts) =
     (some others : List PacketOn) × (delivered ≡ some ++ others)
-    × IsBeginning some part.submissions × ArePrefixes others parts
+    × IsBeginning some (all_packets part.submissions) × ArePrefixes others parts
 
--- what was taken is a beginning of what the sessions delivered: of each a prefix of its submissions
+-- what was taken is a beginning of what the sessions delivered: of each a prefix of the packets
+-- that it submitted
 abbrev pub IsSeenInOrder : Seen → Type 0
 IsSeenInOrder s =
     (delivered : List PacketOn) × ArePrefixes delivered (s.before ++ s.session ∷ [])
@@ -141,12 +147,12 @@ IsSeenOnce wanted s =
     AllByRecursion (IsWanted wanted) (s.before ++ s.session ∷ []) → s.resumed ≡ true
     → IsBeginning s.taken wanted
 
--- so it is of a run without blocking, by what it was answered
+-- so it is of a run by what it was answered; the second of one without blocking
 abbrev pub IsPromisedOfSeen : ℕ → Seen → Type 0
 IsPromisedOfSeen blocking s =
-    blocking ≢ 1 → s.idle ≡ true
+    s.idle ≡ true
     → IsSeenInOrder s
-    × ((wanted : List PacketOn) → length wanted < 2 ^ 64 → IsSeenOnce wanted s)
+    × (blocking ≢ 1 → (wanted : List PacketOn) → length wanted < 2 ^ 64 → IsSeenOnce wanted s)
 
 -- which follows of the answers of the world
 abbrev pub EachIsSeen : Type 0

@@ -3,7 +3,7 @@ use Rattle.std.specs.Prelude.{◌≡◌, ℕ, List, [], ◌∷◌, ◌++◌, fla
 use Rattle.std.specs.List.{AllByRecursion}
 use Rattle.octets.specs.Beginning.{IsBeginning}
 use Rattle.map_service.specs.Packets.{packets_in}
-use Rattle.cop1.specs.declared.vocabulary.FopMode.TheVariants.{S1}
+use Rattle.cop1.specs.declared.vocabulary.FopMode.TheVariants.{S1, S6}
 use Rattle.cop1.specs.FopDirective.{is_initiation}
 use Rattle.nodes.specs.Delivery.{packets_of_map}
 use Rattle.nodes.specs.Ground.{is_closed, can_resume, outstanding}
@@ -13,9 +13,10 @@ use Rattle.nodes.specs.declared.event.Event.TheVariants as events
 use Rattle.simulated_link.specs.declared.fault.SimFault.{SimFault}
 use Rattle.tc_link.specs.AnyPast.{HasAnyPast, LinkStep, Happens, IsLinkStep, link_step, link_run}
 use Rattle.tc_link.specs.Beside.{SessionLasts}
+use Rattle.tc_link.specs.InTransit.{numbers_up}
 use Rattle.tc_link.specs.Reached.{IsEvent}
 use Rattle.simulated_link.specs.Replies.{ReplyView, Packet}
-use Rattle.simulated_link.specs.World.{World, IsIdle, submitted, delivered, world_step}
+use Rattle.simulated_link.specs.World.{World, IsIdle, accepted, submitted, delivered, world_step}
 
 -- a session begins with an event: it is an initiation, and comes while the sender is in S6; or it
 -- is a resumption that is not refused
@@ -102,3 +103,11 @@ HandsOutAsSubmitted =
     → IsEvent initiation → AllByRecursion IsLinkStep since
     → IsIdle (world_step w initiation).after
     → HandsOutInOneOrder (world_step w initiation).after since
+
+-- After any past: in S6, with no Type-AD frame on its way up, no more segments are accepted until a
+-- session begins. So no more is delivered.
+abbrev pub EachAcceptsNoMore : Type 0
+EachAcceptsNoMore =
+    (w : World) (since : List LinkStep) → HasAnyPast w → w.ground_node.fop.state ≡ S6
+    → numbers_up w ≡ [] → AllByRecursion IsLinkStep since → SessionLasts w since
+    → accepted (link_run w since) ≡ accepted w

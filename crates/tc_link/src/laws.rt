@@ -5,6 +5,7 @@ ghost use Rattle.tc_link.specs.Bypass.{BypassKeepsOrder};
 ghost use Rattle.tc_link.specs.Configured.{AlikeIsAsOne};
 ghost use Rattle.tc_link.specs.CountsOn.{KeepsWhatIsKnown};
 ghost use Rattle.tc_link.specs.Fates.{KnowsFates};
+ghost use Rattle.tc_link.specs.FramesAgain.{EachComesAgain, EachGoesOnAgain, EachGoesOnUnchanged, EachIsAnswered};
 ghost use Rattle.tc_link.specs.OneLink.{EachGoesOnAsOne, EachHasOneLink};
 ghost use Rattle.tc_link.specs.Progress.{EachAcknowledges, EachBegins, EachEnds, EachIsDelivered};
 ghost use Rattle.tc_link.specs.Progress.{EachMakesProgress};
@@ -15,7 +16,7 @@ ghost use Rattle.tc_link.specs.Resumed.{EachAnswersResuming, ResumesInOrder, Res
 ghost use Rattle.tc_link.specs.Seen.{EachIsSeen};
 ghost use Rattle.tc_link.specs.Silence.{SilenceIsIdle};
 ghost use Rattle.tc_link.specs.Silent.{GivesUpAloud, HoldsWhatIsNotAcknowledged};
-ghost use Rattle.tc_link.specs.Taken.{HandsOutAsSubmitted, HandsOutWhatIsDelivered, HandsOutWhatIsSubmitted};
+ghost use Rattle.tc_link.specs.Taken.{EachAcceptsNoMore, HandsOutAsSubmitted, HandsOutWhatIsDelivered, HandsOutWhatIsSubmitted};
 
 /// For each configuration in its ranges and each list of events, what `run` promises of each event holds
 /// by the rules of the nodes and the link themselves. So it holds of a program with a loop of its own,
@@ -43,22 +44,26 @@ pub fn law_of_any_past()
 /// Since a session began, on each MAP: the packets that `take` has handed out, followed by those that are
 /// ready, are those that were ready then, followed by those that the session has delivered. So it is in each
 /// run, whatever came before the session, until the next one begins. Beside events of the link, telemetry
-/// may be taken, and octets may come from outside the link that leave the session as it is: noise, frames of
-/// another channel, a report that is not used, Type-BD frames, and Type-AD frames that the receiver leaves
-/// as behind or discards (`delivered`). In a session that had an idle start, what `take` hands out on a MAP
+/// may be taken, and octets may come from outside the link that leave the session as it is: a report that is
+/// not used, and on board what leaves the receiver as it was but for FARM-B, as noise, frames of another
+/// channel, Type-BD frames, Type-AD frames that are left as behind or discarded, and the frame that has just
+/// arrived, again (`delivered`). In a session that had an idle start, what `take` hands out on a MAP
 /// after the packets that were ready is therefore a prefix of what is submitted on it (`submitted`). Over
 /// all MAPs too: in such a session what `take` hands out, each packet with its MAP, followed by what is
 /// ready, is what was ready then, followed by a prefix of what is submitted, in the order of submission; by
-/// all of it in S1 with nothing outstanding (`order`).
+/// all of it in S1 with nothing outstanding (`order`). In S6, with no Type-AD frame on its way up, no more
+/// segments are accepted by such steps (`no_more`).
 pub fn law_of_taking()
     ensures delivered { HandsOutWhatIsDelivered }
     ensures submitted { HandsOutWhatIsSubmitted }
     ensures order { HandsOutAsSubmitted }
+    ensures no_more { EachAcceptsNoMore }
 {}
 
 /// The plain link whose history a settled session is, is one link: the records of the session and
 /// what is on its way leave no choice of it, and its base is one modulo 256 (`one`). While the
-/// session goes on so does that one link, at each event by at most one step (`goes_on`).
+/// session goes on so does that one link, at each event by at most one step, and by a run over any steps of
+/// those that `law_of_taking` names (`goes_on`).
 pub fn law_of_plain_links()
     ensures one { EachHasOneLink }
     ensures goes_on { EachGoesOnAsOne }
@@ -121,6 +126,22 @@ pub fn law_of_repetition()
     ensures frames { RepeatsNothingOfFrames }
 {}
 
+/// A frame that comes again at once, as where a station sends each CLTU twice in a row, changes FARM-B and
+/// the bypass packets alone. After any past: octets reach the spacecraft, and reach it again before anything
+/// else happens there. A Type-AD frame then changes nothing; a frame of Type-B is counted again by FARM-B;
+/// the packet of a Type-BD frame is kept again, and so comes twice, or has the oldest one dropped (`again`).
+/// So a session goes on, however often the frame that has just arrived comes again (`goes_on`). It does while
+/// the receiver has not changed since the octets came: meanwhile reports may be made, and packets be taken
+/// where it does not wait (`unchanged`). What holds beside the steps that `law_of_taking` names, and after
+/// any past, holds of such a run too. Of other octets those leave the session as it is that are no frame, or
+/// a frame for another, one of Type-BD, or one of Type-AD that is answered Behind or Discarded (`answered`).
+pub fn law_of_frames_again()
+    ensures again { EachComesAgain }
+    ensures goes_on { EachGoesOnAgain }
+    ensures unchanged { EachGoesOnUnchanged }
+    ensures answered { EachIsAnswered }
+{}
+
 /// Two nodes need not have one configuration. Where those of the ground and of the spacecraft have the same
 /// values of the fields that both read (`AreAlike`), each node answers each call as with one configuration
 /// that is made of both (`made_of`), and is left the same but for its own.
@@ -173,13 +194,14 @@ pub fn law_of_loss()
     ensures aloud { GivesUpAloud }
 {}
 
-/// What a program takes on board, by what it sees alone: the events of a run, and what each was answered. In
-/// a run without blocking, each session begins by CLCW check, Unlock, Set V(R) or `resume`, after a silence
-/// that is counted: no frame is on its way up, and each that is on its way down was sent since none is, and
-/// since a packet was taken. Then what `take` hands out over all MAPs is a prefix of D1 ++ .. ++ Dk, each Di
-/// a prefix of what session i submitted. Where each session but the first is resumed, by the value of a
-/// report that is made since no frame is on its way up, and submits what is wanted next, what `take` hands
-/// out is a prefix of what is wanted, over all MAPs too.
+/// What a program takes on board, by what it sees alone: the events of a run, and what each was answered.
+/// Each session begins by CLCW check, Unlock, Set V(R) or `resume`, after a silence that is counted: no frame
+/// is on its way up, and each that is on its way down was sent since none is, and since a packet was taken.
+/// Then what `take` hands out over all MAPs is a prefix of D1 ++ .. ++ Dk, each Di a prefix of the packets
+/// that session i submitted; with blocking a submission may have several. In a run without blocking, where
+/// each session but the first is resumed, by the value of a report that is made since no frame is on its way
+/// up, and submits what is wanted next, what `take` hands out is a prefix of what is wanted, over all MAPs
+/// too.
 pub fn law_of_seen()
     ensures { EachIsSeen }
 {}

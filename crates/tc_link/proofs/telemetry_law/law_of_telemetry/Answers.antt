@@ -1,3 +1,4 @@
+use Rattle.tc_link.proofs.SeenTelemetry.{telemetry_is_seen}
 use Rattle.tc_link.proofs.Telemetry.{comes_down, runs_as_the_link}
 use Rattle.tc_link.proofs.telemetry_law.law_of_telemetry.Goals as goal
 
@@ -6,3 +7,6 @@ returns-clause-in_order c = comes_down
 
 pub returns-clause-runs : goal.returns-clause-runs
 returns-clause-runs c = runs_as_the_link
+
+pub returns-clause-seen : goal.returns-clause-seen
+returns-clause-seen c = telemetry_is_seen
