@@ -9,14 +9,14 @@ _tctool() {
             --width | --vr | --scid | --vcid | --map | --length | --apid) return ;;
         esac
         case ${COMP_WORDS[1]} in
-            farm) words='--width --vr --scid --vcid --check --count --help -h' ;;
-            map) words='--width --vr --scid --vcid --map --check --blocking --count --help -h' ;;
-            tc) words='--scid --vcid --check --count --help -h' ;;
+            farm) words='--width --vr --scid --vcid --check --resync --count --help -h' ;;
+            map) words='--width --vr --scid --vcid --map --check --resync --blocking --count --help -h' ;;
+            tc) words='--scid --vcid --check --resync --count --help -h' ;;
             tm) words='--length --scid --vcid --report --count --help -h' ;;
             clcw) words='--count --help -h' ;;
-            check) words='--scid --vcid --count --help -h' ;;
+            check) words='--scid --vcid --resync --count --help -h' ;;
             packets) words='--apid --count --help -h' ;;
-            encode) words='--check --help -h' ;;
+            encode) words='--check --skip-invalid --help -h' ;;
             sim | ground | spacecraft) words='--help -h' ;;
             help) words='farm map tc tm clcw check packets encode sim ground spacecraft' ;;
         esac

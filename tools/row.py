@@ -33,7 +33,8 @@ class Row:
 
     def __init__(self, name, says, head):
         self.name, self.says, self.words, self.has, self.records = name, says, [], [], []
-        self.status, self.error, self.pieces, self.rest, kind, lines = 0, None, [], None, "script", []
+        self.status, self.error, self.cause, self.pieces = 0, None, None, []
+        self.rest, kind, lines = None, "script", []
         for at, line in enumerate(head):
             key, _, value = line.partition(":")
             if key in ("octets", "script", "each", "encoded") and not value:
@@ -52,7 +53,7 @@ class Row:
             self.status = int(value)
         elif key == "has":
             self.has += spelled(value).split(b"\n")
-        elif key in ("error", "rest"):
+        elif key in ("error", "cause", "rest"):
             setattr(self, key, spelled(value).decode())
         else:
             raise ValueError(f"{self.name}: no such line: {key}")

@@ -13,11 +13,13 @@ use Rattle.command_line.specs.declared.commands.Named.{Named}
 use Rattle.cop1.specs.Farm.{IsWidth}
 use Rattle.command_line.specs.declared.task.Channel.{Channel}
 use Rattle.command_line.specs.declared.task.MapPart.{MapPart}
+use Rattle.command_line.specs.declared.task.Searched.{Searched}
 use Rattle.command_line.specs.declared.task.Task.{Task}
 use Rattle.command_line.specs.declared.task.UsageFault.{UsageFault}
 use Rattle.command_line.specs.declared.task.UsageFault.TheVariants.{Words, OddWidth}
 use Rattle.clap.specs.declared.builder.value_parser.ValueParser.TheVariants as parsers
 use Rattle.command_line.specs.declared.commands.Named.TheVariants as commands
+use Rattle.command_line.specs.declared.task.Searched.TheVariants as searches
 use Rattle.command_line.specs.declared.task.Task.TheVariants as tasks
 
 -- a command with no argument, no group and nothing global yet, in which a subcommand lifts no
@@ -45,6 +47,12 @@ vr = named (codes "vr")
 
 abbrev pub check : Wanted
 check = named (codes "check")
+
+abbrev pub resync : Wanted
+resync = named (codes "resync")
+
+abbrev pub skip_invalid : Wanted
+skip_invalid = named (codes "skip-invalid")
 
 abbrev pub blocking : Wanted
 blocking = named (codes "blocking")
@@ -88,14 +96,15 @@ file_of _ = file
 
 -- the arguments of each command but the file
 abbrev pub options_of : Named → List Wanted
-options_of commands.Farm = width ∷ vr ∷ scid ∷ vcid ∷ check ∷ count ∷ []
-options_of commands.Map = width ∷ vr ∷ scid ∷ vcid ∷ map ∷ check ∷ blocking ∷ count ∷ []
-options_of commands.Tc = scid ∷ vcid ∷ check ∷ count ∷ []
+options_of commands.Farm = width ∷ vr ∷ scid ∷ vcid ∷ check ∷ resync ∷ count ∷ []
+options_of commands.Map =
+    width ∷ vr ∷ scid ∷ vcid ∷ map ∷ check ∷ resync ∷ blocking ∷ count ∷ []
+options_of commands.Tc = scid ∷ vcid ∷ check ∷ resync ∷ count ∷ []
 options_of commands.Tm = length ∷ scid ∷ telemetry_vcid ∷ report ∷ count ∷ []
 options_of commands.Clcw = count ∷ []
-options_of commands.Check = scid ∷ vcid ∷ count ∷ []
+options_of commands.Check = scid ∷ vcid ∷ resync ∷ count ∷ []
 options_of commands.Packets = apid ∷ count ∷ []
-options_of commands.Encode = check ∷ []
+options_of commands.Encode = check ∷ skip_invalid ∷ []
 options_of commands.Sim = []
 options_of commands.Ground = []
 options_of commands.Spacecraft = []
@@ -143,6 +152,14 @@ AreIdentifiers most c = IfSome c.scid (λ n. n ≤ 1023) × IfSome c.vcid (λ n.
 abbrev pub IsMapPart : MapPart → Type 0
 IsMapPart p = AreIdentifiers 63 p.part.channel × IfSome p.map (λ n. n ≤ 63)
 
+-- what is listed of the good frames of a channel
+abbrev pub IsSearched : Searched → Type 0
+IsSearched (searches.Farm width vr from_first) = IsWidth width × (vr < 256)
+IsSearched (searches.Map width vr from_first blocking map) =
+    IsWidth width × (vr < 256) × IfSome map (λ n. n ≤ 63)
+IsSearched searches.Tc = Unit {0}
+IsSearched searches.Check = Unit {0}
+
 abbrev pub IsInRange : Task → Type 0
 IsInRange (tasks.Farm check width vr part) =
     IsWidth width × (vr < 256) × IfSome part (λ p. AreIdentifiers 63 p.channel)
@@ -153,8 +170,9 @@ IsInRange (tasks.Tm length report channel) =
     (16 ≤ length) × (length ≤ 2048) × IfSome channel (AreIdentifiers 7)
 IsInRange tasks.Clcw = Unit {0}
 IsInRange (tasks.Check channel) = IfSome channel (AreIdentifiers 63)
+IsInRange (tasks.Resync listed scid vcid) = IsSearched listed × (scid ≤ 1023) × (vcid ≤ 63)
 IsInRange (tasks.Packets apid) = IfSome apid (λ n. n ≤ 2047)
-IsInRange (tasks.Encode _) = Unit {0}
+IsInRange (tasks.Encode check skips) = Unit {0}
 IsInRange tasks.Sim = Unit {0}
 IsInRange tasks.Ground = Unit {0}
 IsInRange tasks.Spacecraft = Unit {0}

@@ -3,8 +3,8 @@
 ghost use Rattle.std.specs.Prelude.{◌≡◌, ◌≤◌, Some, None, IfOk};
 ghost use Rattle.clap.specs.Facts.{least_values};
 ghost use Rattle.command_line.specs.Arguments.{AreArguments, IsArgument, wanted_of};
-ghost use Rattle.command_line.specs.Arguments.{apid, blocking, check, count, file, input, length, map, named, report};
-ghost use Rattle.command_line.specs.Arguments.{scid, telemetry_vcid, vcid, vr, width};
+ghost use Rattle.command_line.specs.Arguments.{apid, blocking, check, count, file, input, length, map, named, report, resync};
+ghost use Rattle.command_line.specs.Arguments.{scid, skip_invalid, telemetry_vcid, vcid, vr, width};
 
 use crate::commands::Named;
 use clap::builder::ValueParser;
@@ -15,33 +15,35 @@ use std::alloc::{AllocError, Global};
 pub const FIRST: &str = "first";
 
 impl Named {
-    /// The arguments that the command takes, where `help` says what its file is, and `from_first` whether
-    /// the word of `--vr` is `FIRST`.
+    /// The arguments that the command takes, where `help` says what its file is, and `by_word` whether
+    /// `--vr` has a word in place of a number.
     pub fn arguments<'a>(
         self,
         alloc: Global,
         help: &'a str,
-        from_first: bool,
+        by_word: bool,
     ) -> Result<Vec<Arg<'a>>, AllocError>
         ensures { IfOk result (λ arguments. AreArguments arguments.items (wanted_of self)) }
     {
         Ok(match self {
             Named::Farm => vec![in alloc;
                 width_option(alloc),
-                vr_option(alloc, from_first),
+                vr_option(alloc, by_word),
                 scid_option(alloc),
                 vcid_option(alloc),
                 check_flag(alloc),
+                needs_check(resync_flag(alloc)?)?,
                 count_flag(alloc),
                 file_argument(alloc, help),
             ]?,
             Named::Map => vec![in alloc;
                 width_option(alloc),
-                vr_option(alloc, from_first),
+                vr_option(alloc, by_word),
                 scid_option(alloc),
                 vcid_option(alloc),
                 map_option(alloc),
                 check_flag(alloc),
+                needs_check(resync_flag(alloc)?)?,
                 blocking_flag(alloc),
                 count_flag(alloc),
                 file_argument(alloc, help),
@@ -50,6 +52,7 @@ impl Named {
                 scid_option(alloc),
                 vcid_option(alloc),
                 check_flag(alloc),
+                needs_check(resync_flag(alloc)?)?,
                 count_flag(alloc),
                 file_argument(alloc, help),
             ]?,
@@ -64,6 +67,7 @@ impl Named {
             Named::Check => vec![in alloc;
                 scid_option(alloc),
                 vcid_option(alloc),
+                resync_flag(alloc)?,
                 count_flag(alloc),
                 file_argument(alloc, help),
             ]?,
@@ -73,7 +77,11 @@ impl Named {
                 count_flag(alloc),
                 file_argument(alloc, help),
             ]?,
-            Named::Encode => vec![in alloc; check_flag(alloc), file_argument(alloc, help)]?,
+            Named::Encode => vec![in alloc;
+                check_flag(alloc),
+                skip_invalid_flag(alloc),
+                file_argument(alloc, help),
+            ]?,
             Named::Sim => vec![in alloc; file_argument(alloc, help)]?,
             Named::Ground | Named::Spacecraft => vec![in alloc; input_argument(alloc, help)]?,
         })
@@ -89,12 +97,12 @@ fn width_option<'a>(alloc: Global) -> Arg<'a>
 }
 
 // `--vr N`, the number of the first frame that is expected. A number and the word have a parser each.
-fn vr_option<'a>(alloc: Global, from_first: bool) -> Arg<'a>
+fn vr_option<'a>(alloc: Global, by_word: bool) -> Arg<'a>
     ensures { IsArgument result vr }
 {
     let help = "Number of the first frame that is expected, 0 to 255, or first [default: 0]";
     let number = option(alloc, "vr", "N", help);
-    if from_first {
+    if by_word {
         number
             .value_parser(ValueParser::Names(&[FIRST]))
             .hide_possible_values(true)
@@ -165,6 +173,32 @@ fn check_flag<'a>(alloc: Global) -> Arg<'a>
     ensures { IsArgument result check }
 {
     flag(alloc, "check", "The frames end with their check")
+}
+
+// `--resync`, whether octets that are no good frame of the channel are skipped; the channel is wanted then.
+fn resync_flag<'a>(alloc: Global) -> Result<Arg<'a>, AllocError>
+    ensures { IfOk result (λ argument. IsArgument argument resync) }
+{
+    let help = "Skips octets up to the next good frame of the channel";
+    flag(alloc, "resync", help)
+        .requires_arg("scid")?
+        .requires_arg("vcid")
+}
+
+// The argument, with which `--check` is wanted.
+fn needs_check<'a>(argument: Arg<'a>) -> Result<Arg<'a>, AllocError>
+    requires { IsArgument argument resync }
+    ensures { IfOk result (λ argument. IsArgument argument resync) }
+{
+    argument.requires_arg("check")
+}
+
+// `--skip-invalid`, whether lines in which no octets are to stand are skipped.
+fn skip_invalid_flag<'a>(alloc: Global) -> Arg<'a>
+    ensures { IsArgument result skip_invalid }
+{
+    let help = "Skips lines that are to have no octets, as those of refused records";
+    flag(alloc, "skip-invalid", help)
 }
 
 // `--blocking`, whether a segment may hold several packets.

@@ -4,7 +4,6 @@ ghost use Rattle.std.specs.Prelude.{IfOk, IfErr, IfSome};
 ghost use Rattle.command_line.specs.Arguments.{GivesAll, IsBare, wanted_of};
 ghost use Rattle.command_line.specs.Arguments.{IsInRange, IsOddIfWidth};
 
-use crate::arguments::FIRST;
 use crate::help::{COMMANDS, Described, ending_of_help};
 use crate::task::{Options, UsageFault};
 use clap::error::ErrorKind;
@@ -52,7 +51,7 @@ impl<'a> Described<'a> {
     {
         let arguments = self
             .command
-            .arguments(alloc, self.file, is_from_first(words))?;
+            .arguments(alloc, self.file, has_word_for_vr(words))?;
         let bare = self.bare(alloc)?;
         let command = bare.args(arguments)?;
         command.try_get_matches_from(words)
@@ -72,19 +71,32 @@ impl<'a> Described<'a> {
     }
 }
 
-// Whether the words have `--vr first`. What stands behind `--` is a file.
-fn is_from_first(words: &[&str]) -> bool {
+// Whether the words have `--vr first`, or another word for the number. What stands after `--` is a file.
+fn has_word_for_vr(words: &[&str]) -> bool {
     let mut before = "";
     for word in words {
         if *word == "--" {
             return false;
         }
-        if *word == "--vr=first" || (before == "--vr" && *word == FIRST) {
+        if begins_with_letter(value_of_vr(before, word)) {
             return true;
         }
         before = word;
     }
     false
+}
+
+// The value of `--vr` that a word has, after the word before it; nothing where it has none.
+fn value_of_vr<'a>(before: &str, word: &'a str) -> &'a [u8] {
+    match word.as_bytes() {
+        [b'-', b'-', b'v', b'r', b'=', value @ ..] => value,
+        value if before == "--vr" => value,
+        _ => b"",
+    }
+}
+
+fn begins_with_letter(value: &[u8]) -> bool {
+    matches!(value, [b'a'..=b'z' | b'A'..=b'Z', ..])
 }
 
 /// Reads the words of a command line, the program's name first. The numbers of the task that it returns

@@ -4,11 +4,11 @@ ghost use Rattle.std.specs.Prelude.{◌≡◌, ◌≤◌, IfOk, IfErr, IfSome};
 ghost use Rattle.cop1.specs.Farm.{IsWidth};
 ghost use Rattle.command_line.specs.Arguments.{Gives, GivesAll, file_of, length, wanted_of, width};
 ghost use Rattle.command_line.specs.Arguments.{apid, map, scid, telemetry_vcid, vcid};
-ghost use Rattle.command_line.specs.Arguments.{AreIdentifiers, IsInRange, IsMapPart, IsOddIfWidth};
+ghost use Rattle.command_line.specs.Arguments.{AreIdentifiers, IsInRange, IsMapPart, IsOddIfWidth, IsSearched};
 
 use crate::arguments::FIRST;
 use crate::commands::Named;
-use crate::task::{Channel, MapPart, Part, Task, UsageFault};
+use crate::task::{Channel, MapPart, Part, Searched, Task, UsageFault};
 use clap::ArgMatches;
 
 impl Named {
@@ -18,6 +18,11 @@ impl Named {
         ensures range { IfOk result IsInRange }
         ensures odd { IfErr result IsOddIfWidth }
     {
+        if let Some((scid, vcid)) = self.searched_channel(given) {
+            if let Some(listed) = self.searched(given)? {
+                return Ok(Task::Resync { listed, scid, vcid });
+            }
+        }
         Ok(match self {
             Named::Farm => Task::Farm {
                 check: given.get_flag("check"),
@@ -50,10 +55,49 @@ impl Named {
             },
             Named::Encode => Task::Encode {
                 check: given.get_flag("check"),
+                skips: given.get_flag("skip-invalid"),
             },
             Named::Sim => Task::Sim,
             Named::Ground => Task::Ground,
             Named::Spacecraft => Task::Spacecraft,
+        })
+    }
+
+    // The channel whose good frames are searched for, where they are.
+    fn searched_channel(self, given: &ArgMatches<'_>) -> Option<(u16, u8)>
+        requires { GivesAll given.now (wanted_of self) }
+        ensures { IfSome result (λ c. (c.0 ≤ 1023) × (c.1 ≤ 63)) }
+    {
+        match self {
+            Named::Farm | Named::Map | Named::Tc | Named::Check if given.get_flag("resync") => {
+                Some((scid_given(given)?, vcid_given(given)?))
+            }
+            _ => None,
+        }
+    }
+
+    // What is listed of those.
+    fn searched(self, given: &ArgMatches<'_>) -> Result<Option<Searched>, UsageFault>
+        requires { GivesAll given.now (wanted_of self) }
+        ensures range { IfOk result (λ listed. IfSome listed IsSearched) }
+        ensures odd { IfErr result IsOddIfWidth }
+    {
+        Ok(match self {
+            Named::Farm => Some(Searched::Farm {
+                width: width_given(given)?,
+                vr: vr_given(given),
+                from_first: is_from_first(given),
+            }),
+            Named::Map => Some(Searched::Map {
+                width: width_given(given)?,
+                vr: vr_given(given),
+                from_first: is_from_first(given),
+                blocking: given.get_flag("blocking"),
+                map: map_given(given),
+            }),
+            Named::Tc => Some(Searched::Tc),
+            Named::Check => Some(Searched::Check),
+            _ => None,
         })
     }
 

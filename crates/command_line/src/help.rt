@@ -56,6 +56,18 @@ macro_rules! ending_of_frames {
     };
 }
 
+/// The end of a help where lines are read that a node is asked.
+macro_rules! ending_of_lines {
+    ($line:literal, $($more:literal),*) => {
+        ending_of_help!(
+            $line,
+            $($more,)*
+            "FIELD is scid, vcid, tm_vcid, width, window, limit, timer, part, max_packet,\n",
+            "maps, ready_slots, bypass_slots, queue_slots, frame_length or blocking.\n\n"
+        )
+    };
+}
+
 pub(crate) use ending_of_help;
 
 // What `FILE` is for the commands that take telecommand frames.
@@ -166,13 +178,17 @@ pub const COMMANDS: [Described<'static>; 11] = [
         command: Named::Encode,
         name: "encode",
         bin_name: "tctool encode",
-        about: "Writes the octets of lines as tc and packets write them",
-        file: "Lines, one for each frame or packet, with or without their numbers",
+        about: "Writes the octets of lines as the other commands write them",
+        file: "Lines, one for each frame, packet or control word, with or without their numbers",
         ending: ending_of_help!(
             "Reads";
             "1 AD scid=1 vcid=2 n=3 seg=3 map=4 data=1005C0000000AA",
-            "and writes the frame or the packet of each. A line that is empty or begins with #\n",
-            "has none. Nothing is written of a line that is unreadable, or after it.\n\n"
+            "and writes the frame or the packet of each, or the octets after the words\n",
+            "  packet HEX, sent HEX, frame HEX, telemetry HEX, report HEX, clcw HEX\n",
+            "  packet M HEX, bypass M HEX, submit M HEX\n",
+            "A line that is empty or begins with # has none. Nothing is written of a line that\n",
+            "is unreadable, or after it. --skip-invalid skips the lines in which no octets are\n",
+            "to stand, as \"2 invalid 6 Check\" and \"ok\".\n\n"
         ),
     },
     Described {
@@ -181,7 +197,16 @@ pub const COMMANDS: [Described<'static>; 11] = [
         bin_name: "tctool sim",
         about: "Plays a script of the simulated link",
         file: "A script, a line for each event",
-        ending: ending_of_help!("AD 0 accepted ready"),
+        ending: ending_of_lines!(
+            "AD 0 accepted ready",
+            "The lines of a script, config before all others:\n",
+            "  config FIELD N, submit M HEX, bypass M HEX, telemetry HEX\n",
+            "  init none, init check, init unlock, init set X, terminate, resume X\n",
+            "  vs X, window X, limit X, timer X\n",
+            "  send, report, tick, take, takebypass, show\n",
+            "  up deliver, up lose, up damage HEX\n",
+            "  down deliver, down lose, down damage HEX, down clcw\n"
+        ),
     },
     Described {
         command: Named::Ground,
@@ -189,7 +214,14 @@ pub const COMMANDS: [Described<'static>; 11] = [
         bin_name: "tctool ground",
         about: "Plays a ground (FOP-1), answering each line before it reads more",
         file: "Lines, one for each call; standard input if it is not given",
-        ending: ending_of_help!("sent 0001080E00C41005C0000000AAE75D"),
+        ending: ending_of_lines!(
+            "sent 0001080E00C41005C0000000AAE75D",
+            "The lines that it reads, config before all others:\n",
+            "  config FIELD N, submit M HEX, bypass M HEX, telemetry HEX, clcw HEX\n",
+            "  init none, init check, init unlock, init set X, terminate, resume X\n",
+            "  vs X, window X, limit X, timer X\n",
+            "  send, tick, take, show\n"
+        ),
     },
     Described {
         command: Named::Spacecraft,
@@ -197,6 +229,11 @@ pub const COMMANDS: [Described<'static>; 11] = [
         bin_name: "tctool spacecraft",
         about: "Plays a spacecraft (FARM-1), answering each line before it reads more",
         file: "Lines, one for each call; standard input if it is not given",
-        ending: ending_of_help!("AD 0 accepted ready"),
+        ending: ending_of_lines!(
+            "AD 0 accepted ready",
+            "The lines that it reads, config before all others:\n",
+            "  config FIELD N, frame HEX, telemetry HEX\n",
+            "  send, report, take, takebypass, show\n"
+        ),
     },
 ];

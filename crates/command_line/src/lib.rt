@@ -9,4 +9,4 @@ mod help;
 mod task;
 
 pub use commands::options;
-pub use task::{Channel, MapPart, Options, Part, Task, UsageFault};
+pub use task::{Channel, MapPart, Options, Part, Searched, Task, UsageFault};

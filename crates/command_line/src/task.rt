@@ -25,6 +25,26 @@ pub struct MapPart {
     pub map: Option<u8>,
 }
 
+/// What is listed of the good frames of a channel, where octets may be damaged between them: what
+/// `Task::Farm`, `Task::Map`, `Task::Tc` and `Task::Check` list.
+#[derive(Clone, Copy, Debug, Drop, PartialEq, Eq)]
+pub enum Searched {
+    Farm {
+        width: u8,
+        vr: u8,
+        from_first: bool,
+    },
+    Map {
+        width: u8,
+        vr: u8,
+        from_first: bool,
+        blocking: bool,
+        map: Option<u8>,
+    },
+    Tc,
+    Check,
+}
+
 /// What is to be done with the file. Where there is `check`, it says whether frames end with their FECF.
 /// What of the file is listed is all of it, where it is not given.
 #[derive(Clone, Copy, Debug, Drop, PartialEq, Eq)]
@@ -64,13 +84,22 @@ pub enum Task {
     Check {
         channel: Option<Channel>,
     },
+    /// Lists the good frames of this channel, of frames that end with their FECF, wherever they begin, and
+    /// what is skipped between them.
+    Resync {
+        listed: Searched,
+        scid: u16,
+        vcid: u8,
+    },
     /// Lists the fields of each space packet, of those of this application process.
     Packets {
         apid: Option<u16>,
     },
-    /// Writes the octets of lines as those of `Tc` and of `Packets` are.
+    /// Writes the octets of lines: those of `Tc` and of `Packets`, and those that hold octets. With `skips`
+    /// other lines have none.
     Encode {
         check: bool,
+        skips: bool,
     },
     /// Plays a script of the simulated link.
     Sim,

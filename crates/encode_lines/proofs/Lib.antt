@@ -1,4 +1,5 @@
 pub mod Words
 pub mod FrameLines
 pub mod PacketLines
+pub mod HeldLines
 pub mod Runs

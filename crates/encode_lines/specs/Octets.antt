@@ -1,6 +1,7 @@
 -- The octets that lines stand for, and what an encoder writes of a text.
 use Rattle.std.specs.Prelude.{◌≡◌, ℕ, Bool, List, [], ◌++◌, Option, unwrap_or, is_some, Result}
-use Rattle.std.specs.Prelude.{IfOk, ◌+◌, ◌==◌, if◌then◌else◌, ◌∷◌, Some, None, option_and_then, not}
+use Rattle.std.specs.Prelude.{IfOk, ◌+◌, ◌==◌, ◌&&◌, if◌then◌else◌, ◌∷◌, Some, None}
+use Rattle.std.specs.Prelude.{option_and_then, not}
 use Rattle.std.specs.Option.{option_or}
 use Rattle.tc_frame.specs.declared.frame.Check.{Check}
 use Rattle.script_lines.specs.Words.{words_in}
@@ -8,6 +9,7 @@ use Rattle.line_stream.specs.Lines.{lines_of}
 use Rattle.line_stream.specs.Player.{Playing}
 use Rattle.encode_lines.specs.Fields.{without_number}
 use Rattle.encode_lines.specs.Frames.{frame_in, frame_octets}
+use Rattle.encode_lines.specs.Held.{claims_octets, held_in}
 use Rattle.encode_lines.specs.Packets.{packet_in, packet_octets}
 use Rattle.encode_lines.specs.declared.encoder.Encoder.{Encoder}
 
@@ -18,20 +20,28 @@ abbrev pub Puts : {E : Type 0} → Result Bool E → List ℕ → List ℕ → O
 Puts result old new octets =
     IfOk result (λ good. (new ≡ old ++ unwrap_or octets []) × (good ≡ is_some octets))
 
--- The octets of lines that `tctool tc` and `tctool packets` write.
+-- The octets of lines.
 
--- the octets of the frame or packet that these words say
+-- the octets of the packet that these words say, or else those that they hold
+abbrev pub packet_or_held : List (List ℕ) → Option (List ℕ)
+packet_or_held words = option_or (option_and_then packet_octets (packet_in words)) (held_in words)
+
+-- the octets of the frame that these words say, or else those of a packet or that they hold
 abbrev pub words_octets : Check → List (List ℕ) → Option (List ℕ)
 words_octets check words =
-    option_or (option_and_then (frame_octets check) (frame_in words))
-    (option_and_then packet_octets (packet_in words))
+    option_or (option_and_then (frame_octets check) (frame_in words)) (packet_or_held words)
+
+-- and, where lines without octets are skipped, none of a line that has none
+abbrev pub octets_or_skipped : Bool → Check → List (List ℕ) → Option (List ℕ)
+octets_or_skipped skips check words =
+    if skips && not (claims_octets words) then Some [] else words_octets check words
 
 -- the octets of a line: none of one that is empty or a note
-abbrev pub line_octets : Check → List ℕ → Option (List ℕ)
-line_octets check [] = Some []
-line_octets check (octet ∷ more) =
+abbrev pub line_octets : Bool → Check → List ℕ → Option (List ℕ)
+line_octets skips check [] = Some []
+line_octets skips check (octet ∷ more) =
     if octet == 35 then Some []
-    else words_octets check (without_number (words_in (octet ∷ more)))
+    else octets_or_skipped skips check (without_number (words_in (octet ∷ more)))
 
 -- ---- lines, one after another
 
@@ -41,10 +51,10 @@ and_then None more = []
 and_then (Some octets) more = octets ++ more
 
 -- the octets of lines, up to the first one that is unreadable
-abbrev pub octets_of_lines : Check → List (List ℕ) → List ℕ
-octets_of_lines check [] = []
-octets_of_lines check (line ∷ lines) =
-    and_then (line_octets check line) (octets_of_lines check lines)
+abbrev pub octets_of_lines : Bool → Check → List (List ℕ) → List ℕ
+octets_of_lines skips check [] = []
+octets_of_lines skips check (line ∷ lines) =
+    and_then (line_octets skips check line) (octets_of_lines skips check lines)
 
 -- this number where a line has no octets, and else what the lines after it give
 abbrev pub or_number : Option (List ℕ) → ℕ → Option ℕ → Option ℕ
@@ -52,32 +62,32 @@ or_number None n more = Some n
 or_number (Some octets) n more = more
 
 -- the number of the first of these lines that is unreadable, where so many stand before them
-abbrev pub unreadable_after : Check → ℕ → List (List ℕ) → Option ℕ
-unreadable_after check n [] = None
-unreadable_after check n (line ∷ lines) =
-    or_number (line_octets check line) (n + 1) (unreadable_after check (n + 1) lines)
+abbrev pub unreadable_after : Bool → Check → ℕ → List (List ℕ) → Option ℕ
+unreadable_after skips check n [] = None
+unreadable_after skips check n (line ∷ lines) =
+    or_number (line_octets skips check line) (n + 1) (unreadable_after skips check (n + 1) lines)
 
 -- the octets of a text, and the number of its first line that is unreadable
-abbrev pub octets_in : Check → List ℕ → List ℕ
-octets_in check text = octets_of_lines check (lines_of text)
+abbrev pub octets_in : Bool → Check → List ℕ → List ℕ
+octets_in skips check text = octets_of_lines skips check (lines_of text)
 
-abbrev pub unreadable_in : Check → List ℕ → Option ℕ
-unreadable_in check text = unreadable_after check 0 (lines_of text)
+abbrev pub unreadable_in : Bool → Check → List ℕ → Option ℕ
+unreadable_in skips check text = unreadable_after skips check 0 (lines_of text)
 
 -- An encoder as a player of lines: after the first one that is unreadable it writes nothing.
 
 -- before the first line
-abbrev pub fresh : Check → Encoder
-fresh check = record { check = check; lines = 0; refused = None }
+abbrev pub fresh : Bool → Check → Encoder
+fresh skips check = record { skips = skips; check = check; lines = 0; refused = None }
 
 abbrev pub answer_to : Encoder → List ℕ → List ℕ
-answer_to e line = if is_some e.refused then [] else unwrap_or (line_octets e.check line) []
+answer_to e line = if is_some e.refused then [] else unwrap_or (line_octets e.skips e.check line) []
 
 -- the number of the first line that is unreadable, once this one is read
 abbrev pub refused_after : Encoder → List ℕ → Option ℕ
 refused_after e line =
     if is_some e.refused then e.refused
-    else if is_some (line_octets e.check line) then None
+    else if is_some (line_octets e.skips e.check line) then None
     else Some (e.lines + 1)
 
 abbrev pub encoding : Playing Encoder

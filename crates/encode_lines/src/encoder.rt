@@ -3,10 +3,11 @@
 ghost use Rattle.std.specs.Prelude.{◌≡◌, None, map, OnOk, IfOk};
 ghost use Rattle.listings.specs.Devices.{HasEnded, gained};
 ghost use Rattle.listings.specs.Streams.{Reads, WritesText};
-ghost use Rattle.encode_lines.specs.Octets.{Puts, words_octets, line_octets, octets_in, unreadable_in};
+ghost use Rattle.encode_lines.specs.Octets.{Puts, packet_or_held, words_octets, octets_or_skipped, line_octets, octets_in, unreadable_in};
 
 use crate::fields::{without_number, words_in};
 use crate::frames::frame_in;
+use crate::held::{claims_octets, digits_in, put_digits};
 use crate::packets::packet_in;
 use crate::spellings::{put_frame, put_packet};
 use line_stream::{Responder, respond_to_stream};
@@ -14,7 +15,29 @@ use listings::{ListingFault, Sink, Source};
 use std::alloc::{AllocError, Global};
 use tc_frame::Check;
 
-// Appends the octets of the frame or packet that these words say, and says whether they say one.
+// Appends the octets of the packet that these words say, or else those that they hold, and says whether there
+// are some.
+fn put_packet_or_held(
+    alloc: Global,
+    words: &[&[u8]],
+    text: &mut Vec<u8>,
+) -> Result<bool, AllocError>
+    ensures { Puts result text.old.items text.new.items
+        (packet_or_held (map (λ word. word.now) words.now)) }
+{
+    if let Some(packet) = packet_in(words) {
+        if put_packet(alloc, &packet, text)? {
+            return Ok(true);
+        }
+    }
+    match digits_in(words) {
+        Some(digits) => put_digits(alloc, digits, text),
+        None => Ok(false),
+    }
+}
+
+// Appends the octets of the frame that these words say, or else those of a packet or that they hold, and says
+// whether there are some.
 fn put_words(
     alloc: Global,
     check: Check,
@@ -29,27 +52,42 @@ fn put_words(
             return Ok(true);
         }
     }
-    match packet_in(words) {
-        Some(packet) => put_packet(alloc, &packet, text),
-        None => Ok(false),
+    put_packet_or_held(alloc, words, text)
+}
+
+// And appends nothing, where lines without octets are skipped and these words have none.
+fn put_or_skip(
+    alloc: Global,
+    skips: bool,
+    check: Check,
+    words: &[&[u8]],
+    text: &mut Vec<u8>,
+) -> Result<bool, AllocError>
+    ensures { Puts result text.old.items text.new.items
+        (octets_or_skipped skips check (map (λ word. word.now) words.now)) }
+{
+    if skips && !claims_octets(words) {
+        return Ok(true);
     }
+    put_words(alloc, check, words, text)
 }
 
 // Appends the octets of a line, and says whether it is one that has octets, or is skipped.
 fn put_line(
     alloc: Global,
+    skips: bool,
     check: Check,
     line: &[u8],
     text: &mut Vec<u8>,
 ) -> Result<bool, AllocError>
-    ensures { Puts result text.old.items text.new.items (line_octets check line.now) }
+    ensures { Puts result text.old.items text.new.items (line_octets skips check line.now) }
 {
     match line {
         [] => Ok(true),
         [b'#', ..] => Ok(true),
         _ => {
             let words = words_in(alloc, line)?;
-            put_words(alloc, check, without_number(words.as_slice()), text)
+            put_or_skip(alloc, skips, check, without_number(words.as_slice()), text)
         }
     }
 }
@@ -57,6 +95,8 @@ fn put_line(
 // Makes octets of lines, up to the first one that is unreadable.
 #[derive(Drop)]
 pub struct Encoder {
+    // Whether lines without octets are skipped.
+    skips: bool,
     // Whether telecommand frames have their FECF.
     check: Check,
     // How many lines there were.
@@ -69,10 +109,11 @@ impl Encoder {
     ghost use Rattle.encode_lines.specs.Octets.{fresh};
 
     // Before the first line.
-    fn new(check: Check) -> Self
-        ensures { result ≡ fresh check }
+    fn new(skips: bool, check: Check) -> Self
+        ensures { result ≡ fresh skips check }
     {
         Encoder {
+            skips,
             check,
             lines: 0,
             refused: None,
@@ -95,7 +136,7 @@ impl Responder<Vec<u8>> for Encoder {
             // There are more lines than octets can be read.
             return Err(AllocError);
         };
-        if self.refused.is_none() && !put_line(alloc, self.check, line, text)? {
+        if self.refused.is_none() && !put_line(alloc, self.skips, self.check, line, text)? {
             self.refused = Some(lines);
         }
         self.lines = lines;
@@ -107,23 +148,25 @@ impl Responder<Vec<u8>> for Encoder {
 /// answers the number of the first line that is unreadable, from 1 on. Lines after it are read, and nothing
 /// is written of them.
 ///
-/// A line is one that `tctool tc` or `tctool packets` writes, with or without its number. One that is empty,
-/// or begins with `#`, has no octets. With `Check::On` telecommand frames have their FECF.
+/// A line is one that `tctool tc` or `tctool packets` writes, or holds octets after its words, with or
+/// without its number. One that is empty, or begins with `#`, has no octets; with `skips` neither has one in
+/// which no octets are to stand. With `Check::On` the telecommand frames of fields have their FECF.
 /// Faults: Read, Write, Memory, TooLong. Memory: yes. Cost: the number of octets read and written.
 pub fn encode_stream<R: Source, W: Sink>(
     alloc: Global,
     reader: &mut R,
     writer: &mut W,
+    skips: bool,
     check: Check,
 ) -> Result<Option<u64>, ListingFault>
     ensures reads { Reads R.given R.remaining R.failures result reader.old reader.new }
     ensures writes { WritesText W.taken_octets W.failures result writer.old writer.new
-        (octets_in check (gained (R.given reader.old) (R.given reader.new))) }
+        (octets_in skips check (gained (R.given reader.old) (R.given reader.new))) }
     ensures unreadable { IfOk result (λ line. line
-        ≡ unreadable_in check (gained (R.given reader.old) (R.given reader.new))) }
+        ≡ unreadable_in skips check (gained (R.given reader.old) (R.given reader.new))) }
     ensures end { OnOk result (HasEnded (R.has_ended reader.new) (R.remaining reader.new)) }
 {
-    let mut encoder = Encoder::new(check);
+    let mut encoder = Encoder::new(skips, check);
     match respond_to_stream(alloc, reader, writer, &mut encoder, Vec::<u8>::new(alloc)) {
         Ok(_) => Ok(encoder.refused),
         Err(fault) => Err(fault),

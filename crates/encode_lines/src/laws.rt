@@ -1,7 +1,9 @@
 // Laws of the definitions: what is made of a line has that line.
 
-ghost use Rattle.std.specs.Prelude.{◌≡◌, ℕ, List, Option, true, length, Some, Ok};
+ghost use Rattle.std.specs.Prelude.{◌≡◌, ◌≤◌, ◌++◌, codes, decimal, ℕ, List, Option, true, length, Some, Ok};
 ghost use Rattle.hex.specs.Hex.{IsBytes};
+ghost use Rattle.listings.specs.Text.{line_end};
+ghost use Rattle.script_lines.specs.Spelling.{IsHex};
 ghost use Rattle.script_lines.specs.Words.{words_in};
 ghost use Rattle.space_packet.specs.Layout.{PacketView};
 ghost use Rattle.space_packet.specs.Decoding.{packet_at};
@@ -12,6 +14,7 @@ ghost use Rattle.tc_frame.specs.Decoding.{frame_at};
 ghost use Rattle.tc_frame.specs.Encoding.{frame_fits};
 ghost use Rattle.encode_lines.specs.Fields.{without_number};
 ghost use Rattle.encode_lines.specs.Frames.{frame_in, frame_octets};
+ghost use Rattle.encode_lines.specs.Held.{held_in, holds_octets, holds_packet};
 ghost use Rattle.encode_lines.specs.Packets.{packet_in, packet_octets};
 ghost use Rattle.encode_lines.specs.Listed.{IsLineOf, HasOctets, IsGap, frame_text, packet_text};
 
@@ -37,4 +40,18 @@ pub fn law_of_packet_lines()
         → packet_in (without_number (words_in line)) ≡ Some p }
     ensures read { (p : PacketView) (octets : List ℕ) → packet_octets p ≡ Some octets
         → packet_at octets ≡ Ok (p, length octets) }
+{}
+
+/// A line that is a word and octets, or a word, a MAP and octets, holds these octets, with or without its
+/// number: as the nodes write and read `sent`, `frame`, `telemetry`, `report` and `clcw`, and `tctool map`
+/// its packets.
+pub fn law_of_octets_in_lines()
+    ensures octets { (word octets digits line : List ℕ) → holds_octets word ≡ true → IsHex octets digits
+        → IsLineOf (word ++ (codes " " ++ (digits ++ line_end))) line
+        → held_in (without_number (words_in line)) ≡ Some octets }
+    ensures packets { (word octets digits line : List ℕ) (on_map : ℕ) → holds_packet word ≡ true
+        → on_map ≤ 63 → IsHex octets digits
+        → IsLineOf (word ++ (codes " " ++ (decimal on_map ++ (codes " " ++ (digits ++ line_end)))))
+        line
+        → held_in (without_number (words_in line)) ≡ Some octets }
 {}

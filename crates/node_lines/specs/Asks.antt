@@ -1,5 +1,5 @@
--- What a line says to a node: a line of a script, or one of `frame HEX` and `clcw HEX`.
-use Rattle.std.specs.Prelude.{◌≤◌, ℕ, List, [], codes, Option, Some, None}
+-- What a line says to a node: a line of a script, or one of `frame HEX`, `clcw HEX` and `help`.
+use Rattle.std.specs.Prelude.{◌≤◌, ℕ, if◌then◌else◌, List, [], codes, Option, Some, None}
 use Rattle.std.specs.Prelude.{option_map, ◌≡◌, Result, String, OnOk}
 use Rattle.octets.specs.Beginning.{Appends}
 use Rattle.cop1.specs.declared.vocabulary.Directive.{Directive}
@@ -8,6 +8,8 @@ use Rattle.nodes.specs.declared.event.Event.TheVariants as events
 use Rattle.nodes.specs.declared.parameter.Parameter.{Parameter}
 use Rattle.nodes.specs.declared.config.Config.{Config}
 use Rattle.nodes.specs.Steps.{Outcome}
+use Rattle.std.specs.Str.{bytes_eq}
+use Rattle.script_lines.specs.Causes.{cause_in}
 use Rattle.script_lines.specs.Words.{octets_in_word, rest_after, after_words}
 use Rattle.script_lines.specs.Lines.{ScriptLine, line_in, octets_of_digits}
 use Rattle.script_lines.specs.Lines as scripts
@@ -42,7 +44,10 @@ pub data NodeLine : Type 0 where
   -- a managed parameter gets this value
   Setting : Parameter → ℕ → NodeLine
   Asking : Ask → NodeLine
-  Unreadable : NodeLine
+  -- the lines that the node reads are listed
+  Helping : NodeLine
+  -- for this cause
+  Unreadable : List ℕ → NodeLine
 
 -- ---- a line of a script
 
@@ -60,16 +65,17 @@ ask_of events.TakeBypass = Some TakeBypass
 ask_of (events.Telemetry octets) = Some (Telemetry octets.now)
 ask_of event = None
 
-abbrev pub asking : Option Ask → NodeLine
-asking (Some ask) = Asking ask
-asking None = Unreadable
+abbrev pub asking : List ℕ → Option Ask → NodeLine
+asking cause (Some ask) = Asking ask
+asking cause None = Unreadable cause
 
-abbrev pub line_of_script : ScriptLine → NodeLine
-line_of_script scripts.Skipped = Skipped
-line_of_script (scripts.Setting parameter n) = Setting parameter n
-line_of_script (scripts.Happening event) = asking (ask_of event)
-line_of_script scripts.Showing = Asking Show
-line_of_script scripts.Unreadable = Unreadable
+-- where it says nothing to a node it is unreadable, for this cause
+abbrev pub line_of_script : List ℕ → ScriptLine → NodeLine
+line_of_script cause scripts.Skipped = Skipped
+line_of_script cause (scripts.Setting parameter n) = Setting parameter n
+line_of_script cause (scripts.Happening event) = asking cause (ask_of event)
+line_of_script cause scripts.Showing = Asking Show
+line_of_script cause scripts.Unreadable = Unreadable cause
 
 -- ---- a line that no script has
 
@@ -86,7 +92,9 @@ asking_or (Some ask) line = Asking ask
 asking_or None line = line
 
 abbrev pub node_line : List ℕ → NodeLine
-node_line line = asking_or (own_ask line) (line_of_script (line_in line))
+node_line line =
+    if bytes_eq line (codes "help") then Helping
+    else asking_or (own_ask line) (line_of_script (cause_in line) (line_in line))
 
 -- ---- an ask as the code has it
 
@@ -126,7 +134,8 @@ abbrev pub line_view : code_line.NodeLine → NodeLine
 line_view lines.Skipped = Skipped
 line_view (lines.Setting parameter n) = Setting parameter n
 line_view (lines.Asking ask) = Asking (ask_said ask)
-line_view lines.Unreadable = Unreadable
+line_view lines.Helping = Helping
+line_view (lines.Unreadable cause) = Unreadable cause.now
 
 -- what is read fits: a parameter's number is no greater than its most
 abbrev pub IsWellRead : code_line.NodeLine → Type 0
@@ -144,6 +153,10 @@ Turn S = Outcome S (List ℕ)
 pub record NodeRules (S : Type 0) : Type 0 where
   pub new : Config → S
   pub asked : Ask → Option (S → Turn S)
+  -- what may not be asked of it, though another line says it
+  pub others : List ℕ
+  -- the lines that it reads
+  pub lines : List ℕ
 
 -- an answer after which the node is as it was
 abbrev pub told : {S : Type 0} → (S → List ℕ) → S → Turn S

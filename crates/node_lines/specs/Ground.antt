@@ -105,4 +105,13 @@ ground_asked Show = Some (told ground_show)
 ground_asked _ = None
 
 abbrev pub ground_rules : NodeRules GroundState
-ground_rules = record { new = new_ground; asked = ground_asked }
+ground_rules = record {
+  new = new_ground;
+  asked = ground_asked;
+  others = codes "it is for a spacecraft, or its control word has other than 4 octets";
+  lines = codes
+      "config FIELD N, submit M HEX, bypass M HEX, init none, init check, init unlock, init set X, "
+      ++ (codes
+      "terminate, resume X, vs X, window X, limit X, timer X, send, tick, telemetry HEX, clcw HEX, "
+      ++ codes "take, show, help");
+}

@@ -7,8 +7,8 @@ use Rattle.nodes.specs.Parameters.{default_config, with_value, config_fault}
 use Rattle.line_stream.specs.Player.{Playing}
 use Rattle.node_lines.specs.declared.player.NodePlayer.{NodePlayer}
 use Rattle.node_lines.specs.declared.player.NodePlayer.TheVariants.{Configured, Made}
-use Rattle.node_lines.specs.Asks.{NodeLine, Skipped, Setting, Asking, Unreadable, node_line, Turn}
-use Rattle.node_lines.specs.Asks.{NodeRules}
+use Rattle.node_lines.specs.Asks.{NodeLine, Skipped, Setting, Asking, Helping, Unreadable}
+use Rattle.node_lines.specs.Asks.{node_line, NodeRules, Turn}
 
 -- what a line answers, with its line feed, what is after it, and whether it was good
 pub record LineOutcome (S : Type 0) : Type 0 where
@@ -21,8 +21,10 @@ module _ {S : Type 0} where
   abbrev pub silent : NodePlayer S → LineOutcome S
   silent p = record { answer = []; after = p; is_good = true }
 
-  abbrev pub unreadable : NodePlayer S → LineOutcome S
-  unreadable p = record { answer = codes "unreadable" ++ 10 ∷ []; after = p; is_good = false }
+  -- for this cause
+  abbrev pub unreadable : List ℕ → NodePlayer S → LineOutcome S
+  unreadable cause p =
+      record { answer = codes "unreadable: " ++ (cause ++ 10 ∷ []); after = p; is_good = false }
 
   -- this field is out of its range, and no node is made
   abbrev pub out_of_range : Config → List ℕ → LineOutcome S
@@ -40,7 +42,8 @@ module _ {S : Type 0} where
   -- settings stand before the node is made
   abbrev pub set_step : NodePlayer S → Parameter → ℕ → LineOutcome S
   set_step (Configured c) parameter n = silent (Configured (with_value c parameter n))
-  set_step (Made s) parameter n = unreadable (Made s)
+  set_step (Made s) parameter n =
+      unreadable (codes "it is config after other lines") (Made s)
 
   module _ (rules : NodeRules S) where
     -- the node is made of a configuration whose fields are in range, and asked this
@@ -50,15 +53,21 @@ module _ {S : Type 0} where
 
     -- what may be asked of the other node alone is unreadable
     abbrev pub asked_step : NodePlayer S → Option (S → Turn S) → LineOutcome S
-    asked_step p None = unreadable p
+    asked_step p None = unreadable rules.others p
     asked_step (Configured c) (Some turn) = made_step c (config_fault c) turn
     asked_step (Made s) (Some turn) = answered (turn s)
+
+    -- the lines that the node reads, in one
+    abbrev pub helped : NodePlayer S → LineOutcome S
+    helped p =
+        record { answer = codes "lines: " ++ (rules.lines ++ 10 ∷ []); after = p; is_good = true }
 
     abbrev pub line_step : NodePlayer S → NodeLine → LineOutcome S
     line_step p Skipped = silent p
     line_step p (Setting parameter n) = set_step p parameter n
     line_step p (Asking ask) = asked_step p (rules.asked ask)
-    line_step p Unreadable = unreadable p
+    line_step p Helping = helped p
+    line_step p (Unreadable cause) = unreadable cause p
 
     -- a line of text, without its line feed
     abbrev pub text_step : NodePlayer S → List ℕ → LineOutcome S

@@ -79,4 +79,10 @@ spacecraft_asked Show = Some (told spacecraft_show)
 spacecraft_asked _ = None
 
 abbrev pub spacecraft_rules : NodeRules SpacecraftState
-spacecraft_rules = record { new = new_spacecraft; asked = spacecraft_asked }
+spacecraft_rules = record {
+  new = new_spacecraft;
+  asked = spacecraft_asked;
+  others = codes "it is for a ground";
+  lines = codes
+      "config FIELD N, frame HEX, telemetry HEX, send, report, take, takebypass, show, help";
+}

@@ -47,8 +47,10 @@ pub enum NodeLine<'a> {
     Setting(Parameter, u64),
     /// This is asked of the node.
     Asking(Ask<'a>),
-    /// It is none of these.
-    Unreadable,
+    /// The lines that the node reads are listed.
+    Helping,
+    /// It is none of these, for this cause.
+    Unreadable(&'static str),
 }
 
 // The octets of an ask, or the digits in place of them; none where it carries none.

@@ -38,6 +38,18 @@ impl Node for Ground {
         }
     }
 
+    fn others() -> &'static str {
+        "it is for a spacecraft, or its control word has other than 4 octets"
+    }
+
+    fn lines() -> &'static str {
+        concat!(
+            "config FIELD N, submit M HEX, bypass M HEX, init none, init check, init unlock, init set X, ",
+            "terminate, resume X, vs X, window X, limit X, timer X, send, tick, telemetry HEX, clcw HEX, ",
+            "take, show, help"
+        )
+    }
+
     fn answer(&mut self, alloc: Global, ask: Ask<'_>, text: &mut String) -> Result<(), AllocError> {
         match ask {
             Ask::Submit(map, octets) => submit(self, text, map, octets),

@@ -20,6 +20,14 @@ pub trait Node {
     fn takes(ask: Ask<'_>) -> bool
         ensures { result ≡ is_some (rules.asked (ask_view ask.entry)) };
 
+    /// What may not be asked of such a node, though another line says it.
+    fn others() -> &'static str
+        ensures { result.now ≡ rules.others };
+
+    /// The lines that it reads.
+    fn lines() -> &'static str
+        ensures { result.now ≡ rules.lines };
+
     /// Does what is asked, and appends the answer. What is asked of another node alone does nothing.
     /// Faults: AllocError. Memory: yes. Cost: that of the node's call, and of the answer.
     fn answer(&mut self, alloc: Global, ask: Ask<'_>, text: &mut String) -> Result<(), AllocError>

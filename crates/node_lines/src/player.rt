@@ -49,7 +49,7 @@ impl<N: Node + Drop> NodePlayer<N> {
                 config.set(parameter, number);
                 Ok(true)
             }
-            NodePlayer::Made(_) => push_unreadable(text),
+            NodePlayer::Made(_) => push_unreadable(text, "it is config after other lines"),
         }
     }
 
@@ -63,7 +63,7 @@ impl<N: Node + Drop> NodePlayer<N> {
             ≡ (asked_step N.rules self.old (N.rules.asked (ask_view ask.entry))).is_good) }
     {
         if !N::takes(ask) {
-            return push_unreadable(text);
+            return push_unreadable(text, N::others());
         }
         match self {
             NodePlayer::Configured(config) => match config.valid() {
@@ -108,7 +108,8 @@ impl<N: Node + Drop> Player for NodePlayer<N> {
             NodeLine::Skipped => Ok(true),
             NodeLine::Setting(parameter, number) => self.set(parameter, number, text),
             NodeLine::Asking(ask) => self.ask_digits(alloc, ask, text),
-            NodeLine::Unreadable => push_unreadable(text),
+            NodeLine::Helping => push_lines(text, N::lines()),
+            NodeLine::Unreadable(cause) => push_unreadable(text, cause),
         }
     }
 }
@@ -130,12 +131,20 @@ fn answer<N: Node>(
     Ok(true)
 }
 
-fn push_unreadable(text: &mut String) -> Result<bool, AllocError>
-    ensures text { Appends result text.old text.new (codes "unreadable" ++ 10 ∷ []) }
+fn push_unreadable(text: &mut String, cause: &str) -> Result<bool, AllocError>
+    ensures text { Appends result text.old text.new (codes "unreadable: " ++ (cause.now ++ 10 ∷ [])) }
     ensures good { IfOk result (λ good. good ≡ false) }
 {
-    text.push_str("unreadable\n")?;
+    write!(text, "unreadable: {cause}\n")?;
     Ok(false)
+}
+
+fn push_lines(text: &mut String, lines: &str) -> Result<bool, AllocError>
+    ensures text { Appends result text.old text.new (codes "lines: " ++ (lines.now ++ 10 ∷ [])) }
+    ensures good { IfOk result (λ good. good ≡ true) }
+{
+    write!(text, "lines: {lines}\n")?;
+    Ok(true)
 }
 
 fn push_out_of_range(text: &mut String, field: &str) -> Result<bool, AllocError>

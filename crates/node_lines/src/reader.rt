@@ -9,7 +9,7 @@ ghost use Rattle.node_lines.specs.Asks.{ask_of, asking, ask_said, own_ask, line_
 
 use crate::ask::{Ask, NodeLine};
 use nodes::Event;
-use script_lines::{Line, is_octets, read_line, rest_after};
+use script_lines::{Line, cause_in, is, is_octets, read_line, rest_after};
 
 /// What a line says to a node, a line of a script or one that no script has. The octets that it carries are
 /// lent as digits.
@@ -18,15 +18,19 @@ pub fn node_line(line: &[u8]) -> NodeLine<'_>
     ensures line { line_view result ≡ node_line line.now }
     ensures fits { IsWellRead result }
 {
+    if is(line, "help") {
+        return NodeLine::Helping;
+    }
     match own_ask(line) {
         Some(ask) => NodeLine::Asking(ask),
-        None => line_of_script(read_line(line)),
+        None => line_of_script(cause_in(line), read_line(line)),
     }
 }
 
-fn line_of_script(line: Line<'_>) -> NodeLine<'_>
+// What a line of a script says to a node, which is unreadable for this cause where it says nothing.
+fn line_of_script<'a>(cause: &'static str, line: Line<'a>) -> NodeLine<'a>
     requires { scripts.IsWellRead line }
-    ensures line { line_view result ≡ line_of_script (scripts.line_view line.entry) }
+    ensures line { line_view result ≡ line_of_script cause.now (scripts.line_view line.entry) }
     ensures fits { IsWellRead result }
 {
     match line {
@@ -34,10 +38,10 @@ fn line_of_script(line: Line<'_>) -> NodeLine<'_>
         Line::Setting(parameter, number) => NodeLine::Setting(parameter, number),
         Line::Happening(event) => match ask_of(event) {
             Some(ask) => NodeLine::Asking(ask),
-            None => NodeLine::Unreadable,
+            None => NodeLine::Unreadable(cause),
         },
         Line::Showing => NodeLine::Asking(Ask::Show),
-        Line::Unreadable => NodeLine::Unreadable,
+        Line::Unreadable => NodeLine::Unreadable(cause),
     }
 }
 

@@ -41,6 +41,14 @@ impl Node for Spacecraft {
         }
     }
 
+    fn others() -> &'static str {
+        "it is for a ground"
+    }
+
+    fn lines() -> &'static str {
+        "config FIELD N, frame HEX, telemetry HEX, send, report, take, takebypass, show, help"
+    }
+
     fn answer(&mut self, alloc: Global, ask: Ask<'_>, text: &mut String) -> Result<(), AllocError> {
         match ask {
             Ask::Frame(octets) => receive(self, text, octets),

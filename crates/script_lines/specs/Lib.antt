@@ -3,3 +3,4 @@ pub mod Lines
 pub mod Spelling
 pub mod Scripts
 pub mod Programs
+pub mod Causes

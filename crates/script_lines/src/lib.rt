@@ -4,6 +4,7 @@
 //! `read_script` reads each line of a script once, into a configuration and a program. There is no link here.
 #![tactic(auto)]
 
+mod causes;
 mod laws;
 mod line;
 mod pieces;
@@ -11,6 +12,7 @@ mod reader;
 mod scripts;
 mod words;
 
+pub use causes::cause_in;
 pub use laws::{law_of_commands, law_of_numbers, law_of_octets};
 pub use line::{Line, Rest, digits_of};
 pub use pieces::cut;

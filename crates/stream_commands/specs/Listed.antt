@@ -9,8 +9,11 @@ use Rattle.cop1.specs.Farm.{FarmState, new_farm}
 use Rattle.command_line.specs.declared.task.Channel.{Channel}
 use Rattle.command_line.specs.declared.task.MapPart.{MapPart}
 use Rattle.command_line.specs.declared.task.Part.{Part}
+use Rattle.command_line.specs.declared.task.Searched.{Searched}
+use Rattle.command_line.specs.declared.task.Searched.TheVariants as searches
 use Rattle.command_line.specs.declared.task.Task.{Task}
 use Rattle.command_line.specs.declared.task.Task.TheVariants as tasks
+use Rattle.found_frames.specs.Found.{found, found_summary}
 use Rattle.listings.specs.FarmLines.{farm_lines}
 use Rattle.listings.specs.Filters.{keeps_frame, keeps_packet, keeps_telemetry, only}
 use Rattle.listings.specs.FirstNumber.{farm_begun, from_first}
@@ -31,9 +34,12 @@ use Rattle.stream_commands.specs.Outcome.{outcome_if}
 
 -- What is done with a file: its records are listed, cut by this layout, with these lines and this
 -- kept before the first;
+-- or the good frames of a channel, of this spacecraft and this virtual channel, are listed so, and
+-- what is skipped between them;
 -- or it is played, as a script or line by line, and is no stream of records.
 pub data Work : Type 1 where
   Lists : {S F : Type 0} → Layout F → Lines S F → S → Work
+  Finds : {S F : Type 0} → ℕ → ℕ → Lines S F → S → Work
   Plays : Work
 
 -- the telecommand frames of a channel
@@ -74,6 +80,17 @@ abbrev pub packet_work : Option ℕ → Work
 packet_work None = Lists packet_layout packet_lines none_seen
 packet_work (Some apid) = Lists packet_layout (only (keeps_packet apid) packet_lines) none_seen
 
+-- what is listed of the good frames of a channel
+abbrev pub searched_work : ℕ → ℕ → Searched → Work
+searched_work scid vcid (searches.Farm width vr first) =
+    Finds scid vcid (from_first farm_begun On (farm_lines On))
+    (record { awaits = first; kept = new_farm width vr })
+searched_work scid vcid (searches.Map width vr first blocking map) =
+    Finds scid vcid (from_first one_map_begun On (one_map_lines On))
+    (record { awaits = first; kept = record { map = map; packets = map_opened width vr blocking } })
+searched_work scid vcid searches.Tc = Finds scid vcid (frame_lines On) tt
+searched_work scid vcid searches.Check = Finds scid vcid refusal_lines tt
+
 -- the table of commands
 abbrev pub work_of : Task → Work
 work_of (tasks.Farm check width vr part) = farm_work (check_if check) (new_farm width vr) part
@@ -84,15 +101,16 @@ work_of (tasks.Tc check channel) =
 work_of (tasks.Tm size report channel) = telemetry_work size report channel
 work_of tasks.Clcw = Lists word_layout report_lines tt
 work_of (tasks.Check channel) = frames_work On refusal_lines tt channel
+work_of (tasks.Resync listed scid vcid) = searched_work scid vcid listed
 work_of (tasks.Packets apid) = packet_work apid
-work_of (tasks.Encode check) = Plays
+work_of (tasks.Encode check skips) = Plays
 work_of tasks.Sim = Plays
 work_of tasks.Ground = Plays
 work_of tasks.Spacecraft = Plays
 
 -- whether a file is listed
 abbrev pub is_listed : Task → Bool
-is_listed (tasks.Encode check) = false
+is_listed (tasks.Encode check skips) = false
 is_listed tasks.Sim = false
 is_listed tasks.Ground = false
 is_listed tasks.Spacecraft = false
@@ -101,16 +119,21 @@ is_listed task = true
 -- the lines for all octets of a file, its rest included; nothing is listed of what is played
 abbrev pub work_lines : Work → List ℕ → List ℕ
 work_lines (Lists layout lines start) octets = text_of lines layout (fresh start octets)
+work_lines (Finds scid vcid lines start) octets = (found lines scid vcid start octets).text
 work_lines Plays octets = []
 
--- how many records and octets there are, and whether every record is good and nothing is left
+-- how many records and octets there are, and whether every record is good and nothing is left;
+-- where good frames are searched for, whether nothing is skipped
 abbrev pub work_summary : Work → List ℕ → Summary
 work_summary (Lists layout lines start) octets = summary_of lines layout (fresh start octets)
+work_summary (Finds scid vcid lines start) octets = found_summary lines scid vcid start octets
 work_summary Plays octets = record { records = 0; octets = 0; all_good = true }
 
--- a record's length is refused, so that nothing more is read; of what is played all is read
+-- a record's length is refused, so that nothing more is read; of what is searched or played all is
+-- read
 abbrev pub WorkStops : Work → List ℕ → Type 0
 WorkStops (Lists layout lines start) octets = IsRefused layout (rest_by layout octets)
+WorkStops (Finds scid vcid lines start) octets = ⊥
 WorkStops Plays octets = ⊥
 
 abbrev pub listed_lines : Task → List ℕ → List ℕ

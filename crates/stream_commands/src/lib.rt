@@ -5,6 +5,7 @@
 mod counted;
 mod listed;
 mod outcome;
+mod searched;
 mod status;
 mod whole_file;
 

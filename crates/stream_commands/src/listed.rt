@@ -13,6 +13,7 @@ ghost use Rattle.listings.specs.Filters.{only};
 ghost use Rattle.stream_commands.specs.Listed.{frames_work, is_listed, listed_lines, task_summary, StopsAt};
 ghost use Rattle.stream_commands.specs.Listed.{work_lines, work_summary, WorkStops};
 
+use crate::searched::list_searched;
 use command_line::{Channel, MapPart, Part, Task};
 use cop1::Farm;
 use listings::{
@@ -90,6 +91,9 @@ pub(crate) fn list_lines<R: Source, W: Sink>(
         }
         Task::Check { channel } => {
             list_on::<true, _, R, W>(alloc, reader, writer, task, RefusalListing, channel)
+        }
+        Task::Resync { listed, scid, vcid } => {
+            list_searched(alloc, reader, writer, task, listed, scid, vcid)
         }
         Task::Packets { apid } => list_packets(alloc, reader, writer, task, apid),
         Task::Encode { .. } | Task::Sim | Task::Ground | Task::Spacecraft => unreachable!(),

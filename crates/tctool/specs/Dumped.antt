@@ -30,7 +30,7 @@ as_read (Some line) = Unreadable line
 
 -- the lines for all octets of a file, its rest included, or their totals, or the octets of lines
 abbrev pub lines_of : Bool → Task → List ℕ → List ℕ
-lines_of count (tasks.Encode check) octets = octets_in (check_if check) octets
+lines_of count (tasks.Encode check skips) octets = octets_in skips (check_if check) octets
 lines_of count tasks.Sim octets = script_text octets
 lines_of count tasks.Ground octets = answers_of (node_playing ground_rules) fresh_player octets
 lines_of count tasks.Spacecraft octets =
@@ -51,7 +51,8 @@ AnswersInTime task result old new octets = Unit {0}
 -- Good exactly where every record is good and nothing is left, every line of a record is readable,
 -- or every line that a node is asked is good; a script is judged whole
 abbrev pub outcome_for : Task → List ℕ → OutcomeView
-outcome_for (tasks.Encode check) octets = as_read (unreadable_in (check_if check) octets)
+outcome_for (tasks.Encode check skips) octets =
+    as_read (unreadable_in skips (check_if check) octets)
 outcome_for tasks.Sim octets = as_outcome (script_ending octets)
 outcome_for tasks.Ground octets =
     outcome_view (outcome_if (is_all_good (node_playing ground_rules) fresh_player octets))

@@ -25,16 +25,17 @@ use stream_commands::{Outcome, list};
 ///
 /// An `Ok` says that all lines are written and nothing else, and whether every record was good. Where
 /// a record declares a length that none can have, its line is the last and nothing more is read. Of a
-/// script that is not played nothing is written, and nothing of lines of frames and packets from the first
+/// script that is not played nothing is written, and nothing of lines that `Task::Encode` reads from the first
 /// unreadable one on. The
 /// fault is `Read` or `Write` where that device failed, `Memory` where none was left, and `TooLong`
 /// past `MOST_OCTETS` octets; what is written by then is a beginning of the lines. A call that failed
-/// is the last of its device.
+/// is the last of its device. Of a line of a script that is unreadable the cause is left.
 pub fn dump<R: Source, W: Sink>(
     alloc: Global,
     reader: &mut R,
     writer: &mut W,
     options: &Options,
+    cause: &mut &'static str,
 ) -> Result<Outcome, ListingFault>
     requires { IsInRange options.now.task }
     ensures reads { Reads R.given R.remaining R.failures result reader.old reader.new }
@@ -48,8 +49,8 @@ pub fn dump<R: Source, W: Sink>(
         ⊎ StopsAt options.now.task (gained (R.given reader.old) (R.given reader.new))) }
 {
     match options.task {
-        Task::Encode { check } => encode(alloc, reader, writer, check),
-        Task::Sim => simulate(alloc, reader, writer),
+        Task::Encode { check, skips } => encode(alloc, reader, writer, skips, check),
+        Task::Sim => simulate(alloc, reader, writer, cause),
         Task::Ground => play_node::<Ground, R, W>(alloc, reader, writer),
         Task::Spacecraft => play_node::<Spacecraft, R, W>(alloc, reader, writer),
         task => list(alloc, reader, writer, task, options.count),

@@ -14,21 +14,23 @@ use std::alloc::Global;
 use stream_commands::Outcome;
 use tc_frame::check_if;
 
-/// Writes the octets of lines, up to the first one that is unreadable; with `check` frames get their FECF.
+/// Writes the octets of lines, up to the first one that is unreadable; with `check` frames of fields get their
+/// FECF, and with `skips` lines in which no octets are to stand have none.
 pub fn encode<R: Source, W: Sink>(
     alloc: Global,
     reader: &mut R,
     writer: &mut W,
+    skips: bool,
     check: bool,
 ) -> Result<Outcome, ListingFault>
     ensures reads { Reads R.given R.remaining R.failures result reader.old reader.new }
     ensures writes { WritesText W.taken_octets W.failures result writer.old writer.new
-        (octets_in (check_if check) (gained (R.given reader.old) (R.given reader.new))) }
+        (octets_in skips (check_if check) (gained (R.given reader.old) (R.given reader.new))) }
     ensures outcome { IfOk result (λ outcome. outcome_view outcome
-        ≡ as_read (unreadable_in (check_if check) (gained (R.given reader.old) (R.given reader.new)))) }
+        ≡ as_read (unreadable_in skips (check_if check) (gained (R.given reader.old) (R.given reader.new)))) }
     ensures end { OnOk result (HasEnded (R.has_ended reader.new) (R.remaining reader.new)) }
 {
-    match encode_stream(alloc, reader, writer, check_if(check)) {
+    match encode_stream(alloc, reader, writer, skips, check_if(check)) {
         Ok(None) => Ok(Outcome::Good),
         Ok(Some(line)) => Ok(Outcome::Unreadable(line)),
         Err(fault) => Err(fault),

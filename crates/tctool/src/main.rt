@@ -9,6 +9,7 @@ mod dump;
 mod encoding;
 mod given;
 mod node;
+mod noting;
 mod simulation;
 
 use clap::Error;
@@ -16,6 +17,7 @@ use clap::error::ErrorKind;
 use command_line::{Options, UsageFault};
 use given::GivenWords;
 use listings::{ListingFault, Reader, Writer};
+use noting::{Noting, reason};
 use std::fs::File;
 use std::io;
 use std::io::Read;
@@ -40,7 +42,7 @@ fn status_for(rt: &HostRuntime, given: &GivenWords) -> u8 {
     };
     match command_line::options(rt.alloc(), texts.as_slice()) {
         Ok(options) if given.is_unicode() => run(rt, &options),
-        Ok(options) => cannot_open(rt, options.file),
+        Ok(options) => cannot_open(rt, options.file, "the name is not Unicode"),
         Err(UsageFault::Words(error)) => answer(rt, &error),
         Err(UsageFault::OddWidth { .. }) => {
             let _ = eprintln!(rt; "tctool: width is odd");
@@ -64,9 +66,16 @@ fn answer(rt: &HostRuntime, error: &Error) -> u8 {
     }
 }
 
-fn cannot_open(rt: &HostRuntime, file: &str) -> u8 {
+fn cannot_open(rt: &HostRuntime, file: &str, cause: &str) -> u8 {
     let _ = eprintln!(rt; "tctool: cannot open {file}");
+    explain(rt, file, cause);
     3
+}
+
+// Writes the second line of a failure, with the file and the cause.
+fn explain(rt: &HostRuntime, file: &str, cause: &str) {
+    let name = if file == "-" { "standard input" } else { file };
+    let _ = eprintln!(rt; "tctool: {name}: {cause}");
 }
 
 fn run(rt: &HostRuntime, options: &Options) -> u8
@@ -77,15 +86,22 @@ fn run(rt: &HostRuntime, options: &Options) -> u8
     }
     match File::open(rt, options.file) {
         Ok(file) => tell(rt, file, options),
-        Err(_) => cannot_open(rt, options.file),
+        Err(error) => cannot_open(rt, options.file, reason(error.kind())),
     }
 }
 
 fn tell<R: Read + Drop>(rt: &HostRuntime, input: R, options: &Options) -> u8
     requires { IsInRange options.now.task }
 {
-    let mut reader = Reader::new(input);
+    let mut reader = Noting::new(Reader::new(input));
     let mut writer = Writer::new(io::writer(rt));
-    let dumped = dump::dump(rt.alloc(), &mut reader, &mut writer, options);
-    ending(&dumped, &mut Writer::new(rt.stderr()))
+    let mut cause = "";
+    let dumped = dump::dump(rt.alloc(), &mut reader, &mut writer, options, &mut cause);
+    let status = ending(&dumped, &mut Writer::new(rt.stderr()));
+    if let Some(kind) = reader.failed() {
+        explain(rt, options.file, reason(kind));
+    } else if !cause.is_empty() {
+        let _ = eprintln!(rt; "tctool: {cause}");
+    }
+    status
 }

@@ -17,6 +17,7 @@ ghost use Rattle.listings.specs.Devices.{BeginsToWrite, Writes};
 
 use listings::{ListingFault, MOST_OCTETS, Sink, Source, WriteFailed, write_all};
 use script::{Rest, ScriptFault, open, play_some};
+use script_lines::{cause_in, cut};
 use simulated_link::World;
 use std::alloc::Global;
 use stream_commands::{Outcome, read_all};
@@ -52,12 +53,27 @@ fn write_answers<W: Sink>(
     }
 }
 
+// The line of this number of a text, from 1 on; the last one where there are fewer.
+fn line_at(text: &[u8], number: u64) -> &[u8] {
+    let mut rest = text;
+    for _ in 1..number {
+        let (_, after) = cut(rest, b'\n');
+        let Some(after) = after else {
+            return rest;
+        };
+        rest = after;
+    }
+    let (line, _) = cut(rest, b'\n');
+    line
+}
+
 /// Reads the lines of a script and then plays it, where all are readable and the configuration is in
-/// range.
+/// range. Where one is unreadable it leaves the cause.
 fn run_script<W: Sink>(
     alloc: Global,
     writer: &mut W,
     script: &[u8],
+    cause: &mut &'static str,
 ) -> Result<Outcome, ListingFault>
     requires { length script.now < 2 ^ 64 - 1 }
     ensures text { Writes result (W.taken_octets writer.old) (W.taken_octets writer.new)
@@ -78,17 +94,22 @@ fn run_script<W: Sink>(
                 Err(fault) => Err(fault),
             }
         }
-        Err(ScriptFault::Unreadable(line)) => Ok(Outcome::Unreadable(line)),
+        Err(ScriptFault::Unreadable(line)) => {
+            *cause = cause_in(line_at(script, line));
+            Ok(Outcome::Unreadable(line))
+        }
         Err(ScriptFault::OutOfRange(field)) => Ok(Outcome::OutOfRange(field)),
         Err(ScriptFault::Memory) => Err(ListingFault::Memory),
     }
 }
 
-/// Reads a script to its end, and then plays it. Before the whole script is read nothing is written.
+/// Reads a script to its end, and then plays it. Before the whole script is read nothing is written. Where a line
+/// is unreadable it leaves the cause.
 pub fn simulate<R: Source, W: Sink>(
     alloc: Global,
     reader: &mut R,
     writer: &mut W,
+    cause: &mut &'static str,
 ) -> Result<Outcome, ListingFault>
     ensures reads { Reads R.given R.remaining R.failures result reader.old reader.new }
     ensures writes { WritesText W.taken_octets W.failures result writer.old writer.new
@@ -98,7 +119,7 @@ pub fn simulate<R: Source, W: Sink>(
     ensures end { OnOk result (HasEnded (R.has_ended reader.new) (R.remaining reader.new)) }
 {
     match read_all(alloc, reader) {
-        Ok(script) => run_script::<W>(alloc, writer, script.as_slice()),
+        Ok(script) => run_script::<W>(alloc, writer, script.as_slice(), cause),
         Err(fault) => Err(fault),
     }
 }

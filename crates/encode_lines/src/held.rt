@@ -1,0 +1,74 @@
+// The octets that a line holds after its words: of a packet, a frame or a control word.
+
+ghost use Rattle.std.specs.Prelude.{◌≡◌, map, option_and_then, option_map};
+ghost use Rattle.script_lines.specs.Words.{octets_in_word};
+ghost use Rattle.encode_lines.specs.Held.{begins_fields, claims_octets, digits_in, holds_octets, holds_packet};
+ghost use Rattle.encode_lines.specs.Octets.{Puts};
+
+use crate::fields::after_key;
+use script_lines::{is, number_in_word, octets_in_word};
+use std::alloc::{AllocError, Global};
+
+// Whether octets stand after a word.
+fn holds_octets(word: &[u8]) -> bool
+    ensures { result ≡ holds_octets word.now }
+{
+    is(word, "packet")
+        || is(word, "sent")
+        || is(word, "frame")
+        || is(word, "telemetry")
+        || is(word, "report")
+        || is(word, "clcw")
+}
+
+// Whether a MAP and a packet on it stand after a word.
+fn holds_packet(word: &[u8]) -> bool
+    ensures { result ≡ holds_packet word.now }
+{
+    is(word, "packet") || is(word, "bypass") || is(word, "submit")
+}
+
+/// The digits of the octets that these words hold.
+pub fn digits_in<'a>(words: &[&'a [u8]]) -> Option<&'a [u8]>
+    ensures { option_map (λ word. word.now) result ≡ digits_in (map (λ word. word.now) words.now) }
+{
+    match words {
+        [kind, digits] if holds_octets(kind) => Some(digits),
+        [kind, map, digits] if holds_packet(kind) && number_in_word(map, 63).is_some() => {
+            Some(digits)
+        }
+        _ => None,
+    }
+}
+
+/// Appends the octets of digits, and says whether they are octets.
+pub fn put_digits(alloc: Global, digits: &[u8], text: &mut Vec<u8>) -> Result<bool, AllocError>
+    ensures { Puts result text.old.items text.new.items (octets_in_word digits.now) }
+{
+    match octets_in_word(alloc, digits)? {
+        Some(octets) => {
+            text.extend_from_slice(octets.as_slice())?;
+            Ok(true)
+        }
+        None => Ok(false),
+    }
+}
+
+// Whether the fields of a frame or a packet begin with a word.
+fn begins_fields(word: &[u8]) -> bool
+    ensures { result ≡ begins_fields word.now }
+{
+    after_key(word, b"scid=").is_some() || after_key(word, b"secondary=").is_some()
+}
+
+/// Whether octets are to stand in a line of these words.
+pub fn claims_octets(words: &[&[u8]]) -> bool
+    ensures { result ≡ claims_octets (map (λ word. word.now) words.now) }
+{
+    match words {
+        [kind, second, more @ ..] => {
+            begins_fields(second) || (holds_octets(kind) || holds_packet(kind)) && more.len() < 2
+        }
+        _ => false,
+    }
+}

@@ -1,0 +1,68 @@
+// A source that notes why a read of it failed.
+
+ghost use Rattle.std.specs.Prelude.{◌≡◌, None};
+
+use listings::Source;
+use std::io;
+use std::io::ErrorKind;
+
+/// A source, and of its last read that failed why it did.
+#[derive(Drop)]
+pub struct Noting<S> {
+    source: S,
+    failed: Option<ErrorKind>,
+}
+
+impl<S> Noting<S> {
+    /// This source, of which no read has failed yet.
+    pub fn new(source: S) -> Self
+        ensures source { result.source ≡ source }
+        ensures failed { result.failed ≡ None }
+    {
+        Noting {
+            source,
+            failed: None,
+        }
+    }
+
+    /// Why the last read failed that did.
+    pub fn failed(&self) -> Option<ErrorKind>
+        ensures { result ≡ self.now.failed }
+    {
+        self.failed
+    }
+}
+
+impl<S: Source> Source for Noting<S> {
+    ghost given = { λ s. S.given s.source };
+
+    ghost has_ended = { λ s. S.has_ended s.source };
+
+    ghost failures = { λ s. S.failures s.source };
+
+    ghost remaining = { λ s. S.remaining s.source };
+
+    fn read(&mut self, piece: &mut [u8]) -> io::Result<usize> {
+        match self.source.read(piece) {
+            Ok(count) => Ok(count),
+            Err(error) => {
+                self.failed = Some(error.kind());
+                Err(error)
+            }
+        }
+    }
+}
+
+/// A kind of failures in words.
+pub fn reason(kind: ErrorKind) -> &'static str {
+    match kind {
+        ErrorKind::NotFound => "there is no such file",
+        ErrorKind::PermissionDenied => "permission denied",
+        ErrorKind::IsADirectory => "it is a directory",
+        ErrorKind::NotADirectory => "a part of its path is no directory",
+        ErrorKind::FilesystemLoop => "its links go round in a circle",
+        ErrorKind::InvalidFilename | ErrorKind::InvalidInput => "it is no name of a file",
+        ErrorKind::ResourceBusy | ErrorKind::WouldBlock => "it is in use",
+        _ => "the device failed",
+    }
+}
