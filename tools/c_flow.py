@@ -1,5 +1,13 @@
-"""The statements of a function of C, with fewer ways to labels than the code that they were made of: for
+"""The statements of a function of C, by loops and conditions, with ways to labels where these do not say it: for
 tools/portable_c. A statement that holds no other is its text."""
+import re
+
+
+NONE = frozenset()
+# How deep statements may stand in one another where a way to a label is what puts them there.
+MOST_DEEP = 5
+# How long what stands after a switch may be where it is put into it.
+MOST_LONG = 30
 
 
 class Node:
@@ -7,7 +15,8 @@ class Node:
 
     goto: to `label`. if: its `test` is a condition and its contrary, its parts are both halves. switch: a part for each
     of `keys`, and the last for all other numbers. block: `label` stands at its end. loop: `label` stands at its
-    beginning. do: the part goes on while `test` holds. for: it goes on for ever."""
+    beginning, and it is left at its end. for, while and do: the part goes on for ever, or while `test` holds, which
+    stands before it or after it; `label` stands at its beginning."""
 
     def __init__(self, kind, parts=(), label=None, test=None, keys=()):
         self.kind, self.parts, self.label, self.test, self.keys = kind, parts, label, test, keys
@@ -16,13 +25,30 @@ class Node:
         return Node(self.kind, parts, self.label, self.test, self.keys)
 
 
+def way_to(label):
+    return Node("goto", label=label)
+
+
 def is_way(it, label):
     return isinstance(it, Node) and it.kind == "goto" and it.label == label
 
 
+def ends_by(items, label):
+    return bool(items) and is_way(items[-1], label)
+
+
 def uses(items, label):
-    """How many ways to a label there are."""
+    """The number of ways to a label."""
     return sum(is_way(it, label) + sum(uses(part, label) for part in it.parts) for it in items if isinstance(it, Node))
+
+
+def height(items):
+    """How deep statements stand in one another."""
+    return max((1 + max(map(height, it.parts), default=0) for it in items if isinstance(it, Node)), default=0)
+
+
+def size(items):
+    return sum(1 + sum(map(size, it.parts)) if isinstance(it, Node) else 1 for it in items)
 
 
 def replaced(items, label, others):
@@ -38,6 +64,15 @@ def replaced(items, label, others):
     return found
 
 
+def is_within_loop(items, label):
+    """Whether a way to a label stands in a loop."""
+    return any(
+        uses([it], label) if it.kind in ("loop", "for", "while", "do") else any(is_within_loop(part, label) for part in it.parts)
+        for it in items
+        if isinstance(it, Node)
+    )
+
+
 def leaves(items):
     """Whether what stands after the statements is not reached from their end."""
     if not items:
@@ -45,6 +80,8 @@ def leaves(items):
     it = items[-1]
     if isinstance(it, str):
         return it.startswith("return") or it == "UNREACHABLE;"
+    if it.kind == "block":
+        return leaves(it.parts[0]) and not uses(it.parts[0], it.label)
     return it.kind in ("goto", "for") or it.kind in ("if", "switch") and all(leaves(part) for part in it.parts)
 
 
@@ -58,115 +95,244 @@ def short_end(items):
     return None
 
 
-def simplified(items, follows=None, depth=0):
-    """The same statements with fewer ways to labels; `follows` is the label that stands right after them."""
-    found = []
-    for k, it in enumerate(items):
-        rest = items[k + 1 :]
-        if leaves(found):
-            return found
+class Flow:
+    """Makes the statements of a function anew; `most` is how deep the halves of conditions may stand in one another."""
+
+    def __init__(self):
+        self.labels = 0
+
+    def simplified(self, items, follows=None):
+        """The same statements with fewer ways to labels; `follows` is the label that stands right after them."""
+        found = []
+        for it in reversed(items):
+            found = self.before(it, found, follows)
+        return found
+
+    def before(self, it, rest, follows):
+        """A statement before others, which are simplified."""
         if isinstance(it, str):
-            found.append(it)
-        elif it.kind == "goto":
-            found += [it] if rest or it.label != follows else []
-        elif it.kind == "if":
-            halves, rest_too = both_halves(it, rest, follows, depth)
-            found += halves
-            if rest_too:
-                return found
-        elif it.kind == "switch":
-            found.append(it.with_parts([simplified(part, None, depth + 1) for part in it.parts]))
-        elif it.kind == "loop":
-            found += repeated(it, depth)
-        else:
-            inner, rest_too = without_label(it, rest, follows, depth)
-            found += inner
-            if rest_too:
-                return found
-    return found
+            return [it] if leaves([it]) else [it, *rest]
+        if it.kind == "goto":
+            return [] if not rest and it.label == follows else [it]
+        after = follows if not rest else None
+        if it.kind == "if":
+            then, other = (self.simplified(part, after) for part in it.parts)
+            return condition(it.test, then, other, rest, follows)
+        if it.kind == "switch":
+            parts = [self.simplified(part, after) for part in it.parts]
+            going = [part for part in parts if not leaves(part)]
+            if len(going) == 1 and 0 < size(rest) < MOST_LONG and (leaves(rest) or follows):
+                # (what stands after it is reached from one of its parts alone)
+                parts, rest = [self.simplified([*part, *rest] if part is going[0] else part, follows) for part in parts], []
+            return [it.with_parts(parts), *rest]
+        if it.kind == "block":
+            return self.block(it, rest, follows)
+        return self.loop(it, rest, after)
+
+    def block(self, it, rest, follows):
+        """A block's statements, with its label only where a way to it is left.
+
+        The rest takes the place of a way to the label where it is short and ends the function, or is reached by this
+        way alone."""
+        (inner,), label = it.parts, it.label
+        if not rest and follows:
+            return self.simplified(replaced(inner, label, [way_to(follows)]), follows)
+        end = short_end(rest)
+        if end and len(end) == 1:
+            inner = replaced(inner, label, end)
+        inner = self.simplified(inner, label)
+        if end:
+            inner = replaced(inner, label, end)
+        count = uses(inner, label)
+        if count == 1 and leaves(inner) and (leaves(rest) or follows) and not is_within_loop(inner, label):
+            there = rest if leaves(rest) else [*rest, way_to(follows)]
+            return self.simplified(replaced(inner, label, there), follows)
+        if count:
+            return [Node("block", [inner], label), *rest]
+        if leaves(inner):
+            return inner
+        if inner and isinstance(inner[-1], Node) and inner[-1].kind == "if":
+            last = inner[-1]
+            return [*inner[:-1], *condition(last.test, *last.parts, rest, follows)]
+        return [*inner, *rest]
+
+    def loop(self, it, rest, after):
+        """A loop. What is left of it stands after it where it is reached from its end alone."""
+        if it.kind != "loop":
+            return [it.with_parts([self.simplified(it.parts[0], it.label if it.kind != "do" else None)]), *rest]
+        name = after or self.fresh()
+        body, end = self.simplified([*it.parts[0], way_to(name)], it.label), []
+        first, last = (body[k] if body and isinstance(body[k], Node) and body[k].kind == "if" else None for k in (0, -1))
+        kind, test = "for", None
+        if last and not last.parts[1] and leaves(last.parts[0]) and not uses(body[:-1], it.label):
+            (*end, way), inner = last.parts[0], body[:-1]
+            end = last.parts[0] if not is_way(way, name) else end
+            if not uses(last.parts[0], it.label) and (not end or not uses(inner, name)):
+                kind, test, body = "do", last.test[::-1], inner
+        if kind == "for" and first and ends_by(first.parts[0], name) and len(first.parts[0]) == 1 and not first.parts[1]:
+            kind, test, body = "while", first.test[::-1], body[1:]
+        whole = [Node(kind, [body], it.label, test), *(end if kind == "do" else [])]
+        if after:
+            return whole
+        whole = [Node("block", [whole], name)] if uses(whole, name) else whole
+        return whole if leaves(whole) else [*whole, *rest]
+
+    def fresh(self):
+        self.labels += 1
+        return f"after{self.labels}"
 
 
-def both_halves(it, rest, follows, depth):
-    """An `if`, and whether it has the rest as its other half: where its first one goes on after that."""
-    then, other = it.parts
-    rest_too = bool(rest and not other and follows and then and is_way(then[-1], follows) and depth < 8)
-    if rest_too:
-        then, other = then[:-1], rest
-    after = follows if rest_too or not rest else None
-    then, other = simplified(then, after, depth + 1), simplified(other, after, depth + 1)
+def condition(test, then, other, rest, follows):
+    """An `if` with what stands after it: the half that leaves goes before the other, which is part of neither then."""
     if not then and not other:
-        return [], rest_too
-    test = it.test if then else it.test[::-1]
-    return [Node("if", [then, other] if then else [other, []], test=test)], rest_too
+        return rest
+    if not then:
+        test, then, other = test[::-1], other, then
+    if rest and leaves(then) and leaves(other) and other:
+        rest = []
+    if other and leaves(then):
+        # (what is left stands after it)
+        rest, other = ([*other, *rest] if not leaves(other) else other), []
+    elif other and leaves(other):
+        test, then, rest, other = test[::-1], other, [*then, *rest], []
+    if not other and rest and leaves(then):
+        if follows and ends_by(then, follows) and height(rest) < MOST_DEEP:
+            if leaves(rest) and not is_within_loop(rest, follows):
+                return [*condition(test[::-1], rest, [], [], None), *then[:-1]]
+            return [Node("if", [then[:-1], rest], test=test)] if then[:-1] else condition(test[::-1], rest, [], [], None)
+        if leaves(rest) and size(then) > size(rest) + 3:
+            test, then, rest = test[::-1], rest, then
+    return joined(Node("if", [then, other], test=test), rest)
 
 
-def without_label(block, rest, follows, depth):
-    """A block's statements, with its label only where a way to it is left, and whether they have the rest in them.
-
-    The rest takes the place of a way to the label where it is short and ends the function, or is reached by this way
-    alone."""
-    (inner,), label = block.parts, block.label
-    end = short_end(rest)
-    if end:
-        inner = replaced(inner, label, end)
-    elif rest and uses(inner, label) == 1 and leaves(inner) and leaves(rest) and depth < 8:
-        return simplified(replaced(inner, label, rest), follows, depth), True
-    if not rest and follows:
-        return simplified(replaced(inner, label, [Node("goto", label=follows)]), follows, depth), False
-    inner = simplified(inner, label, depth)
-    return [block.with_parts([inner])] if uses(inner, label) else inner, False
+def joined(it, rest):
+    """An `if` before others, as one with that which stands in it alone, or with the next where both do the same."""
+    then, other = it.parts
+    if not other and len(then) == 1 and isinstance(then[0], Node) and then[0].kind == "if" and not then[0].parts[1]:
+        return [Node("if", then[0].parts, test=both(it.test, then[0].test)), *rest]
+    if not other and len(then) == 1 and rest and isinstance(rest[0], Node) and rest[0].kind == "if":
+        (others, none), one = rest[0].parts, then[0]
+        is_same = len(others) == 1 and (one == others[0] or isinstance(one, Node) and one.kind == "goto" and is_way(others[0], one.label))
+        if is_same and not none:
+            test = both(it.test[::-1], rest[0].test[::-1])[::-1]
+            if len(test[0]) < 160:
+                return [Node("if", [then, []], test=test), *rest[1:]]
+    return [it, *rest]
 
 
-def repeated(loop, depth):
-    """A loop without its label, where one way to it is left, and this stands at its end."""
-    inner, label = simplified(loop.parts[0], None, depth + 1), loop.label
-    count, last = uses(inner, label), inner[-1] if inner else None
-    if count == 0:
-        return inner
-    if count == 1 and is_way(last, label):
-        return [Node("for", [inner[:-1]])]
-    if count == 1 and isinstance(last, Node) and last.kind == "if":
-        then, other = last.parts
-        if len(then) == 1 and is_way(then[0], label) and not other:
-            return [Node("do", [inner[:-1]], test=last.test)]
-    return [loop.with_parts([inner])]
+def both(a, b):
+    """Two tests, each with its contrary, as one which holds where both do."""
+    return (
+        " && ".join(f"({it})" if "||" in it or "?" in it else it for it in (a[0], b[0])),
+        " || ".join(f"({it})" if "&&" in it or "?" in it else it for it in (a[1], b[1])),
+    )
+
+
+def simplified(items):
+    return Flow().simplified(items)
+
+
+def with_numbers(items, known=None):
+    """The statements with the number in the place of a variable that is returned, where it is known what the variable was
+    set to last; and what is known at their end, each variable with its number as text. Nothing is known after a label."""
+    known, found = dict(known or {}), []
+    for it in items:
+        if isinstance(it, str):
+            found.append(with_number(it, known))
+        elif it.kind == "if":
+            halves = [with_numbers(part, known) for part in it.parts]
+            found.append(it.with_parts([part for part, _ in halves]))
+            ends = [end for part, end in halves if not leaves(part)] or [{}]
+            known = {name: number for name, number in ends[0].items() if all(end.get(name) == number for end in ends)}
+        else:
+            before = known if it.kind in ("switch", "block") else {}
+            found.append(it.with_parts([with_numbers(part, before)[0] for part in it.parts]))
+            known = {}
+    return found, known
+
+
+def with_number(text, known):
+    """A statement, after which `known` is what is known then."""
+    to = re.match(r"(\w+) = (.*);$", text, re.S)
+    if to:
+        known.pop(to[1], None)
+        if re.fullmatch(r"(0x[0-9a-f]+|\d+)U?", to[2]):
+            known[to[1]] = to[2]
+    of = re.fullmatch(r"return (\w+)( & 255)?;", text)
+    if not of or of[1] not in known:
+        return text
+    number = known[of[1]]
+    return f"return {int(number.rstrip('U'), 0) & 255 if of[2] else number};"
+
+
+class Text:
+    """The lines of statements. A way to what stands after the innermost loop or switch is `break`, and one to the
+    beginning of the innermost loop `continue`; the labels of all others are kept, and stand."""
+
+    def __init__(self):
+        self.labels = set()
+
+    def shown(self, items, indent, ends=NONE, out=NONE, again=None):
+        """`ends` has the labels that stand right after the statements, `out` those after the innermost loop or switch,
+        and `again` is that at the beginning of the innermost loop."""
+        lines, space = [], "    " * indent
+        for k, it in enumerate(items):
+            after = ends if k == len(items) - 1 else NONE
+            if isinstance(it, str):
+                lines.append(space + it)
+            elif it.kind == "goto":
+                lines += [f"{space}{self.way(it.label, out, again)}"] * (it.label not in after)
+            elif it.kind == "block":
+                lines += self.shown(it.parts[0], indent, after | {it.label}, out, again)
+                lines += [f"{space[4:]}{it.label}:;"] * (it.label in self.labels)
+            elif it.kind == "if":
+                lines += self.shown_if(it, indent, after, out, again)
+            elif it.kind == "switch":
+                lines += self.shown_switch(it, indent, after, again)
+            else:
+                lines += self.shown_loop(it, indent, after)
+        return lines
+
+    def way(self, label, out, again):
+        if label == again:
+            return "continue;"
+        if label in out:
+            return "break;"
+        self.labels.add(label)
+        return f"goto {label};"
+
+    def shown_if(self, it, indent, ends, out, again):
+        space, (then, other) = "    " * indent, it.parts
+        inner = self.shown(then, indent + 1, ends, out, again)
+        if len(then) == 1 and not other and (isinstance(then[0], str) or then[0].kind == "goto"):
+            return [f"{space}if ({it.test[0]}) {inner[0].lstrip()}" if inner else f"{space}(void)({it.test[0]});"]
+        lines = [f"{space}if ({it.test[0]}) {{", *inner]
+        if len(other) == 1 and isinstance(other[0], Node) and other[0].kind == "if":
+            first, *more = self.shown(other, indent, ends, out, again)
+            return [*lines, f"{space}}} else {first.lstrip()}", *more]
+        lines += [f"{space}}} else {{", *self.shown(other, indent + 1, ends, out, again)] if other else []
+        return [*lines, f"{space}}}"]
+
+    def shown_switch(self, it, indent, ends, again):
+        space = "    " * indent
+        lines = [f"{space}switch ({it.test[0]}) {{"]
+        for keys, part in zip([*it.keys, None], it.parts):
+            lines += [f"{space}case {key}:" for key in keys] if keys else [f"{space}default:"]
+            lines += self.shown(part, indent + 1, NONE, ends, again)
+            lines += [f"{space}    break;"] * (not leaves(part))
+        return [*lines, f"{space}}}"]
+
+    def shown_loop(self, it, indent, ends):
+        space = "    " * indent
+        # (in a `do` a `continue` goes to its test)
+        begin = it.label if it.kind != "do" else None
+        lines = self.shown(it.parts[0], indent + 1, frozenset([begin]), ends, begin)
+        lines = [f"{space}{it.label}:;"] * (it.label in self.labels) + lines
+        if it.kind == "do":
+            return [f"{space}do {{", *lines, f"{space}}} while ({it.test[0]});"]
+        return [f"{space}while ({it.test[0]}) {{" if it.kind == "while" else f"{space}for (;;) {{", *lines, f"{space}}}"]
 
 
 def shown(items, indent):
     """The lines of the statements."""
-    lines, space = [], "    " * indent
-    for it in items:
-        if isinstance(it, str):
-            lines.append(space + it)
-        elif it.kind == "goto":
-            lines.append(f"{space}goto {it.label};")
-        elif it.kind == "block":
-            lines += [*shown(it.parts[0], indent), f"{space[4:]}{it.label}:;"]
-        elif it.kind == "loop":
-            lines += [f"{space[4:]}{it.label}:;", *shown(it.parts[0], indent)]
-        elif it.kind == "do":
-            lines += [f"{space}do {{", *shown(it.parts[0], indent + 1), f"{space}}} while ({it.test[0]});"]
-        elif it.kind == "for":
-            lines += [f"{space}for (;;) {{", *shown(it.parts[0], indent + 1), f"{space}}}"]
-        elif it.kind == "if":
-            lines += shown_if(it, indent)
-        else:
-            lines += shown_switch(it, indent)
-    return lines
-
-
-def shown_if(it, indent):
-    space, (then, other) = "    " * indent, it.parts
-    if len(then) == 1 and not other and (isinstance(then[0], str) or then[0].kind == "goto"):
-        return [f"{space}if ({it.test[0]}) {shown(then, 0)[0]}"]
-    lines = [f"{space}if ({it.test[0]}) {{", *shown(then, indent + 1)]
-    return [*lines, *([f"{space}}} else {{", *shown(other, indent + 1)] if other else []), f"{space}}}"]
-
-
-def shown_switch(it, indent):
-    space = "    " * indent
-    lines = [f"{space}switch ({it.test[0]}) {{"]
-    for keys, part in zip([*it.keys, None], it.parts):
-        lines += [f"{space}case {key}:" for key in keys] if keys else [f"{space}default:"]
-        lines += shown(part, indent + 1)
-    return [*lines, f"{space}}}"]
+    return Text().shown(items, indent)

@@ -38,6 +38,13 @@ typedef uint64_t __attribute__((may_alias, aligned(1))) any64;
 #define put16(at, value) (*(any16 *)OCTETS(at) = (uint16_t)(value))
 #define put32(at, value) (*(any32 *)OCTETS(at) = (value))
 #define put64(at, value) (*(any64 *)OCTETS(at) = (value))
+typedef uint8_t sixteen __attribute__((vector_size(16)));
+typedef int8_t signed_sixteen __attribute__((vector_size(16)));
+#ifdef __clang__
+#define ZIPPED(a, b, ...) __builtin_shufflevector(a, b, __VA_ARGS__)
+#else
+#define ZIPPED(a, b, ...) __builtin_shuffle(a, b, (sixteen){__VA_ARGS__})
+#endif
 #endif
 
 /* Numbers with a fraction, as in memory: those of IEEE 754 with 64 bits. */
@@ -104,6 +111,30 @@ static void udivti3_at(uint64_t result, uint64_t a, uint64_t a_high, uint64_t b,
         }
     }
     put128(result, low, high);
+}
+
+/* The hexadecimal digits of sixteen octets, of each the digit of its upper four bits first. The program has them by an
+ * instruction of x86 (listings/src/parts.rt); here by vectors where the compiler has those, and else one by one. */
+static void sixteen_digits_at(uint64_t to, uint64_t from)
+{
+#ifdef ZIPPED
+    sixteen high, low, first, second;
+    memcpy(&high, OCTETS(from), 16);
+    low = high & 15;
+    high = high >> 4;
+    high += '0' + ((sixteen)((signed_sixteen)high > 9) & 7);
+    low += '0' + ((sixteen)((signed_sixteen)low > 9) & 7);
+    first = ZIPPED(high, low, 0, 16, 1, 17, 2, 18, 3, 19, 4, 20, 5, 21, 6, 22, 7, 23);
+    second = ZIPPED(high, low, 8, 24, 9, 25, 10, 26, 11, 27, 12, 28, 13, 29, 14, 30, 15, 31);
+    memcpy(OCTETS(to), &first, 16);
+    memcpy(OCTETS(to + 16), &second, 16);
+#else
+    for (uint64_t k = 0; k < 16; k++) {
+        const uint32_t octet = get8(from + k), high = octet >> 4, low = octet & 15;
+        put8(to + 2 * k, high < 10 ? '0' + high : '7' + high);
+        put8(to + 2 * k + 1, low < 10 ? '0' + low : '7' + low);
+    }
+#endif
 }
 
 /* Memory. No place has more octets than the machine has addresses. A place for 0 octets has an address too. */

@@ -16,7 +16,7 @@ import re
 import struct
 import textwrap
 
-from c_flow import Node, shown, simplified
+from c_flow import Node, shown, simplified, with_numbers
 from wasm_object import Reader, Refused
 
 I32, I64, F64 = 0x7F, 0x7E, 0x7C
@@ -63,7 +63,7 @@ class Value:
         self.text, self.kind, self.number, self.contrary = text, kind, number, contrary
         self.derived = frozenset(it for it in derived if isinstance(it, str))
         self.origin = derived
-        self.is_bottom, self.entry = False, None
+        self.is_bottom, self.entry, self.between = False, None, None
         self.is_tight = tight or number is not None
         self.names = frozenset().union({name} if name else (), *(it.names for it in of))
         self.reads = reads or any(it.reads for it in of)
@@ -141,8 +141,12 @@ class Translation:
         self.now = {name: self.known(name) for name in names}
         # The variables that hold the lowest address of the frame, whichever way the code has taken.
         self.bottoms = NOTHING
+        # The copies that a test of overlap stood before: to where, from where, and the number of octets.
+        self.unseen = set()
         try:
             self.run()
+            for to, source, count in self.unseen:
+                raise Refused(f"{to} - {source} is compared with {count}, and no such copy follows")
         except Refused as why:
             raise Refused(f"{self.name}: {why}") from None
 
@@ -349,7 +353,10 @@ class Translation:
         elif op in WRITE:
             self.write(WRITE[op])
         elif op in BINARY:
-            self.binary(*BINARY[op], *self.pop(2))
+            (sign, kind), (a, b) = BINARY[op], self.pop(2)
+            self.binary(sign, kind, a, b)
+            if sign == "-" and self.are_apart(a, b):
+                self.stack[-1].between = a.text, b.text
         elif op in COMPARE:
             self.compare(*COMPARE[op], *self.pop(2))
         elif op in COUNTS:
@@ -569,6 +576,7 @@ class Translation:
         if given[0].derived & {CONSTANT, TEXT, ROOM}:
             raise Refused("a constant is written")
         self.program.read |= given[1].given()
+        self.unseen.discard(tuple(it.text for it in given))
         self.settle_reads()
         self.items.append(f"{'copy' if how == 10 else 'fill'}({', '.join(it.plain() for it in given)});")
 
@@ -594,6 +602,8 @@ class Translation:
             return self.stack.append(number_of(ENOUGH[sign, b.number], I32))
         if POINTER in a.derived | b.derived:
             raise Refused("the stack pointer is compared")
+        if a.between and b.names and sign in ("<", ">="):
+            return self.apart(a, b, sign)
         # (a difference of two addresses is none)
         is_address = any(it.derived == {FRAME} and " - " not in it.text for it in (a, b))
         if is_address and sign not in ("==", "!=") and not (a.number is b.number is None):
@@ -609,6 +619,20 @@ class Translation:
                 x, sign = f"ordered{BITS[kind]}({a.plain()})", sign[:-1]
                 y = f"ordered{BITS[kind]}({b.plain()})" if b.number is None else number_of(b.number ^ half, kind).text
         self.push(f"{x} {sign} {y}", I32, a, b, contrary=f"{x} {CONTRARY[sign]} {y}")
+
+    def apart(self, a, b, sign):
+        """Takes a test of overlap: whether what is written, so many octets from an address on, begins in what is copied
+        there. One of the two is what a call was given to write to, or the function's own, and the other something else
+        that it was given: these overlap nowhere (sedgechisel.h), so the loop of LLVM's for such octets goes. The copy
+        that the test stood before has to follow."""
+        self.unseen.add((*a.between, b.text))
+        self.stack.append(number_of(int(sign == ">="), I32))
+
+    def are_apart(self, a, b):
+        """Whether two addresses are known to be derived from different parameters of the calls, or from the frame."""
+        known = a.origin, b.origin
+        is_known = all(it and not it & {CONSTANT, TEXT, ROOM, POINTER} for it in known)
+        return self.program.header and is_known and not known[0] & known[1]
 
     @staticmethod
     def operands(a, b):
@@ -679,7 +703,11 @@ class Translation:
         return f"static {result} {self.program.name_of(self.function)}({names or 'void'})"
 
     def lines(self):
-        body = without_kept(shown(simplified(self.items), 1))
+        items = simplified(self.items)
+        if self.program.header:
+            items, _ = with_numbers(items)
+        body = self.without_unread(without_kept(shown(items, 1)))
+        body = self.program.with_fields(self.function, body)
         if any(TABLE in it for it in body):
             raise Refused(f"{self.name}: {MISREAD}")
         used = set(re.findall(r"\b[vt]\d+\b", "\n".join(body)))
@@ -695,6 +723,16 @@ class Translation:
             declared = wrapped(f"    {C_TYPES[kind]} {', '.join(names)};") if names else []
             lines += [it.replace("@", " ") for it in declared]
         return [*lines, *(line for it in body for line in wrapped(it)), "}"]
+
+
+    def without_unread(self, body):
+        """A body in which no variable is set to a number that nothing reads."""
+        text = "\n".join(body)
+        for name, _ in self.locals:
+            reads = re.findall(rf"^ *(?!{name} = )\S.*\b{name}\b|^ *{name} = .*\b{name}\b", text, re.M)
+            if not reads:
+                text = re.sub(rf"^ *{name} = (0x[0-9a-f]+|\d+)U?(LL)?;\n", "", text, flags=re.M)
+        return text.split("\n")
 
 
 def without_kept(body):

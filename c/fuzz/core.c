@@ -30,6 +30,14 @@ static void codecs(struct in *i) {
     t = u = 7;
     WANT(sedge_tc_declared(o, count, checked, &t) == ref_tc_declared(o, count, checked, &u) && t == u);
     struct sedge_packet k = {0}, l = {0};
+    t = u = 7;
+    WANT(sedge_packet_declared(o, count, &t) == ref_packet_declared(o, count, &u) && t == u);
+    struct sedge_clcw w = {0}, x = {0};
+    WANT(sedge_clcw_decode(o, count, &w) == ref_clcw_decode(o, count, &x) && !memcmp(&w, &x, sizeof w));
+    if (count == 4) {
+        uint8_t y[4] = {0}, z[4] = {0};
+        WANT(sedge_clcw_encode(&w, y, 4) == ref_clcw_encode(&x, z, 4) && !memcmp(y, z, 4));
+    }
     p = q = (struct sedge_part){1, 2};
     a = sedge_packet_decode(o, count, &k, &p);
     WANT(a == ref_packet_decode(o, count, &l, &q) && p.from == q.from && p.count == q.count);
@@ -152,7 +160,10 @@ static void cop(struct in *i) {
         case 10:
         case 11: WANT(sedge_fop_next(&x, &m) == ref_fop_next(&y, &n) && m == n); break;
         case 12: WANT(sedge_fop_tick(&x) == ref_fop_tick(&y)); break;
-        case 13: WANT(sedge_fop_accepted_beyond(&x, c, &m) == ref_fop_accepted_beyond(&y, c, &n) && m == n); break;
+        case 13:
+            WANT(sedge_fop_accepted_beyond(&x, c, &m) == ref_fop_accepted_beyond(&y, c, &n) && m == n);
+            WANT(sedge_accepted_beyond(x.nn, x.vs, c, &m) == ref_accepted_beyond(y.nn, y.vs, c, &n) && m == n);
+            break;
         }
         WANT(!memcmp(&a, &b, sizeof a) && !memcmp(&x, &y, sizeof x));
     }

@@ -9,7 +9,9 @@
  * The functions have the names of the library's source; one whose name ends in _at is the call of that name, given
  * addresses as numbers. An address is a uint64_t of a uintptr_t, and memory is read and written by the functions below
  * alone, octet by octet or by memcpy. Parameters and variables without a name in the source are p0 or v0 on, what is
- * kept between two steps t1 on. Nothing here is static that a program writes, and nothing is allocated. */
+ * kept between two steps t1 on. Before a function of the library's crates stand its name in the source, and its file
+ * and line; beside what a call reads or writes of a struct that it is given, the names of the fields. Nothing here is
+ * static that a program writes, and nothing is allocated. */
 #include "sedgechisel.h"
 
 #include <limits.h>
@@ -657,6 +659,7 @@ static uint64_t sedge_tc_frames_at(uint64_t octets, uint64_t count, uint32_t che
 static uint32_t sedge_accepted_beyond_at(uint32_t nn, uint32_t vs, uint32_t value, uint64_t accepted);
 static uint32_t sedge_fop_accepted_beyond_at(uint64_t fop, uint32_t value, uint64_t accepted);
 
+/* octets::frame_check::check, crates/octets/src/frame_check.rt:17 */
 static uint32_t octets_frame_check_check(uint64_t p0, uint64_t p1)
 {
     uint32_t v2 = 0, v3 = 0, t1, t2, t3, t4, t5, t6, t7, t9, t10, t11;
@@ -718,48 +721,41 @@ static uint32_t octets_frame_check_check(uint64_t p0, uint64_t p1)
     return v2;
 }
 
+/* map_service::cutting::segment_count, crates/map_service/src/cutting.rt:167 */
 static void map_service_cutting_segment_count(uint64_t p0, uint64_t p1, uint64_t p2, uint64_t p3)
 {
     uint32_t v5 = 0, v8 = 0, v10 = 0;
     uint64_t v6 = 0, v7 = 0, v9 = 0, v11 = 0;
     if (get8(p3 + 16) == 1) {
-        if (p2 >= 6) {
-            v6 = (uint64_t)get32(p3 + 4);
+        if (p2 < 6) {
             v5 = 0;
-            v7 = p1;
-            v8 = 0;
-            v9 = p2;
-            do {
-                v10 = get8(v7);
-                if (v10 > 31) goto l3;
-                if ((v10 & 8) != 0) {
-                    if ((((v10 << 8) & 0x700) | get8(v7 + 1)) == 0x7ff) goto l3;
-                }
-                v11 = (((uint64_t)get8(v7 + 4) << 8) | (uint64_t)get8(v7 + 5)) + 7;
-                if (v9 < v11) goto l3;
-                v7 = v7 + v11;
-                v8 = v8 | (uint32_t)(v11 > v6);
-                v9 = v9 - v11;
-            } while (v9 >= 6);
-            v5 = v9 == 0;
-            if (v9 != 0) goto l3;
-            if ((v5 & v8) != 0) goto l3;
-            goto l1;
+            goto l3;
         }
+        v6 = (uint64_t)get32(p3 + 4);
         v5 = 0;
-        goto l3;
+        v7 = p1;
+        v8 = 0;
+        v9 = p2;
+        do {
+            v10 = get8(v7);
+            if (v10 > 31 || ((v10 & 8) != 0 && (((v10 << 8) & 0x700) | get8(v7 + 1)) == 0x7ff)) goto l3;
+            v11 = (((uint64_t)get8(v7 + 4) << 8) | (uint64_t)get8(v7 + 5)) + 7;
+            if (v9 < v11) goto l3;
+            v7 = v7 + v11;
+            v8 = v8 | (uint32_t)(v11 > v6);
+            v9 = v9 - v11;
+        } while (v9 >= 6);
+        v5 = v9 == 0;
+        if (v9 != 0 || (v5 & v8) != 0) goto l3;
+        goto l1;
     }
     v5 = 0;
     if (p2 >= 6) {
         v10 = get8(p1);
-        if (v10 <= 31) {
-            if ((v10 & 8) != 0) {
-                if ((((v10 << 8) & 0x700) | get8(p1 + 1)) == 0x7ff) goto l3;
-            }
-            if (((((uint64_t)get8(p1 + 4) << 8) | (uint64_t)get8(p1 + 5)) + 7) == p2) {
-                if (p2 <= (uint64_t)get32(p3 + 4)) goto l1;
-                v5 = 1;
-            }
+        if (v10 <= 31 && (((v10 & 8) == 0 || (((v10 << 8) & 0x700) | get8(p1 + 1)) != 0x7ff) && ((((uint64_t)get8(p1 +
+            4) << 8) | (uint64_t)get8(p1 + 5)) + 7) == p2)) {
+            if (p2 <= (uint64_t)get32(p3 + 4)) goto l1;
+            v5 = 1;
         }
     }
 l3:;
@@ -785,16 +781,14 @@ l1:;
     return;
 }
 
+/* map_service::cutting::group_len, crates/map_service/src/cutting.rt:147 */
 static uint64_t map_service_cutting_group_len(uint64_t p0, uint64_t p1, uint64_t p2)
 {
     uint32_t v3 = 0;
     uint64_t v4 = 0, v5 = 0, v6 = 0;
     if (p1 < 6) UNREACHABLE;
     v3 = get8(p0);
-    if (v3 > 31) UNREACHABLE;
-    if ((v3 & 8) != 0) {
-        if ((((v3 << 8) & 0x700) | get8(p0 + 1)) == 0x7ff) UNREACHABLE;
-    }
+    if (v3 > 31 || ((v3 & 8) != 0 && (((v3 << 8) & 0x700) | get8(p0 + 1)) == 0x7ff)) UNREACHABLE;
     v4 = (((uint64_t)get8(p0 + 4) << 8) | (uint64_t)get8(p0 + 5)) + 7;
     v3 = p1 < v4;
     if (v3 != 0) UNREACHABLE;
@@ -807,121 +801,103 @@ static uint64_t map_service_cutting_group_len(uint64_t p0, uint64_t p1, uint64_t
         v6 = 0;
         do {
             v3 = get8(p0);
-            if (v3 > 31) goto l4;
-            if ((v3 & 8) != 0) {
-                if ((((v3 << 8) & 0x700) | get8(p0 + 1)) == 0x7ff) goto l4;
-            }
+            if (v3 > 31 || ((v3 & 8) != 0 && (((v3 << 8) & 0x700) | get8(p0 + 1)) == 0x7ff)) break;
             v4 = (((uint64_t)get8(p0 + 4) << 8) | (uint64_t)get8(p0 + 5)) + 7;
             v3 = p1 < v4;
-            if (v3 != 0) goto l4;
+            if (v3 != 0) break;
             v4 = (v3 != 0) ? 0ULL : v4;
-            if ((p2 - (v5 + v6)) < v4) goto l4;
+            if ((p2 - (v5 + v6)) < v4) break;
             p0 = p0 + v4;
             v6 = v4 + v6;
             p1 = p1 - v4;
         } while (p1 > 5);
     }
-l4:;
     v4 = v6 + v5;
     return v4;
 }
 
+/* sedgechisel::command_frame::sedge_tc_decode, crates/sedgechisel/src/command_frame.rt:50 */
 static uint32_t sedgechisel_command_frame_sedge_tc_decode(uint64_t p0, uint64_t p1, uint32_t p2, uint64_t p3, uint64_t
     p4)
 {
     uint32_t v6 = 0, v7 = 0, v8 = 0, v11 = 0, v12 = 0, v13 = 0, v14 = 0, v15 = 0, v16 = 0, t1;
     uint64_t v9 = 0, v10 = 0;
-    if (p1 >= 5) {
-        v6 = get8(p0);
-        if (v6 <= 63) {
-            if ((v6 & 48) != 16) {
-                if ((v6 & 12) == 0) {
-                    v7 = 5;
-                    v8 = get8(p0 + 2);
-                    v9 = ((uint64_t)get8(p0 + 3) | ((((uint64_t)v8 & 255) << 8) & 768)) + 1;
-                    if (p1 != v9) return v7;
-                    v10 = (p2 != 0) ? 2ULL : 0ULL;
-                    if ((v10 | 5) > v9) return v7;
-                    v11 = get8(p0 + 1);
-                    if (p2 != 0) {
-                        v9 = p1 - 2;
-                        p2 = get16(p0 + v9);
-                        t1 = octets_frame_check_check(p0, v9);
-                        if ((((p2 << 8) | (p2 >> 8)) & 0xffff) != (t1 & 0xffff)) return 6;
-                    }
-                    p2 = get8(p0 + 4);
-                    if (v6 >= 32) {
-                        if ((p2 & 255) != 0) return 7;
-                    }
-                    p1 = p1 - v10;
-                    if ((v6 & 16) == 0) {
-                        if ((p1 - 7) < ~1ULL) goto l10;
-                        return 8;
-                    }
-                    p1 = p1 - 5;
-                    if (p1 > 3) return 9;
-                    v7 = 8;
-                    switch ((uint32_t)p1) {
-                    case 1:
-                        if (get8(p0 + 5) == 0) goto l12;
-                        return 9;
-                    case 2:
-                        return 9;
-                    case 3:
-                        v7 = 9;
-                        if (get8(p0 + 5) != 130) return v7;
-                        if (get8(p0 + 6) != 0) return v7;
-                        p2 = get8(p0 + 7);
-                        v12 = 1;
-                        goto l11;
-                    default:
-                        return v7;
-                    }
-                l12:;
-                    v12 = 0;
-                    p2 = 0;
-                l11:;
-                    v13 = 0;
-                    v14 = (v12 != 0) ? p2 : 0U;
-                    p1 = 0;
-                    p2 = 2;
-                    v15 = 0;
-                    v16 = 0;
-                    goto l9;
-                l10:;
-                    v12 = 0;
-                    v16 = (v6 < 32) ? p2 : 0U;
-                    p2 = v6 > 31;
-                    p1 = p1 - 6;
-                    v7 = get8(p0 + 5);
-                    v15 = v7 & 63;
-                    v13 = v7 >> 6;
-                    v14 = 0;
-                l9:;
-                    v7 = 0;
-                    put8(p3 + 9, 0);
-                    put8(p3 + 8, v14);
-                    put8(p3 + 7, v12);
-                    put8(p3 + 6, v15);
-                    put8(p3 + 5, v13);
-                    put8(p3 + 4, v16);
-                    put8(p3 + 3, p2);
-                    put8(p3 + 2, (v8 & 252) >> 2);
-                    put16(p3, ((v6 << 8) & 768) | v11);
-                    p2 = p2 == 2;
-                    put64(p4 + 8, (p2 != 0) ? 0ULL : p1);
-                    put64(p4, (p2 != 0) ? 0ULL : 6ULL);
-                    return v7;
-                }
-                return 4;
-            }
-            return 3;
-        }
-        return 2;
+    if (p1 < 5) return 1;
+    v6 = get8(p0);
+    if (v6 > 63) return 2;
+    if ((v6 & 48) == 16) return 3;
+    if ((v6 & 12) != 0) return 4;
+    v7 = 5;
+    v8 = get8(p0 + 2);
+    v9 = ((uint64_t)get8(p0 + 3) | ((((uint64_t)v8 & 255) << 8) & 768)) + 1;
+    if (p1 != v9) return 5;
+    v10 = (p2 != 0) ? 2ULL : 0ULL;
+    if ((v10 | 5) > v9) return 5;
+    v11 = get8(p0 + 1);
+    if (p2 != 0) {
+        v9 = p1 - 2;
+        p2 = get16(p0 + v9);
+        t1 = octets_frame_check_check(p0, v9);
+        if ((((p2 << 8) | (p2 >> 8)) & 0xffff) != (t1 & 0xffff)) return 6;
     }
-    return 1;
+    p2 = get8(p0 + 4);
+    if (v6 >= 32 && (p2 & 255) != 0) return 7;
+    p1 = p1 - v10;
+    if ((v6 & 16) == 0) {
+        if ((p1 - 7) >= ~1ULL) return 8;
+        v12 = 0;
+        v16 = (v6 < 32) ? p2 : 0U;
+        p2 = v6 > 31;
+        p1 = p1 - 6;
+        v7 = get8(p0 + 5);
+        v15 = v7 & 63;
+        v13 = v7 >> 6;
+        v14 = 0;
+    } else {
+        p1 = p1 - 5;
+        if (p1 > 3) return 9;
+        v7 = 8;
+        switch ((uint32_t)p1) {
+        case 1:
+            if (get8(p0 + 5) != 0) return 9;
+            v12 = 0;
+            p2 = 0;
+            break;
+        case 2:
+            return 9;
+        case 3:
+            v7 = 9;
+            if (get8(p0 + 5) != 130 || get8(p0 + 6) != 0) return 9;
+            p2 = get8(p0 + 7);
+            v12 = 1;
+            break;
+        default:
+            return 8;
+        }
+        v13 = 0;
+        v14 = (v12 != 0) ? p2 : 0U;
+        p1 = 0;
+        p2 = 2;
+        v15 = 0;
+        v16 = 0;
+    }
+    v7 = 0;
+    put8(p3 + 9, 0);
+    put8(p3 + 8, v14);
+    put8(p3 + 7, v12);
+    put8(p3 + 6, v15);
+    put8(p3 + 5, v13);
+    put8(p3 + 4, v16);
+    put8(p3 + 3, p2);
+    put8(p3 + 2, (v8 & 252) >> 2);
+    put16(p3, ((v6 << 8) & 768) | v11);
+    p2 = p2 == 2;
+    put64(p4 + 8, (p2 != 0) ? 0ULL : p1);
+    put64(p4, (p2 != 0) ? 0ULL : 6ULL);
+    return 0;
 }
 
+/* tm_link::decoding::decode, crates/tm_link/src/decoding.rt:17 */
 static void tm_link_decoding_decode(uint64_t p0, uint64_t p1, uint64_t p2, uint64_t p3)
 {
     unsigned char frame_octets[96 + 15];
@@ -939,18 +915,16 @@ static void tm_link_decoding_decode(uint64_t p0, uint64_t p1, uint64_t p2, uint6
     put64(v4 + 72, 0);
     put64(v4 + 64, 0);
     put64(v4 + 56, 0);
-    if (p2 == p3) {
-        if ((p3 - 0x801) > ~2033ULL) goto l3;
+    if (p2 != p3 || (p3 - 0x801) <= ~2033ULL) {
+        put64(v4 + 46, 0);
+        put64(v4 + 38, 0);
+        put64(v4 + 30, 0);
+        put64(v4 + 22, 0);
+        put64(v4 + 14, 0);
+        v5 = 0;
+        v6 = 1;
+        goto l2;
     }
-    put64(v4 + 46, 0);
-    put64(v4 + 38, 0);
-    put64(v4 + 30, 0);
-    put64(v4 + 22, 0);
-    put64(v4 + 14, 0);
-    v5 = 0;
-    v6 = 1;
-    goto l2;
-l3:;
     v5 = get8(p1);
     if (v5 >= 64) {
         put64(v4 + 46, 0);
@@ -969,7 +943,48 @@ l3:;
         p3 = p2 - 2;
         v6 = get16(p1 + p3);
         t1 = octets_frame_check_check(p1, p3);
-        if ((((v6 << 8) | (v6 >> 8)) & 0xffff) == (t1 & 0xffff)) goto l6;
+        if ((((v6 << 8) | (v6 >> 8)) & 0xffff) == (t1 & 0xffff)) {
+            if ((v7 & 248) != 24) {
+                put64(v4 + 46, 0);
+                put64(v4 + 38, 0);
+                put64(v4 + 30, 0);
+                put64(v4 + 22, 0);
+                put64(v4 + 14, 0);
+                v5 = 3;
+                v6 = 1;
+            } else {
+                v7 = (v7 << 8) | v8;
+                if ((v7 & 0x7ff) <= 0x7fd && (p2 - 12) <= ((uint64_t)v7 & 0x7ff)) {
+                    put64(v4 + 46, 0);
+                    put64(v4 + 38, 0);
+                    put64(v4 + 30, 0);
+                    put64(v4 + 22, 0);
+                    put64(v4 + 14, 0);
+                    v5 = 4;
+                    v6 = 1;
+                } else {
+                    v6 = 1;
+                    if ((v9 & 1) == 0) {
+                        put64(v4 + 46, 0);
+                        put64(v4 + 38, 0);
+                        put64(v4 + 30, 0);
+                        put64(v4 + 22, 0);
+                        put64(v4 + 14, 0);
+                        v5 = 5;
+                    } else {
+                        tm_link_decoding_fields_of(v4 + 56, p1, p2, (v5 << 8) | v9, v7);
+                        put64(v4 + 46, get64(v4 + 88));
+                        put64(v4 + 38, get64(v4 + 80));
+                        put64(v4 + 30, get64(v4 + 72));
+                        put64(v4 + 22, get64(v4 + 64));
+                        put64(v4 + 14, get64(v4 + 56));
+                        v6 = 0;
+                        v5 = 0;
+                    }
+                }
+            }
+            goto l2;
+        }
     }
     put64(v4 + 46, 0);
     put64(v4 + 38, 0);
@@ -978,49 +993,6 @@ l3:;
     put64(v4 + 14, 0);
     v5 = 2;
     v6 = 1;
-    goto l2;
-l6:;
-    if ((v7 & 248) != 24) {
-        put64(v4 + 46, 0);
-        put64(v4 + 38, 0);
-        put64(v4 + 30, 0);
-        put64(v4 + 22, 0);
-        put64(v4 + 14, 0);
-        v5 = 3;
-        v6 = 1;
-        goto l2;
-    }
-    v7 = (v7 << 8) | v8;
-    if ((v7 & 0x7ff) <= 0x7fd) {
-        if ((p2 - 12) <= ((uint64_t)v7 & 0x7ff)) {
-            put64(v4 + 46, 0);
-            put64(v4 + 38, 0);
-            put64(v4 + 30, 0);
-            put64(v4 + 22, 0);
-            put64(v4 + 14, 0);
-            v5 = 4;
-            v6 = 1;
-            goto l2;
-        }
-    }
-    v6 = 1;
-    if ((v9 & 1) == 0) {
-        put64(v4 + 46, 0);
-        put64(v4 + 38, 0);
-        put64(v4 + 30, 0);
-        put64(v4 + 22, 0);
-        put64(v4 + 14, 0);
-        v5 = 5;
-        goto l2;
-    }
-    tm_link_decoding_fields_of(v4 + 56, p1, p2, (v5 << 8) | v9, v7);
-    put64(v4 + 46, get64(v4 + 88));
-    put64(v4 + 38, get64(v4 + 80));
-    put64(v4 + 30, get64(v4 + 72));
-    put64(v4 + 22, get64(v4 + 64));
-    put64(v4 + 14, get64(v4 + 56));
-    v6 = 0;
-    v5 = 0;
 l2:;
     put8(p0, v6);
     put8(p0 + 1, v5);
@@ -1032,6 +1004,7 @@ l2:;
     return;
 }
 
+/* tm_link::decoding::fields_of, crates/tm_link/src/decoding.rt:56 */
 static void tm_link_decoding_fields_of(uint64_t p0, uint64_t p1, uint64_t p2, uint32_t p3, uint32_t p4)
 {
     uint32_t v5 = 0, v6 = 0, v7 = 0, v8 = 0;
@@ -1042,18 +1015,16 @@ static void tm_link_decoding_fields_of(uint64_t p0, uint64_t p1, uint64_t p2, ui
     p4 = p4 & 0x7ff;
     switch (p4 - 0x7fe) {
     case 0:
-        goto l2;
+        break;
     case 1:
         v7 = 1;
         v8 = 0;
-        goto l2;
+        break;
     default:
-        goto l3;
+        v7 = 0;
+        v8 = p4;
+        break;
     }
-l3:;
-    v7 = 0;
-    v8 = p4;
-l2:;
     p4 = get32(p1 + p2 - 6);
     put32(p0 + 10, 0);
     put16(p0 + 8, v8);
@@ -1071,6 +1042,7 @@ l2:;
     return;
 }
 
+/* sedgechisel::telemetry_extractor::sedge_tm_extractor_frame, crates/sedgechisel/src/telemetry_extractor.rt:64 */
 static uint32_t sedgechisel_telemetry_extractor_sedge_tm_extractor_frame(uint64_t p0, uint64_t p1, uint64_t p2,
     uint64_t p3, uint64_t p4, uint64_t p5, uint64_t p6)
 {
@@ -1082,48 +1054,42 @@ static uint32_t sedgechisel_telemetry_extractor_sedge_tm_extractor_frame(uint64_
     put32(v7, 0);
     v8 = 255;
     v9 = get8(p0 + 17);
-    if (v9 > 1) return v8;
+    if (v9 > 1) return 255;
     v10 = get64(p0);
-    if (p5 < v10) return v8;
+    if (p5 < v10) return 255;
     v11 = get64(p0 + 8);
-    if (v11 > (p5 - v10)) return v8;
-    if (v9 != 1) {
-        if (v11 != 0) return v8;
-    }
+    if (v11 > (p5 - v10) || (v9 != 1 && v11 != 0)) return 255;
     v8 = 2;
     v12 = 0;
     v13 = p3;
     v14 = get16(p1 + 2);
     switch (v14 - 0x7fe) {
     case 0:
-        goto l5;
+        break;
     case 1:
         v8 = 1;
         v13 = p3;
-        goto l5;
+        break;
     default:
-        goto l6;
+        v13 = (uint64_t)v14;
+        if (p3 <= v13) {
+            v8 = 10;
+            return 10;
+        }
+        v8 = 0;
+        v12 = v13;
+        break;
     }
-l6:;
-    v13 = (uint64_t)v14;
-    if (p3 <= v13) {
-        v8 = 10;
-        return v8;
-    }
-    v8 = 0;
-    v12 = v13;
-l5:;
     if (v9 != 1) {
         v15 = p1 + 6;
         v14 = 0;
-        goto l9;
+    } else {
+        v15 = p1 + 6;
+        v14 = get8(v15) + ~get8(p0 + 16);
+        v16 = v14 & 255;
+        v10 = (v16 != 0) ? 0ULL : v10;
+        v11 = (v16 != 0) ? 0ULL : v11;
     }
-    v15 = p1 + 6;
-    v14 = get8(v15) + ~get8(p0 + 16);
-    v16 = v14 & 255;
-    v10 = (v16 != 0) ? 0ULL : v10;
-    v11 = (v16 != 0) ? 0ULL : v11;
-l9:;
     p1 = 0;
     put64(v7 + 32, 0);
     put64(v7 + 24, 0);
@@ -1131,148 +1097,111 @@ l9:;
     put64(v7 + 8, 0);
     switch (v8) {
     case 1:
-        put64(v7 + 64, 0);
-        put64(v7 + 56, 0);
-        put64(v7 + 48, 0);
-        put64(v7 + 40, 0);
-        if (v11 != 0) {
-            v17 = v11 + p3;
-            if (v17 <= 5) goto l16;
-            p1 = (v11 < 6) ? v11 : 6ULL;
-            v12 = v7 + 74 + p1;
-            v18 = 6 - p1;
-            v19 = (v11 > 5) ? 0ULL : v18;
-            if (v19 != 0) fill(v12, 0, v19);
-            if (p1 != 0) copy(v7 + 74, p4 + v10, p1);
-            if (v18 != 0) copy(v12, p2, v18);
-            v8 = get8(v7 + 74);
-            if (v8 <= 31) {
-                if ((v8 & 8) != 0) {
-                    if ((((v8 << 8) & 0x700) | get8(v7 + 75)) == 0x7ff) goto l17;
-                }
-                p1 = (((uint64_t)get8(v7 + 78) << 8) | (uint64_t)get8(v7 + 79)) + 7;
-                if (p1 != v17) {
-                    if (v17 < p1) goto l16;
-                }
-            }
-        }
-    l17:;
-        sedgechisel_telemetry_extractor_start(v7 + 40, v10, v11, p2, p3, p2, 0, p4, p5);
-        put64(v7 + 16, get64(v7 + 48));
-        put64(v7 + 24, get64(v7 + 56));
-        put64(v7 + 32, get64(v7 + 64));
-        v8 = get8(v7 + 40);
-        goto l13;
-    l16:;
-        if (p5 >= v17) {
-            v12 = v11 & 3;
-            p5 = 0;
-            if (v11 >= 4) {
-                v19 = p4 + v10;
-                v20 = v11 & ~3ULL;
-                p5 = 0;
-                do {
-                    p1 = p4 + p5;
-                    v18 = v19 + p5;
-                    put8(p1, get8(v18));
-                    put8(p1 + 1, get8(v18 + 1));
-                    put8(p1 + 2, get8(v18 + 2));
-                    put8(p1 + 3, get8(v18 + 3));
-                    p5 = p5 + 4;
-                } while (v20 != p5);
-                if (v12 == 0) goto l23;
-            }
-            p5 = p4 + p5;
+        break;
+    case 2:
+        p5 = 0;
+        p3 = 0;
+        goto l11;
+    default:
+        p1 = p2 + v12;
+        p3 = p3 - v12;
+        if (p3 >= 6) {
             do {
-                put8(p5, get8(p5 + v10));
-                p5 = p5 + 1;
-                v12 = v12 - 1;
-            } while (v12 != 0);
-        l23:;
-            v18 = p4 + v11;
-            if ((v18 - p2) < p3) {
-                v10 = p3 & 3;
-                p1 = 0;
-                if (p3 >= 4) {
-                    v12 = p3 & ~3ULL;
-                    p1 = 0;
-                    do {
-                        p5 = v18 + p1;
-                        p3 = p2 + p1;
-                        put8(p5, get8(p3));
-                        put8(p5 + 1, get8(p3 + 1));
-                        put8(p5 + 2, get8(p3 + 2));
-                        put8(p5 + 3, get8(p3 + 3));
-                        p1 = p1 + 4;
-                    } while (v12 != p1);
-                    if (v10 == 0) goto l27;
+                v8 = get8(p1);
+                if (v8 > 31) {
+                    p3 = 0;
+                    break;
                 }
-                p5 = p2 + p1;
-                p3 = p4 + (v11 + p1);
-            l31:;
-                put8(p3, get8(p5));
-                p3 = p3 + 1;
-                p5 = p5 + 1;
-                v10 = v10 - 1;
-                if (v10 != 0) goto l31;
-                goto l27;
-            }
-            if (p3 != 0) copy(v18, p2, p3);
-        l27:;
-            put64(v7 + 56, 0);
-            put64(v7 + 48, 0);
-            put64(v7 + 64, v17);
-            put64(v7 + 16, 0);
-            put64(v7 + 24, 0);
-            put64(v7 + 32, v17);
-            v8 = 1;
-            goto l13;
+                if ((v8 & 8) != 0 && (((v8 << 8) & 0x700) | get8(p1 + 1)) == 0x7ff) {
+                    p3 = 0;
+                    break;
+                }
+                v18 = (((uint64_t)get8(p1 + 4) << 8) | (uint64_t)get8(p1 + 5)) + 7;
+                if (p3 < v18) break;
+                p1 = p1 + v18;
+                p3 = p3 - v18;
+            } while (p3 > 5);
         }
+        sedgechisel_telemetry_extractor_start(v7 + 8, v10, v11, p2, v12, p1, p3, p4, p5);
+        v8 = get8(v7 + 8);
+        goto l13;
+    }
+    put64(v7 + 64, 0);
+    put64(v7 + 56, 0);
+    put64(v7 + 48, 0);
+    put64(v7 + 40, 0);
+    if (v11 != 0) {
+        v17 = v11 + p3;
+        if (v17 <= 5) goto l16;
+        p1 = (v11 < 6) ? v11 : 6ULL;
+        v12 = v7 + 74 + p1;
+        v18 = 6 - p1;
+        v19 = (v11 > 5) ? 0ULL : v18;
+        if (v19 != 0) fill(v12, 0, v19);
+        if (p1 != 0) copy(v7 + 74, p4 + v10, p1);
+        if (v18 != 0) copy(v12, p2, v18);
+        v8 = get8(v7 + 74);
+        if (v8 <= 31 && ((v8 & 8) == 0 || (((v8 << 8) & 0x700) | get8(v7 + 75)) != 0x7ff)) {
+            p1 = (((uint64_t)get8(v7 + 78) << 8) | (uint64_t)get8(v7 + 79)) + 7;
+            if (p1 != v17 && v17 < p1) goto l16;
+        }
+    }
+    sedgechisel_telemetry_extractor_start(v7 + 40, v10, v11, p2, p3, p2, 0, p4, p5);
+    put64(v7 + 16, get64(v7 + 48));
+    put64(v7 + 24, get64(v7 + 56));
+    put64(v7 + 32, get64(v7 + 64));
+    v8 = get8(v7 + 40);
+    goto l13;
+l16:;
+    if (p5 < v17) {
         put64(v7 + 32, 0);
         put64(v7 + 24, 0);
         put64(v7 + 16, 0);
         put64(v7 + 8, 0);
         v8 = 0;
-        goto l13;
-    case 2:
-        goto l12;
-    default:
-        goto l14;
-    }
-l14:;
-    p1 = p2 + v12;
-    p3 = p3 - v12;
-    if (p3 >= 6) {
+    } else {
+        v12 = v11 & 3;
+        p5 = 0;
+        if (v11 >= 4) {
+            v19 = p4 + v10;
+            v20 = v11 & ~3ULL;
+            p5 = 0;
+            do {
+                p1 = p4 + p5;
+                v18 = v19 + p5;
+                put8(p1, get8(v18));
+                put8(p1 + 1, get8(v18 + 1));
+                put8(p1 + 2, get8(v18 + 2));
+                put8(p1 + 3, get8(v18 + 3));
+                p5 = p5 + 4;
+            } while (v20 != p5);
+            if (v12 == 0) goto l23;
+        }
+        p5 = p4 + p5;
         do {
-            v8 = get8(p1);
-            if (v8 > 31) {
-                p3 = 0;
-                goto l32;
-            }
-            if ((v8 & 8) != 0) {
-                if ((((v8 << 8) & 0x700) | get8(p1 + 1)) == 0x7ff) {
-                    p3 = 0;
-                    goto l32;
-                }
-            }
-            v18 = (((uint64_t)get8(p1 + 4) << 8) | (uint64_t)get8(p1 + 5)) + 7;
-            if (p3 < v18) goto l32;
-            p1 = p1 + v18;
-            p3 = p3 - v18;
-        } while (p3 > 5);
+            put8(p5, get8(p5 + v10));
+            p5 = p5 + 1;
+            v12 = v12 - 1;
+        } while (v12 != 0);
+    l23:;
+        v18 = p4 + v11;
+        if (p3 != 0) copy(v18, p2, p3);
+        put64(v7 + 56, 0);
+        put64(v7 + 48, 0);
+        put64(v7 + 64, v17);
+        put64(v7 + 16, 0);
+        put64(v7 + 24, 0);
+        put64(v7 + 32, v17);
+        v8 = 1;
     }
-l32:;
-    sedgechisel_telemetry_extractor_start(v7 + 8, v10, v11, p2, v12, p1, p3, p4, p5);
-    v8 = get8(v7 + 8);
 l13:;
-    if ((v8 & 255) != 1) goto l2;
+    if ((v8 & 255) != 1) {
+        v8 = 7;
+        return 7;
+    }
     p1 = get64(v7 + 32);
     p5 = get64(v7 + 24);
     p3 = get64(v7 + 16);
-    goto l11;
-l12:;
-    p5 = 0;
-    p3 = 0;
 l11:;
     v8 = 0;
     put32(p6 + 26, 0);
@@ -1289,12 +1218,10 @@ l11:;
     put64(p0, p5);
     put32(p0 + 18, get32(v7));
     put16(p0 + 22, get16(v7 + 4));
-    return v8;
-l2:;
-    v8 = 7;
-    return v8;
+    return 0;
 }
 
+/* sedgechisel::telemetry_extractor::start, crates/sedgechisel/src/telemetry_extractor.rt:266 */
 static void sedgechisel_telemetry_extractor_start(uint64_t p0, uint64_t p1, uint64_t p2, uint64_t p3, uint64_t p4,
     uint64_t p5, uint64_t p6, uint64_t p7, uint64_t p8)
 {
@@ -1316,126 +1243,64 @@ static void sedgechisel_telemetry_extractor_start(uint64_t p0, uint64_t p1, uint
             if (v13 != 0) copy(v9 + 8, v16, v13);
             if (v15 != 0) copy(v14, p3, v15);
             v17 = get8(v9 + 8);
-            if (v17 <= 31) {
-                if ((v17 & 8) != 0) {
-                    if ((((v17 << 8) & 0x700) | get8(v9 + 9)) == 0x7ff) goto l2;
-                }
-                if (((((uint64_t)get8(v9 + 12) << 8) | (uint64_t)get8(v9 + 13)) + 7) == v12) {
-                    put16(v9 + 14, 0);
-                    v13 = (p2 < 2) ? p2 : 2ULL;
-                    if (v13 != 0) copy(v9 + 14, v16, v13);
-                    v15 = 2 - v13;
-                    if (v15 != 0) copy(v9 + 14 + v13, p3, v15);
-                    v10 = ((((get8(v9 + 14) << 8) & 0x700) | get8(v9 + 15)) == 0x7ff) ? 0ULL : v12;
-                }
+            if (v17 <= 31 && (((v17 & 8) == 0 || (((v17 << 8) & 0x700) | get8(v9 + 9)) != 0x7ff) &&
+                ((((uint64_t)get8(v9 + 12) << 8) | (uint64_t)get8(v9 + 13)) + 7) == v12)) {
+                put16(v9 + 14, 0);
+                v13 = (p2 < 2) ? p2 : 2ULL;
+                if (v13 != 0) copy(v9 + 14, v16, v13);
+                v15 = 2 - v13;
+                if (v15 != 0) copy(v9 + 14 + v13, p3, v15);
+                v10 = ((((get8(v9 + 14) << 8) & 0x700) | get8(v9 + 15)) == 0x7ff) ? 0ULL : v12;
             }
         }
     }
-l2:;
-    if (p8 >= v10) {
-        if ((p8 - v10) >= p6) {
-            if (v10 != 0) {
-                if (v11 == 0) {
-                    v15 = p2 & 3;
-                    p8 = 0;
-                    if (p2 >= 4) {
-                        v12 = p7 + p1;
-                        v14 = p2 & ~3ULL;
-                        p8 = 0;
-                        do {
-                            v9 = p7 + p8;
-                            v13 = v12 + p8;
-                            put8(v9, get8(v13));
-                            put8(v9 + 1, get8(v13 + 1));
-                            put8(v9 + 2, get8(v13 + 2));
-                            put8(v9 + 3, get8(v13 + 3));
-                            p8 = p8 + 4;
-                        } while (v14 != p8);
-                        if (v15 == 0) goto l12;
-                    }
-                    p8 = p7 + p8;
-                    do {
-                        put8(p8, get8(p8 + p1));
-                        p8 = p8 + 1;
-                        v15 = v15 - 1;
-                    } while (v15 != 0);
-                }
-            l12:;
-                p1 = p7 + p2;
-                if ((p1 - p3) < p4) {
-                    v15 = p4 & 3;
-                    v9 = 0;
-                    if (p4 >= 4) {
-                        v12 = p4 & ~3ULL;
-                        v9 = 0;
-                        do {
-                            p8 = p1 + v9;
-                            v13 = p3 + v9;
-                            put8(p8, get8(v13));
-                            put8(p8 + 1, get8(v13 + 1));
-                            put8(p8 + 2, get8(v13 + 2));
-                            put8(p8 + 3, get8(v13 + 3));
-                            v9 = v9 + 4;
-                        } while (v12 != v9);
-                        if (v15 == 0) goto l11;
-                    }
-                    p8 = p3 + v9;
-                    v9 = p7 + (v9 + p2);
-                l19:;
-                    put8(v9, get8(p8));
-                    v9 = v9 + 1;
-                    p8 = p8 + 1;
-                    v15 = v15 - 1;
-                    if (v15 != 0) goto l19;
-                    goto l11;
-                }
-                if (p4 != 0) copy(p1, p3, p4);
-            }
-        l11:;
-            p1 = p7 + v10;
-            if ((p1 - p5) < p6) {
-                v15 = p6 & 3;
-                v9 = 0;
-                if (p6 >= 4) {
-                    p2 = p6 & ~3ULL;
-                    v9 = 0;
-                    do {
-                        p8 = p1 + v9;
-                        v13 = p5 + v9;
-                        put8(p8, get8(v13));
-                        put8(p8 + 1, get8(v13 + 1));
-                        put8(p8 + 2, get8(v13 + 2));
-                        put8(p8 + 3, get8(v13 + 3));
-                        v9 = v9 + 4;
-                    } while (p2 != v9);
-                    if (v15 == 0) goto l20;
-                }
-                p8 = p5 + v9;
-                v9 = p7 + (v10 + v9);
-            l24:;
-                put8(v9, get8(p8));
-                v9 = v9 + 1;
-                p8 = p8 + 1;
-                v15 = v15 - 1;
-                if (v15 != 0) goto l24;
-                goto l20;
-            }
-            if (p6 != 0) copy(p1, p5, p6);
-        l20:;
-            put64(p0, 1);
-            put64(p0 + 24, p6);
-            put64(p0 + 16, v10);
-            put64(p0 + 8, v10);
-            return;
-        }
+    if (p8 < v10 || (p8 - v10) < p6) {
+        put64(p0 + 24, 0);
+        put64(p0 + 16, 0);
+        put64(p0 + 8, 0);
+        put64(p0, 0);
+        return;
     }
-    put64(p0 + 24, 0);
-    put64(p0 + 16, 0);
-    put64(p0 + 8, 0);
-    put64(p0, 0);
+    if (v10 == 0) goto l11;
+    if (v11 == 0) {
+        v15 = p2 & 3;
+        p8 = 0;
+        if (p2 >= 4) {
+            v12 = p7 + p1;
+            v14 = p2 & ~3ULL;
+            p8 = 0;
+            do {
+                v9 = p7 + p8;
+                v13 = v12 + p8;
+                put8(v9, get8(v13));
+                put8(v9 + 1, get8(v13 + 1));
+                put8(v9 + 2, get8(v13 + 2));
+                put8(v9 + 3, get8(v13 + 3));
+                p8 = p8 + 4;
+            } while (v14 != p8);
+            if (v15 == 0) goto l12;
+        }
+        p8 = p7 + p8;
+        do {
+            put8(p8, get8(p8 + p1));
+            p8 = p8 + 1;
+            v15 = v15 - 1;
+        } while (v15 != 0);
+    }
+l12:;
+    p1 = p7 + p2;
+    if (p4 != 0) copy(p1, p3, p4);
+l11:;
+    p1 = p7 + v10;
+    if (p6 != 0) copy(p1, p5, p6);
+    put64(p0, 1);
+    put64(p0 + 24, p6);
+    put64(p0 + 16, v10);
+    put64(p0 + 8, v10);
     return;
 }
 
+/* sedge_alert_advice, crates/sedgechisel/src/names.rt:83 */
 static void sedge_alert_advice_at(uint64_t result, uint32_t alert)
 {
     unsigned char frame_octets[320 + 15];
@@ -1449,23 +1314,25 @@ static void sedge_alert_advice_at(uint64_t result, uint32_t alert)
     case 1:
     case 2:
     case 3:
-        goto l5;
+        v4 = v2 + 241;
+        v5 = address(constant_1);
+        v3 = 81;
+        break;
     case 4:
     case 5:
         v4 = v2 + 245;
         v5 = address(constant_2);
         v3 = 85;
-        goto l4;
+        break;
     case 6:
-        goto l4;
+        break;
     default:
-        goto l2;
+        fill(v2 + 1, 0, 159);
+        alert = 63;
+        put8(result, alert);
+        copy(result + 1, v2 + 1, 159);
+        return;
     }
-l5:;
-    v4 = v2 + 241;
-    v5 = address(constant_1);
-    v3 = 81;
-l4:;
     v6 = 160 - v3;
     if (v6 != 0) fill(v4, 0, v6);
     if (v3 != 0) copy(v2 + 160, v5, v3);
@@ -1474,14 +1341,9 @@ l4:;
     put8(result, alert);
     copy(result + 1, v2 + 1, 159);
     return;
-l2:;
-    fill(v2 + 1, 0, 159);
-    alert = 63;
-    put8(result, alert);
-    copy(result + 1, v2 + 1, 159);
-    return;
 }
 
+/* sedge_alert_name, crates/sedgechisel/src/names.rt:44 */
 static void sedge_alert_name_at(uint64_t result, uint32_t alert)
 {
     unsigned char frame_octets[16 + 15];
@@ -1500,12 +1362,12 @@ static void sedge_alert_name_at(uint64_t result, uint32_t alert)
         put64(v2 + 5, 0);
         put64(v2, 0);
         alert = 0x526e4e;
-        goto l2;
+        break;
     case 2:
         put64(v2 + 5, 0);
         put64(v2, 0);
         alert = 0x77636c43;
-        goto l2;
+        break;
     case 3:
         put64(v2 + 5, 0);
         put64(v2, 0);
@@ -1544,7 +1406,6 @@ static void sedge_alert_name_at(uint64_t result, uint32_t alert)
         v4 = 0;
         goto l1;
     }
-l2:;
     v4 = 0;
     v3 = 0;
 l1:;
@@ -1556,11 +1417,13 @@ l1:;
     return;
 }
 
+/* sedge_alert_shows_broken_condition, crates/sedgechisel/src/names.rt:72 */
 static uint32_t sedge_alert_shows_broken_condition_at(uint32_t alert)
 {
     return ((alert - 1) & 255) < 4;
 }
 
+/* sedge_check, crates/sedgechisel/src/frame_check.rt:9 */
 static uint32_t sedge_check_at(uint64_t octets, uint64_t count)
 {
     uint32_t v3 = 0;
@@ -1568,6 +1431,7 @@ static uint32_t sedge_check_at(uint64_t octets, uint64_t count)
     return v3 & 0xffff;
 }
 
+/* sedge_check_append, crates/sedgechisel/src/frame_check.rt:19 */
 static uint32_t sedge_check_append_at(uint64_t octets, uint64_t count)
 {
     uint32_t v4 = 0;
@@ -1580,11 +1444,12 @@ static uint32_t sedge_check_append_at(uint64_t octets, uint64_t count)
     return count > 1;
 }
 
+/* sedge_check_holds, crates/sedgechisel/src/frame_check.rt:36 */
 static uint32_t sedge_check_holds_at(uint64_t octets, uint64_t count)
 {
     uint32_t v3 = 0, t1;
     v3 = 0;
-    if (count < 2) return v3;
+    if (count < 2) return 0;
     octets = some(octets);
     count = count - 2;
     v3 = get16(octets + count);
@@ -1593,54 +1458,48 @@ static uint32_t sedge_check_holds_at(uint64_t octets, uint64_t count)
     return v3;
 }
 
+/* sedge_clcw_decode, crates/sedgechisel/src/control_word.rt:15 */
 static uint32_t sedge_clcw_decode_at(uint64_t octets, uint64_t count, uint64_t word)
 {
     uint32_t v3 = 0, v4 = 0, v5 = 0, v6 = 0;
-    if (count == 4) {
-        octets = some(octets);
-        v3 = extend32(get8(octets), 0x80);
-        if (v3 <= 0x7fffffffU) {
-            if (v3 <= 31) {
-                v4 = 3;
-                if ((v3 & 3) != 1) return v4;
-                v4 = get8(octets + 2);
-                v5 = get8(octets + 1);
-                if (((v4 & 1) | (v5 & 3)) == 0) goto l2;
-                return 4;
-            }
-            return 2;
-        }
-        return 1;
-    }
-    return 254;
-l2:;
+    if (count != 4) return 254;
+    octets = some(octets);
+    v3 = extend32(get8(octets), 0x80);
+    if (v3 > 0x7fffffffU) return 1;
+    if (v3 > 31) return 2;
+    v4 = 3;
+    if ((v3 & 3) != 1) return 3;
+    v4 = get8(octets + 2);
+    v5 = get8(octets + 1);
+    if (((v4 & 1) | (v5 & 3)) != 0) return 4;
     v6 = get8(octets + 3);
-    put8(word, (v3 & 252) >> 2);
-    put32(word + 1, ((((v4 & 248) << 8) | ((v5 & 252) >> 2)) | ((v4 << 15) & 0x30000)) | (v6 << 24));
+    put8(word /* status */, (v3 & 252) >> 2);
+    put32(word + 1 /* vcid, flags, farm_b, value */, ((((v4 & 248) << 8) | ((v5 & 252) >> 2)) | ((v4 << 15) &
+        0x30000)) | (v6 << 24));
     v4 = 0;
-    return v4;
+    return 0;
 }
 
+/* sedge_clcw_encode, crates/sedgechisel/src/control_word.rt:29 */
 static uint32_t sedge_clcw_encode_at(uint64_t word, uint64_t out, uint64_t room)
 {
-    uint32_t v3 = 0, v4 = 0, v5 = 0, v6 = 0, v7 = 0, t1;
-    v3 = 254;
-    if (room != 4) return v3;
-    v3 = 5;
-    v4 = get8(word);
-    if (v4 > 7) return v3;
-    v5 = get8(word + 1);
-    if (v5 > 63) return v3;
-    v6 = get8(word + 3);
-    if (v6 > 3) return v3;
-    v7 = get8(word + 2);
-    if ((v7 & 7) != 0) return v3;
-    t1 = (get8(word + 4) << 24) | ((((v7 | (v6 << 1)) & 255) << 16) | ((((v4 << 2) | (v5 << 10)) | 1) & 0xfcfd));
+    uint32_t v4 = 0, v5 = 0, v6 = 0, v7 = 0, t1;
+    if (room != 4) return 254;
+    v4 = get8(word /* status */);
+    if (v4 > 7) return 5;
+    v5 = get8(word + 1 /* vcid */);
+    if (v5 > 63) return 5;
+    v6 = get8(word + 3 /* farm_b */);
+    if (v6 > 3) return 5;
+    v7 = get8(word + 2 /* flags */);
+    if ((v7 & 7) != 0) return 5;
+    t1 = (get8(word + 4 /* value */) << 24) | ((((v7 | (v6 << 1)) & 255) << 16) | ((((v4 << 2) | (v5 << 10)) | 1) &
+        0xfcfd));
     put32(some(out), t1);
-    v3 = 0;
-    return v3;
+    return 0;
 }
 
+/* sedge_clcw_fault_name, crates/sedgechisel/src/names.rt:17 */
 static void sedge_clcw_fault_name_at(uint64_t result, uint32_t fault)
 {
     unsigned char frame_octets[16 + 15];
@@ -1650,17 +1509,16 @@ static void sedge_clcw_fault_name_at(uint64_t result, uint32_t fault)
     put64(v2 + 5, 0);
     put64(v2, 0);
     fault = fault - 1;
-    if ((fault & 255) < 5) goto l2;
-    v3 = 63;
-    v4 = 0;
-    fault = 0;
-    goto l1;
-l2:;
-    v5 = (uint64_t)fault & 255;
-    v3 = get32((v5 << 2) + address(table_sedge_clcw_fault_name_30));
-    v4 = get16((v5 << 1) + address(table_sedge_clcw_fault_name));
-    fault = (uint32_t)(0x6565006900ULL >> (((uint64_t)(fault << 3) & 248) & 63));
-l1:;
+    if ((fault & 255) < 5) {
+        v5 = (uint64_t)fault & 255;
+        v3 = get32((v5 << 2) + address(table_sedge_clcw_fault_name_30));
+        v4 = get16((v5 << 1) + address(table_sedge_clcw_fault_name));
+        fault = (uint32_t)(0x6565006900ULL >> (((uint64_t)(fault << 3) & 248) & 63));
+    } else {
+        v3 = 63;
+        v4 = 0;
+        fault = 0;
+    }
     put16(result + 5, v4);
     put8(result + 4, fault);
     put32(result, v3);
@@ -1669,6 +1527,7 @@ l1:;
     return;
 }
 
+/* sedge_cop_fault_name, crates/sedgechisel/src/names.rt:25 */
 static void sedge_cop_fault_name_at(uint64_t result, uint32_t fault)
 {
     unsigned char frame_octets[16 + 15];
@@ -1693,11 +1552,11 @@ static void sedge_cop_fault_name_at(uint64_t result, uint32_t fault)
     case 2:
         v4 = 0x696d694c;
         v5 = 116;
-        goto l3;
+        break;
     case 3:
         v4 = 0x656d6954;
         v5 = 114;
-        goto l3;
+        break;
     case 4:
         v4 = 0x6f6d654d;
         v7 = 121;
@@ -1726,13 +1585,12 @@ static void sedge_cop_fault_name_at(uint64_t result, uint32_t fault)
     case 8:
         v4 = 0x74617453;
         v5 = 101;
-        goto l3;
+        break;
     default:
         v4 = 63;
         v5 = 0;
-        goto l3;
+        break;
     }
-l3:;
     v6 = 0;
     v3 = 0;
     v7 = 0;
@@ -1752,6 +1610,7 @@ l1:;
     return;
 }
 
+/* sedge_dropped_name, crates/sedgechisel/src/names.rt:132 */
 static void sedge_dropped_name_at(uint64_t result, uint32_t cause)
 {
     unsigned char frame_octets[16 + 15];
@@ -1778,155 +1637,139 @@ static void sedge_dropped_name_at(uint64_t result, uint32_t cause)
     return;
 }
 
+/* sedge_farm_ad, crates/sedgechisel/src/receiver.rt:44 */
 static uint32_t sedge_farm_ad_at(uint64_t farm, uint32_t n, uint32_t buffer_free)
 {
-    uint32_t v3 = 0, v4 = 0, v5 = 0, v6 = 0;
-    v3 = 255;
-    v4 = get8(farm + 2);
-    if (v4 > 1) return v3;
-    v5 = get8(farm + 3);
-    if (v5 > 1) return v3;
-    v6 = get8(farm + 4);
-    if (v6 > 1) return v3;
-    if (v5 == 1 && v6 != 1) return v3;
-    v6 = get8(farm);
-    if (v6 == 0) return v3;
-    if ((v6 & 1) != 0) return v3;
-    if ((get8(farm + 5) & 255) > 3) return v3;
-    v3 = 5;
-    if (v4 == 1) return v3;
-    v4 = get8(farm + 1);
-    if ((n & 255) == (v4 & 255)) {
-        if (v5 == 1) return v3;
-        if ((buffer_free & 1) == 0) {
-            put16(farm + 3, 257);
-            return 2;
+    uint32_t v4 = 0, v5 = 0, v6 = 0;
+    v4 = get8(farm + 2 /* lockout */);
+    if (v4 > 1) return 255;
+    v5 = get8(farm + 3 /* wait */);
+    if (v5 > 1) return 255;
+    v6 = get8(farm + 4 /* retransmit */);
+    if (v6 > 1 || (v5 == 1 && v6 != 1)) return 255;
+    v6 = get8(farm /* width */);
+    if (v6 == 0 || (v6 & 1) != 0 || (get8(farm + 5 /* farm_b */) & 255) > 3) return 255;
+    if (v4 == 1) return 5;
+    v4 = get8(farm + 1 /* vr */);
+    if ((n & 255) != (v4 & 255)) {
+        v4 = n - v4;
+        n = v6 >> 1;
+        if ((v4 & 255) < n) {
+            if (v5 != 1) {
+                put8(farm + 4 /* retransmit */, 1);
+                return 1;
+            }
+            return 5;
         }
-        put8(farm + 4, 0);
-        put8(farm + 1, n + 1);
+        if ((v4 & 255) <= (~n & 255)) {
+            put8(farm + 2 /* lockout */, 1);
+            return 4;
+        }
+        return (v5 == 1) ? 5U : 3U;
+    }
+    if (v5 == 1) return 5;
+    if ((buffer_free & 1) != 0) {
+        put8(farm + 4 /* retransmit */, 0);
+        put8(farm + 1 /* vr */, n + 1);
         return 0;
     }
-    v4 = n - v4;
-    n = v6 >> 1;
-    if ((v4 & 255) < n) goto l3;
-    if ((v4 & 255) <= (~n & 255)) {
-        put8(farm + 2, 1);
-        return 4;
-    }
-    return (v5 == 1) ? 5U : 3U;
-l3:;
-    if (v5 != 1) {
-        put8(farm + 4, 1);
-        return 1;
-    }
-    return v3;
+    put16(farm + 3 /* wait, retransmit */, 257);
+    return 2;
 }
 
+/* sedge_farm_bd, crates/sedgechisel/src/receiver.rt:74 */
 static uint32_t sedge_farm_bd_at(uint64_t farm)
 {
-    uint32_t v1 = 0, v2 = 0, v3 = 0, v4 = 0, v5 = 0, v6 = 0;
-    v1 = 255;
-    v2 = get8(farm + 2);
-    if (v2 > 1) return v1;
-    v3 = get8(farm + 3);
-    if (v3 > 1) return v1;
-    v4 = get8(farm + 4);
-    if (v4 > 1) return v1;
-    if (v3 == 1 && v4 != 1) return v1;
-    v5 = get8(farm + 5);
-    if ((v5 & 255) > 3) return v1;
-    v6 = get8(farm);
-    if (v6 == 0) return v1;
-    if ((v6 & 1) != 0) return v1;
-    put8(farm + 4, v4 == 1);
-    put8(farm + 3, v3 == 1);
-    put8(farm + 2, v2 == 1);
-    put8(farm + 5, (v5 + 1) & 3);
-    v1 = 0;
-    return v1;
+    uint32_t v2 = 0, v3 = 0, v4 = 0, v5 = 0, v6 = 0;
+    v2 = get8(farm + 2 /* lockout */);
+    if (v2 > 1) return 255;
+    v3 = get8(farm + 3 /* wait */);
+    if (v3 > 1) return 255;
+    v4 = get8(farm + 4 /* retransmit */);
+    if (v4 > 1 || (v3 == 1 && v4 != 1)) return 255;
+    v5 = get8(farm + 5 /* farm_b */);
+    if ((v5 & 255) > 3) return 255;
+    v6 = get8(farm /* width */);
+    if (v6 == 0 || (v6 & 1) != 0) return 255;
+    put8(farm + 4 /* retransmit */, v4 == 1);
+    put8(farm + 3 /* wait */, v3 == 1);
+    put8(farm + 2 /* lockout */, v2 == 1);
+    put8(farm + 5 /* farm_b */, (v5 + 1) & 3);
+    return 0;
 }
 
+/* sedge_farm_control_word, crates/sedgechisel/src/receiver.rt:109 */
 static uint32_t sedge_farm_control_word_at(uint64_t farm, uint32_t vcid, uint64_t word)
 {
-    uint32_t v3 = 0, v4 = 0, v5 = 0, v6 = 0, v7 = 0;
-    v3 = 255;
-    v4 = get8(farm + 2);
-    if (v4 > 1) return v3;
-    v5 = get8(farm + 3);
-    if (v5 > 1) return v3;
-    v6 = get8(farm + 4);
-    if (v6 > 1) return v3;
-    if (v5 == 1 && v6 != 1) return v3;
-    v7 = get8(farm);
-    if (v7 == 0) return v3;
-    if ((v7 & 1) != 0) return v3;
-    v7 = get8(farm + 5);
-    if ((v7 & 255) > 3) return v3;
-    v3 = 5;
-    if ((vcid & 255) > 63) return v3;
-    put8(word + 4, get8(farm + 1));
-    put8(word + 3, v7);
-    put8(word + 1, vcid);
-    v3 = 0;
-    put8(word, 0);
-    put8(word + 2, (((v5 == 1) ? 16U : 0U) | ((v4 == 1) ? 32U : 0U)) | ((v6 != 1) ? 0U : 8U));
-    return v3;
+    uint32_t v4 = 0, v5 = 0, v6 = 0, v7 = 0;
+    v4 = get8(farm + 2 /* lockout */);
+    if (v4 > 1) return 255;
+    v5 = get8(farm + 3 /* wait */);
+    if (v5 > 1) return 255;
+    v6 = get8(farm + 4 /* retransmit */);
+    if (v6 > 1 || (v5 == 1 && v6 != 1)) return 255;
+    v7 = get8(farm /* width */);
+    if (v7 == 0 || (v7 & 1) != 0) return 255;
+    v7 = get8(farm + 5 /* farm_b */);
+    if ((v7 & 255) > 3) return 255;
+    if ((vcid & 255) > 63) return 5;
+    put8(word + 4 /* value */, get8(farm + 1 /* vr */));
+    put8(word + 3 /* farm_b */, v7);
+    put8(word + 1 /* vcid */, vcid);
+    put8(word /* status */, 0);
+    put8(word + 2 /* flags */, (((v5 == 1) ? 16U : 0U) | ((v4 == 1) ? 32U : 0U)) | ((v6 != 1) ? 0U : 8U));
+    return 0;
 }
 
+/* sedge_farm_open, crates/sedgechisel/src/receiver.rt:34 */
 static uint32_t sedge_farm_open_at(uint64_t farm, uint32_t width, uint32_t vr)
 {
     uint32_t v3 = 0;
     v3 = width & 1;
-    if ((width & 255) == 0) goto l2;
-    if (v3 != 0) goto l2;
-    v3 = 0;
-    put32(farm + 2, 0);
-    put8(farm + 1, vr);
-    put8(farm, width);
-    return v3 & 255;
-l2:;
+    if ((width & 255) != 0 && v3 == 0) {
+        v3 = 0;
+        put32(farm + 2 /* lockout, wait, retransmit, farm_b */, 0);
+        put8(farm + 1 /* vr */, vr);
+        put8(farm /* width */, width);
+        return 0;
+    }
     v3 = (v3 != 0) ? 1U : (width | 1);
     return v3 & 255;
 }
 
+/* sedge_farm_released, crates/sedgechisel/src/receiver.rt:98 */
 static uint32_t sedge_farm_released_at(uint64_t farm)
 {
-    uint32_t v1 = 0, v2 = 0, v3 = 0, v4 = 0;
-    v1 = 255;
-    v2 = get8(farm + 2);
-    if (v2 > 1) return v1;
-    v3 = get8(farm + 3);
-    if (v3 > 1) return v1;
-    v4 = get8(farm + 4);
-    if (v4 > 1) return v1;
-    if (v3 == 1 && v4 != 1) return v1;
-    if ((get8(farm + 5) & 255) > 3) return v1;
-    v3 = get8(farm);
-    if (v3 == 0) return v1;
-    if ((v3 & 1) != 0) return v1;
-    put8(farm + 4, v4 == 1);
-    v1 = 0;
-    put8(farm + 3, 0);
-    put8(farm + 2, v2 == 1);
-    return v1;
+    uint32_t v2 = 0, v3 = 0, v4 = 0;
+    v2 = get8(farm + 2 /* lockout */);
+    if (v2 > 1) return 255;
+    v3 = get8(farm + 3 /* wait */);
+    if (v3 > 1) return 255;
+    v4 = get8(farm + 4 /* retransmit */);
+    if (v4 > 1 || ((v3 == 1 && v4 != 1) || (get8(farm + 5 /* farm_b */) & 255) > 3)) return 255;
+    v3 = get8(farm /* width */);
+    if (v3 == 0 || (v3 & 1) != 0) return 255;
+    put8(farm + 4 /* retransmit */, v4 == 1);
+    put8(farm + 3 /* wait */, 0);
+    put8(farm + 2 /* lockout */, v2 == 1);
+    return 0;
 }
 
+/* sedge_farm_set_vr, crates/sedgechisel/src/receiver.rt:90 */
 static uint32_t sedge_farm_set_vr_at(uint64_t farm, uint32_t vr)
 {
     uint32_t v2 = 0, v3 = 0, v4 = 0, v5 = 0, v6 = 0, v7 = 0;
     v2 = 255;
     v3 = get8(farm + 2);
-    if (v3 > 1) return v2;
+    if (v3 > 1) return 255;
     v4 = get8(farm + 3);
-    if (v4 > 1) return v2;
+    if (v4 > 1) return 255;
     v5 = get8(farm + 4);
-    if (v5 > 1) return v2;
-    if (v4 == 1 && v5 != 1) return v2;
+    if (v5 > 1 || (v4 == 1 && v5 != 1)) return 255;
     v6 = get8(farm + 5);
-    if ((v6 & 255) > 3) return v2;
+    if ((v6 & 255) > 3) return 255;
     v7 = get8(farm);
-    if (v7 == 0) return v2;
-    if ((v7 & 1) != 0) return v2;
+    if (v7 == 0 || (v7 & 1) != 0) return 255;
     v2 = v3 == 1;
     put8(farm + 2, v2);
     put8(farm + 5, (v6 + 1) & 3);
@@ -1935,103 +1778,89 @@ static uint32_t sedge_farm_set_vr_at(uint64_t farm, uint32_t vr)
     farm = farm + 1;
     put8(farm, (v2 != 0) ? get8(farm) : vr);
     v2 = 0;
-    return v2;
+    return 0;
 }
 
+/* sedge_farm_state, crates/sedgechisel/src/receiver.rt:125 */
 static uint32_t sedge_farm_state_at(uint64_t farm)
 {
     uint32_t v1 = 0, v2 = 0, v3 = 0, v4 = 0;
     v1 = 255;
-    v2 = get8(farm + 2);
-    if (v2 > 1) return v1;
-    v3 = get8(farm + 3);
-    if (v3 > 1) return v1;
-    v4 = get8(farm + 4);
-    if (v4 > 1) return v1;
-    if (v3 == 1 && v4 != 1) return v1;
-    if ((get8(farm + 5) & 255) > 3) return v1;
-    v4 = get8(farm);
-    if (v4 == 0) return v1;
-    if ((v4 & 1) != 0) return v1;
+    v2 = get8(farm + 2 /* lockout */);
+    if (v2 > 1) return 255;
+    v3 = get8(farm + 3 /* wait */);
+    if (v3 > 1) return 255;
+    v4 = get8(farm + 4 /* retransmit */);
+    if (v4 > 1 || ((v3 == 1 && v4 != 1) || (get8(farm + 5 /* farm_b */) & 255) > 3)) return 255;
+    v4 = get8(farm /* width */);
+    if (v4 == 0 || (v4 & 1) != 0) return 255;
     v1 = (v2 == 1) ? 2U : (uint32_t)(v3 == 1);
     return v1;
 }
 
+/* sedge_farm_unlock, crates/sedgechisel/src/receiver.rt:82 */
 static uint32_t sedge_farm_unlock_at(uint64_t farm)
 {
-    uint32_t v1 = 0, v2 = 0, v3 = 0;
-    v1 = 255;
-    if (get8(farm + 2) > 1) return v1;
-    v2 = get8(farm + 3);
-    if (v2 > 1) return v1;
-    v3 = get8(farm + 4);
-    if (v3 > 1) return v1;
-    if (v2 == 1 && v3 != 1) return v1;
-    v2 = get8(farm + 5);
-    if ((v2 & 255) > 3) return v1;
-    v3 = get8(farm);
-    if (v3 == 0) return v1;
-    if ((v3 & 1) != 0) return v1;
-    v1 = 0;
-    put8(farm + 4, 0);
-    put16(farm + 2, 0);
-    put8(farm + 5, (v2 + 1) & 3);
-    return v1;
+    uint32_t v2 = 0, v3 = 0;
+    if (get8(farm + 2 /* lockout */) > 1) return 255;
+    v2 = get8(farm + 3 /* wait */);
+    if (v2 > 1) return 255;
+    v3 = get8(farm + 4 /* retransmit */);
+    if (v3 > 1 || (v2 == 1 && v3 != 1)) return 255;
+    v2 = get8(farm + 5 /* farm_b */);
+    if ((v2 & 255) > 3) return 255;
+    v3 = get8(farm /* width */);
+    if (v3 == 0 || (v3 & 1) != 0) return 255;
+    put8(farm + 4 /* retransmit */, 0);
+    put16(farm + 2 /* lockout, wait */, 0);
+    put8(farm + 5 /* farm_b */, (v2 + 1) & 3);
+    return 0;
 }
 
+/* sedge_fop_open, crates/sedgechisel/src/sender.rt:60 */
 static uint32_t sedge_fop_open_at(uint64_t fop, uint32_t width, uint32_t window, uint32_t limit, uint32_t timer)
 {
-    uint32_t v5 = 0, v6 = 0;
-    v5 = 1;
-    if ((width & 255) == 0) return v5;
-    if ((width & 1) != 0) return v5;
-    v5 = 2;
+    uint32_t v6 = 0;
+    if ((width & 255) == 0 || (width & 1) != 0) return 1;
     v6 = window & 255;
-    if (v6 == 0) return v5;
+    if (v6 == 0) return 2;
     width = (width >> 1) & 127;
-    if (width < v6) return v5;
-    if ((limit & 255) != 0) {
-        if ((timer & 0xffff) != 0) goto l2;
-        return 4;
-    }
-    return 3;
-l2:;
-    v5 = 0;
-    put32(fop + 6, 0);
-    put8(fop + 5, 6);
-    put8(fop + 4, width);
-    put16(fop + 2, 0);
-    put16(fop, timer);
-    put8(fop + 10, 0);
-    put8(fop + 15, 0);
-    put16(fop + 13, 1);
-    put8(fop + 12, limit);
-    put8(fop + 11, window);
-    return v5;
+    if (width < v6) return 2;
+    if ((limit & 255) == 0) return 3;
+    if ((timer & 0xffff) == 0) return 4;
+    put32(fop + 6 /* vs, nn, waiting, sent */, 0);
+    put8(fop + 5 /* state */, 6);
+    put8(fop + 4 /* room */, width);
+    put16(fop + 2 /* ticks */, 0);
+    put16(fop /* timer */, timer);
+    put8(fop + 10 /* due */, 0);
+    put8(fop + 15 /* vr */, 0);
+    put16(fop + 13 /* count, control */, 1);
+    put8(fop + 12 /* limit */, limit);
+    put8(fop + 11 /* window */, window);
+    return 0;
 }
 
+/* sedge_gap_check_open, crates/sedgechisel/src/packet.rt:105 */
 static void sedge_gap_check_open_at(uint64_t check)
 {
     fill(check, 255, 0x1000);
     return;
 }
 
+/* sedge_gap_check_see, crates/sedgechisel/src/packet.rt:116 */
 static uint32_t sedge_gap_check_see_at(uint64_t check, uint32_t apid, uint32_t count, uint64_t missing)
 {
-    uint32_t v4 = 0;
-    v4 = 5;
-    if ((apid & 0xffff) > 0x7ff) return v4;
-    if ((count & 0xffff) > 0x3fff) return v4;
+    if ((apid & 0xffff) > 0x7ff || (count & 0xffff) > 0x3fff) return 5;
     check = check + ((uint64_t)(apid << 1) & 0xfffe);
     apid = get16(check);
     put16(check, count);
-    v4 = 253;
-    if (apid > 0x3fff) return v4;
+    if (apid > 0x3fff) return 253;
     put16(missing, (count + ~apid) & 0x3fff);
-    v4 = 0;
-    return v4;
+    return 0;
 }
 
+/* sedge_map_count, crates/sedgechisel/src/cutting.rt:40 */
 static uint32_t sedge_map_count_at(uint64_t octets, uint64_t count, uint64_t limits, uint64_t segments)
 {
     unsigned char frame_octets[48 + 15];
@@ -2041,27 +1870,28 @@ static uint32_t sedge_map_count_at(uint64_t octets, uint64_t count, uint64_t lim
     put64(v4 + 16, 0);
     put64(v4 + 8, 0);
     v5 = 255;
-    v6 = get32(limits);
-    if (v6 == 0) return v5 & 255;
+    v6 = get32(limits /* part */);
+    if (v6 == 0) return 255;
     v5 = 255;
-    v7 = get8(limits + 8);
-    if (v7 > 1) return v5 & 255;
+    v7 = get8(limits + 8 /* blocking */);
+    if (v7 > 1) return 255;
     v5 = 0;
     put32(v4 + 41, 0);
     put64(v4 + 32, 0);
     put32(v4 + 24, v6);
     put32(v4 + 44, 0);
     put8(v4 + 40, v7 == 1);
-    put32(v4 + 28, get32(limits + 4));
+    put32(v4 + 28, get32(limits + 4 /* max_packet */));
     map_service_cutting_segment_count(v4 + 8, some(octets), count, v4 + 24);
-    if (get8(v4 + 8) != 0) goto l2;
-    put64(segments, get64(v4 + 16));
-    return v5 & 255;
-l2:;
+    if (get8(v4 + 8) == 0) {
+        put64(segments, get64(v4 + 16));
+        return 0;
+    }
     v5 = get8(v4 + 9) + 1;
     return v5 & 255;
 }
 
+/* sedge_map_fault_name, crates/sedgechisel/src/names.rt:124 */
 static void sedge_map_fault_name_at(uint64_t result, uint32_t fault)
 {
     unsigned char frame_octets[32 + 15];
@@ -2069,35 +1899,33 @@ static void sedge_map_fault_name_at(uint64_t result, uint32_t fault)
     v2 = aligned(frame_octets);
     switch ((fault & 255) - 1) {
     case 0:
-        goto l2;
+        put16(v2 + 25, 0);
+        put64(v2 + 17, 0);
+        put64(v2 + 8, get64(address(constant_28 + 1)));
+        put8(v2 + 16, get8(address(constant_28 + 9)));
+        fault = 78;
+        break;
     case 1:
         put64(v2 + 19, 0);
         put64(v2 + 14, 0);
         put32(v2 + 8, get32(address(constant_29 + 1)));
         put16(v2 + 12, get16(address(constant_29 + 5)));
         fault = 84;
-        goto l1;
+        break;
     case 2:
         put64(v2 + 19, 0);
         put64(v2 + 13, 0);
         put32(v2 + 8, get32(address(constant_20 + 1)));
         put8(v2 + 12, get8(address(constant_20 + 5)));
         fault = 77;
-        goto l1;
+        break;
     default:
         put32(v2 + 23, 0);
         put64(v2 + 16, 0);
         put64(v2 + 8, 0);
         fault = 63;
-        goto l1;
+        break;
     }
-l2:;
-    put16(v2 + 25, 0);
-    put64(v2 + 17, 0);
-    put64(v2 + 8, get64(address(constant_28 + 1)));
-    put8(v2 + 16, get8(address(constant_28 + 9)));
-    fault = 78;
-l1:;
     put8(result, fault);
     put64(result + 1, get64(v2 + 8));
     put64(result + 9, get64(v2 + 16));
@@ -2105,32 +1933,29 @@ l1:;
     return;
 }
 
+/* sedge_map_packet, crates/sedgechisel/src/assembly.rt:213 */
 static uint32_t sedge_map_packet_at(uint64_t octets, uint64_t count, uint64_t packet)
 {
-    uint32_t v3 = 0, v6 = 0;
+    uint32_t v6 = 0;
     uint64_t v4 = 0, v5 = 0;
-    v3 = 0;
-    v4 = get64(packet);
-    if (count < v4) return v3;
-    v5 = get64(packet + 8);
-    if ((count - v4) < v5) return v3;
+    v4 = get64(packet /* from */);
+    if (count < v4) return 0;
+    v5 = get64(packet + 8 /* count */);
+    if ((count - v4) < v5) return 0;
     v4 = v5 + v4;
     count = count - v4;
-    if (count < 6) return v3;
+    if (count < 6) return 0;
     octets = some(octets) + v4;
     v6 = get8(octets);
-    if (v6 > 31) return v3;
-    if ((v6 & 8) != 0) {
-        if ((((v6 << 8) & 0x700) | get8(octets + 1)) == 0x7ff) return v3;
-    }
+    if (v6 > 31 || ((v6 & 8) != 0 && (((v6 << 8) & 0x700) | get8(octets + 1)) == 0x7ff)) return 0;
     octets = (((uint64_t)get8(octets + 4) << 8) | (uint64_t)get8(octets + 5)) + 7;
-    if (count < octets) return v3;
-    put64(packet, v4);
-    put64(packet + 8, octets);
-    v3 = 1;
-    return v3;
+    if (count < octets) return 0;
+    put64(packet /* from */, v4);
+    put64(packet + 8 /* count */, octets);
+    return 1;
 }
 
+/* sedge_map_segment, crates/sedgechisel/src/cutting.rt:54 */
 static uint32_t sedge_map_segment_at(uint64_t octets, uint64_t count, uint64_t limits, uint64_t k, uint64_t flags,
     uint64_t data)
 {
@@ -2142,10 +1967,10 @@ static uint32_t sedge_map_segment_at(uint64_t octets, uint64_t count, uint64_t l
     put64(v6 + 8, 0);
     v7 = 255;
     v8 = get32(limits);
-    if (v8 == 0) return v7 & 255;
+    if (v8 == 0) return 255;
     v7 = 255;
     v9 = get8(limits + 8);
-    if (v9 > 1) return v7 & 255;
+    if (v9 > 1) return 255;
     put32(v6 + 41, 0);
     put64(v6 + 32, 0);
     put32(v6 + 24, v8);
@@ -2159,20 +1984,18 @@ static uint32_t sedge_map_segment_at(uint64_t octets, uint64_t count, uint64_t l
         return v7 & 255;
     }
     v7 = 253;
-    if (count == 0) return v7 & 255;
+    if (count == 0) return 253;
     v10 = (uint64_t)v8;
     v11 = 0;
-l5:;
-    limits = map_service_cutting_group_len(octets, count, v10);
-    v12 = ((limits - 1) / v10) + 1;
-    if (k < v12) goto l2;
-    octets = octets + limits;
-    v11 = limits + v11;
-    k = k - v12;
-    count = count - limits;
-    if (count != 0) goto l5;
-    return v7 & 255;
-    v7 = get8(v6 + 9) + 1;
+    do {
+        limits = map_service_cutting_group_len(octets, count, v10);
+        v12 = ((limits - 1) / v10) + 1;
+        if (k < v12) goto l2;
+        octets = octets + limits;
+        v11 = limits + v11;
+        k = k - v12;
+        count = count - limits;
+    } while (count != 0);
     return v7 & 255;
 l2:;
     v7 = 0;
@@ -2180,80 +2003,72 @@ l2:;
     count = limits - octets;
     v8 = count > v10;
     put8(flags, (k == 0) ? ((v8 != 0) ? 1U : 3U) : ((v8 != 0) ? 0U : 2U));
-    put64(data + 8, (v10 < count) ? v10 : count);
-    put64(data, octets + v11);
-    return v7 & 255;
+    put64(data + 8 /* count */, (v10 < count) ? v10 : count);
+    put64(data /* from */, octets + v11);
+    return 0;
 }
 
+/* sedge_packet_declared, crates/sedgechisel/src/packet.rt:85 */
 static uint32_t sedge_packet_declared_at(uint64_t octets, uint64_t count, uint64_t total)
 {
     uint32_t v3 = 0;
-    if (count >= 6) {
-        octets = some(octets);
-        v3 = get8(octets);
-        if (v3 <= 31) {
-            if ((v3 & 8) == 0) {
-                put64(total, (((uint64_t)get8(octets + 4) << 8) | (uint64_t)get8(octets + 5)) + 7);
-                return 0;
-            }
-            if ((((v3 << 8) & 0x700) | get8(octets + 1)) != 0x7ff) {
-                put64(total, (((uint64_t)get8(octets + 4) << 8) | (uint64_t)get8(octets + 5)) + 7);
-                return 0;
-            }
-            return 3;
-        }
-        return 2;
+    if (count < 6) return 1;
+    octets = some(octets);
+    v3 = get8(octets);
+    if (v3 > 31) return 2;
+    if ((v3 & 8) == 0 || (((v3 << 8) & 0x700) | get8(octets + 1)) != 0x7ff) {
+        put64(total, (((uint64_t)get8(octets + 4) << 8) | (uint64_t)get8(octets + 5)) + 7);
+        return 0;
     }
-    return 1;
+    return 3;
 }
 
+/* sedge_packet_decode, crates/sedgechisel/src/packet.rt:37 */
 static uint32_t sedge_packet_decode_at(uint64_t octets, uint64_t count, uint64_t packet, uint64_t data)
 {
     uint32_t v4 = 0, v5 = 0, v6 = 0;
     uint64_t v7 = 0, t1;
     v4 = 1;
-    if (count < 6) return v4;
+    if (count < 6) return 1;
     octets = some(octets);
     v5 = get8(octets);
     if (v5 > 31) return 2;
     v6 = ((v5 << 8) & 0x700) | get8(octets + 1);
-    if ((v5 & 8) != 0) {
-        if (v6 == 0x7ff) return 3;
-    }
+    if ((v5 & 8) != 0 && v6 == 0x7ff) return 3;
     v7 = ((uint64_t)get8(octets + 4) << 8) | (uint64_t)get8(octets + 5);
-    if (count < (v7 + 7)) return v4;
+    if (count < (v7 + 7)) return 1;
     v4 = get8(octets + 2);
     t1 = ((((uint64_t)(v4 >> 6) << 48) | ((uint64_t)((v5 >> 3) & 1) << 40)) | ((uint64_t)(v5 >> 4) << 32)) |
         ((((uint64_t)(v4 << 8) & 0x3f00) | (uint64_t)get8(octets + 3)) << 16);
-    put64(packet, t1 | (uint64_t)v6);
-    put64(data + 8, v7 + 1);
-    put64(data, 6);
+    put64(packet /* apid, count, kind, secondary, flags */, t1 | (uint64_t)v6);
+    put64(data + 8 /* count */, v7 + 1);
+    put64(data /* from */, 6);
     v4 = 0;
-    return v4;
+    return 0;
 }
 
+/* sedge_packet_encode, crates/sedgechisel/src/packet.rt:62 */
 static uint32_t sedge_packet_encode_at(uint64_t packet, uint64_t data, uint64_t data_count, uint64_t out, uint64_t
     room, uint64_t total)
 {
     uint32_t v6 = 0, v7 = 0, v8 = 0, v9 = 0, v10 = 0, v11 = 0;
-    uint64_t v12 = 0, v13 = 0, v14 = 0, v15 = 0, v16 = 0, v17 = 0, v18 = 0;
+    uint64_t v12 = 0, v13 = 0, v14 = 0, v15 = 0, v16 = 0;
     v6 = 255;
     v7 = get8(packet + 4);
-    if (v7 > 1) return v6;
+    if (v7 > 1) return 255;
     v8 = get8(packet + 5);
-    if (v8 > 1) return v6;
+    if (v8 > 1) return 255;
     v6 = 5;
     v9 = get16(packet);
-    if (v8 == 1 && v9 == 0x7ff) return v6;
-    if ((data_count + 0xfffffffffffeffffULL) < 0xffffffffffff0000ULL) return v6;
-    if (v9 > 0x7ff) return v6;
+    if ((v8 == 1 && v9 == 0x7ff) || (data_count + 0xfffffffffffeffffULL) < 0xffffffffffff0000ULL || v9 > 0x7ff) return
+        5;
     v10 = get8(packet + 6);
-    if ((v10 & 255) > 3) return v6;
+    if ((v10 & 255) > 3) return 5;
     v11 = get16(packet + 2);
-    if ((v11 & 0xffff) > 0x3fff) return v6;
+    if ((v11 & 0xffff) > 0x3fff) return 5;
     v6 = 4;
     v12 = data_count + 6;
-    if (room < v12) return v6;
+    if (room < v12) return 4;
     v13 = (out == 0) ? 0x1000ULL : 0ULL;
     v14 = out + v13;
     v6 = (uint32_t)data_count - 1;
@@ -2263,40 +2078,13 @@ static uint32_t sedge_packet_encode_at(uint64_t packet, uint64_t data, uint64_t 
     packet = v14 + 6;
     v15 = (data == 0) ? 0x1000ULL : 0ULL;
     v16 = data + v15;
-    if ((packet - v16) < data_count) {
-        v17 = data_count & 3;
-        room = 0;
-        if (data_count >= 4) {
-            v18 = data_count & 0x1fffc;
-            room = 0;
-            do {
-                packet = v14 + room;
-                data_count = v16 + room;
-                put8(packet + 6, get8(data_count));
-                put8(packet + 7, get8(data_count + 1));
-                put8(packet + 8, get8(data_count + 2));
-                put8(packet + 9, get8(data_count + 3));
-                room = room + 4;
-            } while (v18 != room);
-            if (v17 == 0) goto l3;
-        }
-        packet = data + (v15 + room);
-        room = v13 + room + out + 6;
-    l7:;
-        put8(room, get8(packet));
-        room = room + 1;
-        packet = packet + 1;
-        v17 = v17 - 1;
-        if (v17 != 0) goto l7;
-        goto l3;
-    }
     if (data_count != 0) copy(packet, v16, data_count);
-l3:;
     put64(total, v12);
     v6 = 0;
-    return v6;
+    return 0;
 }
 
+/* sedge_packet_fault_name, crates/sedgechisel/src/names.rt:104 */
 static void sedge_packet_fault_name_at(uint64_t result, uint32_t fault)
 {
     unsigned char frame_octets[16 + 15];
@@ -2305,7 +2093,13 @@ static void sedge_packet_fault_name_at(uint64_t result, uint32_t fault)
     v2 = aligned(frame_octets);
     switch ((fault & 255) - 1) {
     case 0:
-        goto l2;
+        put16(v2 + 8, 0);
+        put64(v2, 0);
+        v3 = 0x6e757254;
+        v4 = 0x6163;
+        v5 = 116;
+        fault = 0x6465;
+        break;
     case 1:
         fault = 0;
         put16(v2 + 8, 0);
@@ -2313,7 +2107,7 @@ static void sedge_packet_fault_name_at(uint64_t result, uint32_t fault)
         v3 = 0x73726556;
         v4 = 0x6f69;
         v5 = 110;
-        goto l1;
+        break;
     case 2:
         put8(v2 + 9, 0);
         put16(v2 + 7, 0);
@@ -2323,7 +2117,7 @@ static void sedge_packet_fault_name_at(uint64_t result, uint32_t fault)
         v4 = 0x6957;
         v5 = 116;
         fault = 0x655368;
-        goto l1;
+        break;
     case 3:
         fault = 0;
         put16(v2 + 8, 0);
@@ -2331,7 +2125,7 @@ static void sedge_packet_fault_name_at(uint64_t result, uint32_t fault)
         v3 = 0x6d6f6f52;
         v5 = 0;
         v4 = 0;
-        goto l1;
+        break;
     case 4:
         put16(v2 + 8, 0);
         put64(v2, 0);
@@ -2339,7 +2133,7 @@ static void sedge_packet_fault_name_at(uint64_t result, uint32_t fault)
         v4 = 0x5264;
         v5 = 97;
         fault = 0x65676e;
-        goto l1;
+        break;
     case 5:
         fault = 0;
         put16(v2 + 8, 0);
@@ -2347,7 +2141,7 @@ static void sedge_packet_fault_name_at(uint64_t result, uint32_t fault)
         v3 = 0x6f6d654d;
         v4 = 0x7972;
         v5 = 0;
-        goto l1;
+        break;
     default:
         v4 = 0;
         put16(v2 + 8, 0);
@@ -2355,16 +2149,8 @@ static void sedge_packet_fault_name_at(uint64_t result, uint32_t fault)
         v3 = 63;
         fault = 0;
         v5 = 0;
-        goto l1;
+        break;
     }
-l2:;
-    put16(v2 + 8, 0);
-    put64(v2, 0);
-    v3 = 0x6e757254;
-    v4 = 0x6163;
-    v5 = 116;
-    fault = 0x6465;
-l1:;
     put16(result + 7, fault);
     put8(result + 6, v5);
     put16(result + 4, v4);
@@ -2375,27 +2161,27 @@ l1:;
     return;
 }
 
+/* sedge_tc_declared, crates/sedgechisel/src/command_frame.rt:98 */
 static uint32_t sedge_tc_declared_at(uint64_t octets, uint64_t count, uint32_t checked, uint64_t total)
 {
-    if (count >= 5) {
-        octets = some(octets);
-        octets = (((uint64_t)get8(octets + 2) << 8) & 768) | (uint64_t)get8(octets + 3);
-        if ((checked & 1) == 0) {
-            if (octets >= 4) {
-                put64(total, octets + 1);
-                return 0;
-            }
-            return 5;
-        }
+    if (count < 5) return 1;
+    octets = some(octets);
+    octets = (((uint64_t)get8(octets + 2) << 8) & 768) | (uint64_t)get8(octets + 3);
+    if ((checked & 1) != 0) {
         if (octets >= 6) {
             put64(total, octets + 1);
             return 0;
         }
         return 5;
     }
-    return 1;
+    if (octets >= 4) {
+        put64(total, octets + 1);
+        return 0;
+    }
+    return 5;
 }
 
+/* sedge_tc_decode, crates/sedgechisel/src/command_frame.rt:50 */
 static uint32_t sedge_tc_decode_at(uint64_t octets, uint64_t count, uint32_t checked, uint64_t frame, uint64_t data)
 {
     uint32_t t1;
@@ -2403,6 +2189,7 @@ static uint32_t sedge_tc_decode_at(uint64_t octets, uint64_t count, uint32_t che
     return t1 & 255;
 }
 
+/* sedge_tc_fault_name, crates/sedgechisel/src/names.rt:94 */
 static void sedge_tc_fault_name_at(uint64_t result, uint32_t fault)
 {
     unsigned char frame_octets[16 + 15];
@@ -2459,7 +2246,7 @@ static void sedge_tc_fault_name_at(uint64_t result, uint32_t fault)
         goto l1;
     case 9:
         v3 = 0x6d6f6f52;
-        goto l2;
+        break;
     case 10:
         v3 = 0x6c656946;
         v4 = 100;
@@ -2475,9 +2262,8 @@ static void sedge_tc_fault_name_at(uint64_t result, uint32_t fault)
         goto l1;
     default:
         v3 = 63;
-        goto l2;
+        break;
     }
-l2:;
     v4 = 0;
     v5 = 0;
 l1:;
@@ -2490,56 +2276,43 @@ l1:;
     return;
 }
 
+/* sedge_tm_builder_open, crates/sedgechisel/src/telemetry_builder.rt:44 */
 static uint32_t sedge_tm_builder_open_at(uint64_t builder, uint32_t scid, uint32_t vcid, uint64_t length)
 {
-    uint32_t v4 = 0;
-    v4 = 10;
-    if ((scid & 0xffff) > 0x3ff) return v4;
-    if ((vcid & 255) > 7) return v4;
-    if ((length - 16) > 0x7f0) return v4;
-    put64(builder + 16, 0);
-    put64(builder + 8, 0);
-    put64(builder, 0);
-    v4 = 0;
+    if ((scid & 0xffff) > 0x3ff || (vcid & 255) > 7 || (length - 16) > 0x7f0) return 10;
+    put64(builder + 16 /* begun */, 0);
+    put64(builder + 8 /* count */, 0);
+    put64(builder /* from */, 0);
     put8(builder + 31, 0);
-    put16(builder + 29, 0);
-    put8(builder + 28, vcid);
-    put16(builder + 26, (uint32_t)length);
-    put16(builder + 24, scid);
-    return v4;
+    put16(builder + 29 /* next_count, idle_left */, 0);
+    put8(builder + 28 /* vcid */, vcid);
+    put16(builder + 26 /* length */, (uint32_t)length);
+    put16(builder + 24 /* scid */, scid);
+    return 0;
 }
 
+/* sedge_tm_builder_queue, crates/sedgechisel/src/telemetry_builder.rt:79 */
 static uint32_t sedge_tm_builder_queue_at(uint64_t builder, uint64_t packet, uint64_t count, uint64_t memory, uint64_t
     room)
 {
-    uint32_t v5 = 0, v8 = 0;
+    uint32_t v8 = 0;
     uint64_t v6 = 0, v7 = 0, v9 = 0, v10 = 0, v11 = 0, v12 = 0, v13 = 0, v14 = 0, v15 = 0;
-    v5 = 255;
-    if (get16(builder + 24) > 0x3ff) return v5;
-    if ((get8(builder + 28) & 255) > 7) return v5;
-    if (((get16(builder + 26) - 16) & 0xffff) > 0x7f0) return v5;
-    v5 = 255;
-    if (get8(builder + 30) > 6) return v5;
-    v6 = get64(builder);
-    if (room < v6) return v5;
-    v7 = get64(builder + 8);
-    if (v7 > (room - v6)) return v5;
-    if (get64(builder + 16) > v7) return v5;
-    v5 = 8;
-    if (count < 6) return v5;
+    if (get16(builder + 24 /* scid */) > 0x3ff || (get8(builder + 28 /* vcid */) & 255) > 7 || ((get16(builder + 26 /*
+        length */) - 16) & 0xffff) > 0x7f0) return 255;
+    if (get8(builder + 30 /* idle_left */) > 6) return 255;
+    v6 = get64(builder /* from */);
+    if (room < v6) return 255;
+    v7 = get64(builder + 8 /* count */);
+    if (v7 > (room - v6) || get64(builder + 16 /* begun */) > v7) return 255;
+    if (count < 6) return 8;
     packet = some(packet);
     v8 = get8(packet);
-    if (v8 > 31) return v5;
-    v5 = 8;
-    if ((v8 & 8) != 0) {
-        if ((((v8 << 8) & 0x700) | get8(packet + 1)) == 0x7ff) return v5;
-    }
-    if (((((uint64_t)get8(packet + 4) << 8) | (uint64_t)get8(packet + 5)) + 7) != count) return v5;
-    v5 = 8;
+    if (v8 > 31) return 8;
+    if (((v8 & 8) != 0 && (((v8 << 8) & 0x700) | get8(packet + 1)) == 0x7ff) || ((((uint64_t)get8(packet + 4) << 8) |
+        (uint64_t)get8(packet + 5)) + 7) != count) return 8;
     v8 = get16(packet);
-    if ((((v8 << 8) | (v8 >> 8)) & 0x7ff) == 0x7ff) return v5;
-    v5 = 7;
-    if ((room - v7) < count) return v5;
+    if ((((v8 << 8) | (v8 >> 8)) & 0x7ff) == 0x7ff) return 8;
+    if ((room - v7) < count) return 7;
     v9 = (memory == 0) ? 0x1000ULL : 0ULL;
     v10 = memory + v9;
     if ((room - (v6 + v7)) >= count) {
@@ -2574,42 +2347,17 @@ static uint32_t sedge_tm_builder_queue_at(uint64_t builder, uint64_t packet, uin
             v13 = v13 - 1;
         } while (v13 != 0);
     l7:;
-        v12 = get64(builder + 8);
+        v12 = get64(builder + 8 /* count */);
     }
-    put64(builder, 0);
+    put64(builder /* from */, 0);
 l4:;
     v15 = v10 + v11 + v12;
-    if ((v15 - packet) < count) {
-        v13 = count & ~3ULL;
-        v7 = count & 3;
-        room = 0;
-        do {
-            memory = v15 + room;
-            v6 = packet + room;
-            put8(memory, get8(v6));
-            put8(memory + 1, get8(v6 + 1));
-            put8(memory + 2, get8(v6 + 2));
-            put8(memory + 3, get8(v6 + 3));
-            room = room + 4;
-        } while (v13 != room);
-        if (v7 == 0) goto l11;
-        packet = packet + room;
-        room = v15 + room;
-    l14:;
-        put8(room, get8(packet));
-        room = room + 1;
-        packet = packet + 1;
-        v7 = v7 - 1;
-        if (v7 != 0) goto l14;
-        goto l11;
-    }
     if (count != 0) copy(v15, packet, count);
-l11:;
-    put64(builder + 8, v12 + count);
-    v5 = 0;
-    return v5;
+    put64(builder + 8 /* count */, v12 + count);
+    return 0;
 }
 
+/* sedge_tm_decode, crates/sedgechisel/src/telemetry_frame.rt:37 */
 static uint32_t sedge_tm_decode_at(uint64_t octets, uint64_t count, uint64_t length, uint64_t frame, uint64_t data)
 {
     unsigned char frame_octets[48 + 15];
@@ -2623,76 +2371,72 @@ static uint32_t sedge_tm_decode_at(uint64_t octets, uint64_t count, uint64_t len
     put64(v5 + 8, 0);
     put64(v5, 0);
     tm_link_decoding_decode(v5, some(octets), count, length);
-    if (get8(v5) != 0) goto l2;
-    v6 = get32(v5 + 40);
-    octets = get64(v5 + 32);
-    v7 = get16(v5 + 16);
-    v8 = get8(v5 + 12);
-    v9 = get8(v5 + 11);
-    v10 = get8(v5 + 10);
-    v11 = get16(v5 + 8);
-    switch ((uint32_t)(uint64_t)get8(v5 + 14)) {
-    case 1:
-        v7 = 0x7ff;
-        goto l4;
-    case 2:
-        goto l5;
-    default:
-        goto l4;
+    if (get8(v5) == 0) {
+        v6 = get32(v5 + 40);
+        octets = get64(v5 + 32);
+        v7 = get16(v5 + 16);
+        v8 = get8(v5 + 12);
+        v9 = get8(v5 + 11);
+        v10 = get8(v5 + 10);
+        v11 = get16(v5 + 8);
+        switch ((uint32_t)(uint64_t)get8(v5 + 14)) {
+        case 1:
+            v7 = 0x7ff;
+            break;
+        case 2:
+            v7 = 0x7fe;
+            break;
+        default:
+            break;
+        }
+        v12 = 0;
+        put8(frame + 11, 0);
+        put32(frame + 7 /* ocf */, v6);
+        put8(frame + 6 /* vc_count */, v8);
+        put8(frame + 5 /* mc_count */, v9);
+        put8(frame + 4 /* vcid */, v10);
+        put16(frame + 2 /* pointer */, v7);
+        put16(frame /* scid */, v11);
+        put64(data + 8 /* count */, octets);
+        put64(data /* from */, 6);
+        return 0;
     }
-l5:;
-    v7 = 0x7fe;
-l4:;
-    v12 = 0;
-    put8(frame + 11, 0);
-    put32(frame + 7, v6);
-    put8(frame + 6, v8);
-    put8(frame + 5, v9);
-    put8(frame + 4, v10);
-    put16(frame + 2, v7);
-    put16(frame, v11);
-    put64(data + 8, octets);
-    put64(data, 6);
-    return v12 & 255;
-l2:;
     v12 = get8(v5 + 1) + 1;
     return v12 & 255;
 }
 
+/* sedge_tm_encode, crates/sedgechisel/src/telemetry_frame.rt:62 */
 static uint32_t sedge_tm_encode_at(uint64_t frame, uint64_t data, uint64_t data_count, uint64_t out, uint64_t room,
     uint64_t total)
 {
     uint32_t v7 = 0, v8 = 0, v9 = 0, v10 = 0, v11 = 0, v12 = 0;
-    uint64_t v13 = 0, v14 = 0, v15 = 0, v16 = 0, v17 = 0, v18 = 0, v19 = 0, v20 = 0, v21 = 0;
+    uint64_t v13 = 0, v14 = 0, v15 = 0, v16 = 0, v17 = 0, v18 = 0;
     v7 = 1;
     v8 = 0;
     v9 = 2;
     v10 = get16(frame + 2);
     switch (v10 - 0x7fe) {
     case 0:
-        goto l2;
+        break;
     case 1:
         v7 = 1;
         v9 = 1;
-        goto l2;
+        break;
     default:
-        goto l3;
+        v9 = 0;
+        v7 = 0;
+        v8 = v10;
+        break;
     }
-l3:;
-    v9 = 0;
-    v7 = 0;
-    v8 = v10;
-l2:;
     v10 = 10;
-    if ((data_count - 4) > 0x7f0) return v10;
+    if ((data_count - 4) > 0x7f0) return 10;
     v11 = get16(frame);
-    if ((v11 & 0xffff) > 0x3ff) return v10;
+    if ((v11 & 0xffff) > 0x3ff) return 10;
     v12 = get8(frame + 4);
-    if ((v12 & 255) > 7) return v10;
-    if ((v7 | (uint32_t)(data_count > ((uint64_t)v8 & 0xffff))) != 1) return v10;
+    if ((v12 & 255) > 7 || (v7 | (uint32_t)(data_count > ((uint64_t)v8 & 0xffff))) != 1) return 10;
     v10 = 9;
     v13 = data_count + 12;
-    if (room < v13) return v10;
+    if (room < v13) return 9;
     v14 = (data == 0) ? 0x1000ULL : 0ULL;
     v15 = data + v14;
     v10 = get8(frame + 5);
@@ -2706,56 +2450,27 @@ l2:;
     switch (v9) {
     case 1:
         v8 = 0x7ff;
-        goto l6;
+        break;
     case 2:
-        goto l7;
+        v8 = 0x7fe;
+        break;
     default:
-        goto l6;
+        break;
     }
-l7:;
-    v8 = 0x7fe;
-l6:;
     v18 = frame + data_count;
     v10 = v8 + 0x1800;
     put16(v17 + 4, (v10 << 8) | ((v10 & 0xff00) >> 8));
-    if ((frame - v15) < data_count) {
-        v19 = data_count & 3;
-        room = 0;
-        if (data_count >= 4) {
-            v20 = data_count & 0x7fc;
-            room = 0;
-            do {
-                frame = v17 + room;
-                v21 = v15 + room;
-                put8(frame + 6, get8(v21));
-                put8(frame + 7, get8(v21 + 1));
-                put8(frame + 8, get8(v21 + 2));
-                put8(frame + 9, get8(v21 + 3));
-                room = room + 4;
-            } while (v20 != room);
-            if (v19 == 0) goto l9;
-        }
-        frame = data + (v14 + room);
-        room = v16 + room + out + 6;
-    l13:;
-        put8(room, get8(frame));
-        room = room + 1;
-        frame = frame + 1;
-        v19 = v19 - 1;
-        if (v19 != 0) goto l13;
-        goto l9;
-    }
     if (data_count != 0) copy(frame, v15, data_count);
-l9:;
     put32(v18, v7);
     frame = data_count + 10;
     v10 = octets_frame_check_check(v17, frame);
     put16(v17 + frame, (v10 << 8) | ((v10 & 0xff00) >> 8));
     put64(total, v13);
     v10 = 0;
-    return v10;
+    return 0;
 }
 
+/* sedge_tm_fault_name, crates/sedgechisel/src/names.rt:114 */
 static void sedge_tm_fault_name_at(uint64_t result, uint32_t fault)
 {
     unsigned char frame_octets[16 + 15];
@@ -2779,11 +2494,11 @@ static void sedge_tm_fault_name_at(uint64_t result, uint32_t fault)
     case 2:
         v4 = 0x63656843;
         v5 = 107;
-        goto l2;
+        break;
     case 3:
         v4 = 0x74617453;
         v5 = 0x7375;
-        goto l2;
+        break;
     case 4:
         v4 = 0x6e696f50;
         v5 = 0x6574;
@@ -2792,11 +2507,11 @@ static void sedge_tm_fault_name_at(uint64_t result, uint32_t fault)
     case 5:
         v4 = 0x634f6f4e;
         v5 = 102;
-        goto l2;
+        break;
     case 6:
         v4 = 0x6f6d654d;
         v5 = 0x7972;
-        goto l2;
+        break;
     case 7:
         v4 = 0x41746f4e;
         v5 = 0x6150;
@@ -2818,9 +2533,8 @@ static void sedge_tm_fault_name_at(uint64_t result, uint32_t fault)
     default:
         v4 = 63;
         v5 = 0;
-        goto l2;
+        break;
     }
-l2:;
     v6 = 0;
     v3 = 0;
 l1:;
@@ -2834,42 +2548,40 @@ l1:;
     return;
 }
 
+/* sedge_tm_packet, crates/sedgechisel/src/telemetry_extractor.rt:110 */
 static uint32_t sedge_tm_packet_at(uint64_t data, uint64_t data_count, uint64_t packet)
 {
     uint32_t v3 = 0, v8 = 0;
     uint64_t v4 = 0, v5 = 0, v6 = 0, v7 = 0;
     v3 = 0;
-    v4 = get64(packet);
-    if (data_count < v4) return v3;
-    v5 = get64(packet + 8);
-    if ((data_count - v4) < v5) return v3;
+    v4 = get64(packet /* from */);
+    if (data_count < v4) return 0;
+    v5 = get64(packet + 8 /* count */);
+    if ((data_count - v4) < v5) return 0;
     v5 = v5 + v4;
     v6 = data_count - v5;
-    if (v6 < 6) return v3;
+    if (v6 < 6) return 0;
     v7 = some(data);
-l4:;
-    v4 = v7 + v5;
-    v8 = get8(v4);
-    if (v8 > 31) return v3;
-    if ((v8 & 8) != 0) {
-        if ((((v8 << 8) & 0x700) | get8(v4 + 1)) == 0x7ff) return v3;
-    }
-    data = (((uint64_t)get8(v4 + 4) << 8) | (uint64_t)get8(v4 + 5)) + 7;
-    if (v6 < data) return v3;
-    v8 = get16(v4);
-    if ((((v8 << 8) | (v8 >> 8)) & 0x7ff) != 0x7ff) goto l2;
-    v5 = data + v5;
-    v6 = data_count - v5;
-    if (v6 >= 6) goto l4;
+    do {
+        v4 = v7 + v5;
+        v8 = get8(v4);
+        if (v8 > 31 || ((v8 & 8) != 0 && (((v8 << 8) & 0x700) | get8(v4 + 1)) == 0x7ff)) return v3;
+        data = (((uint64_t)get8(v4 + 4) << 8) | (uint64_t)get8(v4 + 5)) + 7;
+        if (v6 < data) return v3;
+        v8 = get16(v4);
+        if ((((v8 << 8) | (v8 >> 8)) & 0x7ff) != 0x7ff) goto l2;
+        v5 = data + v5;
+        v6 = data_count - v5;
+    } while (v6 >= 6);
     return v3;
-    UNREACHABLE;
 l2:;
-    put64(packet, v5);
-    put64(packet + 8, data);
+    put64(packet /* from */, v5);
+    put64(packet + 8 /* count */, data);
     v3 = 1;
-    return v3;
+    return 1;
 }
 
+/* sedge_verdict_name, crates/sedgechisel/src/names.rt:35 */
 static void sedge_verdict_name_at(uint64_t result, uint32_t verdict)
 {
     unsigned char frame_octets[16 + 15];
@@ -2891,6 +2603,7 @@ static void sedge_verdict_name_at(uint64_t result, uint32_t verdict)
     return;
 }
 
+/* sedge_version, crates/sedgechisel/src/version.rt:10 */
 static void sedge_version_at(uint64_t result)
 {
     unsigned char frame_octets[32 + 15];
@@ -2906,6 +2619,7 @@ static void sedge_version_at(uint64_t result)
     return;
 }
 
+/* sedge_tc_encode, crates/sedgechisel/src/command_frame.rt:73 */
 static uint32_t sedge_tc_encode_at(uint64_t frame, uint64_t data, uint64_t data_count, uint32_t checked, uint64_t out,
     uint64_t room, uint64_t total)
 {
@@ -2916,11 +2630,14 @@ static uint32_t sedge_tc_encode_at(uint64_t frame, uint64_t data, uint64_t data_
     switch (v9) {
     case 0:
         v10 = get8(frame + 5);
-        if (v10 > 3) return v8;
+        if (v10 > 3) return 255;
         v11 = get8(frame + 4);
-        goto l3;
+        break;
     case 1:
-        goto l4;
+        v11 = 0;
+        v10 = get8(frame + 5);
+        if (v10 > 3) return 255;
+        break;
     case 2:
         v12 = 0;
         data_count = 0;
@@ -2940,16 +2657,11 @@ static uint32_t sedge_tc_encode_at(uint64_t frame, uint64_t data, uint64_t data_
             v12 = 0;
             goto l2;
         default:
-            return v8;
+            return 255;
         }
     default:
-        return v8;
+        return 255;
     }
-l4:;
-    v11 = 0;
-    v10 = get8(frame + 5);
-    if (v10 > 3) return v8;
-l3:;
     data = some(data);
     v8 = get8(frame + 6);
     v13 = v8 + (v10 << 6);
@@ -2958,64 +2670,77 @@ l3:;
 l2:;
     v8 = 11;
     v14 = get16(frame);
-    if (v14 > 0x3ff) return v8;
+    if (v14 > 0x3ff) return 11;
     v15 = get8(frame + 2);
-    if ((v15 & 255) > 63) return v8;
+    if ((v15 & 255) > 63) return 11;
     v16 = (out == 0) ? 0x1000ULL : 0ULL;
     frame = out + v16;
     if (v9 == 2) {
         v8 = v11 & 255;
         v17 = ((v8 != 0) ? 4ULL : 2ULL) + (((checked & 1) != 0) ? 6ULL : 4ULL);
-        if (room >= v17) goto l10;
-        return 10;
+        if (room < v17) return 10;
+        v9 = 0;
+        put8(frame + 4, 0);
+        put16(frame, (v14 << 8) | ((v14 | 0x3000) >> 8));
+        v11 = ((uint32_t)v17 | (v15 << 10)) - 1;
+        put16(frame + 2, (v11 << 8) | ((v11 & 0xff00) >> 8));
+        if (v8 != 0) {
+            put8(frame + 7, v10);
+            put8(frame + 6, 0);
+            v9 = 130;
+        }
+        put8(frame + 5, v9);
+        goto l9;
     }
     v10 = data_count == 0;
-    if ((v10 | v12) != 0) return v8;
+    if ((v10 | v12) != 0) return 11;
     v17 = data_count + (((checked & 1) != 0) ? 8ULL : 6ULL);
-    if (v17 > 0x400) return v8;
-    if (room >= v17) {
-        put16(frame, (v14 << 8) | ((v14 | ((v9 != 0) ? 0x2000U : 0U)) >> 8));
-        v8 = ((uint32_t)v17 + (v15 << 10)) - 1;
-        put16(frame + 2, (v8 << 8) | ((v8 & 0xff00) >> 8));
-        v18 = frame + 6;
-        room = v18 - data;
-        if (v9 != 0) {
-            put8(frame + 5, v13);
-            put8(frame + 4, 0);
-            if (room < data_count) {
-                v19 = data_count & 3;
-                room = 0;
-                if (data_count >= 4) {
-                    v20 = data_count & ~3ULL;
-                    room = 0;
-                    do {
-                        data_count = frame + room;
-                        v18 = data + room;
-                        put8(data_count + 6, get8(v18));
-                        put8(data_count + 7, get8(v18 + 1));
-                        put8(data_count + 8, get8(v18 + 2));
-                        put8(data_count + 9, get8(v18 + 3));
-                        room = room + 4;
-                    } while (v20 != room);
-                    if (v19 == 0) goto l9;
-                }
-                data_count = data + room;
-                data = v16 + room + out + 6;
-            l21:;
-                put8(data, get8(data_count));
-                data = data + 1;
-                data_count = data_count + 1;
-                v19 = v19 - 1;
-                if (v19 != 0) goto l21;
-                goto l9;
-            }
+    if (v17 > 0x400) return 11;
+    if (room < v17) return 10;
+    put16(frame, (v14 << 8) | ((v14 | ((v9 != 0) ? 0x2000U : 0U)) >> 8));
+    v8 = ((uint32_t)v17 + (v15 << 10)) - 1;
+    put16(frame + 2, (v8 << 8) | ((v8 & 0xff00) >> 8));
+    v18 = frame + 6;
+    room = v18 - data;
+    if (v9 == 0) {
+        put8(frame + 5, v13);
+        put8(frame + 4, v11);
+        if (room >= data_count) {
             if (v10 != 0) goto l9;
             copy(v18, data, data_count);
             goto l9;
         }
+        v19 = data_count & 3;
+        room = 0;
+        if (data_count >= 4) {
+            v20 = data_count & ~3ULL;
+            room = 0;
+            do {
+                data_count = frame + room;
+                v18 = data + room;
+                put8(data_count + 6, get8(v18));
+                put8(data_count + 7, get8(v18 + 1));
+                put8(data_count + 8, get8(v18 + 2));
+                put8(data_count + 9, get8(v18 + 3));
+                room = room + 4;
+            } while (v20 != room);
+            if (v19 == 0) goto l9;
+        }
+        data_count = data + room;
+        data = v16 + room + out + 6;
+        do {
+            put8(data, get8(data_count));
+            data = data + 1;
+            data_count = data_count + 1;
+            v19 = v19 - 1;
+        } while (v19 != 0);
+    } else {
         put8(frame + 5, v13);
-        put8(frame + 4, v11);
-        if (room < data_count) {
+        put8(frame + 4, 0);
+        if (room >= data_count) {
+            if (v10 != 0) goto l9;
+            copy(v18, data, data_count);
+        } else {
             v19 = data_count & 3;
             room = 0;
             if (data_count >= 4) {
@@ -3034,61 +2759,40 @@ l2:;
             }
             data_count = data + room;
             data = v16 + room + out + 6;
-        l17:;
-            put8(data, get8(data_count));
-            data = data + 1;
-            data_count = data_count + 1;
-            v19 = v19 - 1;
-            if (v19 != 0) goto l17;
-            goto l9;
+            do {
+                put8(data, get8(data_count));
+                data = data + 1;
+                data_count = data_count + 1;
+                v19 = v19 - 1;
+            } while (v19 != 0);
         }
-        if (v10 != 0) goto l9;
-        copy(v18, data, data_count);
-        goto l9;
     }
-    return 10;
-l10:;
-    v9 = 0;
-    put8(frame + 4, 0);
-    put16(frame, (v14 << 8) | ((v14 | 0x3000) >> 8));
-    v11 = ((uint32_t)v17 | (v15 << 10)) - 1;
-    put16(frame + 2, (v11 << 8) | ((v11 & 0xff00) >> 8));
-    if (v8 != 0) {
-        put8(frame + 7, v10);
-        put8(frame + 6, 0);
-        v9 = 130;
-    }
-    put8(frame + 5, v9);
 l9:;
-    if ((checked & 1) == 0) {
-        put64(total, v17);
-        return 0;
+    if ((checked & 1) != 0) {
+        data_count = v17 - 2;
+        v8 = octets_frame_check_check(frame, data_count);
+        put16(frame + data_count, (v8 << 8) | ((v8 & 0xff00) >> 8));
     }
-    data_count = v17 - 2;
-    v8 = octets_frame_check_check(frame, data_count);
-    put16(frame + data_count, (v8 << 8) | ((v8 & 0xff00) >> 8));
     put64(total, v17);
     return 0;
 }
 
+/* sedge_map_take, crates/sedgechisel/src/assembly.rt:44 */
 static uint32_t sedge_map_take_at(uint64_t map, uint32_t flags, uint64_t data, uint64_t data_count, uint64_t memory,
     uint64_t room, uint64_t taken)
 {
     unsigned char frame_octets[16 + 15];
     uint32_t v8 = 0, v9 = 0, v10 = 0, v16 = 0;
-    uint64_t v7 = 0, v11 = 0, v12 = 0, v13 = 0, v14 = 0, v15 = 0, v17 = 0, v18 = 0, v19 = 0, v20 = 0, v21 = 0;
+    uint64_t v7 = 0, v11 = 0, v12 = 0, v13 = 0, v14 = 0, v15 = 0, v17 = 0, v20 = 0, v21 = 0;
     v7 = aligned(frame_octets);
     v8 = 255;
-    if ((flags & 255) > 3) return v8;
-    v9 = get8(map + 8);
-    if (v9 > 1) return v8;
-    v10 = get8(map + 9);
-    if (v10 > 1) return v8;
-    v11 = get64(map);
-    if (v11 > room) return v8;
-    if (v9 != 1) {
-        if (v11 != 0) return v8;
-    }
+    if ((flags & 255) > 3) return 255;
+    v9 = get8(map + 8 /* open */);
+    if (v9 > 1) return 255;
+    v10 = get8(map + 9 /* blocking */);
+    if (v10 > 1) return 255;
+    v11 = get64(map /* count */);
+    if (v11 > room || (v9 != 1 && v11 != 0)) return 255;
     v12 = (memory == 0) ? 0x1000ULL : 0ULL;
     v13 = memory + v12;
     v14 = (data == 0) ? 0x1000ULL : 0ULL;
@@ -3100,182 +2804,29 @@ static uint32_t sedge_map_take_at(uint64_t map, uint32_t flags, uint64_t data, u
     room = (room < 0xffffffffULL) ? room : 0xffffffffULL;
     switch ((uint32_t)((uint64_t)flags & 255)) {
     case 1:
-        goto l13;
-    case 2:
-        goto l14;
-    case 3:
-        if (v10 != 1) {
-            v16 = 4;
-            if (data_count > room) goto l4;
-            v16 = 3;
-            if (data_count < 6) goto l4;
-            flags = get8(v15);
-            if (flags > 31) goto l4;
-            if ((flags & 8) != 0) {
-                if ((((flags << 8) & 0x700) | get8(v15 + 1)) == 0x7ff) goto l4;
-            }
-            if (((((uint64_t)get8(v15 + 4) << 8) | (uint64_t)get8(v15 + 5)) + 7) == data_count) goto l17;
-            goto l4;
-        }
-        v16 = 3;
-        if (data_count < 6) goto l4;
-        v9 = 0;
-        data = data_count;
-        do {
-            flags = get8(v15);
-            if (flags > 31) goto l4;
-            if ((flags & 8) != 0) {
-                if ((((flags << 8) & 0x700) | get8(v15 + 1)) == 0x7ff) goto l4;
-            }
-            memory = (((uint64_t)get8(v15 + 4) << 8) | (uint64_t)get8(v15 + 5)) + 7;
-            if (data < memory) goto l4;
-            v15 = v15 + memory;
-            v9 = v9 | (uint32_t)(memory > room);
-            data = data - memory;
-        } while (data > 5);
-        flags = data == 0;
-        v9 = flags & v9;
-        v16 = (flags != 0) ? ((v9 != 0) ? 4U : 0U) : 3U;
-        if (v9 != 0) goto l4;
-        if (data != 0) goto l4;
-    l17:;
-        put64(map, 0);
-        put8(map + 8, 0);
-        flags = 2;
-        goto l2;
-    default:
-        goto l15;
-    }
-l15:;
-    if (v9 == 0) goto l4;
-    v17 = v11 + data_count;
-    if (v17 > room) goto l12;
-    v13 = v13 + v11;
-    if ((v13 - v15) >= data_count) goto l10;
-    v18 = data_count & 3;
-    v19 = 0;
-    if ((data_count - 1) >= 3) {
-        v20 = data_count & ~3ULL;
-        v19 = 0;
-        do {
-            room = v13 + v19;
-            data_count = v15 + v19;
-            put8(room, get8(data_count));
-            put8(room + 1, get8(data_count + 1));
-            put8(room + 2, get8(data_count + 2));
-            put8(room + 3, get8(data_count + 3));
-            v19 = v19 + 4;
-        } while (v20 != v19);
-        if (v18 == 0) goto l9;
-    }
-    room = data + (v14 + v19);
-    data_count = memory + (v12 + v19 + v11);
-l24:;
-    put8(data_count, get8(room));
-    data_count = data_count + 1;
-    room = room + 1;
-    v18 = v18 - 1;
-    if (v18 != 0) goto l24;
-    goto l9;
-l14:;
-    if (v9 == 0) goto l4;
-    v21 = v11 + data_count;
-    if (v21 > room) goto l12;
-    v20 = v13 + v11;
-    if ((v20 - v15) >= data_count) goto l8;
-    v18 = data_count & 3;
-    v19 = 0;
-    if ((data_count - 1) >= 3) {
-        v17 = data_count & ~3ULL;
-        v19 = 0;
-        do {
-            room = v20 + v19;
-            data_count = v15 + v19;
-            put8(room, get8(data_count));
-            put8(room + 1, get8(data_count + 1));
-            put8(room + 2, get8(data_count + 2));
-            put8(room + 3, get8(data_count + 3));
-            v19 = v19 + 4;
-        } while (v17 != v19);
-        if (v18 == 0) goto l7;
-    }
-    room = data + (v14 + v19);
-    data_count = memory + (v12 + v19 + v11);
-l27:;
-    put8(data_count, get8(room));
-    data_count = data_count + 1;
-    room = room + 1;
-    v18 = v18 - 1;
-    if (v18 != 0) goto l27;
-    goto l7;
-l13:;
-    if (data_count <= room) {
-        if ((v13 - v15) < data_count) {
-            v18 = data_count & 3;
-            v11 = 0;
-            if (data_count >= 4) {
-                v20 = data_count & ~3ULL;
-                v11 = 0;
-                do {
-                    room = v13 + v11;
-                    v19 = v15 + v11;
-                    put8(room, get8(v19));
-                    put8(room + 1, get8(v19 + 1));
-                    put8(room + 2, get8(v19 + 2));
-                    put8(room + 3, get8(v19 + 3));
-                    v11 = v11 + 4;
-                } while (v20 != v11);
-                if (v18 == 0) goto l28;
-            }
-            room = memory + (v12 + v11);
-            memory = data + (v14 + v11);
-        l32:;
-            put8(room, get8(memory));
-            room = room + 1;
-            memory = memory + 1;
-            v18 = v18 - 1;
-            if (v18 != 0) goto l32;
-            goto l28;
-        }
+        if (data_count > room) goto l12;
         if (data_count != 0) copy(v13, v15, data_count);
-    l28:;
-        put64(map, data_count);
-        put8(map + 8, 1);
+        put64(map /* count */, data_count);
+        put8(map + 8 /* open */, 1);
         flags = 0;
         put32(v7 + 8, 0);
         put16(v7 + 12, 0);
         data_count = 0;
         goto l2;
-    }
-l12:;
-    put64(map, 0);
-    put8(map + 8, 0);
-    v8 = 5;
-    goto l3;
-l10:;
-    if (data_count != 0) copy(v13, v15, data_count);
-l9:;
-    put64(map, v17);
-    flags = 0;
-    put32(v7 + 8, 0);
-    put16(v7 + 12, 0);
-    data_count = 0;
-    v8 = 0;
-    goto l2;
-l8:;
-    if (data_count != 0) copy(v20, v15, data_count);
-l7:;
-    data_count = 0;
-    put64(map, 0);
-    flags = 0;
-    put8(map + 8, 0);
-    if (v21 >= 6) {
-        v8 = get8(v13);
-        if (v8 <= 31) {
-            if ((v8 & 8) != 0) {
-                if ((((v8 << 8) & 0x700) | get8(v13 + 1)) == 0x7ff) goto l34;
-            }
-            if (((((uint64_t)get8(v13 + 4) << 8) | (uint64_t)get8(v13 + 5)) + 7) == v21) {
+    case 2:
+        if (v9 == 0) goto l4;
+        v21 = v11 + data_count;
+        if (v21 > room) goto l12;
+        v20 = v13 + v11;
+        if (data_count != 0) copy(v20, v15, data_count);
+        data_count = 0;
+        put64(map /* count */, 0);
+        flags = 0;
+        put8(map + 8 /* open */, 0);
+        if (v21 >= 6) {
+            v8 = get8(v13);
+            if (v8 <= 31 && (((v8 & 8) == 0 || (((v8 << 8) & 0x700) | get8(v13 + 1)) != 0x7ff) &&
+                ((((uint64_t)get8(v13 + 4) << 8) | (uint64_t)get8(v13 + 5)) + 7) == v21)) {
                 v8 = 0;
                 put16(v7 + 12, 0);
                 put32(v7 + 8, 0);
@@ -3284,15 +2835,66 @@ l7:;
                 goto l2;
             }
         }
+        put16(v7 + 12, 0);
+        put32(v7 + 8, 0);
+        v8 = 4;
+        goto l2;
+    case 3:
+        break;
+    default:
+        if (v9 == 0) goto l4;
+        v17 = v11 + data_count;
+        if (v17 > room) goto l12;
+        v13 = v13 + v11;
+        if (data_count != 0) copy(v13, v15, data_count);
+        put64(map /* count */, v17);
+        flags = 0;
+        put32(v7 + 8, 0);
+        put16(v7 + 12, 0);
+        data_count = 0;
+        v8 = 0;
+        goto l2;
     }
-l34:;
-    put16(v7 + 12, 0);
-    put32(v7 + 8, 0);
-    v8 = 4;
+    if (v10 != 1) {
+        v16 = 4;
+        if (data_count > room) goto l4;
+        v16 = 3;
+        if (data_count < 6) goto l4;
+        flags = get8(v15);
+        if (flags > 31 || ((flags & 8) != 0 && (((flags << 8) & 0x700) | get8(v15 + 1)) == 0x7ff)) goto l4;
+        if (((((uint64_t)get8(v15 + 4) << 8) | (uint64_t)get8(v15 + 5)) + 7) == data_count) goto l17;
+        goto l4;
+    }
+    v16 = 3;
+    if (data_count < 6) goto l4;
+    v9 = 0;
+    data = data_count;
+    do {
+        flags = get8(v15);
+        if (flags > 31 || ((flags & 8) != 0 && (((flags << 8) & 0x700) | get8(v15 + 1)) == 0x7ff)) goto l4;
+        memory = (((uint64_t)get8(v15 + 4) << 8) | (uint64_t)get8(v15 + 5)) + 7;
+        if (data < memory) goto l4;
+        v15 = v15 + memory;
+        v9 = v9 | (uint32_t)(memory > room);
+        data = data - memory;
+    } while (data > 5);
+    flags = data == 0;
+    v9 = flags & v9;
+    v16 = (flags != 0) ? ((v9 != 0) ? 4U : 0U) : 3U;
+    if (v9 != 0 || data != 0) goto l4;
+l17:;
+    put64(map /* count */, 0);
+    put8(map + 8 /* open */, 0);
+    flags = 2;
     goto l2;
+l12:;
+    put64(map /* count */, 0);
+    put8(map + 8 /* open */, 0);
+    v8 = 5;
+    goto l3;
 l4:;
-    put64(map, 0);
-    put8(map + 8, 0);
+    put64(map /* count */, 0);
+    put8(map + 8 /* open */, 0);
     v8 = v16 + 1;
 l3:;
     flags = 0;
@@ -3304,15 +2906,16 @@ l2:;
     put16(v7 + 4, v9);
     v10 = get32(v7 + 8);
     put32(v7, v10);
-    put8(taken + 9, v8);
-    put8(taken + 8, flags);
-    put64(taken, data_count);
+    put8(taken + 9 /* dropped */, v8);
+    put8(taken + 8 /* where */, flags);
+    put64(taken /* count */, data_count);
     put32(taken + 10, v10);
     put16(taken + 14, v9);
     v8 = 0;
-    return v8;
+    return 0;
 }
 
+/* sedge_tm_extractor_frame, crates/sedgechisel/src/telemetry_extractor.rt:64 */
 static uint32_t sedge_tm_extractor_frame_at(uint64_t extractor, uint64_t frame, uint64_t data, uint64_t data_count,
     uint64_t memory, uint64_t room, uint64_t extracted)
 {
@@ -3322,6 +2925,7 @@ static uint32_t sedge_tm_extractor_frame_at(uint64_t extractor, uint64_t frame, 
     return t1 & 255;
 }
 
+/* sedge_tm_extractor_frames, crates/sedgechisel/src/extracted_frames.rt:31 */
 static uint64_t sedge_tm_extractor_frames_at(uint64_t extractor, uint64_t octets, uint64_t count, uint64_t
     frame_length, uint64_t memory, uint64_t memory_room, uint64_t out, uint64_t out_room, uint64_t packets, uint64_t
     packets_room, uint64_t total)
@@ -3337,7 +2941,7 @@ static uint64_t sedge_tm_extractor_frames_at(uint64_t extractor, uint64_t octets
     if (out_room < 19) {
         v14 = 0;
         put64(total, v12);
-        return v14;
+        return 0;
     }
     v15 = some(packets);
     v16 = some(out);
@@ -3351,15 +2955,7 @@ static uint64_t sedge_tm_extractor_frames_at(uint64_t extractor, uint64_t octets
     v12 = 0;
     do {
         out_room = packets_room - v12;
-        if ((out_room - memory_room) < frame_length) {
-            put64(total, v12);
-            return v14;
-        }
-        if (v19 >= (count - memory)) {
-            put64(total, v12);
-            return v14;
-        }
-        if (out_room < memory_room) {
+        if ((out_room - memory_room) < frame_length || v19 >= (count - memory) || out_room < memory_room) {
             put64(total, v12);
             return v14;
         }
@@ -3373,42 +2969,56 @@ static uint64_t sedge_tm_extractor_frames_at(uint64_t extractor, uint64_t octets
         put64(v11 + 40, 0);
         put64(v11 + 48, 0);
         tm_link_decoding_decode(v11 + 8, v18 + memory, frame_length, frame_length);
-        if (get8(v11 + 8) == 0) {
-            v23 = get16(v11 + 16);
-            put16(v11 + 60, v23);
-            v24 = get32(v11 + 48);
-            v25 = get8(v11 + 20);
-            v26 = get8(v11 + 19);
-            v27 = get8(v11 + 18);
-            switch ((uint32_t)(uint64_t)get8(v11 + 22)) {
-            case 1:
-                put8(v11 + 71, 0);
-                put32(v11 + 67, v24);
-                put8(v11 + 66, v25);
-                put8(v11 + 65, v26);
-                put8(v11 + 64, v27);
-                put16(v11 + 62, 0x7ff);
-                out_room = 0;
-                v22 = 1;
-                v28 = 7;
-                goto l9;
-            case 2:
-                put8(v11 + 71, 0);
-                put32(v11 + 67, v24);
-                put8(v11 + 66, v25);
-                put8(v11 + 65, v26);
-                put8(v11 + 64, v27);
-                put16(v11 + 62, 0x7fe);
-                out_room = 0;
-                v29 = 2;
-                v22 = 1;
-                v28 = 7;
-                v30 = 254;
-                goto l7;
-            default:
-                goto l10;
-            }
-        l10:;
+        if (get8(v11 + 8) != 0) {
+            v35 = get8(v11 + 9) + 1;
+            v46 = 0;
+            v31 = 0;
+            v29 = 0;
+            v23 = 0;
+            v34 = 0;
+            v30 = 0;
+            v28 = 0;
+            v27 = 0;
+            v26 = 0;
+            v25 = 0;
+            v24 = 0;
+            v41 = 0;
+            v40 = 0;
+            v39 = 0;
+            goto l5;
+        }
+        v23 = get16(v11 + 16);
+        put16(v11 + 60, v23);
+        v24 = get32(v11 + 48);
+        v25 = get8(v11 + 20);
+        v26 = get8(v11 + 19);
+        v27 = get8(v11 + 18);
+        switch ((uint32_t)(uint64_t)get8(v11 + 22)) {
+        case 1:
+            put8(v11 + 71, 0);
+            put32(v11 + 67, v24);
+            put8(v11 + 66, v25);
+            put8(v11 + 65, v26);
+            put8(v11 + 64, v27);
+            put16(v11 + 62, 0x7ff);
+            out_room = 0;
+            v22 = 1;
+            v28 = 7;
+            break;
+        case 2:
+            put8(v11 + 71, 0);
+            put32(v11 + 67, v24);
+            put8(v11 + 66, v25);
+            put8(v11 + 65, v26);
+            put8(v11 + 64, v27);
+            put16(v11 + 62, 0x7fe);
+            out_room = 0;
+            v29 = 2;
+            v22 = 1;
+            v28 = 7;
+            v30 = 254;
+            goto l7;
+        default:
             v31 = get16(v11 + 24);
             put8(v11 + 71, 0);
             put32(v11 + 67, v24);
@@ -3425,276 +3035,186 @@ static uint64_t sedge_tm_extractor_frames_at(uint64_t extractor, uint64_t octets
             case 0:
                 goto l7;
             case 1:
-                goto l13;
+                v22 = 1;
+                break;
             default:
-                goto l8;
+                out_room = (uint64_t)v31;
+                v28 = v31 >> 8;
+                v30 = v31;
+                v22 = 0;
+                v29 = 0;
+                goto l7;
             }
-        l13:;
-            v22 = 1;
-        l9:;
-            v30 = 255;
-            v29 = 1;
-            goto l7;
-        l8:;
-            out_room = (uint64_t)v31;
-            v28 = v31 >> 8;
-            v30 = v31;
-            v22 = 0;
-            v29 = 0;
-        l7:;
-            v32 = get64(v11 + 40);
-            v33 = get64(v11 + 32);
-            v31 = 0;
-            v34 = 0;
-            v35 = get8(extractor + 17);
-            if (v35 <= 1) {
-                v34 = 0;
-                packets = get64(extractor);
-                if (memory_room >= packets) {
-                    v34 = 0;
-                    out = get64(extractor + 8);
-                    if (out <= (memory_room - packets)) {
-                        v34 = 0;
-                        if (v35 == 1) {
-                            v34 = 0;
-                            if ((v22 | (uint32_t)(v32 > out_room)) != 0) {
-                                v34 = 0;
-                                if (out != 0) {
-                                    v34 = 1;
-                                    packets = v17 + packets;
-                                    if ((v25 & 255) == ((get8(extractor + 16) + 1) & 255)) goto l15;
-                                    if (out == 1) goto l14;
-                                    v34 = (((get8(packets) << 8) & 0x700) | get8(packets + 1)) != 0x7ff;
-                                    goto l14;
-                                l15:;
-                                    switch (v29) {
-                                    case 1:
-                                        goto l17;
-                                    case 2:
-                                        goto l18;
-                                    default:
-                                        goto l16;
-                                    }
-                                l18:;
-                                    if (out == 1) goto l14;
-                                    v34 = (((get8(packets) << 8) & 0x700) | get8(packets + 1)) != 0x7ff;
-                                    goto l14;
-                                l17:;
-                                    v36 = out + v32;
-                                    if (v36 < 6) goto l21;
-                                    out_room = (out < 6) ? out : 6ULL;
-                                    v37 = v11 + 106 + out_room;
-                                    octets = 6 - out_room;
-                                    v38 = (out > 5) ? 0ULL : octets;
-                                    if (v38 == 0) goto l22;
-                                    fill(v37, 0, v38);
-                                l22:;
-                                    if (out_room == 0) goto l23;
-                                    copy(v11 + 106, packets, out_room);
-                                l23:;
-                                    if (octets == 0) goto l24;
-                                    copy(v37, v33, octets);
-                                l24:;
-                                    v22 = get8(v11 + 106);
-                                    if (v22 > 31) goto l19;
-                                    if ((v22 & 8) == 0) goto l25;
-                                    if ((((v22 << 8) & 0x700) | get8(v11 + 107)) == 0x7ff) goto l19;
-                                l25:;
-                                    out_room = (((uint64_t)get8(v11 + 110) << 8) | (uint64_t)get8(v11 + 111)) + 7;
-                                    if (out_room != v36) goto l20;
-                                l21:;
-                                    v34 = 0;
-                                    goto l14;
-                                l20:;
-                                    v34 = 0;
-                                    if (v36 < out_room) goto l14;
-                                l19:;
-                                    put16(v11 + 106, 0);
-                                    out_room = (out < 2) ? out : 2ULL;
-                                    if (out_room == 0) goto l26;
-                                    copy(v11 + 106, packets, out_room);
-                                l26:;
-                                    packets = 2 - out_room;
-                                    if (packets == 0) goto l27;
-                                    copy(v11 + 106 + out_room, v33, packets);
-                                l27:;
-                                    v34 = (((get8(v11 + 106) << 8) & 0x700) | get8(v11 + 107)) != 0x7ff;
-                                    goto l14;
-                                l16:;
-                                    octets = out + out_room;
-                                    if (octets < 6) goto l29;
-                                    out_room = (out < 6) ? out : 6ULL;
-                                    v37 = v11 + 106 + out_room;
-                                    v36 = 6 - out_room;
-                                    v38 = (out > 5) ? 0ULL : v36;
-                                    if (v38 == 0) goto l30;
-                                    fill(v37, 0, v38);
-                                l30:;
-                                    if (out_room == 0) goto l31;
-                                    copy(v11 + 106, packets, out_room);
-                                l31:;
-                                    if (v36 == 0) goto l32;
-                                    copy(v37, v33, v36);
-                                l32:;
-                                    v22 = get8(v11 + 106);
-                                    if (v22 > 31) goto l28;
-                                    if ((v22 & 8) == 0) goto l33;
-                                    if ((((v22 << 8) & 0x700) | get8(v11 + 107)) == 0x7ff) goto l28;
-                                l33:;
-                                    if (((((uint64_t)get8(v11 + 110) << 8) | (uint64_t)get8(v11 + 111)) + 7) !=
-                                        octets) goto l28;
-                                    v34 = 0;
-                                    goto l14;
-                                l29:;
-                                    if (octets < 2) goto l14;
-                                l28:;
-                                    put16(v11 + 106, 0);
-                                    out_room = (out < 2) ? out : 2ULL;
-                                    if (out_room == 0) goto l34;
-                                    copy(v11 + 106, packets, out_room);
-                                l34:;
-                                    packets = 2 - out_room;
-                                    if (packets == 0) goto l35;
-                                    copy(v11 + 106 + out_room, v33, packets);
-                                l35:;
-                                    v34 = (((get8(v11 + 106) << 8) & 0x700) | get8(v11 + 107)) != 0x7ff;
-                                }
-                            }
-                        }
-                    }
-                }
-            }
-        l14:;
-            v39 = v24 >> 24;
-            v40 = v24 >> 16;
-            v41 = v24 >> 8;
-            out_room = 0;
-            put64(v11 + 96, 0);
-            put64(v11 + 88, 0);
-            put64(v11 + 80, 0);
-            put64(v11 + 72, 0);
-            v29 = 0;
-            v22 = 0;
-            v35 = sedgechisel_telemetry_extractor_sedge_tm_extractor_frame(extractor, v11 + 60, v33, v32, v17,
-                memory_room, v11 + 72);
-            if ((v35 & 255) == 0) {
-                v36 = get64(v11 + 80);
-                v37 = v15 + v12;
-                v42 = get64(v11 + 72);
-                if ((v37 - v17) < v42) {
-                    octets = v42 & 3;
-                    packets = 0;
-                    if (v42 >= 4) {
-                        v38 = v42 & ~3ULL;
-                        packets = 0;
-                        do {
-                            out_room = v37 + packets;
-                            out = v17 + packets;
-                            put8(out_room, get8(out));
-                            put8(out_room + 1, get8(out + 1));
-                            put8(out_room + 2, get8(out + 2));
-                            put8(out_room + 3, get8(out + 3));
-                            packets = packets + 4;
-                        } while (v38 != packets);
-                        if (octets == 0) goto l37;
-                    }
-                    out_room = v17 + packets;
-                    packets = v15 + (v12 + packets);
-                l41:;
-                    put8(packets, get8(out_room));
-                    packets = packets + 1;
-                    out_room = out_room + 1;
-                    octets = octets - 1;
-                    if (octets != 0) goto l41;
-                    goto l37;
-                }
-                if (v42 != 0) copy(v37, v17, v42);
-            l37:;
-                v43 = v42 + v12;
-                out = v32 - v36;
-                if (out >= 6) {
-                    do {
-                        packets = v36;
-                    l44:;
-                        out_room = v33 + packets;
-                        v22 = get8(out_room);
-                        if (v22 > 31) goto l42;
-                        if ((v22 & 8) != 0) {
-                            if ((((v22 << 8) & 0x700) | get8(out_room + 1)) == 0x7ff) goto l42;
-                        }
-                        v37 = (uint64_t)get8(out_room + 4);
-                        v38 = (uint64_t)get8(out_room + 5);
-                        octets = ((v37 << 8) | v38) + 7;
-                        if (out < octets) goto l42;
-                        v36 = octets + packets;
-                        v22 = get16(out_room);
-                        if ((((v22 << 8) | (v22 >> 8)) & 0x7ff) == 0x7ff) {
-                            packets = v36;
-                            out = v32 - v36;
-                            if (out >= 6) goto l44;
-                            goto l42;
-                        }
-                        v44 = v15 + v43;
-                        if ((v44 - out_room) < octets) {
-                            v42 = octets & 3;
-                            out = 0;
-                            if (((v38 | (v37 << 8)) + 6) >= 3) {
-                                v45 = octets & 0x1fffc;
-                                out = 0;
-                                do {
-                                    v37 = v44 + out;
-                                    v38 = out_room + out;
-                                    put8(v37, get8(v38));
-                                    put8(v37 + 1, get8(v38 + 1));
-                                    put8(v37 + 2, get8(v38 + 2));
-                                    put8(v37 + 3, get8(v38 + 3));
-                                    out = out + 4;
-                                } while (v45 != out);
-                                if (v42 == 0) goto l47;
-                            }
-                            out_room = v15 + (v43 + out);
-                            packets = v33 + out + packets;
-                        l51:;
-                            put8(out_room, get8(packets));
-                            out_room = out_room + 1;
-                            packets = packets + 1;
-                            v42 = v42 - 1;
-                            if (v42 != 0) goto l51;
-                            goto l47;
-                        }
-                        if (octets != 0) copy(v44, out_room, octets);
-                    l47:;
-                        v43 = octets + v43;
-                        out = v32 - v36;
-                    } while (out > 5);
-                }
-            l42:;
-                out_room = v43 - v12;
-                v35 = 0;
-                v29 = get8(v11 + 97);
-                v31 = get8(v11 + 96);
-                v22 = v34;
-            }
-            v12 = out_room + v12;
-            v34 = (v23 & 0xff00) >> 8;
-            v46 = (uint32_t)out_room;
-            goto l5;
+            break;
         }
-        v35 = get8(v11 + 9) + 1;
-        v46 = 0;
+        v30 = 255;
+        v29 = 1;
+    l7:;
+        v32 = get64(v11 + 40);
+        v33 = get64(v11 + 32);
         v31 = 0;
-        v29 = 0;
-        v23 = 0;
         v34 = 0;
-        v30 = 0;
-        v28 = 0;
-        v27 = 0;
-        v26 = 0;
-        v25 = 0;
-        v24 = 0;
-        v41 = 0;
-        v40 = 0;
-        v39 = 0;
+        v35 = get8(extractor + 17 /* seen */);
+        if (v35 > 1) goto l14;
+        v34 = 0;
+        packets = get64(extractor /* from */);
+        if (memory_room < packets) goto l14;
+        v34 = 0;
+        out = get64(extractor + 8 /* count */);
+        if (out > (memory_room - packets)) goto l14;
+        v34 = 0;
+        if (v35 != 1) goto l14;
+        v34 = 0;
+        if ((v22 | (uint32_t)(v32 > out_room)) == 0) goto l14;
+        v34 = 0;
+        if (out == 0) goto l14;
+        v34 = 1;
+        packets = v17 + packets;
+        if ((v25 & 255) != ((get8(extractor + 16 /* last */) + 1) & 255)) {
+            if (out == 1) goto l14;
+            v34 = (((get8(packets) << 8) & 0x700) | get8(packets + 1)) != 0x7ff;
+            goto l14;
+        }
+        switch (v29) {
+        case 1:
+            v36 = out + v32;
+            if (v36 >= 6) {
+                out_room = (out < 6) ? out : 6ULL;
+                v37 = v11 + 106 + out_room;
+                octets = 6 - out_room;
+                v38 = (out > 5) ? 0ULL : octets;
+                if (v38 != 0) fill(v37, 0, v38);
+                if (out_room != 0) copy(v11 + 106, packets, out_room);
+                if (octets != 0) copy(v37, v33, octets);
+                v22 = get8(v11 + 106);
+                if (v22 > 31 || ((v22 & 8) != 0 && (((v22 << 8) & 0x700) | get8(v11 + 107)) == 0x7ff)) goto l19;
+                out_room = (((uint64_t)get8(v11 + 110) << 8) | (uint64_t)get8(v11 + 111)) + 7;
+                if (out_room != v36) {
+                    v34 = 0;
+                    if (v36 < out_room) goto l14;
+                    goto l19;
+                }
+            }
+            v34 = 0;
+            goto l14;
+        l19:;
+            put16(v11 + 106, 0);
+            out_room = (out < 2) ? out : 2ULL;
+            if (out_room != 0) copy(v11 + 106, packets, out_room);
+            packets = 2 - out_room;
+            if (packets != 0) copy(v11 + 106 + out_room, v33, packets);
+            v34 = (((get8(v11 + 106) << 8) & 0x700) | get8(v11 + 107)) != 0x7ff;
+            goto l14;
+        case 2:
+            if (out == 1) goto l14;
+            v34 = (((get8(packets) << 8) & 0x700) | get8(packets + 1)) != 0x7ff;
+            goto l14;
+        default:
+            break;
+        }
+        octets = out + out_room;
+        if (octets >= 6) {
+            out_room = (out < 6) ? out : 6ULL;
+            v37 = v11 + 106 + out_room;
+            v36 = 6 - out_room;
+            v38 = (out > 5) ? 0ULL : v36;
+            if (v38 != 0) fill(v37, 0, v38);
+            if (out_room != 0) copy(v11 + 106, packets, out_room);
+            if (v36 != 0) copy(v37, v33, v36);
+            v22 = get8(v11 + 106);
+            if (v22 > 31) goto l28;
+            if (((v22 & 8) != 0 && (((v22 << 8) & 0x700) | get8(v11 + 107)) == 0x7ff) || ((((uint64_t)get8(v11 + 110)
+                << 8) | (uint64_t)get8(v11 + 111)) + 7) != octets) goto l28;
+            v34 = 0;
+            goto l14;
+        }
+        if (octets < 2) goto l14;
+    l28:;
+        put16(v11 + 106, 0);
+        out_room = (out < 2) ? out : 2ULL;
+        if (out_room != 0) copy(v11 + 106, packets, out_room);
+        packets = 2 - out_room;
+        if (packets != 0) copy(v11 + 106 + out_room, v33, packets);
+        v34 = (((get8(v11 + 106) << 8) & 0x700) | get8(v11 + 107)) != 0x7ff;
+    l14:;
+        v39 = v24 >> 24;
+        v40 = v24 >> 16;
+        v41 = v24 >> 8;
+        out_room = 0;
+        put64(v11 + 96, 0);
+        put64(v11 + 88, 0);
+        put64(v11 + 80, 0);
+        put64(v11 + 72, 0);
+        v29 = 0;
+        v22 = 0;
+        v35 = sedgechisel_telemetry_extractor_sedge_tm_extractor_frame(extractor, v11 + 60, v33, v32, v17,
+            memory_room, v11 + 72);
+        if ((v35 & 255) != 0) goto l36;
+        v36 = get64(v11 + 80);
+        v37 = v15 + v12;
+        v42 = get64(v11 + 72);
+        if (v42 != 0) copy(v37, v17, v42);
+        v43 = v42 + v12;
+        out = v32 - v36;
+        if (out < 6) goto l39;
+        do {
+            packets = v36;
+            for (;;) {
+                out_room = v33 + packets;
+                v22 = get8(out_room);
+                if (v22 > 31 || ((v22 & 8) != 0 && (((v22 << 8) & 0x700) | get8(out_room + 1)) == 0x7ff)) goto l39;
+                v37 = (uint64_t)get8(out_room + 4);
+                v38 = (uint64_t)get8(out_room + 5);
+                octets = ((v37 << 8) | v38) + 7;
+                if (out < octets) goto l39;
+                v36 = octets + packets;
+                v22 = get16(out_room);
+                if ((((v22 << 8) | (v22 >> 8)) & 0x7ff) != 0x7ff) break;
+                packets = v36;
+                out = v32 - v36;
+                if (out < 6) goto l39;
+            }
+            v44 = v15 + v43;
+            if ((v44 - out_room) < octets) {
+                v42 = octets & 3;
+                out = 0;
+                if (((v38 | (v37 << 8)) + 6) >= 3) {
+                    v45 = octets & 0x1fffc;
+                    out = 0;
+                    do {
+                        v37 = v44 + out;
+                        v38 = out_room + out;
+                        put8(v37, get8(v38));
+                        put8(v37 + 1, get8(v38 + 1));
+                        put8(v37 + 2, get8(v38 + 2));
+                        put8(v37 + 3, get8(v38 + 3));
+                        out = out + 4;
+                    } while (v45 != out);
+                    if (v42 == 0) goto l44;
+                }
+                out_room = v15 + (v43 + out);
+                packets = v33 + out + packets;
+                do {
+                    put8(out_room, get8(packets));
+                    out_room = out_room + 1;
+                    packets = packets + 1;
+                    v42 = v42 - 1;
+                } while (v42 != 0);
+            } else if (octets != 0) copy(v44, out_room, octets);
+        l44:;
+            v43 = octets + v43;
+            out = v32 - v36;
+        } while (out > 5);
+    l39:;
+        out_room = v43 - v12;
+        v35 = 0;
+        v29 = get8(v11 + 97);
+        v31 = get8(v11 + 96);
+        v22 = v34;
+    l36:;
+        v12 = out_room + v12;
+        v34 = (v23 & 0xff00) >> 8;
+        v46 = (uint32_t)out_room;
     l5:;
         memory = memory + frame_length;
         out_room = v16 + v21;
@@ -3722,264 +3242,222 @@ static uint64_t sedge_tm_extractor_frames_at(uint64_t extractor, uint64_t octets
     return v14;
 }
 
+/* sedge_fop_clcw, crates/sedgechisel/src/sender.rt:113 */
 static uint32_t sedge_fop_clcw_at(uint64_t fop, uint32_t vcid, uint64_t word, uint64_t released)
 {
     uint32_t v4 = 0, v5 = 0, v6 = 0, v7 = 0, v8 = 0, v9 = 0, v10 = 0, v11 = 0, v12 = 0, v13 = 0, v14 = 0, v15 = 0,
         v16 = 0, v17 = 0, v18 = 0, v19 = 0, v20 = 0, v21 = 0;
     v4 = 253;
-    if (get8(word + 1) != (vcid & 255)) return v4;
-    vcid = get8(fop + 5);
+    if (get8(word + 1 /* vcid */) != (vcid & 255)) return 253;
+    vcid = get8(fop + 5 /* state */);
     v5 = vcid - 1;
-    if ((v5 & 255) <= 5) {
-        v6 = 1;
-        v7 = get8(fop + 8);
-        if (v7 <= 1) {
-            v8 = get8(fop + 15);
-            v9 = 0;
-            v10 = 1;
-            v4 = get8(fop + 14);
-            switch (v4 - 3) {
-            case 0:
-                goto l14;
-            case 1:
-                v10 = 2;
-                goto l14;
-            default:
-                goto l15;
-            }
-        l15:;
-            if (v4 > 2) return 255;
-            if ((v8 & 255) != 0) return 255;
-            v6 = 0;
-            v9 = 1;
-            v10 = v4;
-        l14:;
-            v11 = get8(fop + 13);
-            if (v11 != 0) {
-                v12 = get16(fop);
-                if ((v12 & 0xffff) != 0) {
-                    v13 = get8(fop + 12);
-                    if ((v13 & 255) != 0) {
-                        v14 = get8(fop + 10);
-                        v15 = get8(fop + 9);
-                        if ((v14 & 255) <= (v15 & 255)) {
-                            v16 = get8(fop + 4);
-                            v4 = v16 & 255;
-                            if ((v15 & 255) <= v4) {
-                                v17 = get8(fop + 6);
-                                v18 = get8(fop + 7);
-                                v19 = v17 - v18;
-                                if ((v19 & 255) <= v4) {
-                                    if (extend32(v16, 0x80) <= 0x7fffffffU) goto l25;
-                                    return 255;
-                                l25:;
-                                    v4 = 255;
-                                    v20 = get8(fop + 11);
-                                    if (((v20 - 1) & 255) >= (v16 & 255)) return v4;
-                                    v21 = get16(fop + 2);
-                                    switch (vcid - 1) {
-                                    case 1:
-                                    case 2:
-                                        goto l34;
-                                    case 3:
-                                        goto l37;
-                                    case 4:
-                                        goto l36;
-                                    case 5:
-                                        goto l35;
-                                    default:
-                                        goto l38;
-                                    }
-                                l38:;
-                                    v4 = 255;
-                                    if (v10 != 0) return v4;
-                                    if ((v15 & 255) != (v19 & 255)) return v4;
-                                    if (((uint32_t)((v15 & 255) == 0) ^ (uint32_t)((v21 & 0xffff) != 0)) != 0) goto
-                                        l33;
-                                    return v4;
-                                l37:;
-                                    v4 = 255;
-                                    if ((v15 & 255) != (v19 & 255)) return v4;
-                                    if (((v15 | v10) & 255) != 0) return v4;
-                                    if ((v21 & 0xffff) == 0) return v4;
-                                    vcid = 0;
-                                    v4 = get8(word + 2);
-                                    if ((v4 & 32) == 0) goto l32;
-                                    v5 = 1;
-                                    goto l30;
-                                l36:;
-                                    v4 = 255;
-                                    if ((v15 & 255) != (v19 & 255)) return v4;
-                                    if ((v15 & 255) != 0) return v4;
-                                    v4 = 255;
-                                    switch (v10) {
-                                    case 1:
-                                        goto l10;
-                                    case 2:
-                                        goto l39;
-                                    default:
-                                        return v4;
-                                    }
-                                l39:;
-                                    v4 = 255;
-                                    if ((~v9 & (uint32_t)((v8 & 255) != (v17 & 255))) != 0) return v4;
-                                    if ((v21 & 0xffff) == 0) return v4;
-                                    goto l8;
-                                l35:;
-                                    v4 = 255;
-                                    if (((v15 | v10) & 255) != 0) return v4;
-                                    if ((v7 & 1) != 0) return v4;
-                                    if ((v21 & 0xffff) != 0) return v4;
-                                    goto l6;
-                                l34:;
-                                    v4 = 255;
-                                    if (v10 != 0) return v4;
-                                    vcid = v15 & 255;
-                                    if (vcid != (v19 & 255)) return v4;
-                                    if (vcid == 0) return v4;
-                                    if ((v21 & 0xffff) == 0) return v4;
-                                l33:;
-                                    vcid = 0;
-                                    v4 = get8(word + 2);
-                                    if ((v4 & 32) == 0) goto l40;
-                                    v5 = 1;
-                                    goto l30;
-                                l40:;
-                                    v6 = get8(word + 4);
-                                    v10 = v6 - v18;
-                                    if ((v19 & 255) >= (v10 & 255)) goto l41;
-                                    v5 = 2;
-                                    goto l30;
-                                l41:;
-                                    if ((v4 & 24) == 16) goto l31;
-                                    if ((v4 & 8) == 0) goto l43;
-                                    v8 = v6 & 255;
-                                    if (v8 != (v17 & 255)) goto l42;
-                                    v5 = 4;
-                                    goto l30;
-                                l43:;
-                                    if ((v18 & 255) != (v6 & 255)) goto l44;
-                                    if ((v5 & 255) == 0) goto l27;
-                                    v5 = 4;
-                                    goto l30;
-                                l44:;
-                                    put8(released, v10);
-                                    v15 = v18 - v6 + v15;
-                                    v5 = v15 & 255;
-                                    vcid = v14 & 255;
-                                    v14 = (v5 < vcid) ? v5 : vcid;
-                                    v4 = 0;
-                                    vcid = 1;
-                                    v10 = 0;
-                                    v11 = 1;
-                                    v21 = v12;
-                                    v18 = v6;
-                                    if (v5 != 0) goto l2;
-                                    v10 = 0;
-                                    v11 = 1;
-                                    v15 = 0;
-                                    v18 = v6;
-                                    goto l5;
-                                l42:;
-                                    v4 = v4 & 16;
-                                    if ((v18 & 255) == v8) goto l45;
-                                    v11 = 1;
-                                    if ((v13 & 255) != 1) goto l46;
-                                    v5 = 5;
-                                    vcid = v10;
-                                    v18 = v6;
-                                    goto l30;
-                                l46:;
-                                    v15 = v18 - v6 + v15;
-                                    v11 = 2;
-                                    if (v4 != 0) goto l47;
-                                    v14 = v15;
-                                    v18 = v6;
-                                    goto l28;
-                                l47:;
-                                    vcid = v15 & 255;
-                                    v4 = v14 & 255;
-                                    v14 = (vcid < v4) ? vcid : v4;
-                                    vcid = 3;
-                                    v11 = 1;
-                                    v18 = v6;
-                                    goto l26;
-                                l45:;
-                                    v6 = v13 & 255;
-                                    if (v6 != 1) goto l48;
-                                    v5 = 5;
-                                    goto l30;
-                                l48:;
-                                    if (v4 == 0) goto l49;
-                                    vcid = 3;
-                                    goto l26;
-                                l49:;
-                                    if ((v5 & 255) != 1 && v11 < v6) goto l29;
-                                    vcid = 2;
-                                    goto l26;
-                                l32:;
-                                    if (get8(word + 4) == (v17 & 255)) goto l50;
-                                    v5 = 2;
-                                    goto l30;
-                                l50:;
-                                    if ((v4 & 8) == 0) goto l51;
-                                    v5 = 4;
-                                    goto l30;
-                                l51:;
-                                    if ((v4 & 16) == 0) goto l7;
-                                l31:;
-                                    v5 = 3;
-                                l30:;
-                                    put8(released, vcid);
-                                    v4 = 0;
-                                    vcid = 6;
-                                    v10 = 0;
-                                    v14 = 0;
-                                    v15 = 0;
-                                    v7 = 0;
-                                    goto l3;
-                                l29:;
-                                    v11 = v11 + 1;
-                                    v14 = v15;
-                                l28:;
-                                    put8(released, v10);
-                                    v4 = 0;
-                                    vcid = 2;
-                                    v10 = 0;
-                                    v21 = v12;
-                                    goto l2;
-                                l27:;
-                                    vcid = 1;
-                                l26:;
-                                    put8(released, v10);
-                                    v4 = 0;
-                                    v10 = 0;
-                                    if ((v21 & 0xffff) != 0) goto l2;
-                                    v10 = 0;
-                                    goto l5;
-                                }
-                                return 255;
-                            }
-                            return 255;
-                        }
-                        return 255;
-                    }
-                    return 255;
-                }
-                return 255;
-            }
+    if ((v5 & 255) > 5) return 255;
+    v6 = 1;
+    v7 = get8(fop + 8 /* waiting */);
+    if (v7 > 1) return 255;
+    v8 = get8(fop + 15 /* vr */);
+    v9 = 0;
+    v10 = 1;
+    v4 = get8(fop + 14 /* control */);
+    switch (v4 - 3) {
+    case 0:
+        break;
+    case 1:
+        v10 = 2;
+        break;
+    default:
+        if (v4 > 2 || (v8 & 255) != 0) return 255;
+        v6 = 0;
+        v9 = 1;
+        v10 = v4;
+        break;
+    }
+    v11 = get8(fop + 13 /* count */);
+    if (v11 == 0) return 255;
+    v12 = get16(fop /* timer */);
+    if ((v12 & 0xffff) == 0) return 255;
+    v13 = get8(fop + 12 /* limit */);
+    if ((v13 & 255) == 0) return 255;
+    v14 = get8(fop + 10 /* due */);
+    v15 = get8(fop + 9 /* sent */);
+    if ((v14 & 255) > (v15 & 255)) return 255;
+    v16 = get8(fop + 4 /* room */);
+    v4 = v16 & 255;
+    if ((v15 & 255) > v4) return 255;
+    v17 = get8(fop + 6 /* vs */);
+    v18 = get8(fop + 7 /* nn */);
+    v19 = v17 - v18;
+    if ((v19 & 255) > v4 || extend32(v16, 0x80) > 0x7fffffffU) return 255;
+    v4 = 255;
+    v20 = get8(fop + 11 /* window */);
+    if (((v20 - 1) & 255) >= (v16 & 255)) return 255;
+    v21 = get16(fop + 2 /* ticks */);
+    switch (vcid - 1) {
+    case 1:
+    case 2:
+        v4 = 255;
+        if (v10 != 0) return 255;
+        vcid = v15 & 255;
+        if (vcid != (v19 & 255) || vcid == 0 || (v21 & 0xffff) == 0) return 255;
+        break;
+    case 3:
+        v4 = 255;
+        if ((v15 & 255) != (v19 & 255) || ((v15 | v10) & 255) != 0 || (v21 & 0xffff) == 0) return 255;
+        vcid = 0;
+        v4 = get8(word + 2 /* flags */);
+        if ((v4 & 32) != 0) {
+            v5 = 1;
+            goto l30;
+        }
+        if (get8(word + 4 /* value */) != (v17 & 255)) {
+            v5 = 2;
+            goto l30;
+        }
+        if ((v4 & 8) != 0) {
+            v5 = 4;
+            goto l30;
+        }
+        if ((v4 & 16) == 0) goto l7;
+        goto l31;
+    case 4:
+        v4 = 255;
+        if ((v15 & 255) != (v19 & 255) || (v15 & 255) != 0) return 255;
+        v4 = 255;
+        switch (v10) {
+        case 1:
+            v4 = 255;
+            if ((v9 | (uint32_t)((v8 & 255) == (v17 & 255))) != 0) goto l8;
+            return 255;
+        case 2:
+            v4 = 255;
+            if ((~v9 & (uint32_t)((v8 & 255) != (v17 & 255))) != 0 || (v21 & 0xffff) == 0) return 255;
+            goto l8;
+        default:
             return 255;
         }
-        return 255;
+    case 5:
+        v4 = 255;
+        if (((v15 | v10) & 255) != 0 || (v7 & 1) != 0 || (v21 & 0xffff) != 0) return 255;
+        goto l6;
+    default:
+        v4 = 255;
+        if (v10 != 0 || (v15 & 255) != (v19 & 255) || ((uint32_t)((v15 & 255) == 0) ^ (uint32_t)((v21 & 0xffff) != 0))
+            == 0) return 255;
+        break;
     }
-    return 255;
-l10:;
-    v4 = 255;
-    if ((v9 | (uint32_t)((v8 & 255) == (v17 & 255))) != 0) goto l8;
-    return v4;
+    vcid = 0;
+    v4 = get8(word + 2 /* flags */);
+    if ((v4 & 32) != 0) {
+        v5 = 1;
+        goto l30;
+    }
+    v6 = get8(word + 4 /* value */);
+    v10 = v6 - v18;
+    if ((v19 & 255) < (v10 & 255)) {
+        v5 = 2;
+        goto l30;
+    }
+    if ((v4 & 24) != 16) {
+        if ((v4 & 8) == 0) {
+            if ((v18 & 255) == (v6 & 255)) {
+                if ((v5 & 255) == 0) {
+                    vcid = 1;
+                    goto l26;
+                }
+                v5 = 4;
+                goto l30;
+            }
+            put8(released, v10);
+            v15 = v18 - v6 + v15;
+            v5 = v15 & 255;
+            vcid = v14 & 255;
+            v14 = (v5 < vcid) ? v5 : vcid;
+            v4 = 0;
+            vcid = 1;
+            v10 = 0;
+            v11 = 1;
+            v21 = v12;
+            v18 = v6;
+            if (v5 != 0) goto l2;
+            v10 = 0;
+            v11 = 1;
+            v15 = 0;
+            v18 = v6;
+            goto l5;
+        }
+        v8 = v6 & 255;
+        if (v8 == (v17 & 255)) {
+            v5 = 4;
+            goto l30;
+        }
+        v4 = v4 & 16;
+        if ((v18 & 255) == v8) {
+            v6 = v13 & 255;
+            if (v6 == 1) {
+                v5 = 5;
+                goto l30;
+            }
+            if (v4 != 0) {
+                vcid = 3;
+                goto l26;
+            }
+            if ((v5 & 255) != 1 && v11 < v6) {
+                v11 = v11 + 1;
+                v14 = v15;
+                goto l28;
+            }
+            vcid = 2;
+            goto l26;
+        }
+        v11 = 1;
+        if ((v13 & 255) == 1) {
+            v5 = 5;
+            vcid = v10;
+            v18 = v6;
+            goto l30;
+        }
+        v15 = v18 - v6 + v15;
+        v11 = 2;
+        if (v4 == 0) {
+            v14 = v15;
+            v18 = v6;
+            goto l28;
+        }
+        vcid = v15 & 255;
+        v4 = v14 & 255;
+        v14 = (vcid < v4) ? vcid : v4;
+        vcid = 3;
+        v11 = 1;
+        v18 = v6;
+        goto l26;
+    }
+l31:;
+    v5 = 3;
+l30:;
+    put8(released, vcid);
+    v4 = 0;
+    vcid = 6;
+    v10 = 0;
+    v14 = 0;
+    v15 = 0;
+    v7 = 0;
+    goto l3;
+l28:;
+    put8(released, v10);
+    v4 = 0;
+    vcid = 2;
+    v10 = 0;
+    v21 = v12;
+    goto l2;
+l26:;
+    put8(released, v10);
+    v4 = 0;
+    v10 = 0;
+    if ((v21 & 0xffff) != 0) goto l2;
+    v10 = 0;
+    goto l5;
 l8:;
-    if ((get8(word + 2) & 56) != 0) goto l6;
-    if (get8(word + 4) != (v17 & 255)) goto l6;
+    if ((get8(word + 2 /* flags */) & 56) != 0 || get8(word + 4 /* value */) != (v17 & 255)) goto l6;
 l7:;
     v4 = 0;
     put8(released, 0);
@@ -3992,18 +3470,16 @@ l6:;
     put8(released, 0);
     switch (v10) {
     case 1:
-        goto l53;
+        v10 = (v9 != 0) ? 1U : 3U;
+        if (v6 != 0) goto l4;
+        break;
     case 2:
         v10 = (v9 != 0) ? 2U : 4U;
-        if (v6 == 0) goto l52;
-        goto l4;
+        if (v6 != 0) goto l4;
+        break;
     default:
-        goto l52;
+        break;
     }
-l53:;
-    v10 = (v9 != 0) ? 1U : 3U;
-    if (v6 != 0) goto l4;
-l52:;
     if ((v21 & 0xffff) != 0) goto l2;
 l5:;
     v5 = 0;
@@ -4022,23 +3498,24 @@ l3:;
 l2:;
     v5 = 0;
 l1:;
-    put16(fop, v12);
-    put8(fop + 15, v4);
-    put8(fop + 14, v10);
-    put8(fop + 13, v11);
-    put8(fop + 12, v13);
-    put8(fop + 11, v20);
-    put8(fop + 10, v14);
-    put8(fop + 9, v15);
-    put8(fop + 8, v7);
-    put8(fop + 7, v18);
-    put8(fop + 6, v17);
-    put8(fop + 5, vcid);
-    put8(fop + 4, v16);
-    put16(fop + 2, v21);
+    put16(fop /* timer */, v12);
+    put8(fop + 15 /* vr */, v4);
+    put8(fop + 14 /* control */, v10);
+    put8(fop + 13 /* count */, v11);
+    put8(fop + 12 /* limit */, v13);
+    put8(fop + 11 /* window */, v20);
+    put8(fop + 10 /* due */, v14);
+    put8(fop + 9 /* sent */, v15);
+    put8(fop + 8 /* waiting */, v7);
+    put8(fop + 7 /* nn */, v18);
+    put8(fop + 6 /* vs */, v17);
+    put8(fop + 5 /* state */, vcid);
+    put8(fop + 4 /* room */, v16);
+    put16(fop + 2 /* ticks */, v21);
     return v5;
 }
 
+/* sedge_fop_directive, crates/sedgechisel/src/sender/directive.rt:16 */
 static uint32_t sedge_fop_directive_at(uint64_t fop, uint32_t directive, uint32_t value)
 {
     uint32_t v3 = 0, v4 = 0, v5 = 0, v6 = 0, v7 = 0, v8 = 0, v9 = 0, v10 = 0, v11 = 0, v12 = 0, v13 = 0, v14 = 0,
@@ -4053,143 +3530,132 @@ static uint32_t sedge_fop_directive_at(uint64_t fop, uint32_t directive, uint32_
     v8 = 0;
     switch ((directive & 255) - 1) {
     case 0:
-        goto l5;
+        break;
     case 1:
         v7 = 0;
         v8 = 1;
         v6 = 0;
-        goto l5;
+        break;
     case 2:
         v7 = 0;
         v8 = 2;
         v6 = 0;
-        goto l5;
+        break;
     case 3:
-        if (v4 == 0) return v3;
+        if (v4 == 0) return 255;
         v8 = 3;
         v7 = v5;
-        goto l5;
+        break;
     case 4:
         v7 = 0;
         v8 = 4;
         v6 = 0;
-        goto l5;
+        break;
     case 5:
-        if (v4 == 0) return v3;
+        if (v4 == 0) return 255;
         v8 = 5;
         v7 = v5;
-        goto l5;
+        break;
     case 6:
         v8 = 6;
         v7 = v5;
-        goto l5;
+        break;
     case 7:
         v8 = 7;
         v7 = v5;
-        goto l5;
+        break;
     case 8:
-        goto l6;
+        v8 = 8;
+        v7 = 0;
+        v6 = value;
+        break;
     default:
-        return v3;
+        return 255;
     }
-l6:;
-    v8 = 8;
-    v7 = 0;
-    v6 = value;
-l5:;
     v3 = 255;
-    value = get8(fop + 5);
+    value = get8(fop + 5 /* state */);
     directive = value - 1;
-    if ((directive & 255) > 5) return v3;
+    if ((directive & 255) > 5) return 255;
     v5 = 1;
-    v4 = get8(fop + 8);
-    if (v4 > 1) return v3;
-    v9 = get8(fop + 15);
+    v4 = get8(fop + 8 /* waiting */);
+    if (v4 > 1) return 255;
+    v9 = get8(fop + 15 /* vr */);
     v10 = 0;
-    v11 = get8(fop + 14);
+    v11 = get8(fop + 14 /* control */);
     switch (v11 - 3) {
     case 0:
-        goto l14;
+        break;
     case 1:
-        goto l15;
+        v5 = 2;
+        break;
     default:
-        if (v11 > 2) return v3;
+        if (v11 > 2) return 255;
         v10 = 1;
         v5 = v11;
-        if ((v9 & 255) == 0) goto l14;
-        return v3;
+        if ((v9 & 255) != 0) return 255;
+        break;
     }
-l15:;
-    v5 = 2;
-l14:;
-    v12 = get8(fop + 13);
+    v12 = get8(fop + 13 /* count */);
     if (v12 == 0) return v3;
-    v13 = get16(fop);
+    v13 = get16(fop /* timer */);
     if ((v13 & 0xffff) == 0) return v3;
-    v14 = get8(fop + 12);
+    v14 = get8(fop + 12 /* limit */);
     if ((v14 & 255) == 0) return v3;
-    v15 = get8(fop + 10);
-    v11 = get8(fop + 9);
+    v15 = get8(fop + 10 /* due */);
+    v11 = get8(fop + 9 /* sent */);
     if ((v15 & 255) > (v11 & 255)) return v3;
-    v16 = get8(fop + 4);
+    v16 = get8(fop + 4 /* room */);
     v17 = v16 & 255;
     if ((v11 & 255) > v17) return v3;
-    v18 = get8(fop + 6);
-    v19 = get8(fop + 7);
+    v18 = get8(fop + 6 /* vs */);
+    v19 = get8(fop + 7 /* nn */);
     v20 = v18 - v19;
-    if ((v20 & 255) > v17) return v3;
-    if (extend32(v16, 0x80) > 0x7fffffffU) return v3;
-    v21 = get8(fop + 11);
+    if ((v20 & 255) > v17 || extend32(v16, 0x80) > 0x7fffffffU) return v3;
+    v21 = get8(fop + 11 /* window */);
     if (((v21 - 1) & 255) >= (v16 & 255)) return v3;
-    v17 = get16(fop + 2);
+    v17 = get16(fop + 2 /* ticks */);
     switch (value - 1) {
     case 1:
     case 2:
         v3 = 255;
-        if (v5 != 0) return v3;
+        if (v5 != 0) return 255;
         v22 = v11 & 255;
-        if (v22 != (v20 & 255)) return v3;
-        if (v22 == 0) return v3;
-        if ((v17 & 0xffff) == 0) return v3;
+        if (v22 != (v20 & 255) || v22 == 0 || (v17 & 0xffff) == 0) return 255;
         goto l1;
     case 3:
         v3 = 255;
-        if ((v11 & 255) != (v20 & 255)) return v3;
-        if (((v11 | v5) & 255) != 0) return v3;
+        if ((v11 & 255) != (v20 & 255) || ((v11 | v5) & 255) != 0) return 255;
         if ((v17 & 0xffff) != 0) goto l1;
-        return v3;
+        return 255;
     case 4:
         v3 = 255;
-        if ((v11 & 255) != (v20 & 255)) return v3;
-        if ((v11 & 255) != 0) return v3;
+        if ((v11 & 255) != (v20 & 255) || (v11 & 255) != 0) return 255;
         v3 = 255;
         switch (v5) {
         case 1:
-            goto l3;
+            v3 = 255;
+            if ((v10 | (uint32_t)((v9 & 255) == (v18 & 255))) != 0) goto l1;
+            break;
         case 2:
             v3 = 255;
-            if ((~v10 & (uint32_t)((v9 & 255) != (v18 & 255))) != 0) return v3;
+            if ((~v10 & (uint32_t)((v9 & 255) != (v18 & 255))) != 0) return 255;
             if ((v17 & 0xffff) != 0) goto l1;
-            return v3;
+            return 255;
         default:
-            return v3;
+            return 255;
         }
+        break;
     case 5:
         v3 = 255;
-        if (((v11 | v5) & 255) != 0) return v3;
-        if ((v4 & 1) != 0) return v3;
+        if (((v11 | v5) & 255) != 0 || (v4 & 1) != 0) return 255;
         if ((v17 & 0xffff) == 0) goto l1;
-        return v3;
+        return 255;
     default:
         v3 = 255;
-        if (v5 != 0) return v3;
-        if ((v11 & 255) != (v20 & 255)) return v3;
+        if (v5 != 0 || (v11 & 255) != (v20 & 255)) return 255;
         if (((uint32_t)((v11 & 255) == 0) ^ (uint32_t)((v17 & 0xffff) != 0)) != 0) goto l1;
-        return v3;
+        return 255;
     }
-l3:;
-    v3 = 255;
-    if ((v10 | (uint32_t)((v9 & 255) == (v18 & 255))) != 0) goto l1;
     return v3;
 l1:;
     switch (v8) {
@@ -4222,54 +3688,53 @@ l1:;
         if ((v6 & 0xffff) != 0) goto l30;
         return 4;
     default:
-        v26 = 5;
-        if ((directive & 255) == 5) {
-            v25 = 0;
-            v3 = 6;
-            v27 = 1;
-            v23 = v7;
-            v24 = v7;
-            v28 = 0;
-            v29 = 0;
-            v30 = v7;
-            directive = 0;
-            v6 = 0;
-            v16 = 0;
-            v20 = 0;
-            v22 = 0;
-            switch (v8) {
-            case 1:
-                v12 = 1;
-                v25 = 0;
-                v3 = 4;
-                directive = 0;
-                v6 = 0;
-                v19 = v18;
-                v16 = 0;
-                v20 = 0;
-                v22 = v13;
-                goto l23;
-            case 2:
-                v6 = 1;
-                v25 = 0;
-                v3 = 5;
-                directive = 0;
-                goto l24;
-            case 3:
-                goto l29;
-            case 4:
-                goto l23;
-            case 5:
-                goto l30;
-            default:
-                v25 = 0;
-                v3 = 1;
-                directive = 0;
-                v6 = 0;
-                goto l24;
-            }
-        }
-        return 8;
+        break;
+    }
+    v26 = 5;
+    if ((directive & 255) != 5) return 8;
+    v25 = 0;
+    v3 = 6;
+    v27 = 1;
+    v23 = v7;
+    v24 = v7;
+    v28 = 0;
+    v29 = 0;
+    v30 = v7;
+    directive = 0;
+    v6 = 0;
+    v16 = 0;
+    v20 = 0;
+    v22 = 0;
+    switch (v8) {
+    case 1:
+        v12 = 1;
+        v25 = 0;
+        v3 = 4;
+        directive = 0;
+        v6 = 0;
+        v19 = v18;
+        v16 = 0;
+        v20 = 0;
+        v22 = v13;
+        goto l23;
+    case 2:
+        v6 = 1;
+        v25 = 0;
+        v3 = 5;
+        directive = 0;
+        goto l24;
+    case 3:
+        goto l29;
+    case 4:
+        goto l23;
+    case 5:
+        break;
+    default:
+        v25 = 0;
+        v3 = 1;
+        directive = 0;
+        v6 = 0;
+        goto l24;
     }
 l30:;
     v3 = value;
@@ -4283,7 +3748,21 @@ l30:;
     v22 = v17;
     switch (v5) {
     case 1:
-        goto l40;
+        if (v10 != 0) {
+            v6 = 1;
+            directive = 0;
+            v3 = value;
+            v25 = v4;
+            goto l25;
+        }
+        v26 = value;
+        v7 = v23;
+        v25 = v4;
+        v28 = v11;
+        v29 = v15;
+        v27 = v12;
+        v30 = v9;
+        break;
     case 2:
         v6 = (v10 != 0) ? 2U : 4U;
         v3 = value;
@@ -4293,21 +3772,6 @@ l30:;
     default:
         goto l23;
     }
-l40:;
-    if (v10 != 0) {
-        v6 = 1;
-        directive = 0;
-        v3 = value;
-        v25 = v4;
-        goto l25;
-    }
-    v26 = value;
-    v7 = v23;
-    v25 = v4;
-    v28 = v11;
-    v29 = v15;
-    v27 = v12;
-    v30 = v9;
 l29:;
     v6 = 3;
     v3 = v26;
@@ -4333,133 +3797,119 @@ l24:;
     v12 = 1;
     v22 = v17;
 l23:;
-    put16(fop, v13);
-    put8(fop + 15, directive);
-    put8(fop + 14, v6);
-    put8(fop + 13, v12);
-    put8(fop + 12, v14);
-    put8(fop + 11, v21);
-    put8(fop + 10, v20);
-    put8(fop + 9, v16);
-    put8(fop + 8, v25);
-    put8(fop + 7, v19);
-    put8(fop + 6, v18);
-    put8(fop + 5, v3);
-    put16(fop + 2, v22);
+    put16(fop /* timer */, v13);
+    put8(fop + 15 /* vr */, directive);
+    put8(fop + 14 /* control */, v6);
+    put8(fop + 13 /* count */, v12);
+    put8(fop + 12 /* limit */, v14);
+    put8(fop + 11 /* window */, v21);
+    put8(fop + 10 /* due */, v20);
+    put8(fop + 9 /* sent */, v16);
+    put8(fop + 8 /* waiting */, v25);
+    put8(fop + 7 /* nn */, v19);
+    put8(fop + 6 /* vs */, v18);
+    put8(fop + 5 /* state */, v3);
+    put16(fop + 2 /* ticks */, v22);
     return 0;
 }
 
+/* sedge_fop_next, crates/sedgechisel/src/sender.rt:92 */
 static uint32_t sedge_fop_next_at(uint64_t fop, uint64_t number)
 {
     uint32_t v2 = 0, v3 = 0, v4 = 0, v5 = 0, v6 = 0, v7 = 0, v8 = 0, v9 = 0, v10 = 0, v11 = 0, v12 = 0, v13 = 0,
         v14 = 0, v15 = 0, v16 = 0, v17 = 0, v18 = 0, v19 = 0, v20 = 0;
     v2 = 255;
-    v3 = get8(fop + 5);
+    v3 = get8(fop + 5 /* state */);
     v4 = v3 - 1;
-    if ((v4 & 255) > 5) return v2;
+    if ((v4 & 255) > 5) return 255;
     v5 = 1;
-    v6 = get8(fop + 8);
-    if (v6 > 1) return v2;
-    v7 = get8(fop + 15);
+    v6 = get8(fop + 8 /* waiting */);
+    if (v6 > 1) return 255;
+    v7 = get8(fop + 15 /* vr */);
     v8 = 0;
-    v9 = get8(fop + 14);
+    v9 = get8(fop + 14 /* control */);
     switch (v9 - 3) {
     case 0:
-        goto l8;
+        break;
     case 1:
-        goto l9;
+        v5 = 2;
+        break;
     default:
-        if (v9 > 2) return v2;
+        if (v9 > 2) return 255;
         v8 = 1;
         v5 = v9;
-        if ((v7 & 255) == 0) goto l8;
-        return v2;
+        if ((v7 & 255) != 0) return 255;
+        break;
     }
-l9:;
-    v5 = 2;
-l8:;
-    v10 = get8(fop + 13);
+    v10 = get8(fop + 13 /* count */);
     if (v10 == 0) return v2;
-    v11 = get16(fop);
+    v11 = get16(fop /* timer */);
     if ((v11 & 0xffff) == 0) return v2;
-    v12 = get8(fop + 12);
+    v12 = get8(fop + 12 /* limit */);
     if ((v12 & 255) == 0) return v2;
-    v13 = get8(fop + 10);
-    v9 = get8(fop + 9);
+    v13 = get8(fop + 10 /* due */);
+    v9 = get8(fop + 9 /* sent */);
     if ((v13 & 255) > (v9 & 255)) return v2;
-    v14 = get8(fop + 4);
+    v14 = get8(fop + 4 /* room */);
     v15 = v14 & 255;
     if ((v9 & 255) > v15) return v2;
-    v16 = get8(fop + 6);
-    v17 = get8(fop + 7);
+    v16 = get8(fop + 6 /* vs */);
+    v17 = get8(fop + 7 /* nn */);
     v18 = v16 - v17;
-    if ((v18 & 255) > v15) return v2;
-    if (extend32(v14, 0x80) > 0x7fffffffU) return v2;
-    v19 = get8(fop + 11);
+    if ((v18 & 255) > v15 || extend32(v14, 0x80) > 0x7fffffffU) return v2;
+    v19 = get8(fop + 11 /* window */);
     if (((v19 - 1) & 255) >= (v14 & 255)) return v2;
-    v15 = get16(fop + 2);
+    v15 = get16(fop + 2 /* ticks */);
     switch (v3 - 1) {
     case 1:
     case 2:
-        goto l14;
+        v2 = 255;
+        if (v5 != 0) return 255;
+        v5 = v9 & 255;
+        if (v5 != (v18 & 255) || v5 == 0 || (v15 & 0xffff) == 0) return 255;
+        if ((v4 & 255) > 1) goto l12;
+        goto l13;
     case 3:
         v2 = 255;
-        if ((v9 & 255) != (v18 & 255)) return v2;
-        if (((v9 | v5) & 255) != 0) return v2;
-        if ((v15 & 0xffff) != 0) goto l15;
-        return v2;
+        if ((v9 & 255) != (v18 & 255) || ((v9 | v5) & 255) != 0 || (v15 & 0xffff) == 0) return 255;
+        break;
     case 4:
         v2 = 255;
-        if ((v9 & 255) != (v18 & 255)) return v2;
-        if ((v9 & 255) != 0) return v2;
+        if ((v9 & 255) != (v18 & 255) || (v9 & 255) != 0) return 255;
         v2 = 255;
         switch (v5) {
         case 1:
-            goto l6;
+            v2 = 255;
+            if ((v8 | (uint32_t)((v7 & 255) == (v16 & 255))) != 0) goto l4;
+            return 255;
         case 2:
             v2 = 255;
-            if ((~v8 & (uint32_t)((v7 & 255) != (v16 & 255))) != 0) return v2;
-            if ((v15 & 0xffff) == 0) return v2;
+            if ((~v8 & (uint32_t)((v7 & 255) != (v16 & 255))) != 0 || (v15 & 0xffff) == 0) return 255;
             v18 = 0;
             put8(number, 0);
             v20 = 1;
             goto l3;
         default:
-            return v2;
+            return 255;
         }
     case 5:
-        goto l16;
+        v2 = 255;
+        if (((v9 | v5) & 255) != 0 || (v6 & 1) != 0 || (v15 & 0xffff) != 0) return 255;
+        break;
     default:
         v2 = 255;
-        if (v5 != 0) return v2;
-        if ((v9 & 255) != (v18 & 255)) return v2;
+        if (v5 != 0 || (v9 & 255) != (v18 & 255)) return 255;
         if (((uint32_t)((v9 & 255) == 0) ^ (uint32_t)((v15 & 0xffff) != 0)) != 0) goto l13;
-        return v2;
+        return 255;
     }
-l16:;
-    v2 = 255;
-    if (((v9 | v5) & 255) != 0) return v2;
-    if ((v6 & 1) != 0) return v2;
-    if ((v15 & 0xffff) != 0) return v2;
-l15:;
-    if (v5 != 1) {
-        v18 = 0;
-        put8(number, 0);
-        v20 = (v15 & 0xffff) != 0;
-        v4 = 0;
-        v2 = 0;
-        if (v5 == 0) goto l2;
-        goto l3;
-    }
-    goto l4;
-l14:;
-    v2 = 255;
-    if (v5 != 0) return v2;
-    v5 = v9 & 255;
-    if (v5 != (v18 & 255)) return v2;
-    if (v5 == 0) return v2;
-    if ((v15 & 0xffff) == 0) return v2;
-    if ((v4 & 255) > 1) goto l12;
+    if (v5 == 1) goto l4;
+    v18 = 0;
+    put8(number, 0);
+    v20 = (v15 & 0xffff) != 0;
+    v4 = 0;
+    v2 = 0;
+    if (v5 == 0) goto l2;
+    goto l3;
 l13:;
     if ((v13 & 255) != 0) {
         put8(number, v9 + v17 - v13);
@@ -4470,20 +3920,18 @@ l13:;
         v5 = v11;
         goto l1;
     }
-    if ((v9 & 255) < (v19 & 255)) {
-        if ((v6 & 1) != 0) {
-            put8(number, v16);
-            v10 = ((v9 & 255) != 0) ? v10 : 1U;
-            v16 = v16 + 1;
-            v9 = v9 + 1;
-            v18 = 3;
-            v2 = 0;
-            v4 = 0;
-            v6 = 0;
-            v13 = 0;
-            v5 = v11;
-            goto l1;
-        }
+    if ((v9 & 255) < (v19 & 255) && (v6 & 1) != 0) {
+        put8(number, v16);
+        v10 = ((v9 & 255) != 0) ? v10 : 1U;
+        v16 = v16 + 1;
+        v9 = v9 + 1;
+        v18 = 3;
+        v2 = 0;
+        v4 = 0;
+        v6 = 0;
+        v13 = 0;
+        v5 = v11;
+        goto l1;
     }
 l12:;
     v18 = 0;
@@ -4492,10 +3940,6 @@ l12:;
     v4 = 0;
     v2 = 0;
     goto l2;
-l6:;
-    v2 = 255;
-    if ((v8 | (uint32_t)((v7 & 255) == (v16 & 255))) != 0) goto l4;
-    return v2;
 l4:;
     put8(number, (v8 != 0) ? 0U : v7);
     v20 = 1;
@@ -4507,249 +3951,232 @@ l3:;
 l2:;
     v5 = (v20 != 0) ? v15 : 0U;
 l1:;
-    put16(fop, v11);
-    put8(fop + 15, v2);
-    put8(fop + 14, v4);
-    put8(fop + 13, v10);
-    put8(fop + 12, v12);
-    put8(fop + 11, v19);
-    put8(fop + 10, v13);
-    put8(fop + 9, v9);
-    put8(fop + 8, v6);
-    put8(fop + 7, v17);
-    put8(fop + 6, v16);
-    put8(fop + 5, v3);
-    put8(fop + 4, v14);
-    put16(fop + 2, v5);
+    put16(fop /* timer */, v11);
+    put8(fop + 15 /* vr */, v2);
+    put8(fop + 14 /* control */, v4);
+    put8(fop + 13 /* count */, v10);
+    put8(fop + 12 /* limit */, v12);
+    put8(fop + 11 /* window */, v19);
+    put8(fop + 10 /* due */, v13);
+    put8(fop + 9 /* sent */, v9);
+    put8(fop + 8 /* waiting */, v6);
+    put8(fop + 7 /* nn */, v17);
+    put8(fop + 6 /* vs */, v16);
+    put8(fop + 5 /* state */, v3);
+    put8(fop + 4 /* room */, v14);
+    put16(fop + 2 /* ticks */, v5);
     return v18;
 }
 
+/* sedge_fop_submit, crates/sedgechisel/src/sender.rt:79 */
 static uint32_t sedge_fop_submit_at(uint64_t fop)
 {
     uint32_t v1 = 0, v2 = 0, v3 = 0, v4 = 0, v5 = 0, v6 = 0, v7 = 0, v8 = 0, v9 = 0, v10 = 0, v11 = 0, v12 = 0;
     v1 = 255;
-    v2 = get8(fop + 5);
-    if (((v2 - 1) & 255) > 5) return v1 & 255;
+    v2 = get8(fop + 5 /* state */);
+    if (((v2 - 1) & 255) > 5) return 255;
     v3 = 1;
     v1 = 255;
-    v4 = get8(fop + 8);
-    if (v4 > 1) return v1 & 255;
-    v5 = get8(fop + 15);
+    v4 = get8(fop + 8 /* waiting */);
+    if (v4 > 1) return 255;
+    v5 = get8(fop + 15 /* vr */);
     v6 = 0;
     v7 = 1;
-    v8 = get8(fop + 14);
+    v8 = get8(fop + 14 /* control */);
     switch (v8 - 3) {
     case 0:
-        goto l5;
+        break;
     case 1:
         v7 = 2;
-        goto l5;
+        break;
     default:
-        goto l6;
+        v1 = 255;
+        if (v8 > 2) return 255;
+        v1 = 255;
+        if ((v5 & 255) != 0) return 255;
+        v3 = 0;
+        v6 = 1;
+        v7 = v8;
+        break;
     }
-l6:;
     v1 = 255;
-    if (v8 > 2) return v1 & 255;
+    if (get8(fop + 13 /* count */) == 0) return 255;
     v1 = 255;
-    if ((v5 & 255) != 0) return v1 & 255;
-    v3 = 0;
-    v6 = 1;
-    v7 = v8;
-l5:;
+    if ((get16(fop /* timer */) & 0xffff) == 0) return 255;
     v1 = 255;
-    if (get8(fop + 13) == 0) return v1 & 255;
+    if ((get8(fop + 12 /* limit */) & 255) == 0) return 255;
     v1 = 255;
-    if ((get16(fop) & 0xffff) == 0) return v1 & 255;
+    v8 = get8(fop + 9 /* sent */);
+    if ((get8(fop + 10 /* due */) & 255) > (v8 & 255)) return 255;
     v1 = 255;
-    if ((get8(fop + 12) & 255) == 0) return v1 & 255;
-    v1 = 255;
-    v8 = get8(fop + 9);
-    if ((get8(fop + 10) & 255) > (v8 & 255)) return v1 & 255;
-    v1 = 255;
-    v9 = get8(fop + 4);
+    v9 = get8(fop + 4 /* room */);
     v10 = v9 & 255;
-    if ((v8 & 255) > v10) return v1 & 255;
+    if ((v8 & 255) > v10) return 255;
     v1 = 255;
-    v11 = get8(fop + 6);
-    v12 = v11 - get8(fop + 7);
-    if ((v12 & 255) > v10) return v1 & 255;
+    v11 = get8(fop + 6 /* vs */);
+    v12 = v11 - get8(fop + 7 /* nn */);
+    if ((v12 & 255) > v10) return 255;
     v1 = 255;
-    if (extend32(v9, 0x80) > 0x7fffffffU) return v1 & 255;
+    if (extend32(v9, 0x80) > 0x7fffffffU) return 255;
     v1 = 255;
-    if (((get8(fop + 11) - 1) & 255) >= (v9 & 255)) return v1 & 255;
-    v9 = get16(fop + 2);
+    if (((get8(fop + 11 /* window */) - 1) & 255) >= (v9 & 255)) return 255;
+    v9 = get16(fop + 2 /* ticks */);
     switch (v2 - 1) {
     case 1:
     case 2:
         v1 = 255;
-        if (v7 != 0) return v1 & 255;
+        if (v7 != 0) return 255;
         v2 = v8 & 255;
-        if (v2 != (v12 & 255)) return v1 & 255;
-        if (v2 == 0) return v1 & 255;
-        if ((v9 & 0xffff) == 0) return v1 & 255;
-        goto l2;
+        if (v2 != (v12 & 255) || v2 == 0 || (v9 & 0xffff) == 0) return 255;
+        break;
     case 3:
         v1 = 255;
-        if ((v8 & 255) != (v12 & 255)) return v1 & 255;
-        if (((v8 | v7) & 255) != 0) return v1 & 255;
-        if ((v9 & 0xffff) != 0) goto l2;
-        return v1 & 255;
+        if ((v8 & 255) != (v12 & 255) || ((v8 | v7) & 255) != 0 || (v9 & 0xffff) == 0) return 255;
+        break;
     case 4:
         v1 = 255;
-        if ((v8 & 255) != (v12 & 255)) return v1 & 255;
-        if ((v8 & 255) != 0) return v1 & 255;
+        if ((v8 & 255) != (v12 & 255) || (v8 & 255) != 0) return 255;
         v1 = 255;
         switch (v7) {
         case 1:
-            goto l3;
+            v1 = 255;
+            if ((v6 | (uint32_t)((v5 & 255) == (v11 & 255))) == 0) return 255;
+            break;
         case 2:
             v1 = 255;
-            if ((~v6 & (uint32_t)((v5 & 255) != (v11 & 255))) != 0) return v1 & 255;
-            if ((v9 & 0xffff) != 0) goto l2;
-            return v1 & 255;
+            if ((~v6 & (uint32_t)((v5 & 255) != (v11 & 255))) != 0 || (v9 & 0xffff) == 0) return 255;
+            break;
         default:
-            return v1 & 255;
+            return 255;
         }
+        break;
     case 5:
         return ((((v8 | v7) & 255) != 0) ? ~0U : (((v4 & 1) != 0) ? ~0U : (((v9 & 0xffff) != 0) ? ~0U : 6U))) & 255;
     default:
         v1 = 255;
-        if (v7 != 0) return v1 & 255;
-        if ((v8 & 255) != (v12 & 255)) return v1 & 255;
-        if (((uint32_t)((v8 & 255) == 0) ^ (uint32_t)((v9 & 0xffff) != 0)) != 0) goto l2;
-        return v1 & 255;
+        if (v7 != 0 || (v8 & 255) != (v12 & 255) || ((uint32_t)((v8 & 255) == 0) ^ (uint32_t)((v9 & 0xffff) != 0)) ==
+            0) return 255;
+        break;
     }
-l3:;
-    v1 = 255;
-    if ((v6 | (uint32_t)((v5 & 255) == (v11 & 255))) == 0) return v1 & 255;
-l2:;
     v1 = 7;
-    if ((v4 & 1) != 0) return v1 & 255;
+    if ((v4 & 1) != 0) return 7;
     v1 = v7;
     switch (v7) {
     case 1:
         v7 = (v6 != 0) ? 1U : 3U;
-        if (v3 != 0) goto l15;
-        v1 = 0;
-        goto l14;
+        if (v3 == 0) {
+            v1 = 0;
+            goto l14;
+        }
+        break;
     case 2:
         v7 = (v6 != 0) ? 2U : 4U;
-        if (v3 != 0) goto l15;
-        v1 = 0;
-        goto l14;
+        if (v3 == 0) {
+            v1 = 0;
+            goto l14;
+        }
+        break;
     default:
         goto l14;
     }
-l15:;
     v1 = v5;
 l14:;
-    put8(fop + 15, v1);
-    put8(fop + 14, v7);
-    put8(fop + 8, 1);
+    put8(fop + 15 /* vr */, v1);
+    put8(fop + 14 /* control */, v7);
+    put8(fop + 8 /* waiting */, 1);
     return 0U & 255U;
 }
 
+/* sedge_fop_tick, crates/sedgechisel/src/sender.rt:140 */
 static uint32_t sedge_fop_tick_at(uint64_t fop)
 {
     uint32_t v1 = 0, v2 = 0, v3 = 0, v4 = 0, v5 = 0, v6 = 0, v7 = 0, v8 = 0, v9 = 0, v10 = 0, v11 = 0, v12 = 0,
         v13 = 0, v14 = 0, v15 = 0, v16 = 0, v17 = 0;
     v1 = 255;
-    v2 = get8(fop + 5);
+    v2 = get8(fop + 5 /* state */);
     v3 = v2 - 1;
-    if ((v3 & 255) > 5) return v1;
+    if ((v3 & 255) > 5) return 255;
     v4 = 1;
-    v5 = get8(fop + 8);
-    if (v5 > 1) return v1;
-    v6 = get8(fop + 15);
+    v5 = get8(fop + 8 /* waiting */);
+    if (v5 > 1) return 255;
+    v6 = get8(fop + 15 /* vr */);
     v7 = 0;
     v8 = 1;
-    v9 = get8(fop + 14);
+    v9 = get8(fop + 14 /* control */);
     switch (v9 - 3) {
     case 0:
-        goto l12;
+        break;
     case 1:
         v8 = 2;
-        goto l12;
+        break;
     default:
-        goto l13;
+        if (v9 > 2 || (v6 & 255) != 0) return 255;
+        v4 = 0;
+        v7 = 1;
+        v8 = v9;
+        break;
     }
-l13:;
-    if (v9 > 2) return v1;
-    if ((v6 & 255) != 0) return v1;
-    v4 = 0;
-    v7 = 1;
-    v8 = v9;
-l12:;
-    v10 = get8(fop + 13);
+    v10 = get8(fop + 13 /* count */);
     if (v10 == 0) return v1;
-    v11 = get16(fop);
+    v11 = get16(fop /* timer */);
     if ((v11 & 0xffff) == 0) return v1;
-    v12 = get8(fop + 12);
+    v12 = get8(fop + 12 /* limit */);
     if ((v12 & 255) == 0) return v1;
-    v13 = get8(fop + 10);
-    v9 = get8(fop + 9);
+    v13 = get8(fop + 10 /* due */);
+    v9 = get8(fop + 9 /* sent */);
     if ((v13 & 255) > (v9 & 255)) return v1;
-    v14 = get8(fop + 4);
+    v14 = get8(fop + 4 /* room */);
     v15 = v14 & 255;
     if ((v9 & 255) > v15) return v1;
-    v16 = get8(fop + 6);
-    v17 = v16 - get8(fop + 7);
-    if ((v17 & 255) > v15) return v1;
-    if (extend32(v14, 0x80) > 0x7fffffffU) return v1;
-    if (((get8(fop + 11) - 1) & 255) >= (v14 & 255)) return v1;
-    v14 = get16(fop + 2);
+    v16 = get8(fop + 6 /* vs */);
+    v17 = v16 - get8(fop + 7 /* nn */);
+    if ((v17 & 255) > v15 || extend32(v14, 0x80) > 0x7fffffffU || ((get8(fop + 11 /* window */) - 1) & 255) >= (v14 &
+        255)) return v1;
+    v14 = get16(fop + 2 /* ticks */);
     switch (v2 - 1) {
     case 1:
     case 2:
         v1 = 255;
-        if (v8 != 0) return v1;
+        if (v8 != 0) return 255;
         v15 = v9 & 255;
-        if (v15 != (v17 & 255)) return v1;
-        if (v15 == 0) return v1;
-        if ((v14 & 0xffff) == 0) return v1;
+        if (v15 != (v17 & 255) || v15 == 0 || (v14 & 0xffff) == 0) return 255;
         goto l9;
     case 3:
         v1 = 255;
-        if ((v9 & 255) != (v17 & 255)) return v1;
-        if (((v9 | v8) & 255) != 0) return v1;
+        if ((v9 & 255) != (v17 & 255) || ((v9 | v8) & 255) != 0) return 255;
         if ((v14 & 0xffff) != 0) goto l9;
-        return v1;
+        return 255;
     case 4:
         v1 = 255;
-        if ((v9 & 255) != (v17 & 255)) return v1;
-        if ((v9 & 255) != 0) return v1;
+        if ((v9 & 255) != (v17 & 255) || (v9 & 255) != 0) return 255;
         v1 = 255;
         switch (v8) {
         case 1:
-            goto l15;
+            v1 = 255;
+            if ((v7 | (uint32_t)((v6 & 255) == (v16 & 255))) == 0) return 255;
+            break;
         case 2:
             v1 = 255;
-            if ((~v7 & (uint32_t)((v6 & 255) != (v16 & 255))) != 0) return v1;
+            if ((~v7 & (uint32_t)((v6 & 255) != (v16 & 255))) != 0) return 255;
             if ((v14 & 0xffff) != 0) goto l9;
-            return v1;
+            return 255;
         default:
-            return v1;
+            return 255;
         }
+        break;
     case 5:
         v1 = 255;
-        if (((v9 | v8) & 255) != 0) return v1;
-        if ((v5 & 1) != 0) return v1;
+        if (((v9 | v8) & 255) != 0 || (v5 & 1) != 0) return 255;
         v11 = 0;
         v15 = 0;
         if ((v14 & 0xffff) == 0) goto l7;
-        return v1;
+        return 255;
     default:
         v1 = 255;
-        if (v8 != 0) return v1;
-        if ((v9 & 255) != (v17 & 255)) return v1;
-        if (((uint32_t)((v9 & 255) == 0) ^ (uint32_t)((v14 & 0xffff) != 0)) == 0) return v1;
-        goto l10;
+        if (v8 != 0 || (v9 & 255) != (v17 & 255) || ((uint32_t)((v9 & 255) == 0) ^ (uint32_t)((v14 & 0xffff) != 0)) ==
+            0) return 255;
+        break;
     }
-l15:;
-    v1 = 255;
-    if ((v7 | (uint32_t)((v6 & 255) == (v16 & 255))) != 0) goto l10;
-    return v1;
-l10:;
     if ((v14 & 0xffff) == 0) {
         v11 = 0;
         v15 = 0;
@@ -4757,42 +4184,51 @@ l10:;
     }
 l9:;
     v15 = 1;
-    if ((v14 & 0xffff) == 1) {
+    if ((v14 & 0xffff) != 1) {
+        v11 = v14 - 1;
+    } else {
         v1 = 0;
         v14 = 6;
-        if ((v3 & 255) == 3) goto l2;
-        if ((v12 & 255) <= v10) goto l2;
+        if ((v3 & 255) == 3 || (v12 & 255) <= v10) {
+            v2 = 6;
+            v8 = 0;
+            v13 = 0;
+            v9 = 0;
+            v5 = 0;
+            v3 = 0;
+            goto l1;
+        }
         switch (v2 - 1) {
         case 2:
             v15 = 1;
             v10 = v10 + 1;
-            goto l7;
+            break;
         case 3:
             UNREACHABLE;
         case 4:
             v15 = 1;
             v10 = v10 + 1;
-            if (v8 != 2) goto l7;
-            goto l6;
+            if (v8 == 2) goto l6;
+            break;
         default:
             v15 = 1;
             v10 = v10 + 1;
             v13 = v9;
-            goto l7;
+            break;
         }
     }
-    v11 = v14 - 1;
-    goto l7;
 l7:;
     v1 = v8;
     switch (v8) {
     case 1:
-        goto l6;
+        break;
     case 2:
         v8 = (v7 != 0) ? 2U : 4U;
-        if (v4 != 0) goto l4;
-        v1 = 0;
-        goto l3;
+        if (v4 == 0) {
+            v1 = 0;
+            goto l3;
+        }
+        goto l4;
     default:
         goto l3;
     }
@@ -4807,26 +4243,19 @@ l4:;
 l3:;
     v14 = 0;
     v3 = (v15 != 0) ? v11 : 0U;
-    goto l1;
-l2:;
-    v2 = 6;
-    v8 = 0;
-    v13 = 0;
-    v9 = 0;
-    v5 = 0;
-    v3 = 0;
 l1:;
-    put8(fop + 15, v1);
-    put8(fop + 14, v8);
-    put8(fop + 13, v10);
-    put8(fop + 10, v13);
-    put8(fop + 9, v9);
-    put8(fop + 8, v5);
-    put8(fop + 5, v2);
-    put16(fop + 2, v3);
+    put8(fop + 15 /* vr */, v1);
+    put8(fop + 14 /* control */, v8);
+    put8(fop + 13 /* count */, v10);
+    put8(fop + 10 /* due */, v13);
+    put8(fop + 9 /* sent */, v9);
+    put8(fop + 8 /* waiting */, v5);
+    put8(fop + 5 /* state */, v2);
+    put16(fop + 2 /* ticks */, v3);
     return v14;
 }
 
+/* sedge_tm_builder_build, crates/sedgechisel/src/telemetry_builder.rt:119 */
 static uint32_t sedge_tm_builder_build_at(uint64_t builder, uint64_t ocf, uint64_t ocf_count, uint64_t memory,
     uint64_t memory_count, uint64_t out, uint64_t room, uint64_t total)
 {
@@ -4835,20 +4264,20 @@ static uint32_t sedge_tm_builder_build_at(uint64_t builder, uint64_t ocf, uint64
         v24 = 0, v25 = 0, v26 = 0, v28 = 0, v29 = 0, v30 = 0, t2;
     v9 = 255;
     v10 = get16(builder + 24);
-    if (v10 > 0x3ff) return v9;
+    if (v10 > 0x3ff) return 255;
     v11 = get8(builder + 28);
-    if ((v11 & 255) > 7) return v9;
+    if ((v11 & 255) > 7) return 255;
     v12 = get16(builder + 26);
-    if (((v12 - 16) & 0xffff) > 0x7f0) return v9;
+    if (((v12 - 16) & 0xffff) > 0x7f0) return 255;
     v9 = 255;
     v13 = (uint64_t)get8(builder + 30);
-    if (v13 > 6) return v9;
+    if (v13 > 6) return 255;
     v14 = get64(builder);
-    if (memory_count < v14) return v9;
+    if (memory_count < v14) return 255;
     v15 = get64(builder + 8);
-    if (v15 > (memory_count - v14)) return v9;
+    if (v15 > (memory_count - v14)) return 255;
     v16 = get64(builder + 16);
-    if (v15 < v16) return v9;
+    if (v15 < v16) return 255;
     v17 = (memory == 0) ? 0x1000ULL : 0ULL;
     v18 = memory + v17;
     v19 = (uint64_t)v12 & 0xffff;
@@ -4859,22 +4288,17 @@ static uint32_t sedge_tm_builder_build_at(uint64_t builder, uint64_t ocf, uint64
         v22 = v15 - v16;
         memory_count = v18 + v14 + v16;
         v23 = v16;
-    l5:;
-        if (v22 < 6) goto l4;
-        v12 = get8(memory_count);
-        if (v12 > 31) return v9;
-        if ((v12 & 8) != 0) {
-            if ((((v12 << 8) & 0x700) | get8(memory_count + 1)) == 0x7ff) return v9;
+        while (v22 >= 6) {
+            v12 = get8(memory_count);
+            if (v12 > 31 || ((v12 & 8) != 0 && (((v12 << 8) & 0x700) | get8(memory_count + 1)) == 0x7ff)) return v9;
+            v24 = (((uint64_t)get8(memory_count + 4) << 8) | (uint64_t)get8(memory_count + 5)) + 7;
+            if (v22 < v24) return v9;
+            v22 = v22 - v24;
+            memory_count = memory_count + v24;
+            v21 = v21 - v23;
+            v23 = v24;
+            if (v24 >= v21) goto l3;
         }
-        v24 = (((uint64_t)get8(memory_count + 4) << 8) | (uint64_t)get8(memory_count + 5)) + 7;
-        if (v22 < v24) return v9;
-        v22 = v22 - v24;
-        memory_count = memory_count + v24;
-        v21 = v21 - v23;
-        v23 = v24;
-        if (v24 < v21) goto l5;
-        goto l3;
-    l4:;
         if (v22 != 0) return v9;
     }
 l3:;
@@ -4889,9 +4313,7 @@ l3:;
         if (v20 != 0) {
             memory_count = v19 - 13;
             v27 = memory_count == 0;
-            if (v27 == 0) {
-                if (v27 == 0) fill(v26, 85, memory_count);
-            }
+            if (v27 == 0 && v27 == 0) fill(v26, 85, memory_count);
             put8(v26 + memory_count, 85);
         }
         put8(v24 + 3, v9);
@@ -4920,94 +4342,60 @@ l3:;
         }
         memory_count = ocf_count - v13 + address(constant_58 + 7);
         ocf_count = v25 + ocf_count + out + 6;
-    l17:;
-        put8(ocf_count, get8(memory_count));
-        ocf_count = ocf_count + 1;
-        memory_count = memory_count + 1;
-        ocf = ocf - 1;
-        if (ocf != 0) goto l17;
-        goto l13;
-    }
-    if (v23 != 0) copy(v26, memory_count, v23);
+        do {
+            put8(ocf_count, get8(memory_count));
+            ocf_count = ocf_count + 1;
+            memory_count = memory_count + 1;
+            ocf = ocf - 1;
+        } while (ocf != 0);
+    } else if (v23 != 0) copy(v26, memory_count, v23);
 l13:;
     v29 = (v21 < v15) ? v21 : v15;
     v30 = v21 - v29;
-    if ((v28 - v22) < v29) {
-        room = v29 & 3;
-        ocf_count = 0;
-        if (v29 >= 4) {
-            v21 = v29 & ~3ULL;
-            v15 = out + (v25 + v23);
-            ocf_count = 0;
-            do {
-                memory_count = v15 + ocf_count;
-                ocf = v22 + ocf_count;
-                put8(memory_count + 6, get8(ocf));
-                put8(memory_count + 7, get8(ocf + 1));
-                put8(memory_count + 8, get8(ocf + 2));
-                put8(memory_count + 9, get8(ocf + 3));
-                ocf_count = ocf_count + 4;
-            } while (v21 != ocf_count);
-            if (room == 0) goto l18;
-        }
-        memory_count = memory + (v17 + ocf_count + v14);
-        memory = v25 + ocf_count + v23 + out + 6;
-    l22:;
-        put8(memory, get8(memory_count));
-        memory = memory + 1;
-        memory_count = memory_count + 1;
-        room = room - 1;
-        if (room != 0) goto l22;
-        goto l18;
-    }
     if (v29 != 0) copy(v28, v22, v29);
-l18:;
     memory_count = v28 + v29;
     if (v30 <= 6) {
-        if ((memory_count - address(constant_58)) < v30) {
-            ocf = v30 & 3;
+        if ((memory_count - address(constant_58)) >= v30) {
+            if (v30 == 0) goto l20;
+            copy(memory_count, address(constant_58), v30);
+            goto l20;
+        }
+        ocf = v30 & 3;
+        memory = 0;
+        if ((v19 - (v29 + v23) - 13) >= 3) {
+            memory_count = v30 & 4;
+            ocf_count = out + (v25 + v29 + v23);
             memory = 0;
-            if ((v19 - (v29 + v23) - 13) >= 3) {
-                memory_count = v30 & 4;
-                ocf_count = out + (v25 + v29 + v23);
-                memory = 0;
-                do {
-                    put32(ocf_count + memory + 6, get32(memory + address(constant_58)));
-                    memory = memory + 4;
-                } while (memory_count != memory);
-                if (ocf == 0) goto l23;
-            }
-            ocf_count = 0 - ocf;
-            memory_count = memory + address(constant_58);
-            memory = v25 + memory + v29 + v23 + out + 6;
-        l28:;
+            do {
+                put32(ocf_count + memory + 6, get32(memory + address(constant_58)));
+                memory = memory + 4;
+            } while (memory_count != memory);
+            if (ocf == 0) goto l20;
+        }
+        ocf_count = 0 - ocf;
+        memory_count = memory + address(constant_58);
+        memory = v25 + memory + v29 + v23 + out + 6;
+        do {
             put8(memory, get8(memory_count));
             memory = memory + 1;
             memory_count = memory_count + 1;
             ocf_count = ocf_count + 1;
-            if (ocf_count != 0) goto l28;
-            goto l23;
+        } while (ocf_count != 0);
+    } else {
+        if ((memory_count - address(constant_58)) <= 3) {
+            put32(memory_count, 0xc0ff07);
+        } else {
+            put32(memory_count, 0xc0ff07);
         }
-        if (v30 == 0) goto l23;
-        copy(memory_count, address(constant_58), v30);
-        goto l23;
+        memory = memory_count + 6;
+        v27 = (uint32_t)v30 - 7;
+        put16(memory_count + 4, (v27 << 8) | ((v27 & 0xff00) >> 8));
+        memory_count = v30 - 7;
+        v27 = memory_count == 0;
+        if (v27 == 0 && v27 == 0) fill(memory, 85, memory_count);
+        put8(memory + memory_count, 85);
     }
-    if ((memory_count - address(constant_58)) <= 3) {
-        put32(memory_count, 0xc0ff07);
-        goto l29;
-    }
-    put32(memory_count, 0xc0ff07);
-l29:;
-    memory = memory_count + 6;
-    v27 = (uint32_t)v30 - 7;
-    put16(memory_count + 4, (v27 << 8) | ((v27 & 0xff00) >> 8));
-    memory_count = v30 - 7;
-    v27 = memory_count == 0;
-    if (v27 == 0) {
-        if (v27 == 0) fill(memory, 85, memory_count);
-    }
-    put8(memory + memory_count, 85);
-l23:;
+l20:;
     put8(v24 + 3, v9);
     put8(v24 + 2, v9);
     put16(v24, (((v10 << 12) | (v11 << 9)) | ((v10 >> 4) & 255)) | 256);
@@ -5022,61 +4410,55 @@ l9:;
     put16(v24 + memory_count, (v9 << 8) | ((v9 & 0xff00) >> 8));
     room = get64(builder + 8);
     memory_count = (uint64_t)get8(builder + 30);
-    if (memory_count == 0) {
-        if (room == 0) goto l32;
-    }
+    if (memory_count == 0 && room == 0) goto l29;
     memory = (uint64_t)get16(builder + 26) - 12;
     t2 = memory;
     memory = (memory < memory_count) ? memory : memory_count;
     v13 = t2 - memory;
     if (v13 <= room) {
         v14 = memory_count - memory;
-        goto l34;
+    } else {
+        memory_count = v13 - room;
+        v14 = (memory_count < 7) ? (memory_count ^ 7) : 0ULL;
     }
-    memory_count = v13 - room;
-    v14 = (memory_count < 7) ? (memory_count ^ 7) : 0ULL;
-l34:;
     v22 = get64(builder);
     ocf = get64(builder + 16);
     if (ocf >= v13) {
         memory = ocf;
         out = v13;
-        goto l37;
+    } else {
+        ocf_count = room - ocf;
+        memory_count = v18 + v22 + ocf;
+        out = v13;
+        do {
+            v24 = 0;
+            if (ocf_count < 6) goto l33;
+            v9 = get8(memory_count);
+            if (v9 > 31 || ((v9 & 8) != 0 && (((v9 << 8) & 0x700) | get8(memory_count + 1)) == 0x7ff)) goto l33;
+            memory = (((uint64_t)get8(memory_count + 4) << 8) | (uint64_t)get8(memory_count + 5)) + 7;
+            if (ocf_count < memory) goto l33;
+            ocf_count = ocf_count - memory;
+            memory_count = memory_count + memory;
+            out = out - ocf;
+            ocf = memory;
+        } while (memory < out);
     }
-    ocf_count = room - ocf;
-    memory_count = v18 + v22 + ocf;
-    out = v13;
-    do {
-        v24 = 0;
-        if (ocf_count < 6) goto l36;
-        v9 = get8(memory_count);
-        if (v9 > 31) goto l36;
-        if ((v9 & 8) != 0) {
-            if ((((v9 << 8) & 0x700) | get8(memory_count + 1)) == 0x7ff) goto l36;
-        }
-        memory = (((uint64_t)get8(memory_count + 4) << 8) | (uint64_t)get8(memory_count + 5)) + 7;
-        if (ocf_count < memory) goto l36;
-        ocf_count = ocf_count - memory;
-        memory_count = memory_count + memory;
-        out = out - ocf;
-        ocf = memory;
-    } while (memory < out);
-l37:;
     v24 = memory - out;
-l36:;
+l33:;
     put8(builder + 30, (uint32_t)v14);
     put64(builder + 16, v24);
     memory_count = (room < v13) ? room : v13;
     put64(builder + 8, room - memory_count);
     put64(builder, v22 + memory_count);
-l32:;
+l29:;
     builder = builder + 29;
     put8(builder, get8(builder) + 1);
     put64(total, v19);
     v9 = 0;
-    return v9;
+    return 0;
 }
 
+/* sedge_tc_frames, crates/sedgechisel/src/command_frame.rt:120 */
 static uint64_t sedge_tc_frames_at(uint64_t octets, uint64_t count, uint32_t checked, uint64_t out, uint64_t room,
     uint64_t total)
 {
@@ -5088,207 +4470,181 @@ static uint64_t sedge_tc_frames_at(uint64_t octets, uint64_t count, uint32_t che
     v8 = room / 12;
     if (room < 12) {
         out = 0;
-        put64(total, v7);
-        return out;
+    } else {
+        room = some(out);
+        v9 = some(octets);
+        if ((checked & 1) == 0) {
+            out = 0;
+            v7 = 0;
+            do {
+                v10 = count - v7;
+                if (v10 < 5) {
+                    put64(total, v7);
+                    return out;
+                }
+                v11 = v9 + v7;
+                octets = (((uint64_t)get8(v11 + 2) << 8) & 768) | (uint64_t)get8(v11 + 3);
+                if (octets < 4 || octets >= v10) {
+                    put64(total, v7);
+                    return out;
+                }
+                put64(v6 + 16, 0);
+                put16(v6 + 24, 0);
+                octets = octets + 1;
+                v12 = sedgechisel_command_frame_sedge_tc_decode(v11, octets, 0, v6 + 16, v6);
+                checked = get16(v6 + 16);
+                v13 = get32(v6 + 18);
+                v14 = get16(v6 + 22);
+                put8(room + 11, get8(v6 + 24));
+                put16(room + 9, v14);
+                put32(room + 5, v13);
+                put8(room + 4, checked >> 8);
+                put8(room + 3, checked);
+                put8(room + 2, v12 & 255);
+                put8(room + 1, (uint32_t)(octets >> 8));
+                put8(room, (uint32_t)octets);
+                room = room + 12;
+                v7 = octets + v7;
+                out = out + 1;
+            } while (v8 != out);
+        } else {
+            out = 0;
+            v7 = 0;
+            do {
+                v10 = count - v7;
+                if (v10 < 5) {
+                    put64(total, v7);
+                    return out;
+                }
+                v11 = v9 + v7;
+                octets = (((uint64_t)get8(v11 + 2) << 8) & 768) | (uint64_t)get8(v11 + 3);
+                if (octets < 6 || octets >= v10) {
+                    put64(total, v7);
+                    return out;
+                }
+                put64(v6 + 16, 0);
+                put16(v6 + 24, 0);
+                octets = octets + 1;
+                v12 = sedgechisel_command_frame_sedge_tc_decode(v11, octets, 1, v6 + 16, v6);
+                checked = get16(v6 + 16);
+                v13 = get32(v6 + 18);
+                v14 = get16(v6 + 22);
+                put8(room + 11, get8(v6 + 24));
+                put16(room + 9, v14);
+                put32(room + 5, v13);
+                put8(room + 4, checked >> 8);
+                put8(room + 3, checked);
+                put8(room + 2, v12 & 255);
+                put8(room + 1, (uint32_t)(octets >> 8));
+                put8(room, (uint32_t)octets);
+                room = room + 12;
+                v7 = octets + v7;
+                out = out + 1;
+            } while (v8 != out);
+        }
+        out = v8;
     }
-    room = some(out);
-    v9 = some(octets);
-    if ((checked & 1) == 0) {
-        out = 0;
-        v7 = 0;
-    l6:;
-        v10 = count - v7;
-        if (v10 < 5) {
-            put64(total, v7);
-            return out;
-        }
-        v11 = v9 + v7;
-        octets = (((uint64_t)get8(v11 + 2) << 8) & 768) | (uint64_t)get8(v11 + 3);
-        if (octets < 4) {
-            put64(total, v7);
-            return out;
-        }
-        if (octets >= v10) {
-            put64(total, v7);
-            return out;
-        }
-        put64(v6 + 16, 0);
-        put16(v6 + 24, 0);
-        octets = octets + 1;
-        v12 = sedgechisel_command_frame_sedge_tc_decode(v11, octets, 0, v6 + 16, v6);
-        checked = get16(v6 + 16);
-        v13 = get32(v6 + 18);
-        v14 = get16(v6 + 22);
-        put8(room + 11, get8(v6 + 24));
-        put16(room + 9, v14);
-        put32(room + 5, v13);
-        put8(room + 4, checked >> 8);
-        put8(room + 3, checked);
-        put8(room + 2, v12 & 255);
-        put8(room + 1, (uint32_t)(octets >> 8));
-        put8(room, (uint32_t)octets);
-        room = room + 12;
-        v7 = octets + v7;
-        out = out + 1;
-        if (v8 != out) goto l6;
-        goto l4;
-    }
-    out = 0;
-    v7 = 0;
-    do {
-        v10 = count - v7;
-        if (v10 < 5) {
-            put64(total, v7);
-            return out;
-        }
-        v11 = v9 + v7;
-        octets = (((uint64_t)get8(v11 + 2) << 8) & 768) | (uint64_t)get8(v11 + 3);
-        if (octets < 6) {
-            put64(total, v7);
-            return out;
-        }
-        if (octets >= v10) {
-            put64(total, v7);
-            return out;
-        }
-        put64(v6 + 16, 0);
-        put16(v6 + 24, 0);
-        octets = octets + 1;
-        v12 = sedgechisel_command_frame_sedge_tc_decode(v11, octets, 1, v6 + 16, v6);
-        checked = get16(v6 + 16);
-        v13 = get32(v6 + 18);
-        v14 = get16(v6 + 22);
-        put8(room + 11, get8(v6 + 24));
-        put16(room + 9, v14);
-        put32(room + 5, v13);
-        put8(room + 4, checked >> 8);
-        put8(room + 3, checked);
-        put8(room + 2, v12 & 255);
-        put8(room + 1, (uint32_t)(octets >> 8));
-        put8(room, (uint32_t)octets);
-        room = room + 12;
-        v7 = octets + v7;
-        out = out + 1;
-    } while (v8 != out);
-l4:;
-    out = v8;
     put64(total, v7);
     return out;
 }
 
+/* sedge_accepted_beyond, crates/sedgechisel/src/sender/accepted.rt:34 */
 static uint32_t sedge_accepted_beyond_at(uint32_t nn, uint32_t vs, uint32_t value, uint64_t accepted)
 {
-    uint32_t v4 = 0, v5 = 0;
+    uint32_t v4 = 0;
     v4 = 0;
     if ((vs & 255) != (nn & 255)) {
-        v5 = 253;
         v4 = value - nn;
-        if (((vs - nn) & 255) < (v4 & 255)) return v5;
+        if (((vs - nn) & 255) < (v4 & 255)) return 253;
     }
     put8(accepted, v4);
-    v5 = 0;
-    return v5;
+    return 0;
 }
 
+/* sedge_fop_accepted_beyond, crates/sedgechisel/src/sender/accepted.rt:19 */
 static uint32_t sedge_fop_accepted_beyond_at(uint64_t fop, uint32_t value, uint64_t accepted)
 {
     uint32_t v3 = 0, v4 = 0, v5 = 0, v6 = 0, v7 = 0, v8 = 0, v9 = 0, v10 = 0, v11 = 0, v12 = 0, v13 = 0, v14 = 0;
     v3 = 255;
-    v4 = get8(fop + 5);
-    if (((v4 - 1) & 255) > 5) return v3;
+    v4 = get8(fop + 5 /* state */);
+    if (((v4 - 1) & 255) > 5) return 255;
     v5 = 1;
-    v6 = get8(fop + 8);
-    if (v6 > 1) return v3;
-    v7 = get8(fop + 15);
+    v6 = get8(fop + 8 /* waiting */);
+    if (v6 > 1) return 255;
+    v7 = get8(fop + 15 /* vr */);
     v8 = 0;
-    v9 = get8(fop + 14);
+    v9 = get8(fop + 14 /* control */);
     switch (v9 - 3) {
     case 0:
-        goto l5;
+        break;
     case 1:
-        goto l6;
+        v5 = 2;
+        break;
     default:
-        if (v9 > 2) return v3;
+        if (v9 > 2) return 255;
         v8 = 1;
         v5 = v9;
-        if ((v7 & 255) == 0) goto l5;
-        return v3;
+        if ((v7 & 255) != 0) return 255;
+        break;
     }
-l6:;
-    v5 = 2;
-l5:;
-    if (get8(fop + 13) == 0) return v3;
-    if ((get16(fop) & 0xffff) == 0) return v3;
-    if ((get8(fop + 12) & 255) == 0) return v3;
-    v9 = get8(fop + 9);
-    if ((get8(fop + 10) & 255) > (v9 & 255)) return v3;
-    v10 = get8(fop + 4);
+    if (get8(fop + 13 /* count */) == 0 || (get16(fop /* timer */) & 0xffff) == 0 || (get8(fop + 12 /* limit */) &
+        255) == 0) return v3;
+    v9 = get8(fop + 9 /* sent */);
+    if ((get8(fop + 10 /* due */) & 255) > (v9 & 255)) return v3;
+    v10 = get8(fop + 4 /* room */);
     v11 = v10 & 255;
     if ((v9 & 255) > v11) return v3;
-    v12 = get8(fop + 6);
-    v13 = get8(fop + 7);
+    v12 = get8(fop + 6 /* vs */);
+    v13 = get8(fop + 7 /* nn */);
     v14 = v12 - v13;
-    if ((v14 & 255) > v11) return v3;
-    if (extend32(v10, 0x80) > 0x7fffffffU) return v3;
-    if (((get8(fop + 11) - 1) & 255) >= (v10 & 255)) return v3;
-    v10 = get16(fop + 2);
+    if ((v14 & 255) > v11 || extend32(v10, 0x80) > 0x7fffffffU || ((get8(fop + 11 /* window */) - 1) & 255) >= (v10 &
+        255)) return v3;
+    v10 = get16(fop + 2 /* ticks */);
     switch (v4 - 1) {
     case 1:
     case 2:
         v3 = 255;
-        if (v5 != 0) return v3;
+        if (v5 != 0) return 255;
         v4 = v9 & 255;
-        if (v4 != (v14 & 255)) return v3;
-        if (v4 == 0) return v3;
-        if ((v10 & 0xffff) == 0) return v3;
-        goto l2;
+        if (v4 != (v14 & 255) || v4 == 0 || (v10 & 0xffff) == 0) return 255;
+        break;
     case 3:
         v3 = 255;
-        if ((v9 & 255) != (v14 & 255)) return v3;
-        if (((v9 | v5) & 255) != 0) return v3;
-        if ((v10 & 0xffff) != 0) goto l2;
-        return v3;
+        if ((v9 & 255) != (v14 & 255) || ((v9 | v5) & 255) != 0 || (v10 & 0xffff) == 0) return 255;
+        break;
     case 4:
         v3 = 255;
-        if ((v9 & 255) != (v14 & 255)) return v3;
-        if ((v9 & 255) != 0) return v3;
+        if ((v9 & 255) != (v14 & 255) || (v9 & 255) != 0) return 255;
         v3 = 255;
         switch (v5) {
         case 1:
-            goto l3;
+            v3 = 255;
+            if ((v8 | (uint32_t)((v7 & 255) == (v12 & 255))) == 0) return 255;
+            break;
         case 2:
             v3 = 255;
-            if ((~v8 & (uint32_t)((v7 & 255) != (v12 & 255))) != 0) return v3;
-            if ((v10 & 0xffff) != 0) goto l2;
-            return v3;
+            if ((~v8 & (uint32_t)((v7 & 255) != (v12 & 255))) != 0 || (v10 & 0xffff) == 0) return 255;
+            break;
         default:
-            return v3;
+            return 255;
         }
+        break;
     case 5:
         v3 = 255;
-        if (((v9 | v5) & 255) != 0) return v3;
-        if ((v6 & 1) != 0) return v3;
-        if ((v10 & 0xffff) == 0) goto l2;
-        return v3;
+        if (((v9 | v5) & 255) != 0 || (v6 & 1) != 0 || (v10 & 0xffff) != 0) return 255;
+        break;
     default:
         v3 = 255;
-        if (v5 != 0) return v3;
-        if ((v9 & 255) != (v14 & 255)) return v3;
-        if (((uint32_t)((v9 & 255) == 0) ^ (uint32_t)((v10 & 0xffff) != 0)) != 0) goto l2;
-        return v3;
+        if (v5 != 0 || (v9 & 255) != (v14 & 255) || ((uint32_t)((v9 & 255) == 0) ^ (uint32_t)((v10 & 0xffff) != 0)) ==
+            0) return 255;
+        break;
     }
-l3:;
-    v3 = 255;
-    if ((v8 | (uint32_t)((v7 & 255) == (v12 & 255))) == 0) return v3;
-l2:;
     v4 = 0;
-    if ((v12 & 255) == (v13 & 255)) {
-        put8(accepted, v4);
-        return 0;
+    if ((v12 & 255) != (v13 & 255)) {
+        v3 = 253;
+        v4 = value - v13;
+        if ((v14 & 255) < (v4 & 255)) return 253;
     }
-    v3 = 253;
-    v4 = value - v13;
-    if ((v14 & 255) < (v4 & 255)) return v3;
     put8(accepted, v4);
     return 0;
 }

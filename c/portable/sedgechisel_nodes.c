@@ -9,8 +9,9 @@
  * The functions have the names of the library's source; one whose name ends in _at is the call of that name, given
  * addresses as numbers. An address is a uint64_t of a uintptr_t, and memory is read and written by the functions below
  * alone, octet by octet or by memcpy. Parameters and variables without a name in the source are p0 or v0 on, what is
- * kept between two steps t1 on. Nothing here is static that a program writes, and memory is taken by the functions of
- * sedgechisel_memory.h alone. */
+ * kept between two steps t1 on. Before a function of the library's crates stand its name in the source, and its file
+ * and line; beside what a call reads or writes of a struct that it is given, the names of the fields. Nothing here is
+ * static that a program writes, and memory is taken by the functions of sedgechisel_memory.h alone. */
 #include "sedgechisel_memory.h"
 #include "sedgechisel_nodes.h"
 
@@ -802,6 +803,7 @@ static uint32_t sedge_sim_entry_length_at(uint64_t sim, uint32_t record, uint32_
 static uint32_t sedge_ground_peek_at(uint64_t ground, uint64_t out, uint64_t room, uint64_t count);
 static uint32_t sedge_ground_pull_at(uint64_t ground, uint64_t out, uint64_t room, uint64_t count);
 
+/* nodes::config::Config::fault, crates/nodes/src/config.rt:78 */
 static void nodes_config_Config_fault(uint64_t p0, uint64_t p1)
 {
     uint32_t v19 = 0;
@@ -830,12 +832,12 @@ static void nodes_config_Config_fault(uint64_t p0, uint64_t p1)
             v16 = 63;
             v17 = v2;
             v18 = 0;
-            goto l9;
+            break;
         case 2:
             v16 = 7;
             v17 = v3;
             v18 = 0;
-            goto l9;
+            break;
         case 3:
             v19 = get32(v14);
             if ((v19 - 2) > 252) {
@@ -846,67 +848,64 @@ static void nodes_config_Config_fault(uint64_t p0, uint64_t p1)
             goto l3;
         case 4:
             v19 = get32(v15);
-            if ((v19 - 1) < 127) goto l6;
+            if ((v19 - 1) < 127) {
+                if (v19 > (get32(v14) >> 1)) goto l3;
+                goto l5;
+            }
             v16 = v13 + address(constant_0);
             goto l2;
         case 5:
             v16 = 255;
             v18 = 1;
             v17 = v4;
-            goto l9;
+            break;
         case 6:
-            goto l10;
+            v16 = 0xffff;
+            v18 = 1;
+            v17 = v5;
+            break;
         case 7:
             v16 = 0x3f8;
             v18 = 1;
             v17 = v6;
-            goto l9;
+            break;
         case 8:
             v16 = 0x10006;
             v18 = 7;
             v17 = v7;
-            goto l9;
+            break;
         case 9:
             goto l5;
         case 10:
             v16 = 64;
             v18 = 1;
             v17 = v8;
-            goto l9;
+            break;
         case 11:
             v16 = 64;
             v18 = 1;
             v17 = v9;
-            goto l9;
+            break;
         case 12:
             v16 = 0xffff;
             v18 = 1;
             v17 = v10;
-            goto l9;
+            break;
         case 13:
             v16 = 0x800;
             v18 = 16;
             v17 = v11;
-            goto l9;
+            break;
         case 14:
             v16 = 1;
             v17 = v12;
             v18 = 0;
-            goto l9;
+            break;
         default:
-            goto l9;
+            break;
         }
-    l10:;
-        v16 = 0xffff;
-        v18 = 1;
-        v17 = v5;
-    l9:;
         v17 = (uint64_t)get32(v17);
-        if (v18 > v17) goto l3;
-        if (v16 < v17) goto l3;
-        goto l5;
-    l6:;
-        if (v19 > (get32(v14) >> 1)) goto l3;
+        if (v18 > v17 || v16 < v17) goto l3;
     l5:;
         v13 = v13 + 1;
     } while (v13 != 15);
@@ -1005,229 +1004,218 @@ static uint32_t core_cmp_slices_groups_equal_i8_31_core_cmp_numbers_U8PartialEq(
         v4 = t18 | (t24 | (uint32_t)(get8(p0 + v3) != get8(p2 + v3)));
         return ~v4 & 1;
     }
-    if (p1 >= 65) {
-        v7 = p1 & ~63ULL;
-        v8 = 0;
-        v9 = p0;
-        v10 = p2;
+    if (p1 < 65) {
+        t56 = ((get8(p0) != get8(p2) || get8(p0 + 1) != get8(p2 + 1)) || get8(p0 + 2) != get8(p2 + 2)) || get8(p0 + 3)
+            != get8(p2 + 3);
+        t57 = ((t56 | (uint32_t)(get8(p0 + 4) != get8(p2 + 4))) | (uint32_t)(get8(p0 + 5) != get8(p2 + 5))) |
+            (uint32_t)(get8(p0 + 6) != get8(p2 + 6));
+        t58 = ((t57 | (uint32_t)(get8(p0 + 7) != get8(p2 + 7))) | (uint32_t)(get8(p0 + 8) != get8(p2 + 8))) |
+            (uint32_t)(get8(p0 + 9) != get8(p2 + 9));
+        t59 = ((t58 | (uint32_t)(get8(p0 + 10) != get8(p2 + 10))) | (uint32_t)(get8(p0 + 11) != get8(p2 + 11))) |
+            (uint32_t)(get8(p0 + 12) != get8(p2 + 12));
+        t60 = ((t59 | (uint32_t)(get8(p0 + 13) != get8(p2 + 13))) | (uint32_t)(get8(p0 + 14) != get8(p2 + 14))) |
+            (uint32_t)(get8(p0 + 15) != get8(p2 + 15));
+        t61 = ((t60 | (uint32_t)(get8(p0 + 16) != get8(p2 + 16))) | (uint32_t)(get8(p0 + 17) != get8(p2 + 17))) |
+            (uint32_t)(get8(p0 + 18) != get8(p2 + 18));
+        t62 = ((t61 | (uint32_t)(get8(p0 + 19) != get8(p2 + 19))) | (uint32_t)(get8(p0 + 20) != get8(p2 + 20))) |
+            (uint32_t)(get8(p0 + 21) != get8(p2 + 21));
+        t63 = ((t62 | (uint32_t)(get8(p0 + 22) != get8(p2 + 22))) | (uint32_t)(get8(p0 + 23) != get8(p2 + 23))) |
+            (uint32_t)(get8(p0 + 24) != get8(p2 + 24));
+        t64 = ((t63 | (uint32_t)(get8(p0 + 25) != get8(p2 + 25))) | (uint32_t)(get8(p0 + 26) != get8(p2 + 26))) |
+            (uint32_t)(get8(p0 + 27) != get8(p2 + 27));
+        t65 = ((t64 | (uint32_t)(get8(p0 + 28) != get8(p2 + 28))) | (uint32_t)(get8(p0 + 29) != get8(p2 + 29))) |
+            (uint32_t)(get8(p0 + 30) != get8(p2 + 30));
+        v3 = p1 - 32;
+        t66 = get8(p0 + v3) != get8(p2 + v3);
+        v3 = p1 - 31;
+        t67 = t66 | (uint32_t)(get8(p0 + v3) != get8(p2 + v3));
+        v3 = p1 - 30;
+        t68 = t67 | (uint32_t)(get8(p0 + v3) != get8(p2 + v3));
+        v3 = p1 - 29;
+        t69 = t68 | (uint32_t)(get8(p0 + v3) != get8(p2 + v3));
+        v3 = p1 - 28;
+        t70 = t69 | (uint32_t)(get8(p0 + v3) != get8(p2 + v3));
+        v3 = p1 - 27;
+        t71 = t70 | (uint32_t)(get8(p0 + v3) != get8(p2 + v3));
+        v3 = p1 - 26;
+        t72 = t71 | (uint32_t)(get8(p0 + v3) != get8(p2 + v3));
+        v3 = p1 - 25;
+        t73 = t72 | (uint32_t)(get8(p0 + v3) != get8(p2 + v3));
+        v3 = p1 - 24;
+        t74 = t73 | (uint32_t)(get8(p0 + v3) != get8(p2 + v3));
+        v3 = p1 - 23;
+        t75 = t74 | (uint32_t)(get8(p0 + v3) != get8(p2 + v3));
+        v3 = p1 - 22;
+        t76 = t75 | (uint32_t)(get8(p0 + v3) != get8(p2 + v3));
+        v3 = p1 - 21;
+        t77 = t76 | (uint32_t)(get8(p0 + v3) != get8(p2 + v3));
+        v3 = p1 - 20;
+        t78 = t77 | (uint32_t)(get8(p0 + v3) != get8(p2 + v3));
+        v3 = p1 - 19;
+        t79 = t78 | (uint32_t)(get8(p0 + v3) != get8(p2 + v3));
+        v3 = p1 - 18;
+        t80 = t79 | (uint32_t)(get8(p0 + v3) != get8(p2 + v3));
+        v3 = p1 - 17;
+        t81 = t80 | (uint32_t)(get8(p0 + v3) != get8(p2 + v3));
+        v3 = p1 - 16;
+        t82 = t81 | (uint32_t)(get8(p0 + v3) != get8(p2 + v3));
+        v3 = p1 - 15;
+        t83 = t82 | (uint32_t)(get8(p0 + v3) != get8(p2 + v3));
+        v3 = p1 - 14;
+        t84 = t83 | (uint32_t)(get8(p0 + v3) != get8(p2 + v3));
+        v3 = p1 - 13;
+        t85 = t84 | (uint32_t)(get8(p0 + v3) != get8(p2 + v3));
+        v3 = p1 - 12;
+        t86 = t85 | (uint32_t)(get8(p0 + v3) != get8(p2 + v3));
+        v3 = p1 - 11;
+        t87 = t86 | (uint32_t)(get8(p0 + v3) != get8(p2 + v3));
+        v3 = p1 - 10;
+        t88 = t87 | (uint32_t)(get8(p0 + v3) != get8(p2 + v3));
+        v3 = p1 - 9;
+        t89 = t88 | (uint32_t)(get8(p0 + v3) != get8(p2 + v3));
+        v3 = p1 - 8;
+        t90 = t89 | (uint32_t)(get8(p0 + v3) != get8(p2 + v3));
+        v3 = p1 - 7;
+        t91 = t90 | (uint32_t)(get8(p0 + v3) != get8(p2 + v3));
+        v3 = p1 - 6;
+        t92 = t91 | (uint32_t)(get8(p0 + v3) != get8(p2 + v3));
+        v3 = p1 - 5;
+        t93 = t92 | (uint32_t)(get8(p0 + v3) != get8(p2 + v3));
+        v3 = p1 - 4;
+        t94 = t93 | (uint32_t)(get8(p0 + v3) != get8(p2 + v3));
+        v3 = p1 - 3;
+        t95 = t94 | (uint32_t)(get8(p0 + v3) != get8(p2 + v3));
+        v3 = p1 - 2;
+        t96 = t95 | (uint32_t)(get8(p0 + v3) != get8(p2 + v3));
+        v3 = p1 - 1;
+        v4 = (t65 | (uint32_t)(get8(p0 + 31) != get8(p2 + 31))) | (t96 | (uint32_t)(get8(p0 + v3) != get8(p2 + v3)));
+        return ~v4 & 1;
+    }
+    v7 = p1 & ~63ULL;
+    v8 = 0;
+    v9 = p0;
+    v10 = p2;
+    do {
+        v4 = 0;
+        v3 = 0;
         do {
-            v4 = 0;
-            v3 = 0;
-            do {
-                v5 = v9 + v3;
-                v6 = v10 + v3;
-                v4 = (v4 | (uint32_t)(get8(v5) != get8(v6))) | (uint32_t)(get8(v5 + 1) != get8(v6 + 1));
-                v3 = v3 + 2;
-            } while (v3 != 64);
-            if ((v4 & 1) != 0) goto l5;
-            v9 = v9 + 64;
-            v10 = v10 + 64;
-            v8 = v8 + 64;
-        } while ((p1 - v8) > 63);
-        v8 = v7;
-    l5:;
-        v10 = p1 - v8;
-        if (v10 >= 32) {
-            v6 = p2;
-            v9 = p0;
-        l10:;
+            v5 = v9 + v3;
+            v6 = v10 + v3;
+            v4 = (v4 | (uint32_t)(get8(v5) != get8(v6))) | (uint32_t)(get8(v5 + 1) != get8(v6 + 1));
+            v3 = v3 + 2;
+        } while (v3 != 64);
+        if ((v4 & 1) != 0) goto l5;
+        v9 = v9 + 64;
+        v10 = v10 + 64;
+        v8 = v8 + 64;
+    } while ((p1 - v8) > 63);
+    v8 = v7;
+l5:;
+    v10 = p1 - v8;
+    if (v10 >= 32) {
+        v6 = p2;
+        v9 = p0;
+        for (;;) {
             v3 = v9 + v8;
             v5 = v6 + v8;
-            if (get8(v3) != get8(v5)) goto l9;
-            if ((get8(v3 + 1) & 255) != (get8(v5 + 1) & 255)) goto l9;
-            if ((get8(v3 + 2) & 255) != (get8(v5 + 2) & 255)) goto l9;
-            if ((get8(v3 + 3) & 255) != (get8(v5 + 3) & 255)) goto l9;
-            if ((get8(v3 + 4) & 255) != (get8(v5 + 4) & 255)) goto l9;
-            if ((get8(v3 + 5) & 255) != (get8(v5 + 5) & 255)) goto l9;
-            if ((get8(v3 + 6) & 255) != (get8(v5 + 6) & 255)) goto l9;
-            if ((get8(v3 + 7) & 255) != (get8(v5 + 7) & 255)) goto l9;
-            if ((get8(v3 + 8) & 255) != (get8(v5 + 8) & 255)) goto l9;
-            if ((get8(v3 + 9) & 255) != (get8(v5 + 9) & 255)) goto l9;
-            if ((get8(v3 + 10) & 255) != (get8(v5 + 10) & 255)) goto l9;
-            if ((get8(v3 + 11) & 255) != (get8(v5 + 11) & 255)) goto l9;
-            if ((get8(v3 + 12) & 255) != (get8(v5 + 12) & 255)) goto l9;
-            if ((get8(v3 + 13) & 255) != (get8(v5 + 13) & 255)) goto l9;
-            if ((get8(v3 + 14) & 255) != (get8(v5 + 14) & 255)) goto l9;
-            if ((get8(v3 + 15) & 255) != (get8(v5 + 15) & 255)) goto l9;
-            if ((get8(v3 + 16) & 255) != (get8(v5 + 16) & 255)) goto l9;
-            if ((get8(v3 + 17) & 255) != (get8(v5 + 17) & 255)) goto l9;
-            if ((get8(v3 + 18) & 255) != (get8(v5 + 18) & 255)) goto l9;
-            if ((get8(v3 + 19) & 255) != (get8(v5 + 19) & 255)) goto l9;
-            if ((get8(v3 + 20) & 255) != (get8(v5 + 20) & 255)) goto l9;
-            if ((get8(v3 + 21) & 255) != (get8(v5 + 21) & 255)) goto l9;
-            if ((get8(v3 + 22) & 255) != (get8(v5 + 22) & 255)) goto l9;
-            if ((get8(v3 + 23) & 255) != (get8(v5 + 23) & 255)) goto l9;
-            if ((get8(v3 + 24) & 255) != (get8(v5 + 24) & 255)) goto l9;
-            if ((get8(v3 + 25) & 255) != (get8(v5 + 25) & 255)) goto l9;
-            if ((get8(v3 + 26) & 255) != (get8(v5 + 26) & 255)) goto l9;
-            if ((get8(v3 + 27) & 255) != (get8(v5 + 27) & 255)) goto l9;
-            if ((get8(v3 + 28) & 255) != (get8(v5 + 28) & 255)) goto l9;
-            if ((get8(v3 + 29) & 255) != (get8(v5 + 29) & 255)) goto l9;
-            if ((get8(v3 + 30) & 255) != (get8(v5 + 30) & 255)) goto l9;
-            if ((get8(v3 + 31) & 255) != (get8(v5 + 31) & 255)) goto l9;
+            if (get8(v3) != get8(v5) || (get8(v3 + 1) & 255) != (get8(v5 + 1) & 255)) break;
+            if ((get8(v3 + 2) & 255) != (get8(v5 + 2) & 255) || (get8(v3 + 3) & 255) != (get8(v5 + 3) & 255) ||
+                (get8(v3 + 4) & 255) != (get8(v5 + 4) & 255)) break;
+            if ((get8(v3 + 5) & 255) != (get8(v5 + 5) & 255) || (get8(v3 + 6) & 255) != (get8(v5 + 6) & 255) ||
+                (get8(v3 + 7) & 255) != (get8(v5 + 7) & 255)) break;
+            if ((get8(v3 + 8) & 255) != (get8(v5 + 8) & 255) || (get8(v3 + 9) & 255) != (get8(v5 + 9) & 255) ||
+                (get8(v3 + 10) & 255) != (get8(v5 + 10) & 255)) break;
+            if ((get8(v3 + 11) & 255) != (get8(v5 + 11) & 255) || (get8(v3 + 12) & 255) != (get8(v5 + 12) & 255) ||
+                (get8(v3 + 13) & 255) != (get8(v5 + 13) & 255)) break;
+            if ((get8(v3 + 14) & 255) != (get8(v5 + 14) & 255) || (get8(v3 + 15) & 255) != (get8(v5 + 15) & 255) ||
+                (get8(v3 + 16) & 255) != (get8(v5 + 16) & 255)) break;
+            if ((get8(v3 + 17) & 255) != (get8(v5 + 17) & 255) || (get8(v3 + 18) & 255) != (get8(v5 + 18) & 255) ||
+                (get8(v3 + 19) & 255) != (get8(v5 + 19) & 255)) break;
+            if ((get8(v3 + 20) & 255) != (get8(v5 + 20) & 255) || (get8(v3 + 21) & 255) != (get8(v5 + 21) & 255) ||
+                (get8(v3 + 22) & 255) != (get8(v5 + 22) & 255)) break;
+            if ((get8(v3 + 23) & 255) != (get8(v5 + 23) & 255) || (get8(v3 + 24) & 255) != (get8(v5 + 24) & 255) ||
+                (get8(v3 + 25) & 255) != (get8(v5 + 25) & 255)) break;
+            if ((get8(v3 + 26) & 255) != (get8(v5 + 26) & 255) || (get8(v3 + 27) & 255) != (get8(v5 + 27) & 255) ||
+                (get8(v3 + 28) & 255) != (get8(v5 + 28) & 255)) break;
+            if ((get8(v3 + 29) & 255) != (get8(v5 + 29) & 255) || (get8(v3 + 30) & 255) != (get8(v5 + 30) & 255) ||
+                (get8(v3 + 31) & 255) != (get8(v5 + 31) & 255)) break;
             v6 = v6 + 32;
             v9 = v9 + 32;
             v10 = v10 - 32;
-            if (v10 >= 32) goto l10;
-            goto l8;
-        l9:;
-            v4 = 1;
-            if (v10 > 31) return ~v4 & 1;
+            if (v10 < 32) goto l8;
         }
-    l8:;
-        v3 = p1 - 32;
-        t25 = get8(p0 + v3) != get8(p2 + v3);
-        v3 = p1 - 31;
-        t26 = t25 | (uint32_t)(get8(p0 + v3) != get8(p2 + v3));
-        v3 = p1 - 30;
-        t27 = t26 | (uint32_t)(get8(p0 + v3) != get8(p2 + v3));
-        v3 = p1 - 29;
-        t28 = t27 | (uint32_t)(get8(p0 + v3) != get8(p2 + v3));
-        v3 = p1 - 28;
-        t29 = t28 | (uint32_t)(get8(p0 + v3) != get8(p2 + v3));
-        v3 = p1 - 27;
-        t30 = t29 | (uint32_t)(get8(p0 + v3) != get8(p2 + v3));
-        v3 = p1 - 26;
-        t31 = t30 | (uint32_t)(get8(p0 + v3) != get8(p2 + v3));
-        v3 = p1 - 25;
-        t32 = t31 | (uint32_t)(get8(p0 + v3) != get8(p2 + v3));
-        v3 = p1 - 24;
-        t33 = t32 | (uint32_t)(get8(p0 + v3) != get8(p2 + v3));
-        v3 = p1 - 23;
-        t34 = t33 | (uint32_t)(get8(p0 + v3) != get8(p2 + v3));
-        v3 = p1 - 22;
-        t35 = t34 | (uint32_t)(get8(p0 + v3) != get8(p2 + v3));
-        v3 = p1 - 21;
-        t36 = t35 | (uint32_t)(get8(p0 + v3) != get8(p2 + v3));
-        v3 = p1 - 20;
-        t37 = t36 | (uint32_t)(get8(p0 + v3) != get8(p2 + v3));
-        v3 = p1 - 19;
-        t38 = t37 | (uint32_t)(get8(p0 + v3) != get8(p2 + v3));
-        v3 = p1 - 18;
-        t39 = t38 | (uint32_t)(get8(p0 + v3) != get8(p2 + v3));
-        v3 = p1 - 17;
-        t40 = t39 | (uint32_t)(get8(p0 + v3) != get8(p2 + v3));
-        v3 = p1 - 16;
-        t41 = t40 | (uint32_t)(get8(p0 + v3) != get8(p2 + v3));
-        v3 = p1 - 15;
-        t42 = t41 | (uint32_t)(get8(p0 + v3) != get8(p2 + v3));
-        v3 = p1 - 14;
-        t43 = t42 | (uint32_t)(get8(p0 + v3) != get8(p2 + v3));
-        v3 = p1 - 13;
-        t44 = t43 | (uint32_t)(get8(p0 + v3) != get8(p2 + v3));
-        v3 = p1 - 12;
-        t45 = t44 | (uint32_t)(get8(p0 + v3) != get8(p2 + v3));
-        v3 = p1 - 11;
-        t46 = t45 | (uint32_t)(get8(p0 + v3) != get8(p2 + v3));
-        v3 = p1 - 10;
-        t47 = t46 | (uint32_t)(get8(p0 + v3) != get8(p2 + v3));
-        v3 = p1 - 9;
-        t48 = t47 | (uint32_t)(get8(p0 + v3) != get8(p2 + v3));
-        v3 = p1 - 8;
-        t49 = t48 | (uint32_t)(get8(p0 + v3) != get8(p2 + v3));
-        v3 = p1 - 7;
-        t50 = t49 | (uint32_t)(get8(p0 + v3) != get8(p2 + v3));
-        v3 = p1 - 6;
-        t51 = t50 | (uint32_t)(get8(p0 + v3) != get8(p2 + v3));
-        v3 = p1 - 5;
-        t52 = t51 | (uint32_t)(get8(p0 + v3) != get8(p2 + v3));
-        v3 = p1 - 4;
-        t53 = t52 | (uint32_t)(get8(p0 + v3) != get8(p2 + v3));
-        v3 = p1 - 3;
-        t54 = t53 | (uint32_t)(get8(p0 + v3) != get8(p2 + v3));
-        v3 = p1 - 2;
-        t55 = t54 | (uint32_t)(get8(p0 + v3) != get8(p2 + v3));
-        v3 = p1 - 1;
-        v4 = t55 | (uint32_t)(get8(p0 + v3) != get8(p2 + v3));
-        return ~v4 & 1;
+        v4 = 1;
+        if (v10 > 31) return ~v4 & 1;
     }
-    t56 = ((get8(p0) != get8(p2) || get8(p0 + 1) != get8(p2 + 1)) || get8(p0 + 2) != get8(p2 + 2)) || get8(p0 + 3) !=
-        get8(p2 + 3);
-    t57 = ((t56 | (uint32_t)(get8(p0 + 4) != get8(p2 + 4))) | (uint32_t)(get8(p0 + 5) != get8(p2 + 5))) |
-        (uint32_t)(get8(p0 + 6) != get8(p2 + 6));
-    t58 = ((t57 | (uint32_t)(get8(p0 + 7) != get8(p2 + 7))) | (uint32_t)(get8(p0 + 8) != get8(p2 + 8))) |
-        (uint32_t)(get8(p0 + 9) != get8(p2 + 9));
-    t59 = ((t58 | (uint32_t)(get8(p0 + 10) != get8(p2 + 10))) | (uint32_t)(get8(p0 + 11) != get8(p2 + 11))) |
-        (uint32_t)(get8(p0 + 12) != get8(p2 + 12));
-    t60 = ((t59 | (uint32_t)(get8(p0 + 13) != get8(p2 + 13))) | (uint32_t)(get8(p0 + 14) != get8(p2 + 14))) |
-        (uint32_t)(get8(p0 + 15) != get8(p2 + 15));
-    t61 = ((t60 | (uint32_t)(get8(p0 + 16) != get8(p2 + 16))) | (uint32_t)(get8(p0 + 17) != get8(p2 + 17))) |
-        (uint32_t)(get8(p0 + 18) != get8(p2 + 18));
-    t62 = ((t61 | (uint32_t)(get8(p0 + 19) != get8(p2 + 19))) | (uint32_t)(get8(p0 + 20) != get8(p2 + 20))) |
-        (uint32_t)(get8(p0 + 21) != get8(p2 + 21));
-    t63 = ((t62 | (uint32_t)(get8(p0 + 22) != get8(p2 + 22))) | (uint32_t)(get8(p0 + 23) != get8(p2 + 23))) |
-        (uint32_t)(get8(p0 + 24) != get8(p2 + 24));
-    t64 = ((t63 | (uint32_t)(get8(p0 + 25) != get8(p2 + 25))) | (uint32_t)(get8(p0 + 26) != get8(p2 + 26))) |
-        (uint32_t)(get8(p0 + 27) != get8(p2 + 27));
-    t65 = ((t64 | (uint32_t)(get8(p0 + 28) != get8(p2 + 28))) | (uint32_t)(get8(p0 + 29) != get8(p2 + 29))) |
-        (uint32_t)(get8(p0 + 30) != get8(p2 + 30));
+l8:;
     v3 = p1 - 32;
-    t66 = get8(p0 + v3) != get8(p2 + v3);
+    t25 = get8(p0 + v3) != get8(p2 + v3);
     v3 = p1 - 31;
-    t67 = t66 | (uint32_t)(get8(p0 + v3) != get8(p2 + v3));
+    t26 = t25 | (uint32_t)(get8(p0 + v3) != get8(p2 + v3));
     v3 = p1 - 30;
-    t68 = t67 | (uint32_t)(get8(p0 + v3) != get8(p2 + v3));
+    t27 = t26 | (uint32_t)(get8(p0 + v3) != get8(p2 + v3));
     v3 = p1 - 29;
-    t69 = t68 | (uint32_t)(get8(p0 + v3) != get8(p2 + v3));
+    t28 = t27 | (uint32_t)(get8(p0 + v3) != get8(p2 + v3));
     v3 = p1 - 28;
-    t70 = t69 | (uint32_t)(get8(p0 + v3) != get8(p2 + v3));
+    t29 = t28 | (uint32_t)(get8(p0 + v3) != get8(p2 + v3));
     v3 = p1 - 27;
-    t71 = t70 | (uint32_t)(get8(p0 + v3) != get8(p2 + v3));
+    t30 = t29 | (uint32_t)(get8(p0 + v3) != get8(p2 + v3));
     v3 = p1 - 26;
-    t72 = t71 | (uint32_t)(get8(p0 + v3) != get8(p2 + v3));
+    t31 = t30 | (uint32_t)(get8(p0 + v3) != get8(p2 + v3));
     v3 = p1 - 25;
-    t73 = t72 | (uint32_t)(get8(p0 + v3) != get8(p2 + v3));
+    t32 = t31 | (uint32_t)(get8(p0 + v3) != get8(p2 + v3));
     v3 = p1 - 24;
-    t74 = t73 | (uint32_t)(get8(p0 + v3) != get8(p2 + v3));
+    t33 = t32 | (uint32_t)(get8(p0 + v3) != get8(p2 + v3));
     v3 = p1 - 23;
-    t75 = t74 | (uint32_t)(get8(p0 + v3) != get8(p2 + v3));
+    t34 = t33 | (uint32_t)(get8(p0 + v3) != get8(p2 + v3));
     v3 = p1 - 22;
-    t76 = t75 | (uint32_t)(get8(p0 + v3) != get8(p2 + v3));
+    t35 = t34 | (uint32_t)(get8(p0 + v3) != get8(p2 + v3));
     v3 = p1 - 21;
-    t77 = t76 | (uint32_t)(get8(p0 + v3) != get8(p2 + v3));
+    t36 = t35 | (uint32_t)(get8(p0 + v3) != get8(p2 + v3));
     v3 = p1 - 20;
-    t78 = t77 | (uint32_t)(get8(p0 + v3) != get8(p2 + v3));
+    t37 = t36 | (uint32_t)(get8(p0 + v3) != get8(p2 + v3));
     v3 = p1 - 19;
-    t79 = t78 | (uint32_t)(get8(p0 + v3) != get8(p2 + v3));
+    t38 = t37 | (uint32_t)(get8(p0 + v3) != get8(p2 + v3));
     v3 = p1 - 18;
-    t80 = t79 | (uint32_t)(get8(p0 + v3) != get8(p2 + v3));
+    t39 = t38 | (uint32_t)(get8(p0 + v3) != get8(p2 + v3));
     v3 = p1 - 17;
-    t81 = t80 | (uint32_t)(get8(p0 + v3) != get8(p2 + v3));
+    t40 = t39 | (uint32_t)(get8(p0 + v3) != get8(p2 + v3));
     v3 = p1 - 16;
-    t82 = t81 | (uint32_t)(get8(p0 + v3) != get8(p2 + v3));
+    t41 = t40 | (uint32_t)(get8(p0 + v3) != get8(p2 + v3));
     v3 = p1 - 15;
-    t83 = t82 | (uint32_t)(get8(p0 + v3) != get8(p2 + v3));
+    t42 = t41 | (uint32_t)(get8(p0 + v3) != get8(p2 + v3));
     v3 = p1 - 14;
-    t84 = t83 | (uint32_t)(get8(p0 + v3) != get8(p2 + v3));
+    t43 = t42 | (uint32_t)(get8(p0 + v3) != get8(p2 + v3));
     v3 = p1 - 13;
-    t85 = t84 | (uint32_t)(get8(p0 + v3) != get8(p2 + v3));
+    t44 = t43 | (uint32_t)(get8(p0 + v3) != get8(p2 + v3));
     v3 = p1 - 12;
-    t86 = t85 | (uint32_t)(get8(p0 + v3) != get8(p2 + v3));
+    t45 = t44 | (uint32_t)(get8(p0 + v3) != get8(p2 + v3));
     v3 = p1 - 11;
-    t87 = t86 | (uint32_t)(get8(p0 + v3) != get8(p2 + v3));
+    t46 = t45 | (uint32_t)(get8(p0 + v3) != get8(p2 + v3));
     v3 = p1 - 10;
-    t88 = t87 | (uint32_t)(get8(p0 + v3) != get8(p2 + v3));
+    t47 = t46 | (uint32_t)(get8(p0 + v3) != get8(p2 + v3));
     v3 = p1 - 9;
-    t89 = t88 | (uint32_t)(get8(p0 + v3) != get8(p2 + v3));
+    t48 = t47 | (uint32_t)(get8(p0 + v3) != get8(p2 + v3));
     v3 = p1 - 8;
-    t90 = t89 | (uint32_t)(get8(p0 + v3) != get8(p2 + v3));
+    t49 = t48 | (uint32_t)(get8(p0 + v3) != get8(p2 + v3));
     v3 = p1 - 7;
-    t91 = t90 | (uint32_t)(get8(p0 + v3) != get8(p2 + v3));
+    t50 = t49 | (uint32_t)(get8(p0 + v3) != get8(p2 + v3));
     v3 = p1 - 6;
-    t92 = t91 | (uint32_t)(get8(p0 + v3) != get8(p2 + v3));
+    t51 = t50 | (uint32_t)(get8(p0 + v3) != get8(p2 + v3));
     v3 = p1 - 5;
-    t93 = t92 | (uint32_t)(get8(p0 + v3) != get8(p2 + v3));
+    t52 = t51 | (uint32_t)(get8(p0 + v3) != get8(p2 + v3));
     v3 = p1 - 4;
-    t94 = t93 | (uint32_t)(get8(p0 + v3) != get8(p2 + v3));
+    t53 = t52 | (uint32_t)(get8(p0 + v3) != get8(p2 + v3));
     v3 = p1 - 3;
-    t95 = t94 | (uint32_t)(get8(p0 + v3) != get8(p2 + v3));
+    t54 = t53 | (uint32_t)(get8(p0 + v3) != get8(p2 + v3));
     v3 = p1 - 2;
-    t96 = t95 | (uint32_t)(get8(p0 + v3) != get8(p2 + v3));
+    t55 = t54 | (uint32_t)(get8(p0 + v3) != get8(p2 + v3));
     v3 = p1 - 1;
-    v4 = (t65 | (uint32_t)(get8(p0 + 31) != get8(p2 + 31))) | (t96 | (uint32_t)(get8(p0 + v3) != get8(p2 + v3)));
+    v4 = t55 | (uint32_t)(get8(p0 + v3) != get8(p2 + v3));
     return ~v4 & 1;
 }
 
+/* nodes::ground_node::Ground::of, crates/nodes/src/ground_node.rt:76 */
 static void nodes_ground_node_Ground_of(uint64_t p0, uint64_t p1)
 {
     unsigned char frame_octets[160 + 15];
@@ -1236,119 +1224,112 @@ static void nodes_ground_node_Ground_of(uint64_t p0, uint64_t p1)
     v2 = aligned(frame_octets);
     fill(v2 + 74, 0, 78);
     v3 = get32(p1 + 16);
-    if ((v3 & 255) != 0) {
-        v4 = get32(p1 + 12);
-        if ((v4 & 255) != 0) {
-            if ((v4 & 1) == 0) {
-                v4 = (v4 >> 1) & 127;
-                if (v4 >= (v3 & 255)) {
-                    v5 = get32(p1 + 20);
-                    if ((v5 & 255) != 0) {
-                        v6 = get32(p1 + 24);
-                        if ((v6 & 0xffff) != 0) {
-                            v7 = (uint64_t)v4;
-                            rattle_alloc_at(v2 + 56, v7 << 5, 8);
-                            if (((uint32_t)get64(v2 + 56) & 1) != 0) {
-                                v8 = get64(v2 + 64);
-                                rattle_alloc_at(v2 + 40, 0x10006, 1);
-                                if (((uint32_t)get64(v2 + 40) & 1) == 0) {
-                                    rattle_dealloc_at(v8);
-                                    put16(p0, 0x501);
-                                    fill(p0 + 8, 0, 400);
-                                    return;
-                                }
-                                v9 = get64(v2 + 48);
-                                v10 = get32(p1 + 56);
-                                v11 = (uint64_t)v10;
-                                if (v10 == 0) {
-                                    v12 = v2 + 152;
-                                    v13 = 127;
-                                    goto l6;
-                                }
-                                rattle_alloc_at(v2 + 24, v11 << 5, 8);
-                                if (((uint32_t)get64(v2 + 24) & 1) == 0) {
-                                    rattle_dealloc_at(v9);
-                                    rattle_dealloc_at(v8);
-                                    put16(p0, 0x501);
-                                    fill(p0 + 8, 0, 400);
-                                    return;
-                                }
-                                v12 = get64(v2 + 32);
-                                v13 = (uint64_t)get32(p1 + 56) + 127;
-                            l6:;
-                                rattle_alloc_at(v2 + 8, v13 << 3, 8);
-                                if (((uint32_t)get64(v2 + 8) & 1) == 0) {
-                                    if (v10 == 0) goto l8;
-                                    rattle_dealloc_at(v12);
-                                l8:;
-                                    rattle_dealloc_at(v9);
-                                    rattle_dealloc_at(v8);
-                                    put16(p0, 0x501);
-                                    fill(p0 + 8, 0, 400);
-                                    return;
-                                }
-                                v14 = get64(v2 + 16);
-                                v15 = v2 + 80;
-                                copy(v15, p1, 72);
-                                put16(p0, 0);
-                                copy(p0 + 8, v15, 72);
-                                put32(p0 + 82, 0);
-                                put8(p0 + 81, 5);
-                                put8(p0 + 80, v4);
-                                put8(p0 + 86, 0);
-                                put64(p0 + 97, 0);
-                                put8(p0 + 96, 1);
-                                put32(p0 + 92, 0);
-                                put16(p0 + 90, v6);
-                                put8(p0 + 89, 0);
-                                put8(p0 + 88, v5);
-                                put8(p0 + 87, v3);
-                                put64(p0 + 105, 0);
-                                put64(p0 + 113, 0);
-                                put64(p0 + 121, 0);
-                                put64(p0 + 129, 0);
-                                put64(p0 + 136, 0);
-                                put64(p0 + 152, v7);
-                                put64(p0 + 144, v8);
-                                put64(p0 + 160, 0);
-                                put64(p0 + 168, 0);
-                                put64(p0 + 208, 0);
-                                put64(p0 + 200, 0);
-                                put64(p0 + 192, 0);
-                                put64(p0 + 184, 0);
-                                put64(p0 + 232, v11);
-                                put64(p0 + 224, 0);
-                                put64(p0 + 216, v12);
-                                put64(p0 + 256, 0);
-                                put64(p0 + 248, 0);
-                                put64(p0 + 240, 0);
-                                put64(p0 + 280, v13);
-                                put64(p0 + 272, 0);
-                                put64(p0 + 264, v14);
-                                put64(p0 + 312, 0);
-                                put64(p0 + 304, 0);
-                                put64(p0 + 296, 0);
-                                put64(p0 + 288, 0);
-                                put64(p0 + 176, v2 + 152);
-                                put64(p0 + 336, 0x10006);
-                                put64(p0 + 328, 0);
-                                put64(p0 + 320, v9);
-                                put64(p0 + 352, 0);
-                                put64(p0 + 360, 0);
-                                put64(p0 + 368, 0);
-                                put64(p0 + 376, 0);
-                                put64(p0 + 392, 0);
-                                put64(p0 + 400, 0);
-                                put64(p0 + 344, v2 + 152);
-                                put64(p0 + 384, v2 + 152);
-                                return;
-                            }
-                        }
-                    }
+    if ((v3 & 255) == 0) goto l2;
+    v4 = get32(p1 + 12);
+    if ((v4 & 255) == 0 || (v4 & 1) != 0) goto l2;
+    v4 = (v4 >> 1) & 127;
+    if (v4 < (v3 & 255)) goto l2;
+    v5 = get32(p1 + 20);
+    if ((v5 & 255) != 0) {
+        v6 = get32(p1 + 24);
+        if ((v6 & 0xffff) != 0) {
+            v7 = (uint64_t)v4;
+            rattle_alloc_at(v2 + 56, v7 << 5, 8);
+            if (((uint32_t)get64(v2 + 56) & 1) != 0) {
+                v8 = get64(v2 + 64);
+                rattle_alloc_at(v2 + 40, 0x10006, 1);
+                if (((uint32_t)get64(v2 + 40) & 1) == 0) {
+                    rattle_dealloc_at(v8);
+                    put16(p0, 0x501);
+                    fill(p0 + 8, 0, 400);
+                    return;
                 }
+                v9 = get64(v2 + 48);
+                v10 = get32(p1 + 56);
+                v11 = (uint64_t)v10;
+                if (v10 == 0) {
+                    v12 = v2 + 152;
+                    v13 = 127;
+                } else {
+                    rattle_alloc_at(v2 + 24, v11 << 5, 8);
+                    if (((uint32_t)get64(v2 + 24) & 1) == 0) {
+                        rattle_dealloc_at(v9);
+                        rattle_dealloc_at(v8);
+                        put16(p0, 0x501);
+                        fill(p0 + 8, 0, 400);
+                        return;
+                    }
+                    v12 = get64(v2 + 32);
+                    v13 = (uint64_t)get32(p1 + 56) + 127;
+                }
+                rattle_alloc_at(v2 + 8, v13 << 3, 8);
+                if (((uint32_t)get64(v2 + 8) & 1) == 0) {
+                    if (v10 != 0) rattle_dealloc_at(v12);
+                    rattle_dealloc_at(v9);
+                    rattle_dealloc_at(v8);
+                    put16(p0, 0x501);
+                    fill(p0 + 8, 0, 400);
+                    return;
+                }
+                v14 = get64(v2 + 16);
+                v15 = v2 + 80;
+                copy(v15, p1, 72);
+                put16(p0, 0);
+                copy(p0 + 8, v15, 72);
+                put32(p0 + 82, 0);
+                put8(p0 + 81, 5);
+                put8(p0 + 80, v4);
+                put8(p0 + 86, 0);
+                put64(p0 + 97, 0);
+                put8(p0 + 96, 1);
+                put32(p0 + 92, 0);
+                put16(p0 + 90, v6);
+                put8(p0 + 89, 0);
+                put8(p0 + 88, v5);
+                put8(p0 + 87, v3);
+                put64(p0 + 105, 0);
+                put64(p0 + 113, 0);
+                put64(p0 + 121, 0);
+                put64(p0 + 129, 0);
+                put64(p0 + 136, 0);
+                put64(p0 + 152, v7);
+                put64(p0 + 144, v8);
+                put64(p0 + 160, 0);
+                put64(p0 + 168, 0);
+                put64(p0 + 208, 0);
+                put64(p0 + 200, 0);
+                put64(p0 + 192, 0);
+                put64(p0 + 184, 0);
+                put64(p0 + 232, v11);
+                put64(p0 + 224, 0);
+                put64(p0 + 216, v12);
+                put64(p0 + 256, 0);
+                put64(p0 + 248, 0);
+                put64(p0 + 240, 0);
+                put64(p0 + 280, v13);
+                put64(p0 + 272, 0);
+                put64(p0 + 264, v14);
+                put64(p0 + 312, 0);
+                put64(p0 + 304, 0);
+                put64(p0 + 296, 0);
+                put64(p0 + 288, 0);
+                put64(p0 + 176, v2 + 152);
+                put64(p0 + 336, 0x10006);
+                put64(p0 + 328, 0);
+                put64(p0 + 320, v9);
+                put64(p0 + 352, 0);
+                put64(p0 + 360, 0);
+                put64(p0 + 368, 0);
+                put64(p0 + 376, 0);
+                put64(p0 + 392, 0);
+                put64(p0 + 400, 0);
+                put64(p0 + 344, v2 + 152);
+                put64(p0 + 384, v2 + 152);
+                return;
             }
         }
     }
+l2:;
     put16(p0, 0x501);
     fill(p0 + 8, 0, 400);
     return;
@@ -1385,9 +1366,7 @@ static void sedgechisel_nodes_nodes_ground_node_Ground_Destruct_drop(uint64_t p0
     v24 = get64(p0 + 152);
     v25 = get64(p0 + 144);
     v26 = get64(p0 + 136);
-    if (get8(p0 + 96) != 0) {
-        if (get64(p0 + 128) != 0) rattle_dealloc_at(get64(p0 + 112));
-    }
+    if (get8(p0 + 96) != 0 && get64(p0 + 128) != 0) rattle_dealloc_at(get64(p0 + 112));
     if (v24 != 0) {
         v27 = (v23 < v25) ? 0ULL : v25;
         p0 = v23 - v27;
@@ -1488,6 +1467,7 @@ static void sedgechisel_nodes_nodes_ground_node_Ground_Destruct_drop(uint64_t p0
     return;
 }
 
+/* nodes::spacecraft::Spacecraft::restarted, crates/nodes/src/spacecraft.rt:111 */
 static void nodes_spacecraft_Spacecraft_restarted(uint64_t p0, uint64_t p1, uint32_t p2)
 {
     unsigned char frame_octets[128 + 15];
@@ -1496,8 +1476,7 @@ static void nodes_spacecraft_Spacecraft_restarted(uint64_t p0, uint64_t p1, uint
     v3 = aligned(frame_octets);
     fill(v3 + 46, 0, 78);
     v4 = get32(p1 + 12);
-    if ((v4 & 255) == 0) UNREACHABLE;
-    if ((v4 & 1) != 0) UNREACHABLE;
+    if ((v4 & 255) == 0 || (v4 & 1) != 0) UNREACHABLE;
     v5 = p2 >> 8;
     if ((v5 & 255) >= 4) UNREACHABLE;
     v6 = get32(p1);
@@ -1730,28 +1709,27 @@ static void sedgechisel_nodes_sedgechisel_nodes_sim_link_Link_Destruct_drop(uint
         } while (v8 != 0);
     }
     if (v7 != 0) rattle_dealloc_at(v9);
-    if (v5 != 0) {
-        p0 = v6;
-        do {
-            if (get8(p0) == 0) {
-                v14 = get64(p0 + 32);
-                v16 = get64(p0 + 16);
-                v26 = get8(p0 + 8);
-                if (((1U << (v26 & 31)) & 0x7df) == 0) {
-                    if (v26 == 5) {
-                        if (v14 != 0) goto l40;
-                        goto l39;
-                    }
-                    if (v14 == 0) goto l39;
-                l40:;
-                    rattle_dealloc_at(v16);
-                }
+    if (v5 == 0) goto l37;
+    p0 = v6;
+    do {
+        if (get8(p0) != 0) goto l39;
+        v14 = get64(p0 + 32);
+        v16 = get64(p0 + 16);
+        v26 = get8(p0 + 8);
+        if (((1U << (v26 & 31)) & 0x7df) == 0) {
+            if (v26 == 5) {
+                if (v14 != 0) goto l40;
+                goto l39;
             }
-        l39:;
-            p0 = p0 + 40;
-            v5 = v5 - 1;
-        } while (v5 != 0);
-    }
+            if (v14 == 0) goto l39;
+        l40:;
+            rattle_dealloc_at(v16);
+        }
+    l39:;
+        p0 = p0 + 40;
+        v5 = v5 - 1;
+    } while (v5 != 0);
+l37:;
     if (v4 != 0) rattle_dealloc_at(v6);
     if (v2 == 0) return;
     rattle_dealloc_at(v3);
@@ -1785,14 +1763,10 @@ static void sedgechisel_nodes_nodes_spacecraft_Spacecraft_Destruct_drop(uint64_t
     p0 = 0;
     do {
         v18 = v1 + p0;
-        if (get8(v18) != 0) {
-            if (get64(v18 + 24) != 0) rattle_dealloc_at(get64(v18 + 8));
-        }
+        if (get8(v18) != 0 && get64(v18 + 24) != 0) rattle_dealloc_at(get64(v18 + 8));
         p0 = p0 + 32;
     } while (p0 != 0x800);
-    if ((v17 & 255) != 0) {
-        if (v15 != 0) rattle_dealloc_at(v16);
-    }
+    if ((v17 & 255) != 0 && v15 != 0) rattle_dealloc_at(v16);
     if (v13 != 0) {
         v18 = v13 - v10;
         if (v11 < (v18 + v11)) {
@@ -1844,6 +1818,7 @@ static void sedgechisel_nodes_nodes_spacecraft_Spacecraft_Destruct_drop(uint64_t
     return;
 }
 
+/* nodes::ground_node::Ground::advance, crates/nodes/src/ground_node/pull.rt:61 */
 static void nodes_ground_node_Ground_advance(uint64_t p0)
 {
     uint32_t v4 = 0, v5 = 0;
@@ -1857,62 +1832,75 @@ static void nodes_ground_node_Ground_advance(uint64_t p0)
         return;
     }
     v1 = get64(p0 + 176);
-    if (v1 == 0) {
-        if (get8(p0 + 73) > 1) {
-            nodes_ground_node_Ground_refill(p0);
-            return;
+    if (v1 != 0) {
+        v2 = p0 + 200;
+        if (get64(v2) == v1) {
+            v3 = 0;
+            put64(v2, 0);
+        } else {
+            v3 = get64(p0 + 192);
         }
-        v1 = p0 + 78;
-        v4 = get8(v1);
-        if (v4 != 0) {
-            put8(v1, v4 - 1);
-            put16(p0 + 84, 1);
-            put16(p0 + 86, get16(p0 + 82));
-            nodes_ground_node_Ground_refill(p0);
-            return;
-        }
-        if (get8(p0 + 76) != 1) {
-            nodes_ground_node_Ground_refill(p0);
-            return;
-        }
-        v4 = get8(p0 + 77);
-        if (v4 >= get8(p0 + 79)) {
-            nodes_ground_node_Ground_refill(p0);
-            return;
-        }
-        v1 = p0 + 74;
-        v5 = get8(v1);
-        if (v4 == 0) put8(p0 + 88, 1);
-        put8(p0 + 77, v4 + 1);
-        put8(p0 + 76, 0);
-        put8(v1, v5 + 1);
+        put64(p0 + 176, v1 - 1);
+        put64(p0 + 192, v3 + 1);
+        v1 = get64(p0 + 168) + (v3 << 5);
+        if (get64(v1 + 24) != 0) rattle_dealloc_at(get64(v1 + 8));
+        nodes_ground_node_Ground_refill(p0);
+        return;
+    }
+    if (get8(p0 + 73) > 1) {
+        nodes_ground_node_Ground_refill(p0);
+        return;
+    }
+    v1 = p0 + 78;
+    v4 = get8(v1);
+    if (v4 != 0) {
+        put8(v1, v4 - 1);
         put16(p0 + 84, 1);
         put16(p0 + 86, get16(p0 + 82));
-        v1 = p0 + 96;
-        v4 = get8(v1);
-        put64(v1, 0);
-        v1 = p0 + 104;
-        v6 = get64(v1);
-        put64(v1, 0);
-        v1 = p0 + 112;
-        v3 = get64(v1);
-        put64(v1, 0);
-        v1 = p0 + 120;
-        v7 = get64(v1);
-        put64(v1, 0);
-        v1 = p0 + 128;
-        v2 = get64(v1);
-        put64(v1, 0);
-        if (v4 != 1) {
-            nodes_ground_node_Ground_refill(p0);
-            return;
-        }
-        v1 = get64(p0 + 144);
-        if (v1 == 0) {
-            v1 = v2;
-            v6 = v3;
-            goto l9;
-        }
+        nodes_ground_node_Ground_refill(p0);
+        return;
+    }
+    if (get8(p0 + 76) != 1) {
+        nodes_ground_node_Ground_refill(p0);
+        return;
+    }
+    v4 = get8(p0 + 77);
+    if (v4 >= get8(p0 + 79)) {
+        nodes_ground_node_Ground_refill(p0);
+        return;
+    }
+    v1 = p0 + 74;
+    v5 = get8(v1);
+    if (v4 == 0) put8(p0 + 88, 1);
+    put8(p0 + 77, v4 + 1);
+    put8(p0 + 76, 0);
+    put8(v1, v5 + 1);
+    put16(p0 + 84, 1);
+    put16(p0 + 86, get16(p0 + 82));
+    v1 = p0 + 96;
+    v4 = get8(v1);
+    put64(v1, 0);
+    v1 = p0 + 104;
+    v6 = get64(v1);
+    put64(v1, 0);
+    v1 = p0 + 112;
+    v3 = get64(v1);
+    put64(v1, 0);
+    v1 = p0 + 120;
+    v7 = get64(v1);
+    put64(v1, 0);
+    v1 = p0 + 128;
+    v2 = get64(v1);
+    put64(v1, 0);
+    if (v4 != 1) {
+        nodes_ground_node_Ground_refill(p0);
+        return;
+    }
+    v1 = get64(p0 + 144);
+    if (v1 == 0) {
+        v1 = v2;
+        v6 = v3;
+    } else {
         v8 = p0 + 160;
         v9 = get64(v8);
         v10 = p0 + 152;
@@ -1944,107 +1932,89 @@ static void nodes_ground_node_Ground_advance(uint64_t p0)
         v1 = get64(v1 + 24);
         put64(v11 + 24, v2);
         put64(v10, get64(v10) + 1);
-    l9:;
-        if (v1 == 0) {
-            nodes_ground_node_Ground_refill(p0);
-            return;
-        }
-        rattle_dealloc_at(v6);
+    }
+    if (v1 == 0) {
         nodes_ground_node_Ground_refill(p0);
         return;
     }
-    v2 = p0 + 200;
-    if (get64(v2) != v1) {
-        v3 = get64(p0 + 192);
-        goto l4;
-    }
-    v3 = 0;
-    put64(v2, 0);
-l4:;
-    put64(p0 + 176, v1 - 1);
-    put64(p0 + 192, v3 + 1);
-    v1 = get64(p0 + 168) + (v3 << 5);
-    if (get64(v1 + 24) == 0) {
-        nodes_ground_node_Ground_refill(p0);
-        return;
-    }
-    rattle_dealloc_at(get64(v1 + 8));
+    rattle_dealloc_at(v6);
     nodes_ground_node_Ground_refill(p0);
     return;
 }
 
+/* nodes::ground_node::Ground::refill, crates/nodes/src/ground_node.rt:260 */
 static void nodes_ground_node_Ground_refill(uint64_t p0)
 {
     uint64_t v1 = 0, v2 = 0, v3 = 0, v4 = 0, v5 = 0, v6 = 0;
-    if (get8(p0 + 73) != 5) {
-        if (get8(p0 + 96) == 1) return;
-        v1 = get64(p0 + 216);
-        if (v1 == 0) return;
-        v2 = p0 + 240;
-        if (get64(v2) != v1) {
-            v3 = get64(p0 + 232);
-            goto l9;
+    if (get8(p0 + 73) == 5) {
+        v1 = p0 + 216;
+        v2 = get64(v1);
+        if (v2 == 0) return;
+        v3 = get64(p0 + 240);
+        v4 = get64(p0 + 232);
+        put64(v1, 0);
+        v5 = get64(p0 + 224);
+        put64(v1 + 8, 0);
+        put64(v1 + 16, 0);
+        put64(v1 + 24, 0);
+        v6 = get64(p0 + 208);
+        v2 = v2 - v3;
+        if (v4 < (v4 + v2)) {
+            v1 = ((v4 << 5) + v6) + 24;
+            do {
+                if (get64(v1) != 0) rattle_dealloc_at(get64(v1 - 16));
+                v1 = v1 + 32;
+                v2 = v2 - 1;
+            } while (v2 != 0);
         }
-        v3 = 0;
-        put64(v2, 0);
-    l9:;
-        put64(p0 + 216, v1 - 1);
-        put64(p0 + 232, v3 + 1);
-        v1 = get64(p0 + 208) + (v3 << 5);
-        v3 = get64(v1 + 24);
-        v2 = get64(v1 + 8);
-        v4 = p0 + 76;
-        if (get8(v4) != 0) {
-            if (v3 == 0) return;
-            rattle_dealloc_at(v2);
-            return;
+        if (v3 != 0) {
+            v1 = v6 + 24;
+            do {
+                if (get64(v1) != 0) rattle_dealloc_at(get64(v1 - 16));
+                v1 = v1 + 32;
+                v3 = v3 - 1;
+            } while (v3 != 0);
         }
-        v6 = get64(v1);
-        v1 = get64(v1 + 16);
-        put64(p0 + 128, v3);
-        put64(p0 + 120, v1);
-        put64(p0 + 112, v2);
-        put64(p0 + 104, v6);
-        put64(p0 + 96, 1);
-        put8(v4, 1);
+        put64(p0 + 240, 0);
+        put64(p0 + 232, v4);
+        put64(p0 + 224, v5);
+        put64(p0 + 216, 0);
+        put64(p0 + 208, v6);
         return;
     }
-    v1 = p0 + 216;
-    v2 = get64(v1);
-    if (v2 == 0) return;
-    v3 = get64(p0 + 240);
-    v4 = get64(p0 + 232);
-    put64(v1, 0);
-    v5 = get64(p0 + 224);
-    put64(v1 + 8, 0);
-    put64(v1 + 16, 0);
-    put64(v1 + 24, 0);
-    v6 = get64(p0 + 208);
-    v2 = v2 - v3;
-    if (v4 < (v4 + v2)) {
-        v1 = ((v4 << 5) + v6) + 24;
-        do {
-            if (get64(v1) != 0) rattle_dealloc_at(get64(v1 - 16));
-            v1 = v1 + 32;
-            v2 = v2 - 1;
-        } while (v2 != 0);
+    if (get8(p0 + 96) == 1) return;
+    v1 = get64(p0 + 216);
+    if (v1 == 0) return;
+    v2 = p0 + 240;
+    if (get64(v2) != v1) {
+        v3 = get64(p0 + 232);
+    } else {
+        v3 = 0;
+        put64(v2, 0);
     }
-    if (v3 != 0) {
-        v1 = v6 + 24;
-        do {
-            if (get64(v1) != 0) rattle_dealloc_at(get64(v1 - 16));
-            v1 = v1 + 32;
-            v3 = v3 - 1;
-        } while (v3 != 0);
+    put64(p0 + 216, v1 - 1);
+    put64(p0 + 232, v3 + 1);
+    v1 = get64(p0 + 208) + (v3 << 5);
+    v3 = get64(v1 + 24);
+    v2 = get64(v1 + 8);
+    v4 = p0 + 76;
+    if (get8(v4) != 0) {
+        if (v3 == 0) return;
+        rattle_dealloc_at(v2);
+        return;
     }
-    put64(p0 + 240, 0);
-    put64(p0 + 232, v4);
-    put64(p0 + 224, v5);
-    put64(p0 + 216, 0);
-    put64(p0 + 208, v6);
+    v6 = get64(v1);
+    v1 = get64(v1 + 16);
+    put64(p0 + 128, v3);
+    put64(p0 + 120, v1);
+    put64(p0 + 112, v2);
+    put64(p0 + 104, v6);
+    put64(p0 + 96, 1);
+    put8(v4, 1);
     return;
 }
 
+/* nodes::ground_node::Ground::bypass, crates/nodes/src/ground_node/submit.rt:154 */
 static void nodes_ground_node_Ground_bypass(uint64_t p0, uint64_t p1, uint32_t p2, uint64_t p3, uint64_t p4)
 {
     unsigned char frame_octets[16 + 15];
@@ -2080,35 +2050,14 @@ static void nodes_ground_node_Ground_bypass(uint64_t p0, uint64_t p1, uint32_t p
     v9 = (uint64_t)get32(p1 + 32);
     v10 = (uint64_t)get32(p1 + 28);
     v11 = ((v8 << 8) & 0x700) | get8(p3 + 1);
-    if ((v8 & 8) != 0) {
-        if (v11 == 0x7ff) {
-            put8(p0 + 1, v6);
-            put8(p0, v7);
-            return;
-        }
-    }
-    if (((((uint64_t)get8(p3 + 4) << 8) | (uint64_t)get8(p3 + 5)) + 7) != p4) {
-        put8(p0 + 1, v6);
-        put8(p0, v7);
-        return;
-    }
-    if (v8 < 16) {
-        put8(p0 + 1, v6);
-        put8(p0, v7);
-        return;
-    }
-    if (v11 == 0x7ff) {
+    if (((v8 & 8) != 0 && v11 == 0x7ff) || ((((uint64_t)get8(p3 + 4) << 8) | (uint64_t)get8(p3 + 5)) + 7) != p4 || v8
+        < 16 || v11 == 0x7ff) {
         put8(p0 + 1, v6);
         put8(p0, v7);
         return;
     }
     v6 = 3;
-    if (p4 > v9) {
-        put8(p0 + 1, v6);
-        put8(p0, v7);
-        return;
-    }
-    if (p4 > v10) {
+    if (p4 > v9 || p4 > v10) {
         put8(p0 + 1, v6);
         put8(p0, v7);
         return;
@@ -2122,100 +2071,94 @@ static void nodes_ground_node_Ground_bypass(uint64_t p0, uint64_t p1, uint32_t p
     rattle_alloc_at(v5, p4, 1);
     v7 = 1;
     v6 = 5;
-    if (((uint32_t)get64(v5) & 1) == 0) {
-        put8(p0 + 1, v6);
-        put8(p0, v7);
-        return;
-    }
-    p2 = p2 << 8;
-    v12 = get64(v5 + 8);
-    if ((v12 - p3) < p4) {
-        v13 = p4 & ~3ULL;
-        v14 = p4 & 3;
-        v9 = 0;
-        do {
-            v10 = v12 + v9;
-            v15 = p3 + v9;
-            put8(v10, get8(v15));
-            put8(v10 + 1, get8(v15 + 1));
-            put8(v10 + 2, get8(v15 + 2));
-            put8(v10 + 3, get8(v15 + 3));
-            v9 = v9 + 4;
-        } while (v13 != v9);
-        if (v14 == 0) goto l6;
-        p3 = p3 + v9;
-        v9 = v12 + v9;
-    l9:;
-        put8(v9, get8(p3));
-        v9 = v9 + 1;
-        p3 = p3 + 1;
-        v14 = v14 - 1;
-        if (v14 != 0) goto l9;
-        goto l6;
-    }
-    if (p4 != 0) copy(v12, p3, p4);
-l6:;
-    p2 = p2 | 3;
-    p3 = get64(p1 + 176);
-    v9 = get64(p1 + 184);
-    if (p3 < v9) {
-        v10 = get64(p1 + 168);
-        v14 = p1 + 200;
-        v15 = get64(v14);
-        v13 = p3 - v15;
-        v16 = get64(p1 + 192);
-        if (v13 >= (v9 - v16)) {
-            v9 = v10 + (v15 << 5);
-            put64(v9 + 24, p4);
-            put64(v9 + 16, p4);
-            put64(v9 + 8, v12);
-            put32(v9 + 2, 0);
-            put16(v9, p2);
-            put16(v9 + 6, 0);
-            put64(v14, v15 + 1);
-            goto l11;
+    if (((uint32_t)get64(v5) & 1) != 0) {
+        p2 = p2 << 8;
+        v12 = get64(v5 + 8);
+        if ((v12 - p3) < p4) {
+            v13 = p4 & ~3ULL;
+            v14 = p4 & 3;
+            v9 = 0;
+            do {
+                v10 = v12 + v9;
+                v15 = p3 + v9;
+                put8(v10, get8(v15));
+                put8(v10 + 1, get8(v15 + 1));
+                put8(v10 + 2, get8(v15 + 2));
+                put8(v10 + 3, get8(v15 + 3));
+                v9 = v9 + 4;
+            } while (v13 != v9);
+            if (v14 == 0) goto l6;
+            p3 = p3 + v9;
+            v9 = v12 + v9;
+            do {
+                put8(v9, get8(p3));
+                v9 = v9 + 1;
+                p3 = p3 + 1;
+                v14 = v14 - 1;
+            } while (v14 != 0);
+        } else if (p4 != 0) copy(v12, p3, p4);
+    l6:;
+        p2 = p2 | 3;
+        p3 = get64(p1 + 176);
+        v9 = get64(p1 + 184);
+        if (p3 < v9) {
+            v10 = get64(p1 + 168);
+            v14 = p1 + 200;
+            v15 = get64(v14);
+            v13 = p3 - v15;
+            v16 = get64(p1 + 192);
+            if (v13 < (v9 - v16)) {
+                v9 = v10 + ((v13 + v16) << 5);
+                put32(v9 + 2, 0);
+                put64(v9 + 24, p4);
+                put64(v9 + 16, p4);
+                put64(v9 + 8, v12);
+                put16(v9, p2);
+                put16(v9 + 6, 0);
+            } else {
+                v9 = v10 + (v15 << 5);
+                put64(v9 + 24, p4);
+                put64(v9 + 16, p4);
+                put64(v9 + 8, v12);
+                put32(v9 + 2, 0);
+                put16(v9, p2);
+                put16(v9 + 6, 0);
+                put64(v14, v15 + 1);
+            }
+        } else {
+            p3 = p1 + 168;
+            t1 = std_alloc_vec_deque_VecDeque_grow_de4148db516017ec(p3);
+            if (t1 == 0) {
+                rattle_dealloc_at(v12);
+                put8(p0 + 1, v6);
+                put8(p0, v7);
+                return;
+            }
+            v9 = get64(p3);
+            p3 = get64(p1 + 176);
+            v15 = p1 + 200;
+            v10 = get64(v15);
+            v14 = p3 - v10;
+            v13 = get64(p1 + 192);
+            if (v14 < (get64(p1 + 184) - v13)) {
+                v9 = v9 + ((v13 + v14) << 5);
+                put64(v9 + 24, p4);
+                put64(v9 + 16, p4);
+                put64(v9 + 8, v12);
+                put64(v9, (uint64_t)p2 & 0xffff);
+            } else {
+                v9 = v9 + (v10 << 5);
+                put64(v9 + 24, p4);
+                put64(v9 + 16, p4);
+                put64(v9 + 8, v12);
+                put64(v9, (uint64_t)p2 & 0xffff);
+                put64(v15, v10 + 1);
+            }
         }
-        v9 = v10 + ((v13 + v16) << 5);
-        put32(v9 + 2, 0);
-        put64(v9 + 24, p4);
-        put64(v9 + 16, p4);
-        put64(v9 + 8, v12);
-        put16(v9, p2);
-        put16(v9 + 6, 0);
-        goto l11;
+        put64(p1 + 176, p3 + 1);
+        v6 = 0;
+        v7 = 0;
     }
-    p3 = p1 + 168;
-    t1 = std_alloc_vec_deque_VecDeque_grow_de4148db516017ec(p3);
-    if (t1 == 0) goto l10;
-    v9 = get64(p3);
-    p3 = get64(p1 + 176);
-    v15 = p1 + 200;
-    v10 = get64(v15);
-    v14 = p3 - v10;
-    v13 = get64(p1 + 192);
-    if (v14 < (get64(p1 + 184) - v13)) {
-        v9 = v9 + ((v13 + v14) << 5);
-        put64(v9 + 24, p4);
-        put64(v9 + 16, p4);
-        put64(v9 + 8, v12);
-        put64(v9, (uint64_t)p2 & 0xffff);
-        goto l11;
-    }
-    v9 = v9 + (v10 << 5);
-    put64(v9 + 24, p4);
-    put64(v9 + 16, p4);
-    put64(v9 + 8, v12);
-    put64(v9, (uint64_t)p2 & 0xffff);
-    put64(v15, v10 + 1);
-l11:;
-    put64(p1 + 176, p3 + 1);
-    v6 = 0;
-    v7 = 0;
-    put8(p0 + 1, v6);
-    put8(p0, v7);
-    return;
-l10:;
-    rattle_dealloc_at(v12);
     put8(p0 + 1, v6);
     put8(p0, v7);
     return;
@@ -2230,7 +2173,7 @@ static uint32_t std_alloc_vec_deque_VecDeque_grow_de4148db516017ec(uint64_t p0)
     v1 = aligned(frame_octets);
     v2 = 1;
     v3 = get64(p0 + 8);
-    if (get64(p0 + 16) != v3) return v2;
+    if (get64(p0 + 16) != v3) return 1;
     v4 = p0 + 24;
     if (get64(v4) == 0) {
         v5 = get64(p0);
@@ -2248,27 +2191,172 @@ static uint32_t std_alloc_vec_deque_VecDeque_grow_de4148db516017ec(uint64_t p0)
         return v2;
     }
     v2 = 0;
-    if (v3 == ~0ULL) return v2;
+    if (v3 == ~0ULL) return 0;
     v5 = ((v3 > 3) ? v3 : 3ULL) + 1;
     v6 = v3 << 1;
     v6 = (v3 < 0x4000000000000000ULL) ? ((v5 > v6) ? v5 : v6) : v5;
-    if (get64(p0 + 32) <= (v6 - v3)) {
-        if (v6 > 0x3ffffffffffffffULL) return v2;
-        if (v3 != 0) {
-            rattle_realloc_at(v1 + 40, get64(p0), v3 << 5, v6 << 5, 8);
-            if (((uint32_t)get64(v1 + 40) & 1) == 0) return v2;
-            v7 = get64(v1 + 48);
-            goto l5;
-        }
+    if (get64(p0 + 32) > (v6 - v3)) {
+        if (v6 > 0x3ffffffffffffffULL) return 0;
+        rattle_alloc_at(v1 + 8, v6 << 5, 8);
+        if ((get32(v1 + 8) & 1) == 0) return 0;
+        v7 = get64(v1 + 16);
+        v14 = get64(p0);
+        v15 = get64(p0 + 24) << 5;
+        v16 = v14 + v15;
+        v17 = get64(p0 + 8);
+        v18 = get64(p0 + 32);
+        v3 = v17 - v18;
+        v19 = v3 << 5;
+        if ((v7 - v16) < v19) {
+            if (v17 != v18) {
+                v11 = v3 & 3;
+                v12 = 0;
+                if ((v18 - v17) <= ~3ULL) {
+                    v20 = v3 & ~3ULL;
+                    v9 = 0;
+                    v12 = 0;
+                    do {
+                        v3 = v16 + v9;
+                        v8 = get64(v3);
+                        v13 = get64(v3 + 8);
+                        v10 = get64(v3 + 16);
+                        v5 = v7 + v9;
+                        put64(v5 + 24, get64(v3 + 24));
+                        put64(v5 + 16, v10);
+                        put64(v5 + 8, v13);
+                        put64(v5, v8);
+                        v8 = get64(v3 + 32);
+                        v13 = get64(v3 + 40);
+                        v10 = get64(v3 + 48);
+                        put64(v5 + 56, get64(v3 + 56));
+                        put64(v5 + 48, v10);
+                        put64(v5 + 40, v13);
+                        put64(v5 + 32, v8);
+                        v8 = get64(v3 + 64);
+                        v13 = get64(v3 + 72);
+                        v10 = get64(v3 + 80);
+                        put64(v5 + 88, get64(v3 + 88));
+                        put64(v5 + 80, v10);
+                        put64(v5 + 72, v13);
+                        put64(v5 + 64, v8);
+                        v8 = get64(v3 + 96);
+                        v13 = get64(v3 + 104);
+                        v10 = get64(v3 + 112);
+                        put64(v5 + 120, get64(v3 + 120));
+                        put64(v5 + 112, v10);
+                        put64(v5 + 104, v13);
+                        put64(v5 + 96, v8);
+                        v9 = v9 + 128;
+                        v12 = v12 + 4;
+                    } while (v20 != v12);
+                    if (v11 == 0) goto l12;
+                }
+                v5 = v12 << 5;
+                v3 = v7 + v5;
+                v5 = v14 + (v5 + v15);
+                do {
+                    v9 = get64(v5);
+                    v12 = get64(v5 + 8);
+                    v8 = get64(v5 + 16);
+                    put64(v3 + 24, get64(v5 + 24));
+                    put64(v3 + 16, v8);
+                    put64(v3 + 8, v12);
+                    put64(v3, v9);
+                    v3 = v3 + 32;
+                    v5 = v5 + 32;
+                    v11 = v11 - 1;
+                } while (v11 != 0);
+            }
+        } else if (v19 != 0) copy(v7, v16, v19);
+    l12:;
+        v3 = v7 + v19;
+        v16 = get64(p0);
+        v5 = get64(p0 + 32);
+        v9 = v5 << 5;
+        if ((v3 - v16) < v9) {
+            if (v5 != 0) {
+                v9 = v5 & 3;
+                v11 = 0;
+                if (v5 >= 4) {
+                    v11 = 0;
+                    v10 = 0 - (v5 & ~3ULL);
+                    v5 = v16;
+                    do {
+                        v12 = get64(v5);
+                        v8 = get64(v5 + 8);
+                        v13 = get64(v5 + 16);
+                        put64(v3 + 24, get64(v5 + 24));
+                        put64(v3 + 16, v13);
+                        put64(v3 + 8, v8);
+                        put64(v3, v12);
+                        v12 = get64(v5 + 32);
+                        v8 = get64(v5 + 40);
+                        v13 = get64(v5 + 48);
+                        put64(v3 + 56, get64(v5 + 56));
+                        put64(v3 + 48, v13);
+                        put64(v3 + 40, v8);
+                        put64(v3 + 32, v12);
+                        v12 = get64(v5 + 64);
+                        v8 = get64(v5 + 72);
+                        v13 = get64(v5 + 80);
+                        put64(v3 + 88, get64(v5 + 88));
+                        put64(v3 + 80, v13);
+                        put64(v3 + 72, v8);
+                        put64(v3 + 64, v12);
+                        v12 = get64(v5 + 96);
+                        v8 = get64(v5 + 104);
+                        v13 = get64(v5 + 112);
+                        put64(v3 + 120, get64(v5 + 120));
+                        put64(v3 + 112, v13);
+                        put64(v3 + 104, v8);
+                        put64(v3 + 96, v12);
+                        v3 = v3 + 128;
+                        v5 = v5 + 128;
+                        v11 = v11 - 4;
+                    } while (v10 != v11);
+                    if (v9 == 0) goto l17;
+                    v11 = 0 - v11;
+                }
+                v5 = v11 << 5;
+                v3 = v7 + ((v5 + (v17 << 5)) - (v18 << 5));
+                v5 = v16 + v5;
+                do {
+                    v11 = get64(v5);
+                    v12 = get64(v5 + 8);
+                    v8 = get64(v5 + 16);
+                    put64(v3 + 24, get64(v5 + 24));
+                    put64(v3 + 16, v8);
+                    put64(v3 + 8, v12);
+                    put64(v3, v11);
+                    v3 = v3 + 32;
+                    v5 = v5 + 32;
+                    v9 = v9 - 1;
+                } while (v9 != 0);
+            }
+        } else if (v9 != 0) copy(v3, v16, v9);
+    l17:;
+        rattle_dealloc_at(get64(p0));
+        put64(p0 + 16, v6);
+        put64(p0, v7);
+        put64(v4, 0);
+        put64(v4 + 8, 0);
+        goto l3;
+    }
+    if (v6 > 0x3ffffffffffffffULL) return 0;
+    if (v3 != 0) {
+        rattle_realloc_at(v1 + 40, get64(p0), v3 << 5, v6 << 5, 8);
+        if (((uint32_t)get64(v1 + 40) & 1) == 0) return 0;
+        v7 = get64(v1 + 48);
+    } else {
         rattle_alloc_at(v1 + 24, 128, 8);
-        if (((uint32_t)get64(v1 + 24) & 1) == 0) return v2;
+        if (((uint32_t)get64(v1 + 24) & 1) == 0) return 0;
         v7 = get64(v1 + 32);
-    l5:;
-        v8 = get64(p0 + 8) << 5;
-        v3 = get64(p0 + 32);
-        v5 = v3 << 5;
-        if (v8 < v5) {
-            if (v3 == 0) goto l7;
+    }
+    v8 = get64(p0 + 8) << 5;
+    v3 = get64(p0 + 32);
+    v5 = v3 << 5;
+    if (v8 < v5) {
+        if (v3 != 0) {
             v4 = v3 & 3;
             v9 = 0;
             if (v3 >= 4) {
@@ -2311,209 +2399,57 @@ static uint32_t std_alloc_vec_deque_VecDeque_grow_de4148db516017ec(uint64_t p0)
                 if (v4 == 0) goto l7;
             }
             v3 = v7 + (v9 << 5);
-        l11:;
-            v9 = get64(v3);
-            v11 = get64(v3 + 8);
-            v12 = get64(v3 + 16);
-            v5 = v3 + v8;
-            put64(v5 + 24, get64(v3 + 24));
-            put64(v5 + 16, v12);
-            put64(v5 + 8, v11);
-            put64(v5, v9);
-            v3 = v3 + 32;
-            v4 = v4 - 1;
-            if (v4 != 0) goto l11;
-            goto l7;
-        }
-        if (v5 != 0) copy(v7 + v8, v7, v5);
-    l7:;
-        put64(p0, v7);
-        put64(p0 + 32, 0);
-        put64(p0 + 16, v6);
-        goto l3;
-    }
-    if (v6 > 0x3ffffffffffffffULL) return v2;
-    rattle_alloc_at(v1 + 8, v6 << 5, 8);
-    if ((get32(v1 + 8) & 1) == 0) return v2;
-    v7 = get64(v1 + 16);
-    v14 = get64(p0);
-    v15 = get64(p0 + 24) << 5;
-    v16 = v14 + v15;
-    v17 = get64(p0 + 8);
-    v18 = get64(p0 + 32);
-    v3 = v17 - v18;
-    v19 = v3 << 5;
-    if ((v7 - v16) < v19) {
-        if (v17 == v18) goto l12;
-        v11 = v3 & 3;
-        v12 = 0;
-        if ((v18 - v17) <= ~3ULL) {
-            v20 = v3 & ~3ULL;
-            v9 = 0;
-            v12 = 0;
             do {
-                v3 = v16 + v9;
-                v8 = get64(v3);
-                v13 = get64(v3 + 8);
-                v10 = get64(v3 + 16);
-                v5 = v7 + v9;
+                v9 = get64(v3);
+                v11 = get64(v3 + 8);
+                v12 = get64(v3 + 16);
+                v5 = v3 + v8;
                 put64(v5 + 24, get64(v3 + 24));
-                put64(v5 + 16, v10);
-                put64(v5 + 8, v13);
-                put64(v5, v8);
-                v8 = get64(v3 + 32);
-                v13 = get64(v3 + 40);
-                v10 = get64(v3 + 48);
-                put64(v5 + 56, get64(v3 + 56));
-                put64(v5 + 48, v10);
-                put64(v5 + 40, v13);
-                put64(v5 + 32, v8);
-                v8 = get64(v3 + 64);
-                v13 = get64(v3 + 72);
-                v10 = get64(v3 + 80);
-                put64(v5 + 88, get64(v3 + 88));
-                put64(v5 + 80, v10);
-                put64(v5 + 72, v13);
-                put64(v5 + 64, v8);
-                v8 = get64(v3 + 96);
-                v13 = get64(v3 + 104);
-                v10 = get64(v3 + 112);
-                put64(v5 + 120, get64(v3 + 120));
-                put64(v5 + 112, v10);
-                put64(v5 + 104, v13);
-                put64(v5 + 96, v8);
-                v9 = v9 + 128;
-                v12 = v12 + 4;
-            } while (v20 != v12);
-            if (v11 == 0) goto l12;
+                put64(v5 + 16, v12);
+                put64(v5 + 8, v11);
+                put64(v5, v9);
+                v3 = v3 + 32;
+                v4 = v4 - 1;
+            } while (v4 != 0);
         }
-        v5 = v12 << 5;
-        v3 = v7 + v5;
-        v5 = v14 + (v5 + v15);
-    l16:;
-        v9 = get64(v5);
-        v12 = get64(v5 + 8);
-        v8 = get64(v5 + 16);
-        put64(v3 + 24, get64(v5 + 24));
-        put64(v3 + 16, v8);
-        put64(v3 + 8, v12);
-        put64(v3, v9);
-        v3 = v3 + 32;
-        v5 = v5 + 32;
-        v11 = v11 - 1;
-        if (v11 != 0) goto l16;
-        goto l12;
-    }
-    if (v19 != 0) copy(v7, v16, v19);
-l12:;
-    v3 = v7 + v19;
-    v16 = get64(p0);
-    v5 = get64(p0 + 32);
-    v9 = v5 << 5;
-    if ((v3 - v16) < v9) {
-        if (v5 == 0) goto l17;
-        v9 = v5 & 3;
-        v11 = 0;
-        if (v5 >= 4) {
-            v11 = 0;
-            v10 = 0 - (v5 & ~3ULL);
-            v5 = v16;
-            do {
-                v12 = get64(v5);
-                v8 = get64(v5 + 8);
-                v13 = get64(v5 + 16);
-                put64(v3 + 24, get64(v5 + 24));
-                put64(v3 + 16, v13);
-                put64(v3 + 8, v8);
-                put64(v3, v12);
-                v12 = get64(v5 + 32);
-                v8 = get64(v5 + 40);
-                v13 = get64(v5 + 48);
-                put64(v3 + 56, get64(v5 + 56));
-                put64(v3 + 48, v13);
-                put64(v3 + 40, v8);
-                put64(v3 + 32, v12);
-                v12 = get64(v5 + 64);
-                v8 = get64(v5 + 72);
-                v13 = get64(v5 + 80);
-                put64(v3 + 88, get64(v5 + 88));
-                put64(v3 + 80, v13);
-                put64(v3 + 72, v8);
-                put64(v3 + 64, v12);
-                v12 = get64(v5 + 96);
-                v8 = get64(v5 + 104);
-                v13 = get64(v5 + 112);
-                put64(v3 + 120, get64(v5 + 120));
-                put64(v3 + 112, v13);
-                put64(v3 + 104, v8);
-                put64(v3 + 96, v12);
-                v3 = v3 + 128;
-                v5 = v5 + 128;
-                v11 = v11 - 4;
-            } while (v10 != v11);
-            if (v9 == 0) goto l17;
-            v11 = 0 - v11;
-        }
-        v5 = v11 << 5;
-        v3 = v7 + ((v5 + (v17 << 5)) - (v18 << 5));
-        v5 = v16 + v5;
-    l21:;
-        v11 = get64(v5);
-        v12 = get64(v5 + 8);
-        v8 = get64(v5 + 16);
-        put64(v3 + 24, get64(v5 + 24));
-        put64(v3 + 16, v8);
-        put64(v3 + 8, v12);
-        put64(v3, v11);
-        v3 = v3 + 32;
-        v5 = v5 + 32;
-        v9 = v9 - 1;
-        if (v9 != 0) goto l21;
-        goto l17;
-    }
-    if (v9 != 0) copy(v3, v16, v9);
-l17:;
-    rattle_dealloc_at(get64(p0));
-    put64(p0 + 16, v6);
+    } else if (v5 != 0) copy(v7 + v8, v7, v5);
+l7:;
     put64(p0, v7);
-    put64(v4, 0);
-    put64(v4 + 8, 0);
+    put64(p0 + 32, 0);
+    put64(p0 + 16, v6);
 l3:;
     v2 = 1;
-    return v2;
+    return 1;
 }
 
 static uint32_t std_alloc_vec_Vec_grow_amortized_de4148db516017ec(uint64_t p0)
 {
     unsigned char frame_octets[32 + 15];
-    uint32_t v2 = 0;
     uint64_t v1 = 0, v3 = 0, v4 = 0, v5 = 0, v6 = 0;
     v1 = aligned(frame_octets);
-    v2 = 0;
     v3 = get64(p0 + 8);
-    if (v3 == ~0ULL) return v2;
+    if (v3 == ~0ULL) return 0;
     v4 = ((v3 > 3) ? v3 : 3ULL) + 1;
     v5 = get64(p0 + 16);
     v6 = v5 << 1;
     v6 = (v4 > v6) ? v4 : v6;
     v4 = (v5 < 0x4000000000000000ULL) ? v6 : v4;
-    if (v4 > 0x3ffffffffffffffULL) return v2;
+    if (v4 > 0x3ffffffffffffffULL) return 0;
     if (v5 != 0) {
         rattle_realloc_at(v1 + 16, get64(p0), v3 << 5, v4 << 5, 8);
-        if (((uint32_t)get64(v1 + 16) & 1) == 0) return v2;
+        if (((uint32_t)get64(v1 + 16) & 1) == 0) return 0;
         v3 = get64(v1 + 24);
-        goto l2;
+    } else {
+        rattle_alloc_at(v1, v6 << 5, 8);
+        if (((uint32_t)get64(v1) & 1) == 0) return 0;
+        v3 = get64(v1 + 8);
     }
-    rattle_alloc_at(v1, v6 << 5, 8);
-    if (((uint32_t)get64(v1) & 1) == 0) return v2;
-    v3 = get64(v1 + 8);
-l2:;
     put64(p0 + 16, v4);
     put64(p0, v3);
-    v2 = 1;
-    return v2;
+    return 1;
 }
 
+/* nodes::ground_node::Ground::report, crates/nodes/src/ground_node/telemetry.rt:76 */
 static void nodes_ground_node_Ground_report(uint64_t p0, uint64_t p1, uint64_t p2)
 {
     unsigned char frame_octets[16 + 15];
@@ -2546,31 +2482,18 @@ static void nodes_ground_node_Ground_report(uint64_t p0, uint64_t p1, uint64_t p
     v10 = get8(p1 + 73);
     switch ((uint32_t)((uint64_t)v10 & 255)) {
     case 3:
-        if ((v5 & 32) == 0) {
-            if (get8(p1 + 74) == v8) {
-                if ((v5 & 8) == 0) {
-                    if ((v5 & 16) == 0) {
-                        v6 = 0;
-                        put32(p1 + 84, 0);
-                        put8(p1 + 73, 0);
-                        goto l9;
-                    }
-                    put8(p1 + 78, 0);
-                    put8(p1 + 73, 5);
-                    put8(p1 + 91, 0);
-                    put16(p1 + 89, 0);
-                    put32(p1 + 84, 0);
-                    put16(p1 + 76, 0);
-                    goto l6;
-                }
-                put8(p1 + 78, 0);
-                put8(p1 + 73, 5);
-                put8(p1 + 91, 0);
-                put16(p1 + 89, 0);
-                put32(p1 + 84, 0);
-                put16(p1 + 76, 0);
-                goto l7;
-            }
+        if ((v5 & 32) != 0) {
+            v7 = 0;
+            put8(p1 + 78, 0);
+            put8(p1 + 73, 5);
+            put8(p1 + 91, 0);
+            put16(p1 + 89, 0);
+            put32(p1 + 84, 0);
+            put16(p1 + 76, 0);
+            v6 = 1;
+            goto l4;
+        }
+        if (get8(p1 + 74) != v8) {
             put8(p1 + 78, 0);
             put8(p1 + 73, 5);
             put8(p1 + 91, 0);
@@ -2579,79 +2502,48 @@ static void nodes_ground_node_Ground_report(uint64_t p0, uint64_t p1, uint64_t p
             put16(p1 + 76, 0);
             goto l5;
         }
-        v7 = 0;
-        put8(p1 + 78, 0);
-        put8(p1 + 73, 5);
-        put8(p1 + 91, 0);
-        put16(p1 + 89, 0);
+        if ((v5 & 8) != 0) {
+            put8(p1 + 78, 0);
+            put8(p1 + 73, 5);
+            put8(p1 + 91, 0);
+            put16(p1 + 89, 0);
+            put32(p1 + 84, 0);
+            put16(p1 + 76, 0);
+            goto l7;
+        }
+        if ((v5 & 16) != 0) {
+            put8(p1 + 78, 0);
+            put8(p1 + 73, 5);
+            put8(p1 + 91, 0);
+            put16(p1 + 89, 0);
+            put32(p1 + 84, 0);
+            put16(p1 + 76, 0);
+            goto l6;
+        }
+        v6 = 0;
         put32(p1 + 84, 0);
-        put16(p1 + 76, 0);
-        v6 = 1;
-        goto l4;
+        put8(p1 + 73, 0);
+        goto l9;
     case 4:
-        goto l10;
+        if ((v5 & 56) == 0) {
+            v7 = 0;
+            if (get8(p1 + 74) != v8) goto l4;
+            v6 = 0;
+            put8(p1 + 91, 0);
+            put16(p1 + 89, 0);
+            put32(p1 + 84, 0);
+            put8(p1 + 73, 0);
+        }
+        goto l9;
     case 5:
         goto l4;
     default:
-        v7 = 0;
-        put8(v3 + 14, 0);
-        put16(v3 + 12, 0);
-        if ((v5 & 32) == 0) {
-            v7 = get8(p1 + 74);
-            if (((v7 - v4) & 255) >= ((v8 - v4) & 255)) {
-                if ((v5 & 24) != 16) {
-                    if ((v5 & 8) == 0) {
-                        if ((v4 & 255) != v8) {
-                            cop1_sender_Sender_move_on(v3 + 12, p2, v8);
-                            goto l8;
-                        }
-                        if ((v10 & 255) != 0) {
-                            put8(p1 + 78, 0);
-                            put8(p1 + 73, 5);
-                            put8(p1 + 91, 0);
-                            put16(p1 + 89, 0);
-                            put32(p1 + 84, 0);
-                            put16(p1 + 76, 0);
-                            goto l7;
-                        }
-                        v6 = 0;
-                        goto l9;
-                    }
-                    if ((v7 & 255) != v8) {
-                        v7 = v5 & 16;
-                        if ((v4 & 255) == v8) {
-                            cop1_sender_Sender_ask_for_all(v3 + 8, p2, v7 != 0);
-                            v7 = get8(v3 + 9);
-                            v6 = get8(v3 + 8);
-                            goto l4;
-                        }
-                        cop1_sender_Sender_ask_for_others(v3 + 12, p2, v8, v7 != 0);
-                        goto l8;
-                    }
-                    put8(p1 + 78, 0);
-                    put8(p1 + 73, 5);
-                    put8(p1 + 91, 0);
-                    put16(p1 + 89, 0);
-                    put32(p1 + 84, 0);
-                    put16(p1 + 76, 0);
-                    goto l7;
-                }
-                put8(p1 + 78, 0);
-                put8(p1 + 73, 5);
-                put8(p1 + 91, 0);
-                put16(p1 + 89, 0);
-                put32(p1 + 84, 0);
-                put16(p1 + 76, 0);
-                goto l6;
-            }
-            put8(p1 + 78, 0);
-            put8(p1 + 73, 5);
-            put8(p1 + 91, 0);
-            put16(p1 + 89, 0);
-            put32(p1 + 84, 0);
-            put16(p1 + 76, 0);
-            goto l5;
-        }
+        break;
+    }
+    v7 = 0;
+    put8(v3 + 14, 0);
+    put16(v3 + 12, 0);
+    if ((v5 & 32) != 0) {
         put8(p1 + 78, 0);
         put8(p1 + 73, 5);
         put8(p1 + 91, 0);
@@ -2661,16 +2553,59 @@ static void nodes_ground_node_Ground_report(uint64_t p0, uint64_t p1, uint64_t p
         v6 = 1;
         goto l4;
     }
-l10:;
-    if ((v5 & 56) == 0) {
-        v7 = 0;
-        if (get8(p1 + 74) != v8) goto l4;
-        v6 = 0;
+    v7 = get8(p1 + 74);
+    if (((v7 - v4) & 255) < ((v8 - v4) & 255)) {
+        put8(p1 + 78, 0);
+        put8(p1 + 73, 5);
         put8(p1 + 91, 0);
         put16(p1 + 89, 0);
         put32(p1 + 84, 0);
-        put8(p1 + 73, 0);
+        put16(p1 + 76, 0);
+        goto l5;
     }
+    if ((v5 & 24) == 16) {
+        put8(p1 + 78, 0);
+        put8(p1 + 73, 5);
+        put8(p1 + 91, 0);
+        put16(p1 + 89, 0);
+        put32(p1 + 84, 0);
+        put16(p1 + 76, 0);
+        goto l6;
+    }
+    if ((v5 & 8) != 0) {
+        if ((v7 & 255) != v8) {
+            v7 = v5 & 16;
+            if ((v4 & 255) != v8) {
+                cop1_sender_Sender_ask_for_others(v3 + 12, p2, v8, v7 != 0);
+                goto l8;
+            }
+            cop1_sender_Sender_ask_for_all(v3 + 8, p2, v7 != 0);
+            v7 = get8(v3 + 9);
+            v6 = get8(v3 + 8);
+            goto l4;
+        }
+        put8(p1 + 78, 0);
+        put8(p1 + 73, 5);
+        put8(p1 + 91, 0);
+        put16(p1 + 89, 0);
+        put32(p1 + 84, 0);
+        put16(p1 + 76, 0);
+        goto l7;
+    }
+    if ((v4 & 255) != v8) {
+        cop1_sender_Sender_move_on(v3 + 12, p2, v8);
+        goto l8;
+    }
+    if ((v10 & 255) != 0) {
+        put8(p1 + 78, 0);
+        put8(p1 + 73, 5);
+        put8(p1 + 91, 0);
+        put16(p1 + 89, 0);
+        put32(p1 + 84, 0);
+        put16(p1 + 76, 0);
+        goto l7;
+    }
+    v6 = 0;
 l9:;
     v7 = 0;
     goto l4;
@@ -2694,11 +2629,10 @@ l4:;
     v11 = get64(p1 + 264);
     v12 = v11;
     v4 = get8(v9) - v4;
-    if ((v4 & 255) != 0) {
-        if (v11 == 0) {
-            v12 = 0;
-            goto l25;
-        }
+    if ((v4 & 255) == 0) goto l25;
+    if (v11 == 0) {
+        v12 = 0;
+    } else {
         v13 = p1 + 288;
         v14 = p1 + 264;
         v15 = p1 + 280;
@@ -2712,11 +2646,10 @@ l4:;
             if (p2 != 0) {
                 if (get64(v13) != p2) {
                     v9 = get64(v15);
-                    goto l29;
+                } else {
+                    v9 = 0;
+                    put64(v13, 0);
                 }
-                v9 = 0;
-                put64(v13, 0);
-            l29:;
                 v12 = p2 - 1;
                 put64(v14, v12);
                 v18 = v9 + 1;
@@ -2726,23 +2659,21 @@ l4:;
                 v21 = get64(v20);
                 if (v21 < 2) {
                     v9 = v12;
-                    goto l28;
+                } else {
+                    v21 = v21 - 1;
+                    if (v18 == 0) {
+                        put64(v13, v12);
+                        v9 = get64(v17) - 1;
+                        put64(v19 + (v9 << 3), v21);
+                    } else {
+                        put64(v20, v21);
+                    }
+                    put64(v14, p2);
+                    put64(v15, v9);
+                    v12 = p2;
+                    v9 = p2;
                 }
-                v21 = v21 - 1;
-                if (v18 == 0) {
-                    put64(v13, v12);
-                    v9 = get64(v17) - 1;
-                    put64(v19 + (v9 << 3), v21);
-                    goto l32;
-                }
-                put64(v20, v21);
-            l32:;
-                put64(v14, p2);
-                put64(v15, v9);
-                v12 = p2;
-                v9 = p2;
             }
-        l28:;
             v4 = v4 - 1;
         } while ((v4 & 255) != 0);
     }
@@ -2762,6 +2693,7 @@ l1:;
     return;
 }
 
+/* cop1::sender::Sender::move_on, crates/cop1/src/sender/report.rt:90 */
 static void cop1_sender_Sender_move_on(uint64_t p0, uint64_t p1, uint32_t p2)
 {
     uint32_t v4 = 0, v5 = 0, v6 = 0;
@@ -2785,6 +2717,7 @@ static void cop1_sender_Sender_move_on(uint64_t p0, uint64_t p1, uint32_t p2)
     return;
 }
 
+/* cop1::sender::Sender::ask_for_others, crates/cop1/src/sender/report.rt:112 */
 static void cop1_sender_Sender_ask_for_others(uint64_t p0, uint64_t p1, uint32_t p2, uint32_t p3)
 {
     uint32_t v4 = 0, v5 = 0, v7 = 0, v8 = 0, v9 = 0, v10 = 0;
@@ -2812,20 +2745,19 @@ static void cop1_sender_Sender_ask_for_others(uint64_t p0, uint64_t p1, uint32_t
         put16(p1 + 4, 0);
         v5 = 4;
         v6 = 19;
-        goto l1;
+    } else {
+        v9 = 2;
+        v6 = 1;
+        if (p3 == 0) {
+            v4 = get16(p1 + 10);
+            put8(p1 + 16, 2);
+            put8(p1 + 6, v8);
+            put16(p1 + 14, v4);
+            v9 = 1;
+            put16(p1 + 12, 1);
+        }
+        v4 = 0;
     }
-    v9 = 2;
-    v6 = 1;
-    if (p3 == 0) {
-        v4 = get16(p1 + 10);
-        put8(p1 + 16, 2);
-        put8(p1 + 6, v8);
-        put16(p1 + 14, v4);
-        v9 = 1;
-        put16(p1 + 12, 1);
-    }
-    v4 = 0;
-l1:;
     put8(p1 + v6, v9);
     put8(p0 + 2, v5);
     put8(p0 + 1, v4);
@@ -2833,6 +2765,7 @@ l1:;
     return;
 }
 
+/* cop1::sender::Sender::ask_for_all, crates/cop1/src/sender/report.rt:127 */
 static void cop1_sender_Sender_ask_for_all(uint64_t p0, uint64_t p1, uint32_t p2)
 {
     uint32_t v3 = 0, v4 = 0, v5 = 0, v6 = 0;
@@ -2840,11 +2773,10 @@ static void cop1_sender_Sender_ask_for_all(uint64_t p0, uint64_t p1, uint32_t p2
     if (get8(p1 + 1) == 1) {
         v3 = get8(p1 + 8);
         v4 = 0;
-        goto l1;
+    } else {
+        v3 = get8(p1 + 8);
+        v4 = get8(p1 + 16) < v3;
     }
-    v3 = get8(p1 + 8);
-    v4 = get8(p1 + 16) < v3;
-l1:;
     v5 = 1;
     if ((v3 & 255) == 1) {
         v3 = 0;
@@ -2855,33 +2787,30 @@ l1:;
         put16(p1 + 4, 0);
         v6 = 4;
         v7 = 19;
-        goto l3;
+    } else {
+        v6 = 0;
+        v7 = 1;
+        if (p2 != 0) {
+            v3 = 2;
+        } else if (v4 == 0) {
+            v3 = 1;
+        } else {
+            v3 = 1;
+            put16(p1 + 12, 1);
+            put8(p1 + 6, get8(p1 + 5));
+            put16(p1 + 14, get16(p1 + 10));
+            v8 = p1 + 16;
+            put8(v8, get8(v8) + 1);
+        }
+        v5 = 0;
     }
-    v6 = 0;
-    v7 = 1;
-    if (p2 != 0) {
-        v3 = 2;
-        goto l5;
-    }
-    if (v4 == 0) {
-        v3 = 1;
-        goto l5;
-    }
-    v3 = 1;
-    put16(p1 + 12, 1);
-    put8(p1 + 6, get8(p1 + 5));
-    put16(p1 + 14, get16(p1 + 10));
-    v8 = p1 + 16;
-    put8(v8, get8(v8) + 1);
-l5:;
-    v5 = 0;
-l3:;
     put8(p1 + v7, v3);
     put8(p0 + 1, v6);
     put8(p0, v5);
     return;
 }
 
+/* cop1::fop::trim::trim, crates/cop1/src/fop/trim.rt:11 */
 static void cop1_fop_trim_trim_09dedc624c4eb86b(uint64_t p0, uint64_t p1, uint64_t p2)
 {
     uint32_t v4 = 0;
@@ -2898,9 +2827,7 @@ static void cop1_fop_trim_trim_09dedc624c4eb86b(uint64_t p0, uint64_t p1, uint64
         p1 = p1 + 32;
         p0 = get64(p1);
         put64(p1, 0);
-        if (v4 == 1) {
-            if (p0 != 0) rattle_dealloc_at(v5);
-        }
+        if (v4 == 1 && p0 != 0) rattle_dealloc_at(v5);
     }
     p1 = p2 + 16;
     v5 = get64(p1);
@@ -2936,6 +2863,7 @@ static void cop1_fop_trim_trim_09dedc624c4eb86b(uint64_t p0, uint64_t p1, uint64
     return;
 }
 
+/* nodes::ground_node::Ground::directive, crates/nodes/src/ground_node.rt:201 */
 static void nodes_ground_node_Ground_directive(uint64_t p0, uint64_t p1, uint64_t p2)
 {
     uint32_t v4 = 0, v5 = 0, v6 = 0;
@@ -2951,12 +2879,14 @@ static void nodes_ground_node_Ground_directive(uint64_t p0, uint64_t p1, uint64_
     case 6:
         v5 = 1;
         v6 = v4 & 255;
-        if (v6 == 0) goto l2;
-        if (get8(v3) < v6) goto l2;
+        if (v6 == 0 || get8(v3) < v6) goto l2;
         put8(p1 + 79, v4);
         goto l7;
     case 7:
-        if ((v4 & 255) != 0) goto l8;
+        if ((v4 & 255) != 0) {
+            put8(p1 + 80, v4);
+            goto l7;
+        }
         v5 = 2;
         goto l2;
     case 8:
@@ -2968,63 +2898,67 @@ static void nodes_ground_node_Ground_directive(uint64_t p0, uint64_t p1, uint64_
         v5 = 3;
         goto l2;
     default:
-        if (get8(p1 + 73) == 5) {
-            switch (v5) {
-            case 1:
-                v5 = 1;
-                put32(p1 + 88, 1);
-                put8(p1 + 81, 0);
-                put8(p1 + 78, 0);
-                put16(p1 + 76, 0);
-                put8(p1 + 73, 3);
-                put16(p1 + 84, 1);
-                put8(p1 + 75, get8(p1 + 74));
-                put16(p1 + 86, get16(p1 + 82));
-                goto l4;
-            case 2:
-                put32(p1 + 88, 257);
-                put8(p1 + 81, 0);
-                put8(p1 + 78, 0);
-                put16(p1 + 76, 0);
-                put8(p1 + 73, 4);
-                p2 = p1 + 84;
-                put16(p2, get8(p2));
-                put8(p1 + 75, get8(p1 + 74));
-                v5 = 1;
-                goto l4;
-            case 3:
-                put8(p1 + 91, v4);
-                v5 = 1;
-                put8(p1 + 90, 1);
-                put16(p1 + 88, 257);
-                put8(p1 + 81, 0);
-                put8(p1 + 78, 0);
-                put16(p1 + 76, 0);
-                put8(p1 + 75, v4);
-                put8(p1 + 74, v4);
-                put8(p1 + 73, 4);
-                p2 = p1 + 84;
-                put16(p2, get8(p2));
-                goto l4;
-            case 4:
-                goto l10;
-            case 5:
-                goto l5;
-            default:
-                v5 = 1;
-                put32(p1 + 88, 1);
-                put8(p1 + 81, 0);
-                put8(p1 + 78, 0);
-                put16(p1 + 76, 0);
-                put8(p1 + 73, 0);
-                p2 = p1 + 84;
-                put16(p2, get8(p2));
-                put8(p1 + 75, get8(p1 + 74));
-                goto l4;
-            }
-        }
+        break;
+    }
+    if (get8(p1 + 73) != 5) {
         v5 = 7;
         goto l2;
+    }
+    switch (v5) {
+    case 1:
+        v5 = 1;
+        put32(p1 + 88, 1);
+        put8(p1 + 81, 0);
+        put8(p1 + 78, 0);
+        put16(p1 + 76, 0);
+        put8(p1 + 73, 3);
+        put16(p1 + 84, 1);
+        put8(p1 + 75, get8(p1 + 74));
+        put16(p1 + 86, get16(p1 + 82));
+        goto l4;
+    case 2:
+        put32(p1 + 88, 257);
+        put8(p1 + 81, 0);
+        put8(p1 + 78, 0);
+        put16(p1 + 76, 0);
+        put8(p1 + 73, 4);
+        p2 = p1 + 84;
+        put16(p2, get8(p2));
+        put8(p1 + 75, get8(p1 + 74));
+        v5 = 1;
+        goto l4;
+    case 3:
+        put8(p1 + 91, v4);
+        v5 = 1;
+        put8(p1 + 90, 1);
+        put16(p1 + 88, 257);
+        put8(p1 + 81, 0);
+        put8(p1 + 78, 0);
+        put16(p1 + 76, 0);
+        put8(p1 + 75, v4);
+        put8(p1 + 74, v4);
+        put8(p1 + 73, 4);
+        p2 = p1 + 84;
+        put16(p2, get8(p2));
+        goto l4;
+    case 4:
+        break;
+    case 5:
+        put8(p1 + 75, v4);
+        put8(p1 + 74, v4);
+        v5 = 0;
+        goto l4;
+    default:
+        v5 = 1;
+        put32(p1 + 88, 1);
+        put8(p1 + 81, 0);
+        put8(p1 + 78, 0);
+        put16(p1 + 76, 0);
+        put8(p1 + 73, 0);
+        p2 = p1 + 84;
+        put16(p2, get8(p2));
+        put8(p1 + 75, get8(p1 + 74));
+        goto l4;
     }
 l10:;
     put8(p1 + 78, 0);
@@ -3036,18 +2970,12 @@ l10:;
     v4 = 6;
     v5 = 1;
     goto l6;
-l8:;
-    put8(p1 + 80, v4);
 l7:;
     v5 = 0;
     v4 = 0;
 l6:;
     cop1_fop_trim_trim_09dedc624c4eb86b(v3, p1 + 96, p1 + 136);
     goto l3;
-l5:;
-    put8(p1 + 75, v4);
-    put8(p1 + 74, v4);
-    v5 = 0;
 l4:;
     cop1_fop_trim_trim_09dedc624c4eb86b(v3, p1 + 96, p1 + 136);
     put64(p1 + 248, 0);
@@ -3074,47 +3002,22 @@ l1:;
     return;
 }
 
+/* nodes::ground_node::Ground::peek, crates/nodes/src/ground_node/pull.rt:18 */
 static void nodes_ground_node_Ground_peek(uint64_t p0, uint64_t p1)
 {
     uint32_t v5 = 0, v6 = 0, v7 = 0, v8 = 0, v9 = 0, v10 = 0;
     uint64_t v2 = 0, v3 = 0, v4 = 0;
-    if (get8(p1 + 89) != 1) {
-        v2 = get64(p1 + 176);
-        if (v2 == 0) {
-            if (get8(p1 + 73) <= 1) {
-                v5 = get8(p1 + 78);
-                if (v5 == 0) {
-                    if (get8(p1 + 76) != 1) goto l5;
-                    if (get8(p1 + 77) >= get8(p1 + 79)) goto l5;
-                    if (get8(p1 + 96) != 1) goto l5;
-                    v3 = p1 + 104;
-                    v6 = get8(p1 + 74);
-                    goto l6;
-                }
-                v5 = get8(p1 + 77) - v5;
-                v2 = (uint64_t)v5 & 255;
-                if (get64(p1 + 152) <= v2) goto l5;
-                v2 = get64(p1 + 160) + v2;
-                v4 = get64(p1 + 144);
-                v3 = get64(p1 + 136) + ((v2 - ((v2 < v4) ? 0ULL : v4)) << 5);
-                v6 = v5 + get8(p1 + 75);
-            l6:;
-                v2 = get64(v3 + 16);
-                v4 = get64(v3 + 8);
-                v5 = get16(v3);
-                v7 = 0;
-                v8 = 0;
-                goto l1;
-            }
-        l5:;
-            put64(p0 + 40, 0);
-            put64(p0 + 32, 0);
-            put64(p0 + 24, 0);
-            put64(p0 + 16, 0);
-            put64(p0 + 8, 0);
-            put64(p0, 0);
-            return;
-        }
+    if (get8(p1 + 89) == 1) {
+        v8 = get8(p1 + 91);
+        v6 = get8(p1 + 90);
+        v7 = 2;
+        v2 = 0;
+        v5 = 0;
+        v4 = 0;
+        goto l1;
+    }
+    v2 = get64(p1 + 176);
+    if (v2 != 0) {
         v3 = get64(p1 + 168);
         if (v2 != get64(p1 + 200)) v3 = v3 + (get64(p1 + 192) << 5);
         v2 = get64(v3 + 16);
@@ -3125,12 +3028,36 @@ static void nodes_ground_node_Ground_peek(uint64_t p0, uint64_t p1)
         v8 = 0;
         goto l1;
     }
-    v8 = get8(p1 + 91);
-    v6 = get8(p1 + 90);
-    v7 = 2;
-    v2 = 0;
-    v5 = 0;
-    v4 = 0;
+    if (get8(p1 + 73) <= 1) {
+        v5 = get8(p1 + 78);
+        if (v5 == 0) {
+            if (get8(p1 + 76) != 1 || get8(p1 + 77) >= get8(p1 + 79) || get8(p1 + 96) != 1) goto l5;
+            v3 = p1 + 104;
+            v6 = get8(p1 + 74);
+        } else {
+            v5 = get8(p1 + 77) - v5;
+            v2 = (uint64_t)v5 & 255;
+            if (get64(p1 + 152) <= v2) goto l5;
+            v2 = get64(p1 + 160) + v2;
+            v4 = get64(p1 + 144);
+            v3 = get64(p1 + 136) + ((v2 - ((v2 < v4) ? 0ULL : v4)) << 5);
+            v6 = v5 + get8(p1 + 75);
+        }
+        v2 = get64(v3 + 16);
+        v4 = get64(v3 + 8);
+        v5 = get16(v3);
+        v7 = 0;
+        v8 = 0;
+        goto l1;
+    }
+l5:;
+    put64(p0 + 40, 0);
+    put64(p0 + 32, 0);
+    put64(p0 + 24, 0);
+    put64(p0 + 16, 0);
+    put64(p0 + 8, 0);
+    put64(p0, 0);
+    return;
 l1:;
     v9 = get32(p1 + 4);
     v10 = get32(p1);
@@ -3150,6 +3077,7 @@ l1:;
     return;
 }
 
+/* nodes::ground_node::Ground::resume, crates/nodes/src/ground_node/fates.rt:70 */
 static void nodes_ground_node_Ground_resume(uint64_t p0, uint64_t p1, uint32_t p2)
 {
     unsigned char frame_octets[16 + 15];
@@ -3165,56 +3093,54 @@ static void nodes_ground_node_Ground_resume(uint64_t p0, uint64_t p1, uint32_t p
         goto l1;
     }
     v4 = 1;
-    if (get8(p1 + 296) == 1) {
-        v5 = 0;
-        v7 = 0;
-        v8 = get8(p1 + 74);
-        v9 = get8(p1 + 75);
-        if (v8 != v9) {
-            t1 = (v8 - v9) & 255;
-            v9 = p2 - v9;
-            v8 = t1 < (v9 & 255);
-            if (v8 != 0) goto l3;
-            v7 = (uint64_t)((v8 != 0) ? 0U : v9) & 255;
-        }
-        v10 = get64(p1 + 248);
-        v11 = get64(p1 + 264);
-        if (v11 != 0) {
-            v5 = get64(p1 + 288);
-            v12 = v5 - v11;
-            v13 = v11 - v5;
-            v14 = get64(p1 + 256);
+    if (get8(p1 + 296) != 1) goto l1;
+    v5 = 0;
+    v7 = 0;
+    v8 = get8(p1 + 74);
+    v9 = get8(p1 + 75);
+    if (v8 != v9) {
+        t1 = (v8 - v9) & 255;
+        v9 = p2 - v9;
+        v8 = t1 < (v9 & 255);
+        if (v8 != 0) {
             v5 = 0;
-            v15 = p1 + 280;
-            do {
-                if (v5 < v13) {
-                    v16 = v14 + (get64(v15) << 3);
-                    v17 = v5;
-                    goto l7;
-                }
+            goto l1;
+        }
+        v7 = (uint64_t)((v8 != 0) ? 0U : v9) & 255;
+    }
+    v10 = get64(p1 + 248);
+    v11 = get64(p1 + 264);
+    if (v11 != 0) {
+        v5 = get64(p1 + 288);
+        v12 = v5 - v11;
+        v13 = v11 - v5;
+        v14 = get64(p1 + 256);
+        v5 = 0;
+        v15 = p1 + 280;
+        do {
+            if (v5 < v13) {
+                v16 = v14 + (get64(v15) << 3);
+                v17 = v5;
+            } else {
                 v17 = v12 + v5;
                 v16 = v14;
-            l7:;
-                v16 = get64(v16 + (v17 << 3));
-                v16 = (v16 > 1) ? v16 : 1ULL;
-                if (v7 < v16) goto l5;
-                v7 = v7 - v16;
-                v5 = v5 + 1;
-            } while (v11 != v5);
-            v5 = v11;
-        }
-    l5:;
-        put8(v3 + 9, p2);
-        nodes_ground_node_Ground_directive(v3 + 13, p1, v3 + 8);
-        put8(v3 + 8, 2);
-        nodes_ground_node_Ground_directive(v3 + 13, p1, v3 + 8);
-        v5 = v5 + v10;
-        v4 = 0;
-        v6 = 0;
-        goto l1;
-    l3:;
-        v5 = 0;
+            }
+            v16 = get64(v16 + (v17 << 3));
+            v16 = (v16 > 1) ? v16 : 1ULL;
+            if (v7 < v16) goto l5;
+            v7 = v7 - v16;
+            v5 = v5 + 1;
+        } while (v11 != v5);
+        v5 = v11;
     }
+l5:;
+    put8(v3 + 9, p2);
+    nodes_ground_node_Ground_directive(v3 + 13, p1, v3 + 8);
+    put8(v3 + 8, 2);
+    nodes_ground_node_Ground_directive(v3 + 13, p1, v3 + 8);
+    v5 = v5 + v10;
+    v4 = 0;
+    v6 = 0;
 l1:;
     put8(p0, v4);
     put64(p0 + 8, v5);
@@ -3222,6 +3148,7 @@ l1:;
     return;
 }
 
+/* nodes::ground_node::Ground::prepare, crates/nodes/src/ground_node/submit.rt:46 */
 static void nodes_ground_node_Ground_prepare(uint64_t p0, uint64_t p1, uint32_t p2, uint64_t p3, uint64_t p4)
 {
     unsigned char frame_octets[144 + 15];
@@ -3242,16 +3169,11 @@ static void nodes_ground_node_Ground_prepare(uint64_t p0, uint64_t p1, uint32_t 
         fill(p0 + 8, 0, 120);
         return;
     }
-    if ((p2 & 255) > 63) {
+    if ((p2 & 255) > 63 || ((uint32_t)(get64(p1 + 40) >> (((uint64_t)p2 & 255) & 63)) & 1) == 0) {
         put16(p0, 257);
         fill(p0 + 8, 0, 120);
         return;
     }
-    if (((uint32_t)(get64(p1 + 40) >> (((uint64_t)p2 & 255) & 63)) & 1) != 0) goto l3;
-    put16(p0, 257);
-    fill(p0 + 8, 0, 120);
-    return;
-l3:;
     v6 = get32(p1 + 32);
     v7 = get32(p1 + 64);
     if (v7 != 1) {
@@ -3260,12 +3182,8 @@ l3:;
         v10 = get8(p3);
         if (v10 > 31) goto l5;
         v9 = ((v10 << 8) & 0x700) | get8(p3 + 1);
-        if ((v10 & 8) != 0) {
-            if (v9 == 0x7ff) goto l5;
-        }
-        if (((((uint64_t)get8(p3 + 4) << 8) | (uint64_t)get8(p3 + 5)) + 7) != p4) goto l5;
-        if (v10 < 16) goto l5;
-        if (v9 == 0x7ff) goto l5;
+        if (((v10 & 8) != 0 && v9 == 0x7ff) || ((((uint64_t)get8(p3 + 4) << 8) | (uint64_t)get8(p3 + 5)) + 7) != p4 ||
+            v10 < 16 || v9 == 0x7ff) goto l5;
         v17 = 0;
         v13 = 3;
         v18 = 0;
@@ -3277,119 +3195,85 @@ l3:;
     put64(v5 + 104, 0);
     put64(v5 + 112, 0);
     put64(v5 + 96, v5 + 136);
-    if (p4 >= 6) {
-        v8 = (uint64_t)v6;
-        v9 = 0;
-        v10 = 1;
-        v11 = p4;
-        v12 = p3;
-        do {
-            v13 = get8(v12);
-            if (v13 > 31) goto l11;
-            v6 = ((v13 << 8) & 0x700) | get8(v12 + 1);
-            if ((v13 & 8) != 0) {
-                if (v6 == 0x7ff) goto l11;
-            }
-            v14 = (((uint64_t)get8(v12 + 4) << 8) | (uint64_t)get8(v12 + 5)) + 7;
-            if (v11 < v14) goto l11;
-            if (v13 >= 16) {
-                if (v6 != 0x7ff) goto l14;
-            }
+    if (p4 < 6) goto l11;
+    v8 = (uint64_t)v6;
+    v9 = 0;
+    v10 = 1;
+    v11 = p4;
+    v12 = p3;
+    do {
+        v13 = get8(v12);
+        if (v13 > 31) goto l11;
+        v6 = ((v13 << 8) & 0x700) | get8(v12 + 1);
+        if ((v13 & 8) != 0 && v6 == 0x7ff) goto l11;
+        v14 = (((uint64_t)get8(v12 + 4) << 8) | (uint64_t)get8(v12 + 5)) + 7;
+        if (v11 < v14) goto l11;
+        if (v13 < 16 || v6 == 0x7ff) {
             v13 = 2;
             if (get64(v5 + 112) == 0) goto l5;
             goto l6;
-        l14:;
-            v11 = v11 - v14;
-            v13 = v14 > v8;
-            v6 = v10 & 1;
-            v10 = 0;
-            if (v6 != 0) {
+        }
+        v11 = v11 - v14;
+        v13 = v14 > v8;
+        v6 = v10 & 1;
+        v10 = 0;
+        if (v6 != 0) {
+            v15 = get64(v5 + 104);
+            if (get64(v5 + 112) == v15) {
+                t1 = std_alloc_vec_Vec_grow_amortized_07c4d1320351f897(v5 + 96);
+                if (t1 == 0) goto l16;
                 v15 = get64(v5 + 104);
-                if (get64(v5 + 112) == v15) {
-                    t1 = std_alloc_vec_Vec_grow_amortized_07c4d1320351f897(v5 + 96);
-                    if (t1 == 0) goto l16;
-                    v15 = get64(v5 + 104);
-                }
-                v16 = get64(v5 + 96) + (v15 << 4);
-                put64(v16 + 8, v14);
-                put64(v16, v12);
-                put64(v5 + 104, v15 + 1);
-                v10 = 1;
             }
-        l16:;
-            v12 = v12 + v14;
-            v9 = v9 | v13;
-        } while (v11 > 5);
-        if (v11 == 0) {
-            if ((v9 & 1) == 0) {
-                if (v10 != 0) goto l8;
-                if (get64(v5 + 112) != 0) rattle_dealloc_at(get64(v5 + 96));
-                t2 = nodes_ground_node_Ground_lack_of(p1, p3, p4);
-                put8(p0 + 1, t2);
-                put8(p0, 1);
-                fill(p0 + 8, 0, 120);
-                return;
-            }
+            v16 = get64(v5 + 96) + (v15 << 4);
+            put64(v16 + 8, v14);
+            put64(v16, v12);
+            put64(v5 + 104, v15 + 1);
+            v10 = 1;
+        }
+    l16:;
+        v12 = v12 + v14;
+        v9 = v9 | v13;
+    } while (v11 > 5);
+    if (v11 == 0) {
+        if ((v9 & 1) != 0) {
             v13 = 3;
             if (get64(v5 + 112) != 0) goto l6;
             goto l5;
         }
+        if (v10 != 0) {
+            v18 = get64(v5 + 112);
+            v19 = get64(v5 + 104);
+            v20 = get64(v5 + 96);
+            v17 = 1;
+            goto l7;
+        }
+        if (get64(v5 + 112) != 0) rattle_dealloc_at(get64(v5 + 96));
+        t2 = nodes_ground_node_Ground_lack_of(p1, p3, p4);
+        put8(p0 + 1, t2);
+        put8(p0, 1);
+        fill(p0 + 8, 0, 120);
+        return;
     }
 l11:;
     v13 = 2;
     if (get64(v5 + 112) != 0) goto l6;
     goto l5;
-l8:;
-    v18 = get64(v5 + 112);
-    v19 = get64(v5 + 104);
-    v20 = get64(v5 + 96);
-    v17 = 1;
 l7:;
     put16(v5 + 68, 0);
     put32(v5 + 64, 0);
     v14 = (uint64_t)get32(p1 + 28);
     if (p4 <= v14) {
         v12 = (uint64_t)get32(p1 + 56);
-        if (v12 == 0) goto l21;
-        if (((get64(p1 + 216) + (uint64_t)(uint32_t)(get8(p1 + 96) == 1)) + 1) > v12) goto l21;
+        if (v12 == 0 || ((get64(p1 + 216) + (uint64_t)(uint32_t)(get8(p1 + 96) == 1)) + 1) > v12) goto l21;
         v13 = p4 == 0;
         if (v13 != 0) {
             v21 = v5 + 136;
-            goto l27;
-        }
-        rattle_alloc_at(v5 + 16, p4, 1);
-        if (((uint32_t)get64(v5 + 16) & 1) == 0) goto l21;
-        v21 = get64(v5 + 24);
-    l27:;
-        if ((v21 - p3) < p4) {
-            v11 = p4 & 3;
-            v12 = 0;
-            if (p4 >= 4) {
-                v15 = p4 & ~3ULL;
-                v12 = 0;
-                do {
-                    p1 = v21 + v12;
-                    v14 = p3 + v12;
-                    put8(p1, get8(v14));
-                    put8(p1 + 1, get8(v14 + 1));
-                    put8(p1 + 2, get8(v14 + 2));
-                    put8(p1 + 3, get8(v14 + 3));
-                    v12 = v12 + 4;
-                } while (v15 != v12);
-                if (v11 == 0) goto l29;
-            }
-            p1 = v21 + v12;
-            v12 = p3 + v12;
-        l33:;
-            put8(p1, get8(v12));
-            p1 = p1 + 1;
-            v12 = v12 + 1;
-            v11 = v11 - 1;
-            if (v11 != 0) goto l33;
-            goto l29;
+        } else {
+            rattle_alloc_at(v5 + 16, p4, 1);
+            if (((uint32_t)get64(v5 + 16) & 1) == 0) goto l21;
+            v21 = get64(v5 + 24);
         }
         if (v13 == 0) copy(v21, p3, p4);
-    l29:;
         put16(v5 + 44, 0);
         put32(v5 + 40, 0);
         v13 = (p2 << 8) | 3;
@@ -3410,23 +3294,23 @@ l7:;
         v16 = map_service_cutting_group_len(v24, v23, v14);
         v11 = get64(v5 + 88);
         if (v16 <= v14) {
-            if (v11 == v12) {
-                t4 = std_alloc_vec_Vec_grow_amortized_10d150b3d444a65f(v5 + 72);
-                if (t4 == 0) goto l35;
+            if (v11 != v12) {
                 v13 = 3;
+                v11 = v12;
                 v15 = v24;
                 v8 = v16;
-                goto l38;
+                goto l34;
             }
+            t4 = std_alloc_vec_Vec_grow_amortized_10d150b3d444a65f(v5 + 72);
+            if (t4 == 0) goto l32;
             v13 = 3;
-            v11 = v12;
             v15 = v24;
             v8 = v16;
-            goto l37;
+            goto l35;
         }
         if (v11 == v12) {
             t5 = std_alloc_vec_Vec_grow_amortized_10d150b3d444a65f(v5 + 72);
-            if (t5 == 0) goto l35;
+            if (t5 == 0) goto l32;
             v22 = get64(v5 + 72);
             v12 = get64(v5 + 80);
         }
@@ -3445,7 +3329,7 @@ l7:;
             do {
                 if (get64(v5 + 88) == v11) {
                     t6 = std_alloc_vec_Vec_grow_amortized_10d150b3d444a65f(v5 + 72);
-                    if (t6 == 0) goto l35;
+                    if (t6 == 0) goto l32;
                     v11 = get64(v5 + 80);
                 }
                 v12 = get64(v5 + 72) + (v11 * 24);
@@ -3463,14 +3347,14 @@ l7:;
         }
         if (get64(v5 + 88) != v11) {
             v13 = 2;
-            goto l37;
+            goto l34;
         }
         t7 = std_alloc_vec_Vec_grow_amortized_10d150b3d444a65f(v5 + 72);
-        if (t7 == 0) goto l35;
+        if (t7 == 0) goto l32;
         v13 = 2;
-    l38:;
+    l35:;
         v11 = get64(v5 + 80);
-    l37:;
+    l34:;
         v24 = v24 + v16;
         v22 = get64(v5 + 72);
         v12 = v22 + (v11 * 24);
@@ -3485,16 +3369,11 @@ l7:;
         v23 = v23 - v16;
     } while (v23 != 0);
     v14 = (uint64_t)get32(p1 + 56);
-    if (v12 <= v14) {
-        if ((get64(p1 + 216) + v12 + (uint64_t)(uint32_t)(get8(p1 + 96) == 1)) <= v14) goto l34;
+    if (v12 > v14 || (get64(p1 + 216) + v12 + (uint64_t)(uint32_t)(get8(p1 + 96) == 1)) > v14) {
+        if (get64(v5 + 88) == 0) goto l21;
+        rattle_dealloc_at(v22);
+        goto l21;
     }
-    if (get64(v5 + 88) == 0) goto l21;
-    rattle_dealloc_at(v22);
-    goto l21;
-l35:;
-    if (get64(v5 + 88) != 0) goto l22;
-    goto l21;
-l34:;
     v14 = 0;
     put64(v5 + 104, 0);
     put64(v5 + 112, 0);
@@ -3506,7 +3385,7 @@ l34:;
         p1 = 0;
         v12 = 0;
         v21 = 0;
-        goto l47;
+        goto l44;
     }
     v21 = 0;
     v25 = v5 + 136;
@@ -3520,9 +3399,9 @@ l34:;
         v29 = get64(v28 + 16);
         v6 = v29 == 0;
         if (v6 == 0) {
-            if (v29 > 0x7fffffffffffffffULL) goto l53;
+            if (v29 > 0x7fffffffffffffffULL) goto l50;
             rattle_alloc_at(v5, v29, 1);
-            if (((uint32_t)get64(v5) & 1) == 0) goto l53;
+            if (((uint32_t)get64(v5) & 1) == 0) goto l50;
             v16 = get64(v5 + 8);
         }
         if ((v16 - v24) < v29) {
@@ -3540,88 +3419,96 @@ l34:;
                     put8(v12 + 3, get8(v15 + 3));
                     v14 = v14 + 4;
                 } while (v23 != v14);
-                if (v8 == 0) goto l55;
+                if (v8 == 0) goto l52;
             }
             v12 = v16 + v14;
             v14 = v24 + v14;
-        l59:;
-            put8(v12, get8(v14));
-            v12 = v12 + 1;
-            v14 = v14 + 1;
-            v8 = v8 - 1;
-            if (v8 != 0) goto l59;
-            goto l55;
-        }
-        if (v6 == 0) copy(v16, v24, v29);
-    l55:;
+            do {
+                put8(v12, get8(v14));
+                v12 = v12 + 1;
+                v14 = v14 + 1;
+                v8 = v8 - 1;
+            } while (v8 != 0);
+        } else if (v6 == 0) copy(v16, v24, v29);
+    l52:;
         v13 = get16(v28);
         v12 = get64(v5 + 112);
-        if (v21 >= v12) {
-            t8 = std_alloc_vec_deque_VecDeque_grow_ab161963403435e1(v5 + 96, 1);
-            if (t8 == 0) {
-                if (v6 == 0) rattle_dealloc_at(v16);
-                v15 = get64(v5 + 112);
-                v26 = get64(v5 + 96);
-                v12 = get64(v5 + 104);
-                if (v12 != 0) {
-                    v8 = get64(v5 + 120);
-                    v14 = get64(v5 + 128);
-                    v11 = v12 - v14;
-                    if (v8 < (v8 + v11)) {
-                        v12 = ((v8 << 5) + v26) + 24;
-                        do {
-                            if (get64(v12) != 0) rattle_dealloc_at(get64(v12 - 16));
-                            v12 = v12 + 32;
-                            v11 = v11 - 1;
-                        } while (v11 != 0);
-                    }
-                    if (v14 != 0) {
-                        v12 = v26 + 24;
-                        do {
-                            if (get64(v12) != 0) rattle_dealloc_at(get64(v12 - 16));
-                            v12 = v12 + 32;
-                            v14 = v14 - 1;
-                        } while (v14 != 0);
-                    }
-                }
-                if (v15 != 0) goto l24;
-                goto l23;
+        if (v21 < v12) {
+            v14 = get64(v5 + 128);
+            v15 = v21 - v14;
+            v8 = get64(v5 + 120);
+            if (v15 >= (v12 - v8)) {
+                v12 = v26 + (v14 << 5);
+                put64(v12 + 24, v29);
+                put64(v12 + 16, v29);
+                put64(v12 + 8, v16);
+                put32(v12 + 2, 0);
+                put16(v12, v13);
+                put16(v12 + 6, 0);
+                put64(v5 + 128, v14 + 1);
+                goto l47;
             }
+            v12 = v26 + ((v15 + v8) << 5);
+            put32(v12 + 2, 0);
+            put64(v12 + 24, v29);
+            put64(v12 + 16, v29);
+            put64(v12 + 8, v16);
+            put16(v12, v13);
+            put16(v12 + 6, 0);
+            goto l47;
+        }
+        t8 = std_alloc_vec_deque_VecDeque_grow_ab161963403435e1(v5 + 96, 1);
+        if (t8 != 0) {
             v12 = (uint64_t)v13 & 0xffff;
             v26 = get64(v5 + 96);
             v21 = get64(v5 + 104);
             v14 = get64(v5 + 128);
             v15 = v21 - v14;
             v8 = get64(v5 + 120);
-            if (v15 >= (get64(v5 + 112) - v8)) {
-                v15 = v26 + (v14 << 5);
-                put64(v15 + 24, v29);
-                put64(v15 + 16, v29);
-                put64(v15 + 8, v16);
-                put64(v15, v12);
-                put64(v5 + 128, v14 + 1);
-                goto l50;
+            if (v15 < (get64(v5 + 112) - v8)) {
+                v14 = v26 + ((v8 + v15) << 5);
+                put64(v14 + 24, v29);
+                put64(v14 + 16, v29);
+                put64(v14 + 8, v16);
+                put64(v14, v12);
+                goto l47;
             }
-            v14 = v26 + ((v8 + v15) << 5);
-            put64(v14 + 24, v29);
-            put64(v14 + 16, v29);
-            put64(v14 + 8, v16);
-            put64(v14, v12);
-            goto l50;
+            v15 = v26 + (v14 << 5);
+            put64(v15 + 24, v29);
+            put64(v15 + 16, v29);
+            put64(v15 + 8, v16);
+            put64(v15, v12);
+            put64(v5 + 128, v14 + 1);
+            goto l47;
         }
-        v14 = get64(v5 + 128);
-        v15 = v21 - v14;
-        v8 = get64(v5 + 120);
-        if (v15 >= (v12 - v8)) goto l51;
-        v12 = v26 + ((v15 + v8) << 5);
-        put32(v12 + 2, 0);
-        put64(v12 + 24, v29);
-        put64(v12 + 16, v29);
-        put64(v12 + 8, v16);
-        put16(v12, v13);
-        put16(v12 + 6, 0);
-        goto l50;
-    l53:;
+        if (v6 == 0) rattle_dealloc_at(v16);
+        v15 = get64(v5 + 112);
+        v26 = get64(v5 + 96);
+        v12 = get64(v5 + 104);
+        if (v12 != 0) {
+            v8 = get64(v5 + 120);
+            v14 = get64(v5 + 128);
+            v11 = v12 - v14;
+            if (v8 < (v8 + v11)) {
+                v12 = ((v8 << 5) + v26) + 24;
+                do {
+                    if (get64(v12) != 0) rattle_dealloc_at(get64(v12 - 16));
+                    v12 = v12 + 32;
+                    v11 = v11 - 1;
+                } while (v11 != 0);
+            }
+            if (v14 != 0) {
+                v12 = v26 + 24;
+                do {
+                    if (get64(v12) != 0) rattle_dealloc_at(get64(v12 - 16));
+                    v12 = v12 + 32;
+                    v14 = v14 - 1;
+                } while (v14 != 0);
+            }
+        }
+        if (v15 != 0) goto l24;
+        goto l23;
+    l50:;
         v15 = get64(v5 + 112);
         if (v21 != 0) {
             v12 = get64(v5 + 120);
@@ -3646,16 +3533,7 @@ l34:;
         }
         if (v15 == 0) goto l23;
         goto l24;
-    l51:;
-        v12 = v26 + (v14 << 5);
-        put64(v12 + 24, v29);
-        put64(v12 + 16, v29);
-        put64(v12 + 8, v16);
-        put32(v12 + 2, 0);
-        put16(v12, v13);
-        put16(v12 + 6, 0);
-        put64(v5 + 128, v14 + 1);
-    l50:;
+    l47:;
         v21 = v21 + 1;
         put64(v5 + 104, v21);
         v12 = v27 + 1;
@@ -3664,13 +3542,17 @@ l34:;
     p1 = get64(v5 + 120);
     v12 = get64(v5 + 112);
     v13 = get16(v5 + 96);
-l47:;
+l44:;
     put16(v5 + 68, get16(v5 + 102));
     put32(v5 + 64, get32(v5 + 98));
     if (get64(v5 + 88) != 0) rattle_dealloc_at(get64(v5 + 72));
     put16(v5 + 44, get16(v5 + 68));
     put32(v5 + 40, get32(v5 + 64));
     v11 = 1;
+    goto l25;
+l32:;
+    if (get64(v5 + 88) != 0) goto l22;
+    goto l21;
 l25:;
     put8(p0 + 8, p2);
     put16(p0, 0);
@@ -3701,9 +3583,7 @@ l22:;
     rattle_dealloc_at(get64(v5 + 72));
 l21:;
     p2 = nodes_ground_node_Ground_lack_of(p1, p3, p4);
-    if (v7 == 1) {
-        if (v18 != 0) rattle_dealloc_at(v20);
-    }
+    if (v7 == 1 && v18 != 0) rattle_dealloc_at(v20);
     put8(p0, 1);
     put8(p0 + 8, 0);
     put8(p0 + 1, p2);
@@ -3729,34 +3609,31 @@ l5:;
 static uint32_t std_alloc_vec_Vec_grow_amortized_07c4d1320351f897(uint64_t p0)
 {
     unsigned char frame_octets[32 + 15];
-    uint32_t v2 = 0;
     uint64_t v1 = 0, v3 = 0, v4 = 0, v5 = 0, v6 = 0;
     v1 = aligned(frame_octets);
-    v2 = 0;
     v3 = get64(p0 + 8);
-    if (v3 == ~0ULL) return v2;
+    if (v3 == ~0ULL) return 0;
     v4 = ((v3 > 3) ? v3 : 3ULL) + 1;
     v5 = get64(p0 + 16);
     v6 = v5 << 1;
     v6 = (v4 > v6) ? v4 : v6;
     v4 = (v5 < 0x4000000000000000ULL) ? v6 : v4;
-    if (v4 > 0x7ffffffffffffffULL) return v2;
+    if (v4 > 0x7ffffffffffffffULL) return 0;
     if (v5 != 0) {
         rattle_realloc_at(v1 + 16, get64(p0), v3 << 4, v4 << 4, 8);
-        if (((uint32_t)get64(v1 + 16) & 1) == 0) return v2;
+        if (((uint32_t)get64(v1 + 16) & 1) == 0) return 0;
         v3 = get64(v1 + 24);
-        goto l2;
+    } else {
+        rattle_alloc_at(v1, v6 << 4, 8);
+        if (((uint32_t)get64(v1) & 1) == 0) return 0;
+        v3 = get64(v1 + 8);
     }
-    rattle_alloc_at(v1, v6 << 4, 8);
-    if (((uint32_t)get64(v1) & 1) == 0) return v2;
-    v3 = get64(v1 + 8);
-l2:;
     put64(p0 + 16, v4);
     put64(p0, v3);
-    v2 = 1;
-    return v2;
+    return 1;
 }
 
+/* nodes::ground_node::Ground::lack_of, crates/nodes/src/ground_node/submit.rt:138 */
 static uint32_t nodes_ground_node_Ground_lack_of(uint64_t p0, uint64_t p1, uint64_t p2)
 {
     uint32_t v3 = 0, v4 = 0, v6 = 0;
@@ -3771,10 +3648,7 @@ static uint32_t nodes_ground_node_Ground_lack_of(uint64_t p0, uint64_t p1, uint6
         v8 = p2;
         do {
             v3 = get8(v7);
-            if (v3 > 31) goto l3;
-            if ((v3 & 8) != 0) {
-                if ((((v3 << 8) & 0x700) | get8(v7 + 1)) == 0x7ff) goto l3;
-            }
+            if (v3 > 31 || ((v3 & 8) != 0 && (((v3 << 8) & 0x700) | get8(v7 + 1)) == 0x7ff)) goto l3;
             v9 = (((uint64_t)get8(v7 + 4) << 8) | (uint64_t)get8(v7 + 5)) + 7;
             if (v8 < v9) goto l3;
             v7 = v7 + v9;
@@ -3788,11 +3662,8 @@ static uint32_t nodes_ground_node_Ground_lack_of(uint64_t p0, uint64_t p1, uint6
     if (p2 < 6) goto l3;
     v6 = get8(p1);
     if (v6 > 31) goto l3;
-    if ((v6 & 8) != 0) {
-        if ((((v6 << 8) & 0x700) | get8(p1 + 1)) == 0x7ff) goto l3;
-    }
-    if (((((uint64_t)get8(p1 + 4) << 8) | (uint64_t)get8(p1 + 5)) + 7) != p2) goto l3;
-    if (p2 > (uint64_t)v3) goto l3;
+    if (((v6 & 8) != 0 && (((v6 << 8) & 0x700) | get8(p1 + 1)) == 0x7ff) || ((((uint64_t)get8(p1 + 4) << 8) |
+        (uint64_t)get8(p1 + 5)) + 7) != p2 || p2 > (uint64_t)v3) goto l3;
 l4:;
     if (v4 == 0) {
         map_service_cutting_group_len(p1, p2, 0);
@@ -3809,23 +3680,21 @@ l4:;
     v7 = (uint64_t)get32(p0 + 56);
     if (v9 <= v7) {
         v3 = 5;
-        if ((get64(p0 + 216) + v9 + (uint64_t)(uint32_t)(get8(p0 + 96) == 1)) <= v7) return v3;
+        if ((get64(p0 + 216) + v9 + (uint64_t)(uint32_t)(get8(p0 + 96) == 1)) <= v7) return 5;
     }
 l3:;
     v3 = 4;
-    return v3;
+    return 4;
 }
 
+/* map_service::cutting::group_len, crates/map_service/src/cutting.rt:147 */
 static uint64_t map_service_cutting_group_len(uint64_t p0, uint64_t p1, uint64_t p2)
 {
     uint32_t v3 = 0;
     uint64_t v4 = 0, v5 = 0, v6 = 0;
     if (p1 < 6) UNREACHABLE;
     v3 = get8(p0);
-    if (v3 > 31) UNREACHABLE;
-    if ((v3 & 8) != 0) {
-        if ((((v3 << 8) & 0x700) | get8(p0 + 1)) == 0x7ff) UNREACHABLE;
-    }
+    if (v3 > 31 || ((v3 & 8) != 0 && (((v3 << 8) & 0x700) | get8(p0 + 1)) == 0x7ff)) UNREACHABLE;
     v4 = (((uint64_t)get8(p0 + 4) << 8) | (uint64_t)get8(p0 + 5)) + 7;
     v3 = p1 < v4;
     if (v3 != 0) UNREACHABLE;
@@ -3838,21 +3707,17 @@ static uint64_t map_service_cutting_group_len(uint64_t p0, uint64_t p1, uint64_t
         v6 = 0;
         do {
             v3 = get8(p0);
-            if (v3 > 31) goto l4;
-            if ((v3 & 8) != 0) {
-                if ((((v3 << 8) & 0x700) | get8(p0 + 1)) == 0x7ff) goto l4;
-            }
+            if (v3 > 31 || ((v3 & 8) != 0 && (((v3 << 8) & 0x700) | get8(p0 + 1)) == 0x7ff)) break;
             v4 = (((uint64_t)get8(p0 + 4) << 8) | (uint64_t)get8(p0 + 5)) + 7;
             v3 = p1 < v4;
-            if (v3 != 0) goto l4;
+            if (v3 != 0) break;
             v4 = (v3 != 0) ? 0ULL : v4;
-            if ((p2 - (v5 + v6)) < v4) goto l4;
+            if ((p2 - (v5 + v6)) < v4) break;
             p0 = p0 + v4;
             v6 = v4 + v6;
             p1 = p1 - v4;
         } while (p1 > 5);
     }
-l4:;
     v4 = v6 + v5;
     return v4;
 }
@@ -3860,32 +3725,28 @@ l4:;
 static uint32_t std_alloc_vec_Vec_grow_amortized_10d150b3d444a65f(uint64_t p0)
 {
     unsigned char frame_octets[32 + 15];
-    uint32_t v2 = 0;
     uint64_t v1 = 0, v3 = 0, v4 = 0, v5 = 0, v6 = 0;
     v1 = aligned(frame_octets);
-    v2 = 0;
     v3 = get64(p0 + 8);
-    if (v3 == ~0ULL) return v2;
+    if (v3 == ~0ULL) return 0;
     v4 = ((v3 > 3) ? v3 : 3ULL) + 1;
     v5 = get64(p0 + 16);
     v6 = v5 << 1;
     v6 = (v4 > v6) ? v4 : v6;
     v4 = (v5 < 0x4000000000000000ULL) ? v6 : v4;
-    if (v4 > 0x555555555555555ULL) return v2;
+    if (v4 > 0x555555555555555ULL) return 0;
     if (v5 != 0) {
         rattle_realloc_at(v1 + 16, get64(p0), v3 * 24, v4 * 24, 8);
-        if (((uint32_t)get64(v1 + 16) & 1) == 0) return v2;
+        if (((uint32_t)get64(v1 + 16) & 1) == 0) return 0;
         v3 = get64(v1 + 24);
-        goto l2;
+    } else {
+        rattle_alloc_at(v1, v6 * 24, 8);
+        if (((uint32_t)get64(v1) & 1) == 0) return 0;
+        v3 = get64(v1 + 8);
     }
-    rattle_alloc_at(v1, v6 * 24, 8);
-    if (((uint32_t)get64(v1) & 1) == 0) return v2;
-    v3 = get64(v1 + 8);
-l2:;
     put64(p0 + 16, v4);
     put64(p0, v3);
-    v2 = 1;
-    return v2;
+    return 1;
 }
 
 static uint32_t std_alloc_vec_deque_VecDeque_grow_ab161963403435e1(uint64_t p0, uint64_t p1)
@@ -3898,7 +3759,7 @@ static uint32_t std_alloc_vec_deque_VecDeque_grow_ab161963403435e1(uint64_t p0, 
     v3 = 1;
     v4 = get64(p0 + 16);
     v5 = get64(p0 + 8);
-    if (p1 <= (v4 - v5)) return v3;
+    if (p1 <= (v4 - v5)) return 1;
     v6 = p0 + 24;
     if (get64(v6) == 0) {
         v7 = get64(p0);
@@ -3916,73 +3777,217 @@ static uint32_t std_alloc_vec_deque_VecDeque_grow_ab161963403435e1(uint64_t p0, 
         return v3;
     }
     v3 = 0;
-    if (p1 > ~v5) return v3;
+    if (p1 > ~v5) return 0;
     p1 = v5 + p1;
     p1 = (p1 > 4) ? p1 : 4ULL;
     v7 = v5 << 1;
     v8 = (p1 > v7) ? p1 : v7;
     v7 = (v5 < 0x4000000000000000ULL) ? v8 : p1;
-    if (v4 == v5) {
-        if (get64(p0 + 32) <= (v7 - v5)) {
-            if (v7 > 0x3ffffffffffffffULL) return v3;
-            if (v5 != 0) {
-                rattle_realloc_at(v2 + 40, get64(p0), v5 << 5, v7 << 5, 8);
-                if (((uint32_t)get64(v2 + 40) & 1) == 0) return v3;
-                v9 = get64(v2 + 48);
-                goto l5;
-            }
-            rattle_alloc_at(v2 + 24, v8 << 5, 8);
-            if (((uint32_t)get64(v2 + 24) & 1) == 0) return v3;
-            v9 = get64(v2 + 32);
-        l5:;
-            v6 = get64(p0 + 8) << 5;
-            p1 = get64(p0 + 32);
-            v5 = p1 << 5;
-            if (v6 < v5) {
-                if (p1 == 0) goto l7;
-                v4 = p1 & 3;
-                v8 = 0;
-                if (p1 >= 4) {
-                    v10 = p1 & ~3ULL;
-                    v8 = 0;
-                    p1 = v9;
+    if (v4 != v5 || get64(p0 + 32) > (v7 - v5)) {
+        if (v7 > 0x3ffffffffffffffULL) return 0;
+        rattle_alloc_at(v2 + 8, v7 << 5, 8);
+        if ((get32(v2 + 8) & 1) == 0) return 0;
+        v9 = get64(v2 + 16);
+        v14 = get64(p0);
+        v15 = get64(p0 + 24) << 5;
+        v16 = v14 + v15;
+        v17 = get64(p0 + 8);
+        v18 = get64(p0 + 32);
+        p1 = v17 - v18;
+        v19 = p1 << 5;
+        if ((v9 - v16) < v19) {
+            if (v17 != v18) {
+                v8 = p1 & 3;
+                v11 = 0;
+                if ((v18 - v17) <= ~3ULL) {
+                    v20 = p1 & ~3ULL;
+                    v4 = 0;
+                    v11 = 0;
                     do {
-                        v11 = get64(p1);
-                        v12 = get64(p1 + 8);
-                        v13 = get64(p1 + 16);
-                        v5 = p1 + v6;
+                        p1 = v16 + v4;
+                        v12 = get64(p1);
+                        v13 = get64(p1 + 8);
+                        v10 = get64(p1 + 16);
+                        v5 = v9 + v4;
                         put64(v5 + 24, get64(p1 + 24));
-                        put64(v5 + 16, v13);
-                        put64(v5 + 8, v12);
-                        put64(v5, v11);
-                        v11 = get64(p1 + 32);
-                        v12 = get64(p1 + 40);
-                        v13 = get64(p1 + 48);
+                        put64(v5 + 16, v10);
+                        put64(v5 + 8, v13);
+                        put64(v5, v12);
+                        v12 = get64(p1 + 32);
+                        v13 = get64(p1 + 40);
+                        v10 = get64(p1 + 48);
                         put64(v5 + 56, get64(p1 + 56));
-                        put64(v5 + 48, v13);
-                        put64(v5 + 40, v12);
-                        put64(v5 + 32, v11);
-                        v11 = get64(p1 + 64);
-                        v12 = get64(p1 + 72);
-                        v13 = get64(p1 + 80);
+                        put64(v5 + 48, v10);
+                        put64(v5 + 40, v13);
+                        put64(v5 + 32, v12);
+                        v12 = get64(p1 + 64);
+                        v13 = get64(p1 + 72);
+                        v10 = get64(p1 + 80);
                         put64(v5 + 88, get64(p1 + 88));
-                        put64(v5 + 80, v13);
-                        put64(v5 + 72, v12);
-                        put64(v5 + 64, v11);
-                        v11 = get64(p1 + 96);
-                        v12 = get64(p1 + 104);
-                        v13 = get64(p1 + 112);
+                        put64(v5 + 80, v10);
+                        put64(v5 + 72, v13);
+                        put64(v5 + 64, v12);
+                        v12 = get64(p1 + 96);
+                        v13 = get64(p1 + 104);
+                        v10 = get64(p1 + 112);
                         put64(v5 + 120, get64(p1 + 120));
-                        put64(v5 + 112, v13);
-                        put64(v5 + 104, v12);
-                        put64(v5 + 96, v11);
-                        p1 = p1 + 128;
-                        v8 = v8 + 4;
-                    } while (v10 != v8);
-                    if (v4 == 0) goto l7;
+                        put64(v5 + 112, v10);
+                        put64(v5 + 104, v13);
+                        put64(v5 + 96, v12);
+                        v4 = v4 + 128;
+                        v11 = v11 + 4;
+                    } while (v20 != v11);
+                    if (v8 == 0) goto l12;
                 }
-                p1 = v9 + (v8 << 5);
-            l11:;
+                v5 = v11 << 5;
+                p1 = v9 + v5;
+                v5 = v14 + (v5 + v15);
+                do {
+                    v4 = get64(v5);
+                    v11 = get64(v5 + 8);
+                    v12 = get64(v5 + 16);
+                    put64(p1 + 24, get64(v5 + 24));
+                    put64(p1 + 16, v12);
+                    put64(p1 + 8, v11);
+                    put64(p1, v4);
+                    p1 = p1 + 32;
+                    v5 = v5 + 32;
+                    v8 = v8 - 1;
+                } while (v8 != 0);
+            }
+        } else if (v19 != 0) copy(v9, v16, v19);
+    l12:;
+        p1 = v9 + v19;
+        v16 = get64(p0);
+        v5 = get64(p0 + 32);
+        v4 = v5 << 5;
+        if ((p1 - v16) < v4) {
+            if (v5 != 0) {
+                v4 = v5 & 3;
+                v8 = 0;
+                if (v5 >= 4) {
+                    v8 = 0;
+                    v10 = 0 - (v5 & ~3ULL);
+                    v5 = v16;
+                    do {
+                        v11 = get64(v5);
+                        v12 = get64(v5 + 8);
+                        v13 = get64(v5 + 16);
+                        put64(p1 + 24, get64(v5 + 24));
+                        put64(p1 + 16, v13);
+                        put64(p1 + 8, v12);
+                        put64(p1, v11);
+                        v11 = get64(v5 + 32);
+                        v12 = get64(v5 + 40);
+                        v13 = get64(v5 + 48);
+                        put64(p1 + 56, get64(v5 + 56));
+                        put64(p1 + 48, v13);
+                        put64(p1 + 40, v12);
+                        put64(p1 + 32, v11);
+                        v11 = get64(v5 + 64);
+                        v12 = get64(v5 + 72);
+                        v13 = get64(v5 + 80);
+                        put64(p1 + 88, get64(v5 + 88));
+                        put64(p1 + 80, v13);
+                        put64(p1 + 72, v12);
+                        put64(p1 + 64, v11);
+                        v11 = get64(v5 + 96);
+                        v12 = get64(v5 + 104);
+                        v13 = get64(v5 + 112);
+                        put64(p1 + 120, get64(v5 + 120));
+                        put64(p1 + 112, v13);
+                        put64(p1 + 104, v12);
+                        put64(p1 + 96, v11);
+                        p1 = p1 + 128;
+                        v5 = v5 + 128;
+                        v8 = v8 - 4;
+                    } while (v10 != v8);
+                    if (v4 == 0) goto l17;
+                    v8 = 0 - v8;
+                }
+                v5 = v8 << 5;
+                p1 = v9 + ((v5 + (v17 << 5)) - (v18 << 5));
+                v5 = v16 + v5;
+                do {
+                    v8 = get64(v5);
+                    v11 = get64(v5 + 8);
+                    v12 = get64(v5 + 16);
+                    put64(p1 + 24, get64(v5 + 24));
+                    put64(p1 + 16, v12);
+                    put64(p1 + 8, v11);
+                    put64(p1, v8);
+                    p1 = p1 + 32;
+                    v5 = v5 + 32;
+                    v4 = v4 - 1;
+                } while (v4 != 0);
+            }
+        } else if (v4 != 0) copy(p1, v16, v4);
+    l17:;
+        rattle_dealloc_at(get64(p0));
+        put64(p0 + 16, v7);
+        put64(p0, v9);
+        put64(v6, 0);
+        put64(v6 + 8, 0);
+        goto l3;
+    }
+    if (v7 > 0x3ffffffffffffffULL) return 0;
+    if (v5 != 0) {
+        rattle_realloc_at(v2 + 40, get64(p0), v5 << 5, v7 << 5, 8);
+        if (((uint32_t)get64(v2 + 40) & 1) == 0) return 0;
+        v9 = get64(v2 + 48);
+    } else {
+        rattle_alloc_at(v2 + 24, v8 << 5, 8);
+        if (((uint32_t)get64(v2 + 24) & 1) == 0) return 0;
+        v9 = get64(v2 + 32);
+    }
+    v6 = get64(p0 + 8) << 5;
+    p1 = get64(p0 + 32);
+    v5 = p1 << 5;
+    if (v6 < v5) {
+        if (p1 != 0) {
+            v4 = p1 & 3;
+            v8 = 0;
+            if (p1 >= 4) {
+                v10 = p1 & ~3ULL;
+                v8 = 0;
+                p1 = v9;
+                do {
+                    v11 = get64(p1);
+                    v12 = get64(p1 + 8);
+                    v13 = get64(p1 + 16);
+                    v5 = p1 + v6;
+                    put64(v5 + 24, get64(p1 + 24));
+                    put64(v5 + 16, v13);
+                    put64(v5 + 8, v12);
+                    put64(v5, v11);
+                    v11 = get64(p1 + 32);
+                    v12 = get64(p1 + 40);
+                    v13 = get64(p1 + 48);
+                    put64(v5 + 56, get64(p1 + 56));
+                    put64(v5 + 48, v13);
+                    put64(v5 + 40, v12);
+                    put64(v5 + 32, v11);
+                    v11 = get64(p1 + 64);
+                    v12 = get64(p1 + 72);
+                    v13 = get64(p1 + 80);
+                    put64(v5 + 88, get64(p1 + 88));
+                    put64(v5 + 80, v13);
+                    put64(v5 + 72, v12);
+                    put64(v5 + 64, v11);
+                    v11 = get64(p1 + 96);
+                    v12 = get64(p1 + 104);
+                    v13 = get64(p1 + 112);
+                    put64(v5 + 120, get64(p1 + 120));
+                    put64(v5 + 112, v13);
+                    put64(v5 + 104, v12);
+                    put64(v5 + 96, v11);
+                    p1 = p1 + 128;
+                    v8 = v8 + 4;
+                } while (v10 != v8);
+                if (v4 == 0) goto l7;
+            }
+            p1 = v9 + (v8 << 5);
+            do {
                 v8 = get64(p1);
                 v11 = get64(p1 + 8);
                 v12 = get64(p1 + 16);
@@ -3993,200 +3998,47 @@ static uint32_t std_alloc_vec_deque_VecDeque_grow_ab161963403435e1(uint64_t p0, 
                 put64(v5, v8);
                 p1 = p1 + 32;
                 v4 = v4 - 1;
-                if (v4 != 0) goto l11;
-                goto l7;
-            }
-            if (v5 != 0) copy(v9 + v6, v9, v5);
-        l7:;
-            put64(p0, v9);
-            put64(p0 + 32, 0);
-            put64(p0 + 16, v7);
-            goto l3;
+            } while (v4 != 0);
         }
-    }
-    if (v7 > 0x3ffffffffffffffULL) return v3;
-    rattle_alloc_at(v2 + 8, v7 << 5, 8);
-    if ((get32(v2 + 8) & 1) == 0) return v3;
-    v9 = get64(v2 + 16);
-    v14 = get64(p0);
-    v15 = get64(p0 + 24) << 5;
-    v16 = v14 + v15;
-    v17 = get64(p0 + 8);
-    v18 = get64(p0 + 32);
-    p1 = v17 - v18;
-    v19 = p1 << 5;
-    if ((v9 - v16) < v19) {
-        if (v17 == v18) goto l12;
-        v8 = p1 & 3;
-        v11 = 0;
-        if ((v18 - v17) <= ~3ULL) {
-            v20 = p1 & ~3ULL;
-            v4 = 0;
-            v11 = 0;
-            do {
-                p1 = v16 + v4;
-                v12 = get64(p1);
-                v13 = get64(p1 + 8);
-                v10 = get64(p1 + 16);
-                v5 = v9 + v4;
-                put64(v5 + 24, get64(p1 + 24));
-                put64(v5 + 16, v10);
-                put64(v5 + 8, v13);
-                put64(v5, v12);
-                v12 = get64(p1 + 32);
-                v13 = get64(p1 + 40);
-                v10 = get64(p1 + 48);
-                put64(v5 + 56, get64(p1 + 56));
-                put64(v5 + 48, v10);
-                put64(v5 + 40, v13);
-                put64(v5 + 32, v12);
-                v12 = get64(p1 + 64);
-                v13 = get64(p1 + 72);
-                v10 = get64(p1 + 80);
-                put64(v5 + 88, get64(p1 + 88));
-                put64(v5 + 80, v10);
-                put64(v5 + 72, v13);
-                put64(v5 + 64, v12);
-                v12 = get64(p1 + 96);
-                v13 = get64(p1 + 104);
-                v10 = get64(p1 + 112);
-                put64(v5 + 120, get64(p1 + 120));
-                put64(v5 + 112, v10);
-                put64(v5 + 104, v13);
-                put64(v5 + 96, v12);
-                v4 = v4 + 128;
-                v11 = v11 + 4;
-            } while (v20 != v11);
-            if (v8 == 0) goto l12;
-        }
-        v5 = v11 << 5;
-        p1 = v9 + v5;
-        v5 = v14 + (v5 + v15);
-    l16:;
-        v4 = get64(v5);
-        v11 = get64(v5 + 8);
-        v12 = get64(v5 + 16);
-        put64(p1 + 24, get64(v5 + 24));
-        put64(p1 + 16, v12);
-        put64(p1 + 8, v11);
-        put64(p1, v4);
-        p1 = p1 + 32;
-        v5 = v5 + 32;
-        v8 = v8 - 1;
-        if (v8 != 0) goto l16;
-        goto l12;
-    }
-    if (v19 != 0) copy(v9, v16, v19);
-l12:;
-    p1 = v9 + v19;
-    v16 = get64(p0);
-    v5 = get64(p0 + 32);
-    v4 = v5 << 5;
-    if ((p1 - v16) < v4) {
-        if (v5 == 0) goto l17;
-        v4 = v5 & 3;
-        v8 = 0;
-        if (v5 >= 4) {
-            v8 = 0;
-            v10 = 0 - (v5 & ~3ULL);
-            v5 = v16;
-            do {
-                v11 = get64(v5);
-                v12 = get64(v5 + 8);
-                v13 = get64(v5 + 16);
-                put64(p1 + 24, get64(v5 + 24));
-                put64(p1 + 16, v13);
-                put64(p1 + 8, v12);
-                put64(p1, v11);
-                v11 = get64(v5 + 32);
-                v12 = get64(v5 + 40);
-                v13 = get64(v5 + 48);
-                put64(p1 + 56, get64(v5 + 56));
-                put64(p1 + 48, v13);
-                put64(p1 + 40, v12);
-                put64(p1 + 32, v11);
-                v11 = get64(v5 + 64);
-                v12 = get64(v5 + 72);
-                v13 = get64(v5 + 80);
-                put64(p1 + 88, get64(v5 + 88));
-                put64(p1 + 80, v13);
-                put64(p1 + 72, v12);
-                put64(p1 + 64, v11);
-                v11 = get64(v5 + 96);
-                v12 = get64(v5 + 104);
-                v13 = get64(v5 + 112);
-                put64(p1 + 120, get64(v5 + 120));
-                put64(p1 + 112, v13);
-                put64(p1 + 104, v12);
-                put64(p1 + 96, v11);
-                p1 = p1 + 128;
-                v5 = v5 + 128;
-                v8 = v8 - 4;
-            } while (v10 != v8);
-            if (v4 == 0) goto l17;
-            v8 = 0 - v8;
-        }
-        v5 = v8 << 5;
-        p1 = v9 + ((v5 + (v17 << 5)) - (v18 << 5));
-        v5 = v16 + v5;
-    l21:;
-        v8 = get64(v5);
-        v11 = get64(v5 + 8);
-        v12 = get64(v5 + 16);
-        put64(p1 + 24, get64(v5 + 24));
-        put64(p1 + 16, v12);
-        put64(p1 + 8, v11);
-        put64(p1, v8);
-        p1 = p1 + 32;
-        v5 = v5 + 32;
-        v4 = v4 - 1;
-        if (v4 != 0) goto l21;
-        goto l17;
-    }
-    if (v4 != 0) copy(p1, v16, v4);
-l17:;
-    rattle_dealloc_at(get64(p0));
-    put64(p0 + 16, v7);
+    } else if (v5 != 0) copy(v9 + v6, v9, v5);
+l7:;
     put64(p0, v9);
-    put64(v6, 0);
-    put64(v6 + 8, 0);
+    put64(p0 + 32, 0);
+    put64(p0 + 16, v7);
 l3:;
     v3 = 1;
-    return v3;
+    return 1;
 }
 
 static uint32_t std_alloc_vec_Vec_grow_amortized_ab161963403435e1(uint64_t p0, uint64_t p1)
 {
     unsigned char frame_octets[32 + 15];
-    uint32_t v3 = 0;
     uint64_t v2 = 0, v4 = 0, v5 = 0, v6 = 0;
     v2 = aligned(frame_octets);
-    v3 = 0;
     v4 = get64(p0 + 8);
-    if (p1 > ~v4) return v3;
+    if (p1 > ~v4) return 0;
     p1 = v4 + p1;
     p1 = (p1 > 4) ? p1 : 4ULL;
     v5 = get64(p0 + 16);
     v6 = v5 << 1;
     v6 = (p1 > v6) ? p1 : v6;
     p1 = (v5 < 0x4000000000000000ULL) ? v6 : p1;
-    if (p1 > 0x3ffffffffffffffULL) return v3;
+    if (p1 > 0x3ffffffffffffffULL) return 0;
     if (v5 != 0) {
         rattle_realloc_at(v2 + 16, get64(p0), v4 << 5, p1 << 5, 8);
-        if (((uint32_t)get64(v2 + 16) & 1) == 0) return v3;
+        if (((uint32_t)get64(v2 + 16) & 1) == 0) return 0;
         v4 = get64(v2 + 24);
-        goto l2;
+    } else {
+        rattle_alloc_at(v2, v6 << 5, 8);
+        if (((uint32_t)get64(v2) & 1) == 0) return 0;
+        v4 = get64(v2 + 8);
     }
-    rattle_alloc_at(v2, v6 << 5, 8);
-    if (((uint32_t)get64(v2) & 1) == 0) return v3;
-    v4 = get64(v2 + 8);
-l2:;
     put64(p0 + 16, p1);
     put64(p0, v4);
-    v3 = 1;
-    return v3;
+    return 1;
 }
 
+/* nodes::ground_node::Ground::commit, crates/nodes/src/ground_node/submit.rt:79 */
 static void nodes_ground_node_Ground_commit(uint64_t p0, uint64_t p1)
 {
     uint32_t v3 = 0, v12 = 0, t1;
@@ -4210,11 +4062,10 @@ static void nodes_ground_node_Ground_commit(uint64_t p0, uint64_t p1)
     v16 = get64(p0 + 280);
     if (v15 < (get64(p0 + 272) - v16)) {
         put64(v5 + ((v16 + v15) << 3), v4);
-        goto l1;
+    } else {
+        put64(v5 + (v14 << 3), v4);
+        put64(v13, v14 + 1);
     }
-    put64(v5 + (v14 << 3), v4);
-    put64(v13, v14 + 1);
-l1:;
     put64(p0 + 264, p1 + 1);
     if (v3 == 0) {
         p1 = get64(p0 + 208);
@@ -4229,95 +4080,90 @@ l1:;
             put64(p1 + 16, v8);
             put64(p1 + 8, v2);
             put64(p1, v9);
-            goto l5;
+        } else {
+            p1 = p1 + (v4 << 5);
+            put64(p1 + 24, v7);
+            put64(p1 + 16, v8);
+            put64(p1 + 8, v2);
+            put64(p1, v9);
+            put64(v5, v4 + 1);
         }
-        p1 = p1 + (v4 << 5);
-        put64(p1 + 24, v7);
-        put64(p1 + 16, v8);
-        put64(p1 + 8, v2);
-        put64(p1, v9);
-        put64(v5, v4 + 1);
-    l5:;
         put64(p0 + 216, v6 + 1);
         goto l3;
     }
     p1 = get64(p0 + 216);
     if (v2 > (get64(p0 + 224) - p1)) {
         t1 = std_alloc_vec_deque_VecDeque_grow_ab161963403435e1(p0 + 208, v2);
-        if (t1 == 0) goto l8;
+        if (t1 == 0) {
+            p1 = v2 - v6;
+            if (v7 < (p1 + v7)) {
+                v7 = ((v7 << 5) + v9) + 24;
+                do {
+                    if (get64(v7) != 0) rattle_dealloc_at(get64(v7 - 16));
+                    v7 = v7 + 32;
+                    p1 = p1 - 1;
+                } while (p1 != 0);
+            }
+            if (v6 != 0) {
+                v7 = v9 + 24;
+                do {
+                    if (get64(v7) != 0) rattle_dealloc_at(get64(v7 - 16));
+                    v7 = v7 + 32;
+                    v6 = v6 - 1;
+                } while (v6 != 0);
+            }
+            goto l7;
+        }
         p1 = get64(p0 + 216);
-        goto l9;
-    }
-    if (v2 == 0) goto l7;
-l9:;
+    } else if (v2 == 0) goto l7;
     v16 = p0 + 232;
     v17 = p0 + 224;
     v13 = p0 + 240;
     v18 = p0 + 208;
     v19 = p0 + 216;
-l11:;
-    v3 = v2 == v6;
-    v5 = (v3 != 0) ? 0ULL : v7;
-    v7 = v9 + (v5 << 5);
-    v14 = get64(v18);
-    v4 = get64(v13);
-    v15 = get64(v16);
-    if ((p1 - v4) < (get64(v17) - v15)) {
-        v20 = get64(v7);
-        v21 = get64(v7 + 8);
-        v22 = get64(v7 + 16);
-        v4 = v14 + ((p1 + (v15 - v4)) << 5);
-        put64(v4 + 24, get64(v7 + 24));
-        put64(v4 + 16, v22);
-        put64(v4 + 8, v21);
-        put64(v4, v20);
-        goto l12;
-    }
-    v15 = get64(v7);
-    v20 = get64(v7 + 8);
-    v21 = get64(v7 + 16);
-    v14 = v14 + (v4 << 5);
-    put64(v14 + 24, get64(v7 + 24));
-    put64(v14 + 16, v21);
-    put64(v14 + 8, v20);
-    put64(v14, v15);
-    put64(v13, v4 + 1);
-l12:;
-    v6 = (v3 != 0) ? 0ULL : v6;
-    v7 = v5 + 1;
-    p1 = p1 + 1;
-    put64(v19, p1);
-    v2 = v2 - 1;
-    if (v2 != 0) goto l11;
-    goto l7;
-l8:;
-    p1 = v2 - v6;
-    if (v7 < (p1 + v7)) {
-        v7 = ((v7 << 5) + v9) + 24;
-        do {
-            if (get64(v7) != 0) rattle_dealloc_at(get64(v7 - 16));
-            v7 = v7 + 32;
-            p1 = p1 - 1;
-        } while (p1 != 0);
-    }
-    if (v6 != 0) {
-        v7 = v9 + 24;
-        do {
-            if (get64(v7) != 0) rattle_dealloc_at(get64(v7 - 16));
-            v7 = v7 + 32;
-            v6 = v6 - 1;
-        } while (v6 != 0);
-    }
+    do {
+        v3 = v2 == v6;
+        v5 = (v3 != 0) ? 0ULL : v7;
+        v7 = v9 + (v5 << 5);
+        v14 = get64(v18);
+        v4 = get64(v13);
+        v15 = get64(v16);
+        if ((p1 - v4) < (get64(v17) - v15)) {
+            v20 = get64(v7);
+            v21 = get64(v7 + 8);
+            v22 = get64(v7 + 16);
+            v4 = v14 + ((p1 + (v15 - v4)) << 5);
+            put64(v4 + 24, get64(v7 + 24));
+            put64(v4 + 16, v22);
+            put64(v4 + 8, v21);
+            put64(v4, v20);
+        } else {
+            v15 = get64(v7);
+            v20 = get64(v7 + 8);
+            v21 = get64(v7 + 16);
+            v14 = v14 + (v4 << 5);
+            put64(v14 + 24, get64(v7 + 24));
+            put64(v14 + 16, v21);
+            put64(v14 + 8, v20);
+            put64(v14, v15);
+            put64(v13, v4 + 1);
+        }
+        v6 = (v3 != 0) ? 0ULL : v6;
+        v7 = v5 + 1;
+        p1 = p1 + 1;
+        put64(v19, p1);
+        v2 = v2 - 1;
+    } while (v2 != 0);
 l7:;
     if (v8 != 0) rattle_dealloc_at(v9);
 l3:;
     nodes_ground_node_Ground_refill(p0);
-    if ((v12 & 255) != 1) return;
-    if (v10 == 0) return;
+    if ((v12 & 255) != 1 || v10 == 0) return;
     rattle_dealloc_at(v11);
     return;
 }
 
+/* nodes::ground_node::Ground::telemetry, crates/nodes/src/ground_node/telemetry.rt:29 */
 static void nodes_ground_node_Ground_telemetry(uint64_t p0, uint64_t p1, uint64_t p2, uint64_t p3)
 {
     unsigned char frame_octets[128 + 15];
@@ -4348,16 +4194,14 @@ static void nodes_ground_node_Ground_telemetry(uint64_t p0, uint64_t p1, uint64_
         put64(p0 + 24, 0);
         return;
     }
-    if (get32(p1) == get16(v4 + 32)) {
-        if (get32(p1 + 8) == get8(v4 + 34)) goto l2;
+    if (get32(p1) != get16(v4 + 32) || get32(p1 + 8) != get8(v4 + 34)) {
+        put64(p0 + 9, 0);
+        put8(p0 + 8, 1);
+        put64(p0, 0);
+        put64(p0 + 17, 0);
+        put64(p0 + 24, 0);
+        return;
     }
-    put64(p0 + 9, 0);
-    put8(p0 + 8, 1);
-    put64(p0, 0);
-    put64(p0 + 17, 0);
-    put64(p0 + 24, 0);
-    return;
-l2:;
     v5 = get32(v4 + 64);
     v6 = get64(v4 + 56);
     v7 = get64(v4 + 48);
@@ -4379,7 +4223,9 @@ l2:;
     v18 = v7;
     switch (v9) {
     case 1:
-        if (p3 != 0) {
+        if (p3 == 0) {
+            v18 = v7;
+        } else {
             v18 = p3 + v6;
             if (v18 >= 6) {
                 v8 = (p3 < 6) ? p3 : 6ULL;
@@ -4390,70 +4236,54 @@ l2:;
                 if (v8 != 0) copy(v4 + 114, v17, v8);
                 if (v20 != 0) copy(v19, v7, v20);
                 v22 = get8(v4 + 114);
-                if (v22 <= 31) {
-                    if ((v22 & 8) != 0) {
-                        if ((((v22 << 8) & 0x700) | get8(v4 + 115)) == 0x7ff) goto l18;
-                    }
-                    if (((((uint64_t)get8(v4 + 118) << 8) | (uint64_t)get8(v4 + 119)) + 7) == v18) {
-                        t1 = tm_link_hand_out_hand_out(v17, p3, v7, v6, v4 + 88);
-                        if ((t1 & 255) != 0) goto l12;
-                        v12 = 0;
-                        v18 = v7;
-                        goto l13;
-                    }
+                if (v22 <= 31 && (((v22 & 8) == 0 || (((v22 << 8) & 0x700) | get8(v4 + 115)) != 0x7ff) &&
+                    ((((uint64_t)get8(v4 + 118) << 8) | (uint64_t)get8(v4 + 119)) + 7) == v18)) {
+                    t1 = tm_link_hand_out_hand_out(v17, p3, v7, v6, v4 + 88);
+                    if ((t1 & 255) != 0) goto l12;
+                    v12 = 0;
+                    v18 = v7;
+                    break;
                 }
             }
-        l18:;
             v18 = v7;
-            goto l13;
         }
-        v18 = v7;
-        goto l13;
+        break;
     case 2:
-        goto l13;
+        break;
     default:
-        goto l14;
-    }
-l14:;
-    if (p3 != 0) {
-        v19 = p3 + v8;
-        if (v19 >= 6) {
-            v20 = (p3 < 6) ? p3 : 6ULL;
-            v21 = v4 + 114 + v20;
-            v18 = 6 - v20;
-            v23 = (p3 > 5) ? 0ULL : v18;
-            if (v23 != 0) fill(v21, 0, v23);
-            if (v20 != 0) copy(v4 + 114, v17, v20);
-            if (v18 != 0) copy(v21, v7, v18);
-            v22 = get8(v4 + 114);
-            if (v22 <= 31) {
-                if ((v22 & 8) != 0) {
-                    if ((((v22 << 8) & 0x700) | get8(v4 + 115)) == 0x7ff) goto l23;
-                }
-                if (((((uint64_t)get8(v4 + 118) << 8) | (uint64_t)get8(v4 + 119)) + 7) == v19) {
+        if (p3 != 0) {
+            v19 = p3 + v8;
+            if (v19 >= 6) {
+                v20 = (p3 < 6) ? p3 : 6ULL;
+                v21 = v4 + 114 + v20;
+                v18 = 6 - v20;
+                v23 = (p3 > 5) ? 0ULL : v18;
+                if (v23 != 0) fill(v21, 0, v23);
+                if (v20 != 0) copy(v4 + 114, v17, v20);
+                if (v18 != 0) copy(v21, v7, v18);
+                v22 = get8(v4 + 114);
+                if (v22 <= 31 && (((v22 & 8) == 0 || (((v22 << 8) & 0x700) | get8(v4 + 115)) != 0x7ff) &&
+                    ((((uint64_t)get8(v4 + 118) << 8) | (uint64_t)get8(v4 + 119)) + 7) == v19)) {
                     t2 = tm_link_hand_out_hand_out(v17, p3, v7, v8, v4 + 88);
                     if ((t2 & 255) != 0) goto l12;
                 }
             }
         }
-    }
-l23:;
-    v18 = v7 + v8;
-    v12 = v6 - v8;
-    if (v12 >= 6) {
-        do {
-            v22 = get8(v18);
-            if (v22 > 31) goto l13;
-            if ((v22 & 8) != 0) {
-                if ((((v22 << 8) & 0x700) | get8(v18 + 1)) == 0x7ff) goto l13;
-            }
-            p3 = (((uint64_t)get8(v18 + 4) << 8) | (uint64_t)get8(v18 + 5)) + 7;
-            if (v12 < p3) goto l13;
-            t3 = tm_link_hand_out_hand_out(v18, p3, v18, 0, v4 + 88);
-            if ((t3 & 255) != 0) goto l12;
-            v18 = v18 + p3;
-            v12 = v12 - p3;
-        } while (v12 >= 6);
+        v18 = v7 + v8;
+        v12 = v6 - v8;
+        if (v12 >= 6) {
+            do {
+                v22 = get8(v18);
+                if (v22 > 31 || ((v22 & 8) != 0 && (((v22 << 8) & 0x700) | get8(v18 + 1)) == 0x7ff)) goto l13;
+                p3 = (((uint64_t)get8(v18 + 4) << 8) | (uint64_t)get8(v18 + 5)) + 7;
+                if (v12 < p3) goto l13;
+                t3 = tm_link_hand_out_hand_out(v18, p3, v18, 0, v4 + 88);
+                if ((t3 & 255) != 0) goto l12;
+                v18 = v18 + p3;
+                v12 = v12 - p3;
+            } while (v12 >= 6);
+        }
+        break;
     }
 l13:;
     v24 = get64(v4 + 96);
@@ -4473,10 +4303,7 @@ l13:;
             goto l5;
         }
         p3 = get64(p1 + 384);
-        goto l31;
-    }
-    if (v24 == 0) goto l30;
-l31:;
+    } else if (v24 == 0) goto l30;
     v25 = get64(p1 + 376);
     v26 = p3 * 24;
     v27 = v25 + v26;
@@ -4520,27 +4347,23 @@ l31:;
         p2 = v20 * 24;
         p3 = v23 + p2;
         p2 = v25 + (v26 + p2);
-    l37:;
-        v8 = get64(p3);
-        v20 = get64(p3 + 8);
-        put64(p2 + 16, get64(p3 + 16));
-        put64(p2 + 8, v20);
-        put64(p2, v8);
-        p2 = p2 + 24;
-        p3 = p3 + 24;
-        v17 = v17 - 1;
-        if (v17 != 0) goto l37;
-        goto l33;
-    }
-    if (p3 != 0) copy(v27, v23, p3);
+        do {
+            v8 = get64(p3);
+            v20 = get64(p3 + 8);
+            put64(p2 + 16, get64(p3 + 16));
+            put64(p2 + 8, v20);
+            put64(p2, v8);
+            p2 = p2 + 24;
+            p3 = p3 + 24;
+            v17 = v17 - 1;
+        } while (v17 != 0);
+    } else if (p3 != 0) copy(v27, v23, p3);
 l33:;
     p3 = p1 + 384;
     put64(p3, get64(p3) + v24);
     put64(v4 + 96, 0);
 l30:;
-    if (v16 != 0) {
-        if (get64(v13) != 0) put64(v13, 0);
-    }
+    if (v16 != 0 && get64(v13) != 0) put64(v13, 0);
     put8(p1 + 305, v10);
     put8(p1 + 304, 1);
     v20 = get64(p1 + 320);
@@ -4558,13 +4381,9 @@ l30:;
             if (p3 != 0) copy(v4 + 114, v21, p3);
             if (p2 != 0) copy(v8, v7, p2);
             v9 = get8(v4 + 114);
-            if (v9 > 31) goto l44;
-            if ((v9 & 8) != 0) {
-                if ((((v9 << 8) & 0x700) | get8(v4 + 115)) == 0x7ff) goto l44;
-            }
+            if (v9 > 31 || ((v9 & 8) != 0 && (((v9 << 8) & 0x700) | get8(v4 + 115)) == 0x7ff)) goto l44;
             p3 = (((uint64_t)get8(v4 + 118) << 8) | (uint64_t)get8(v4 + 119)) + 7;
-            if (p3 == v23) goto l44;
-            if (v23 >= p3) goto l44;
+            if (p3 == v23 || v23 >= p3) goto l44;
         }
         v24 = get64(p1 + 328);
         if (v6 > (v24 - v20)) {
@@ -4598,15 +4417,13 @@ l30:;
             }
             p3 = v7 + p2;
             p2 = v21 + (v20 + p2);
-        l55:;
-            put8(p2, get8(p3));
-            p2 = p2 + 1;
-            p3 = p3 + 1;
-            v17 = v17 - 1;
-            if (v17 != 0) goto l55;
-            goto l51;
-        }
-        if (v6 != 0) copy(v18, v7, v6);
+            do {
+                put8(p2, get8(p3));
+                p2 = p2 + 1;
+                p3 = p3 + 1;
+                v17 = v17 - 1;
+            } while (v17 != 0);
+        } else if (v6 != 0) copy(v18, v7, v6);
     l51:;
         put64(p1 + 328, v24);
         put64(p1 + 320, v23);
@@ -4620,7 +4437,59 @@ l30:;
         put64(v13, 0);
         goto l7;
     default:
-        goto l8;
+        if (v20 != 0) put64(v13, 0);
+        if (v12 >= 6) {
+            v9 = get8(v18);
+            if (v9 > 31) goto l7;
+            p3 = (uint64_t)get8(v18 + 5);
+            p2 = (uint64_t)get8(v18 + 4);
+            if (((v9 & 8) != 0 && (((v9 << 8) & 0x700) | get8(v18 + 1)) == 0x7ff) || v12 >= (((p2 << 8) | p3) + 7))
+                goto l7;
+        }
+        v21 = 0;
+        v24 = get64(p1 + 328);
+        if (v12 > v24) {
+            t6 = std_alloc_vec_Vec_grow_amortized_5ff1a26cbddecd5f(p1 + 312, v12);
+            if (t6 == 0) goto l7;
+            v24 = get64(p1 + 328);
+            v21 = get64(p1 + 320);
+        }
+        put64(v13, 0);
+        put64(v13 + 8, 0);
+        v27 = v21 + v12;
+        v23 = get64(p1 + 312);
+        v20 = v23 + v21;
+        if ((v20 - v18) < v12) {
+            v17 = v12 & 3;
+            p2 = 0;
+            if (v12 >= 4) {
+                v19 = v12 & ~3ULL;
+                p2 = 0;
+                do {
+                    p3 = v20 + p2;
+                    v8 = v18 + p2;
+                    put8(p3, get8(v8));
+                    put8(p3 + 1, get8(v8 + 1));
+                    put8(p3 + 2, get8(v8 + 2));
+                    put8(p3 + 3, get8(v8 + 3));
+                    p2 = p2 + 4;
+                } while (v19 != p2);
+                if (v17 == 0) goto l60;
+            }
+            p3 = v18 + p2;
+            p2 = v23 + (v21 + p2);
+            do {
+                put8(p2, get8(p3));
+                p2 = p2 + 1;
+                p3 = p3 + 1;
+                v17 = v17 - 1;
+            } while (v17 != 0);
+        } else if (v12 != 0) copy(v20, v18, v12);
+    l60:;
+        put64(p1 + 328, v24);
+        put64(p1 + 320, v27);
+        put64(p1 + 312, v23);
+        goto l7;
     }
 l12:;
     v8 = get64(v4 + 104);
@@ -4636,63 +4505,6 @@ l12:;
     }
     if (v8 == 0) goto l5;
     goto l6;
-l8:;
-    if (v20 != 0) put64(v13, 0);
-    if (v12 >= 6) {
-        v9 = get8(v18);
-        if (v9 > 31) goto l7;
-        p3 = (uint64_t)get8(v18 + 5);
-        p2 = (uint64_t)get8(v18 + 4);
-        if ((v9 & 8) != 0) {
-            if ((((v9 << 8) & 0x700) | get8(v18 + 1)) == 0x7ff) goto l7;
-        }
-        if (v12 >= (((p2 << 8) | p3) + 7)) goto l7;
-    }
-    v21 = 0;
-    v24 = get64(p1 + 328);
-    if (v12 > v24) {
-        t6 = std_alloc_vec_Vec_grow_amortized_5ff1a26cbddecd5f(p1 + 312, v12);
-        if (t6 == 0) goto l7;
-        v24 = get64(p1 + 328);
-        v21 = get64(p1 + 320);
-    }
-    put64(v13, 0);
-    put64(v13 + 8, 0);
-    v27 = v21 + v12;
-    v23 = get64(p1 + 312);
-    v20 = v23 + v21;
-    if ((v20 - v18) < v12) {
-        v17 = v12 & 3;
-        p2 = 0;
-        if (v12 >= 4) {
-            v19 = v12 & ~3ULL;
-            p2 = 0;
-            do {
-                p3 = v20 + p2;
-                v8 = v18 + p2;
-                put8(p3, get8(v8));
-                put8(p3 + 1, get8(v8 + 1));
-                put8(p3 + 2, get8(v8 + 2));
-                put8(p3 + 3, get8(v8 + 3));
-                p2 = p2 + 4;
-            } while (v19 != p2);
-            if (v17 == 0) goto l60;
-        }
-        p3 = v18 + p2;
-        p2 = v23 + (v21 + p2);
-    l64:;
-        put8(p2, get8(p3));
-        p2 = p2 + 1;
-        p3 = p3 + 1;
-        v17 = v17 - 1;
-        if (v17 != 0) goto l64;
-        goto l60;
-    }
-    if (v12 != 0) copy(v20, v18, v12);
-l60:;
-    put64(p1 + 328, v24);
-    put64(p1 + 320, v27);
-    put64(p1 + 312, v23);
 l7:;
     if (get64(v4 + 104) != 0) rattle_dealloc_at(get64(v4 + 88));
     p3 = get64(p1 + 384) - v11;
@@ -4700,30 +4512,27 @@ l7:;
         v9 = 1;
         v10 = 0;
         v22 = 0;
-        goto l66;
-    }
-    if ((v5 & 255) > 31) {
+    } else if ((v5 & 255) > 31) {
         v10 = 1;
         v22 = 0;
         v9 = 1;
-        goto l66;
+    } else {
+        v10 = 3;
+        v9 = 1;
+        if ((v5 & 3) != 1) {
+            v10 = 2;
+            v22 = 0;
+        } else {
+            v9 = 1;
+            v22 = 0;
+            v16 = v5 >> 16;
+            if ((((v5 >> 8) & 3) | (v16 & 1)) == 0) {
+                v22 = ((((v5 >> 10) & 63) | (v5 & 0xff000000U)) | ((v5 >> 1) & 0x30000)) | ((v16 << 8) & 0xf800);
+                v10 = (v5 & 252) >> 2;
+                v9 = 0;
+            }
+        }
     }
-    v10 = 3;
-    v9 = 1;
-    if ((v5 & 3) != 1) {
-        v10 = 2;
-        v22 = 0;
-        goto l66;
-    }
-    v9 = 1;
-    v22 = 0;
-    v16 = v5 >> 16;
-    if ((((v5 >> 8) & 3) | (v16 & 1)) == 0) {
-        v22 = ((((v5 >> 10) & 63) | (v5 & 0xff000000U)) | ((v5 >> 1) & 0x30000)) | ((v16 << 8) & 0xf800);
-        v10 = (v5 & 252) >> 2;
-        v9 = 0;
-    }
-l66:;
     put32(v4 + 14, v22);
     put8(v4 + 13, v10);
     put8(v4 + 12, v9);
@@ -4751,6 +4560,7 @@ l5:;
     return;
 }
 
+/* tm_link::decoding::decode, crates/tm_link/src/decoding.rt:17 */
 static void tm_link_decoding_decode(uint64_t p0, uint64_t p1, uint64_t p2, uint64_t p3)
 {
     unsigned char frame_octets[16 + 15];
@@ -4778,15 +4588,14 @@ static void tm_link_decoding_decode(uint64_t p0, uint64_t p1, uint64_t p2, uint6
     v13 = 0;
     v14 = 0;
     v15 = 0;
-    if ((p3 - 0x801) >= ~2032ULL) {
-        v8 = 1;
-        v13 = get8(p1);
-        if (v13 > 63) {
-            v9 = 0;
-            v6 = 0;
-            v7 = 1;
-            goto l3;
-        }
+    if ((p3 - 0x801) < ~2032ULL) goto l1;
+    v8 = 1;
+    v13 = get8(p1);
+    if (v13 > 63) {
+        v9 = 0;
+        v6 = 0;
+        v7 = 1;
+    } else {
         v7 = 2;
         if (p2 >= 2) {
             v10 = get8(p1 + 1);
@@ -4796,46 +4605,22 @@ static void tm_link_decoding_decode(uint64_t p0, uint64_t p1, uint64_t p2, uint6
             v14 = get16(p1 + p3);
             t1 = octets_frame_check_check(p1, p3);
             if ((((v14 << 8) | (v14 >> 8)) & 0xffff) == (t1 & 0xffff)) {
-                if ((v9 & 248) == 24) {
-                    v5 = p2 - 12;
-                    v7 = ((v9 << 8) & 0x700) | v11;
-                    if (v7 <= 0x7fd) {
-                        if (v5 <= (uint64_t)v7) {
-                            v9 = 0;
-                            v6 = 0;
-                            v7 = 4;
-                            goto l3;
-                        }
-                    }
-                    v8 = 1;
-                    if ((v10 & 1) != 0) {
-                        v9 = (v13 << 8) | v10;
-                        v8 = 0;
-                        v13 = 2;
-                        v14 = 0;
-                        switch (v7 - 0x7fe) {
-                        case 0:
-                            goto l9;
-                        case 1:
-                            v13 = 1;
-                            v14 = 0;
-                            goto l9;
-                        default:
-                            goto l10;
-                        }
-                    l10:;
-                        v13 = 0;
-                        v14 = v7;
-                    l9:;
-                        v12 = get8(p1 + 3);
-                        v11 = get8(p1 + 2);
-                        v6 = p1 + 6;
-                        v9 = v9 >> 4;
-                        v10 = (v10 >> 1) & 7;
-                        v15 = get32(p1 + p2 - 6);
-                        v7 = 0;
-                        goto l1;
-                    }
+                if ((v9 & 248) != 24) {
+                    v9 = 0;
+                    v6 = 0;
+                    v7 = 3;
+                    goto l3;
+                }
+                v5 = p2 - 12;
+                v7 = ((v9 << 8) & 0x700) | v11;
+                if (v7 <= 0x7fd && v5 <= (uint64_t)v7) {
+                    v9 = 0;
+                    v6 = 0;
+                    v7 = 4;
+                    goto l3;
+                }
+                v8 = 1;
+                if ((v10 & 1) == 0) {
                     v9 = 0;
                     v5 = 0;
                     v7 = 5;
@@ -4848,23 +4633,43 @@ static void tm_link_decoding_decode(uint64_t p0, uint64_t p1, uint64_t p2, uint6
                     v15 = 0;
                     goto l1;
                 }
-                v9 = 0;
-                v6 = 0;
-                v7 = 3;
-                goto l3;
+                v9 = (v13 << 8) | v10;
+                v8 = 0;
+                v13 = 2;
+                v14 = 0;
+                switch (v7 - 0x7fe) {
+                case 0:
+                    break;
+                case 1:
+                    v13 = 1;
+                    v14 = 0;
+                    break;
+                default:
+                    v13 = 0;
+                    v14 = v7;
+                    break;
+                }
+                v12 = get8(p1 + 3);
+                v11 = get8(p1 + 2);
+                v6 = p1 + 6;
+                v9 = v9 >> 4;
+                v10 = (v10 >> 1) & 7;
+                v15 = get32(p1 + p2 - 6);
+                v7 = 0;
+                goto l1;
             }
         }
         v9 = 0;
         v6 = 0;
-    l3:;
-        v10 = 0;
-        v11 = 0;
-        v12 = 0;
-        v13 = 0;
-        v14 = 0;
-        v5 = 0;
-        v15 = 0;
     }
+l3:;
+    v10 = 0;
+    v11 = 0;
+    v12 = 0;
+    v13 = 0;
+    v14 = 0;
+    v5 = 0;
+    v15 = 0;
 l1:;
     put8(p0, v8);
     put16(p0 + 16, v14);
@@ -4886,6 +4691,7 @@ l1:;
     return;
 }
 
+/* tm_link::hand_out::hand_out, crates/tm_link/src/hand_out.rt:79 */
 static uint32_t tm_link_hand_out_hand_out(uint64_t p0, uint64_t p1, uint64_t p2, uint64_t p3, uint64_t p4)
 {
     unsigned char frame_octets[48 + 15];
@@ -4898,30 +4704,35 @@ static uint32_t tm_link_hand_out_hand_out(uint64_t p0, uint64_t p1, uint64_t p2,
     if (v7 != 0) copy(v5 + 16, p0, v7);
     v8 = 2 - v7;
     if (v8 != 0) copy(v5 + 16 + v7, p2, v8);
-    if ((((get8(v5 + 16) << 8) & 0x700) | get8(v5 + 17)) == 0x7ff) return v6;
+    if ((((get8(v5 + 16) << 8) & 0x700) | get8(v5 + 17)) == 0x7ff) return 0;
     v9 = p3 + p1;
     if (v9 == 0) {
         v10 = v5 + 47;
-        goto l6;
+    } else {
+        if (v9 > 0x7fffffffffffffffULL) {
+            v6 = 1;
+            return 1;
+        }
+        rattle_alloc_at(v5, v9, 1);
+        if (((uint32_t)get64(v5) & 1) == 0) {
+            v6 = 1;
+            return 1;
+        }
+        v10 = get64(v5 + 8);
     }
-    if (v9 > 0x7fffffffffffffffULL) {
-        v6 = 1;
-        return v6;
-    }
-    rattle_alloc_at(v5, v9, 1);
-    if (((uint32_t)get64(v5) & 1) == 0) {
-        v6 = 1;
-        return v6;
-    }
-    v10 = get64(v5 + 8);
-l6:;
     v11 = 0;
     put64(v5 + 24, 0);
     put64(v5 + 16, v10);
     put64(v5 + 32, v9);
     if (p1 > v9) {
         t1 = std_alloc_vec_Vec_grow_amortized_5ff1a26cbddecd5f(v5 + 16, p1);
-        if (t1 == 0) goto l9;
+        if (t1 == 0) {
+            if (get64(v5 + 32) == 0) {
+                v6 = 1;
+                return 1;
+            }
+            goto l8;
+        }
         v10 = get64(v5 + 16);
         v9 = get64(v5 + 32);
         v11 = get64(v5 + 24);
@@ -4947,15 +4758,13 @@ l6:;
         }
         p1 = p0 + v7;
         v7 = v10 + (v11 + v7);
-    l15:;
-        put8(v7, get8(p1));
-        v7 = v7 + 1;
-        p1 = p1 + 1;
-        v14 = v14 - 1;
-        if (v14 != 0) goto l15;
-        goto l11;
-    }
-    if (p1 != 0) copy(v13, p0, p1);
+        do {
+            put8(v7, get8(p1));
+            v7 = v7 + 1;
+            p1 = p1 + 1;
+            v14 = v14 - 1;
+        } while (v14 != 0);
+    } else if (p1 != 0) copy(v13, p0, p1);
 l11:;
     put64(v5 + 24, v12);
     put64(v5 + 32, v9);
@@ -4964,58 +4773,58 @@ l11:;
         if (t2 == 0) {
             if (get64(v5 + 32) != 0) goto l8;
             v6 = 1;
-            return v6;
+            return 1;
         }
         v9 = get64(v5 + 32);
         v12 = get64(v5 + 24);
     }
     v15 = get64(v5 + 16);
     p0 = v15 + v12;
-    if ((p0 - p2) < p3) {
-        v14 = p3 & 3;
+    if ((p0 - p2) >= p3) {
+        if (p3 == 0) goto l4;
+        copy(p0, p2, p3);
+        goto l4;
+    }
+    v14 = p3 & 3;
+    v7 = 0;
+    if (p3 >= 4) {
+        v13 = p3 & ~3ULL;
         v7 = 0;
-        if (p3 >= 4) {
-            v13 = p3 & ~3ULL;
-            v7 = 0;
-            do {
-                p1 = p0 + v7;
-                v8 = p2 + v7;
-                put8(p1, get8(v8));
-                put8(p1 + 1, get8(v8 + 1));
-                put8(p1 + 2, get8(v8 + 2));
-                put8(p1 + 3, get8(v8 + 3));
-                v7 = v7 + 4;
-            } while (v13 != v7);
-            if (v14 == 0) goto l4;
-        }
-        p1 = p2 + v7;
-        v7 = v15 + (v12 + v7);
-    l21:;
+        do {
+            p1 = p0 + v7;
+            v8 = p2 + v7;
+            put8(p1, get8(v8));
+            put8(p1 + 1, get8(v8 + 1));
+            put8(p1 + 2, get8(v8 + 2));
+            put8(p1 + 3, get8(v8 + 3));
+            v7 = v7 + 4;
+        } while (v13 != v7);
+        if (v14 == 0) goto l4;
+    }
+    p1 = p2 + v7;
+    v7 = v15 + (v12 + v7);
+    do {
         put8(v7, get8(p1));
         v7 = v7 + 1;
         p1 = p1 + 1;
         v14 = v14 - 1;
-        if (v14 != 0) goto l21;
-        goto l4;
-    }
-    if (p3 == 0) goto l4;
-    copy(p0, p2, p3);
+    } while (v14 != 0);
     goto l4;
-l9:;
-    if (get64(v5 + 32) == 0) {
-        v6 = 1;
-        return v6;
-    }
 l8:;
     rattle_dealloc_at(get64(v5 + 16));
     v6 = 1;
-    return v6;
+    return 1;
 l4:;
     v8 = p4 + 8;
     p1 = get64(v8);
     if (get64(p4 + 16) == p1) {
         t3 = std_alloc_vec_Vec_grow_amortized_cf5a566ef03a1ac9(p4, 1);
-        if (t3 == 0) goto l22;
+        if (t3 == 0) {
+            v6 = 1;
+            if (v9 == 0) return 1;
+            rattle_dealloc_at(v15);
+            return 1;
+        }
         p1 = get64(p4 + 8);
     }
     v7 = get64(p4) + (p1 * 24);
@@ -5024,77 +4833,65 @@ l4:;
     put64(v7, v15);
     put64(v8, p1 + 1);
     return v6;
-l22:;
-    v6 = 1;
-    if (v9 == 0) return v6;
-    rattle_dealloc_at(v15);
-    return v6;
 }
 
 static uint32_t std_alloc_vec_Vec_grow_amortized_cf5a566ef03a1ac9(uint64_t p0, uint64_t p1)
 {
     unsigned char frame_octets[32 + 15];
-    uint32_t v3 = 0;
     uint64_t v2 = 0, v4 = 0, v5 = 0, v6 = 0;
     v2 = aligned(frame_octets);
-    v3 = 0;
     v4 = get64(p0 + 8);
-    if (p1 > ~v4) return v3;
+    if (p1 > ~v4) return 0;
     p1 = v4 + p1;
     p1 = (p1 > 4) ? p1 : 4ULL;
     v5 = get64(p0 + 16);
     v6 = v5 << 1;
     v6 = (p1 > v6) ? p1 : v6;
     p1 = (v5 < 0x4000000000000000ULL) ? v6 : p1;
-    if (p1 > 0x555555555555555ULL) return v3;
+    if (p1 > 0x555555555555555ULL) return 0;
     if (v5 != 0) {
         rattle_realloc_at(v2 + 16, get64(p0), v4 * 24, p1 * 24, 8);
-        if (((uint32_t)get64(v2 + 16) & 1) == 0) return v3;
+        if (((uint32_t)get64(v2 + 16) & 1) == 0) return 0;
         v4 = get64(v2 + 24);
-        goto l2;
+    } else {
+        rattle_alloc_at(v2, v6 * 24, 8);
+        if (((uint32_t)get64(v2) & 1) == 0) return 0;
+        v4 = get64(v2 + 8);
     }
-    rattle_alloc_at(v2, v6 * 24, 8);
-    if (((uint32_t)get64(v2) & 1) == 0) return v3;
-    v4 = get64(v2 + 8);
-l2:;
     put64(p0 + 16, p1);
     put64(p0, v4);
-    v3 = 1;
-    return v3;
+    return 1;
 }
 
 static uint32_t std_alloc_vec_Vec_grow_amortized_5ff1a26cbddecd5f(uint64_t p0, uint64_t p1)
 {
     unsigned char frame_octets[32 + 15];
-    uint32_t v3 = 0;
     uint64_t v2 = 0, v4 = 0, v5 = 0, v6 = 0;
     v2 = aligned(frame_octets);
-    v3 = 0;
     v4 = get64(p0 + 8);
-    if (p1 > ~v4) return v3;
+    if (p1 > ~v4) return 0;
     p1 = v4 + p1;
     p1 = (p1 > 8) ? p1 : 8ULL;
     v5 = get64(p0 + 16);
     v6 = v5 << 1;
     v6 = (p1 > v6) ? p1 : v6;
     p1 = (v5 < 0x4000000000000000ULL) ? v6 : p1;
-    if (p1 > 0x7fffffffffffffffULL) return v3;
+    if (p1 > 0x7fffffffffffffffULL) return 0;
     if (v5 != 0) {
         rattle_realloc_at(v2 + 16, get64(p0), v4, p1, 1);
-        if (((uint32_t)get64(v2 + 16) & 1) == 0) return v3;
+        if (((uint32_t)get64(v2 + 16) & 1) == 0) return 0;
         v4 = get64(v2 + 24);
-        goto l2;
+    } else {
+        rattle_alloc_at(v2, v6, 1);
+        if (((uint32_t)get64(v2) & 1) == 0) return 0;
+        v4 = get64(v2 + 8);
     }
-    rattle_alloc_at(v2, v6, 1);
-    if (((uint32_t)get64(v2) & 1) == 0) return v3;
-    v4 = get64(v2 + 8);
-l2:;
     put64(p0 + 16, p1);
     put64(p0, v4);
-    v3 = 1;
-    return v3;
+    return 1;
 }
 
+/* octets::frame_check::check, crates/octets/src/frame_check.rt:17 */
 static uint32_t octets_frame_check_check(uint64_t p0, uint64_t p1)
 {
     uint32_t v2 = 0, v3 = 0, t1, t2, t3, t4, t5, t6, t7, t9, t10, t11;
@@ -5156,23 +4953,45 @@ static uint32_t octets_frame_check_check(uint64_t p0, uint64_t p1)
     return v2;
 }
 
+/* nodes::ground_node::Ground::tick, crates/nodes/src/ground_node.rt:220 */
 static void nodes_ground_node_Ground_tick(uint64_t p0, uint64_t p1)
 {
     uint32_t v2 = 0, v3 = 0, v5 = 0;
     uint64_t v4 = 0;
     v2 = 0;
-    if (get8(p1 + 84) == 1) {
-        v3 = get16(p1 + 86);
-        if ((v3 & 0xffff) >= 2) {
-            put16(p1 + 86, v3 - 1);
-            put16(p1 + 84, 1);
-            goto l2;
-        }
+    if (get8(p1 + 84) != 1) goto l2;
+    v3 = get16(p1 + 86);
+    if ((v3 & 0xffff) < 2) {
         v4 = p1 + 73;
         v3 = get8(v4);
         if (v3 != 3) {
             v5 = get8(p1 + 88);
-            if (get8(p1 + 80) > v5) goto l4;
+            if (get8(p1 + 80) > v5) {
+                switch (v3) {
+                case 2:
+                    put8(p1 + 88, v5 + 1);
+                    put16(p1 + 84, 1);
+                    put16(p1 + 86, get16(p1 + 82));
+                    break;
+                case 3:
+                    UNREACHABLE;
+                case 4:
+                case 5:
+                    v4 = p1 + 89;
+                    if (get8(v4) == 2) put8(v4, 1);
+                    put8(p1 + 88, v5 + 1);
+                    put16(p1 + 84, 1);
+                    put16(p1 + 86, get16(p1 + 82));
+                    break;
+                default:
+                    put8(p1 + 88, v5 + 1);
+                    put16(p1 + 84, 1);
+                    put8(p1 + 78, get8(p1 + 77));
+                    put16(p1 + 86, get16(p1 + 82));
+                    break;
+                }
+                goto l2;
+            }
         }
         put8(p1 + 78, 0);
         v2 = 5;
@@ -5183,32 +5002,9 @@ static void nodes_ground_node_Ground_tick(uint64_t p0, uint64_t p1)
         put16(p1 + 76, 0);
         v3 = 1;
         goto l1;
-    l4:;
-        switch (v3) {
-        case 2:
-            put8(p1 + 88, v5 + 1);
-            put16(p1 + 84, 1);
-            put16(p1 + 86, get16(p1 + 82));
-            goto l2;
-        case 3:
-            UNREACHABLE;
-        case 4:
-        case 5:
-            v4 = p1 + 89;
-            if (get8(v4) == 2) put8(v4, 1);
-            put8(p1 + 88, v5 + 1);
-            put16(p1 + 84, 1);
-            put16(p1 + 86, get16(p1 + 82));
-            goto l2;
-        default:
-            goto l6;
-        }
-    l6:;
-        put8(p1 + 88, v5 + 1);
-        put16(p1 + 84, 1);
-        put8(p1 + 78, get8(p1 + 77));
-        put16(p1 + 86, get16(p1 + 82));
     }
+    put16(p1 + 86, v3 - 1);
+    put16(p1 + 84, 1);
 l2:;
     v3 = 0;
 l1:;
@@ -5222,98 +5018,87 @@ l1:;
 static uint32_t std_alloc_vec_Vec_grow_amortized_49bbd27f022ae39a(uint64_t p0, uint64_t p1)
 {
     unsigned char frame_octets[32 + 15];
-    uint32_t v3 = 0;
     uint64_t v2 = 0, v4 = 0, v5 = 0, v6 = 0;
     v2 = aligned(frame_octets);
-    v3 = 0;
     v4 = get64(p0 + 8);
-    if (p1 > ~v4) return v3;
+    if (p1 > ~v4) return 0;
     p1 = v4 + p1;
     p1 = (p1 > 8) ? p1 : 8ULL;
     v5 = get64(p0 + 16);
     v6 = v5 << 1;
     v6 = (p1 > v6) ? p1 : v6;
     p1 = (v5 < 0x4000000000000000ULL) ? v6 : p1;
-    if (p1 > 0x7fffffffffffffffULL) return v3;
+    if (p1 > 0x7fffffffffffffffULL) return 0;
     if (v5 != 0) {
         rattle_realloc_at(v2 + 16, get64(p0), v4, p1, 1);
-        if (((uint32_t)get64(v2 + 16) & 1) == 0) return v3;
+        if (((uint32_t)get64(v2 + 16) & 1) == 0) return 0;
         v4 = get64(v2 + 24);
-        goto l2;
+    } else {
+        rattle_alloc_at(v2, v6, 1);
+        if (((uint32_t)get64(v2) & 1) == 0) return 0;
+        v4 = get64(v2 + 8);
     }
-    rattle_alloc_at(v2, v6, 1);
-    if (((uint32_t)get64(v2) & 1) == 0) return v3;
-    v4 = get64(v2 + 8);
-l2:;
     put64(p0 + 16, p1);
     put64(p0, v4);
-    v3 = 1;
-    return v3;
+    return 1;
 }
 
 static uint32_t std_alloc_vec_Vec_grow_amortized_1598ebf9113514c4(uint64_t p0, uint64_t p1)
 {
     unsigned char frame_octets[32 + 15];
-    uint32_t v3 = 0;
     uint64_t v2 = 0, v4 = 0, v5 = 0, v6 = 0;
     v2 = aligned(frame_octets);
-    v3 = 0;
     v4 = get64(p0 + 8);
-    if (p1 > ~v4) return v3;
+    if (p1 > ~v4) return 0;
     p1 = v4 + p1;
     p1 = (p1 > 4) ? p1 : 4ULL;
     v5 = get64(p0 + 16);
     v6 = v5 << 1;
     v6 = (p1 > v6) ? p1 : v6;
     p1 = (v5 < 0x4000000000000000ULL) ? v6 : p1;
-    if (p1 > 0x555555555555555ULL) return v3;
+    if (p1 > 0x555555555555555ULL) return 0;
     if (v5 != 0) {
         rattle_realloc_at(v2 + 16, get64(p0), v4 * 24, p1 * 24, 8);
-        if (((uint32_t)get64(v2 + 16) & 1) == 0) return v3;
+        if (((uint32_t)get64(v2 + 16) & 1) == 0) return 0;
         v4 = get64(v2 + 24);
-        goto l2;
+    } else {
+        rattle_alloc_at(v2, v6 * 24, 8);
+        if (((uint32_t)get64(v2) & 1) == 0) return 0;
+        v4 = get64(v2 + 8);
     }
-    rattle_alloc_at(v2, v6 * 24, 8);
-    if (((uint32_t)get64(v2) & 1) == 0) return v3;
-    v4 = get64(v2 + 8);
-l2:;
     put64(p0 + 16, p1);
     put64(p0, v4);
-    v3 = 1;
-    return v3;
+    return 1;
 }
 
 static uint32_t std_alloc_vec_Vec_grow_amortized_722da43a23cbcade(uint64_t p0)
 {
     unsigned char frame_octets[32 + 15];
-    uint32_t v2 = 0;
     uint64_t v1 = 0, v3 = 0, v4 = 0, v5 = 0, v6 = 0;
     v1 = aligned(frame_octets);
-    v2 = 0;
     v3 = get64(p0 + 8);
-    if (v3 == ~0ULL) return v2;
+    if (v3 == ~0ULL) return 0;
     v4 = ((v3 > 3) ? v3 : 3ULL) + 1;
     v5 = get64(p0 + 16);
     v6 = v5 << 1;
     v6 = (v4 > v6) ? v4 : v6;
     v4 = (v5 < 0x4000000000000000ULL) ? v6 : v4;
-    if (v4 > 0x3ffffffffffffffULL) return v2;
+    if (v4 > 0x3ffffffffffffffULL) return 0;
     if (v5 != 0) {
         rattle_realloc_at(v1 + 16, get64(p0), v3 << 5, v4 << 5, 8);
-        if (((uint32_t)get64(v1 + 16) & 1) == 0) return v2;
+        if (((uint32_t)get64(v1 + 16) & 1) == 0) return 0;
         v3 = get64(v1 + 24);
-        goto l2;
+    } else {
+        rattle_alloc_at(v1, v6 << 5, 8);
+        if (((uint32_t)get64(v1) & 1) == 0) return 0;
+        v3 = get64(v1 + 8);
     }
-    rattle_alloc_at(v1, v6 << 5, 8);
-    if (((uint32_t)get64(v1) & 1) == 0) return v2;
-    v3 = get64(v1 + 8);
-l2:;
     put64(p0 + 16, v4);
     put64(p0, v3);
-    v2 = 1;
-    return v2;
+    return 1;
 }
 
+/* simulated_link::map_lists::append_on, crates/simulated_link/src/map_lists.rt:43 */
 static void simulated_link_map_lists_append_on(uint64_t p0, uint32_t p1, uint64_t p2)
 {
     uint64_t v3 = 0, v4 = 0, v5 = 0, v6 = 0, v7 = 0, v8 = 0, v9 = 0, v10 = 0, v11 = 0, v12 = 0, v13 = 0, v14 = 0;
@@ -5369,6 +5154,7 @@ l1:;
     return;
 }
 
+/* simulated_link::world::World::is_idle, crates/simulated_link/src/world/calls.rt:114 */
 static uint32_t simulated_link_world_World_is_idle(uint64_t p0)
 {
     unsigned char frame_octets[48 + 15];
@@ -5376,7 +5162,7 @@ static uint32_t simulated_link_world_World_is_idle(uint64_t p0)
     uint64_t v1 = 0, v5 = 0, v6 = 0, v7 = 0, v8 = 0, v9 = 0, v12 = 0;
     v1 = aligned(frame_octets);
     v2 = 0;
-    if (get64(p0 + 0xad8) != 0) return v2;
+    if (get64(p0 + 0xad8) != 0) return 0;
     v3 = ((get8(p0 + 475) << 4) | (get8(p0 + 474) << 5)) | (get8(p0 + 476) << 3);
     v4 = get8(p0 + 473);
     v5 = get64(p0 + 0xaf8);
@@ -5387,11 +5173,10 @@ static uint32_t simulated_link_world_World_is_idle(uint64_t p0)
         p0 = v5;
         v7 = v8;
         v8 = 0;
-        goto l2;
+    } else {
+        v7 = v7 - v8;
+        p0 = v5 + (get64(p0 + 0xb10) * 24);
     }
-    v7 = v7 - v8;
-    p0 = v5 + (get64(p0 + 0xb10) * 24);
-l2:;
     v9 = (uint64_t)get32(v6);
     v10 = v4 & 255;
     v11 = v3 & 255;
@@ -5400,18 +5185,17 @@ l2:;
             v7 = v7 - 1;
             v6 = p0 + 24;
             v12 = v5;
-            goto l5;
+        } else {
+            if (v8 == 0) {
+                v2 = 1;
+                return 1;
+            }
+            v8 = v8 - 1;
+            v12 = v5 + 24;
+            v7 = 0;
+            v6 = p0;
+            p0 = v5;
         }
-        if (v8 == 0) {
-            v2 = 1;
-            return v2;
-        }
-        v8 = v8 - 1;
-        v12 = v5 + 24;
-        v7 = 0;
-        v6 = p0;
-        p0 = v5;
-    l5:;
         v5 = get64(p0 + 8);
         p0 = get64(p0);
         put64(v1 + 40, 0);
@@ -5425,14 +5209,14 @@ l2:;
         v3 = get32(v1 + 40);
         if ((v3 & 227) != 1) return v2;
         v4 = v3 >> 16;
-        if ((((v3 >> 8) & 3) | (v4 & 1)) != 0) return v2;
-        if (v10 != (v3 >> 24)) return v2;
+        if ((((v3 >> 8) & 3) | (v4 & 1)) != 0 || v10 != (v3 >> 24)) return v2;
         p0 = v6;
         v5 = v12;
     } while ((v4 & 248) == v11);
     return v2;
 }
 
+/* simulated_link::world::World::begin, crates/simulated_link/src/world/calls.rt:127 */
 static void simulated_link_world_World_begin(uint64_t p0, uint64_t p1, uint32_t p2, uint32_t p3)
 {
     unsigned char frame_octets[7696 + 15];
@@ -5544,29 +5328,27 @@ static void simulated_link_world_World_begin(uint64_t p0, uint64_t p1, uint32_t 
     } while (v7 != 64);
     p1 = p0 + 0x1750;
     v6 = get64(p1);
-    if (v6 == 0) {
-        put64(p0 + 0x1760, 0);
-        put64(p0 + 0x1768, get64(p0 + 0x1778));
-        return;
+    if (v6 != 0) {
+        put64(p1, 0);
+        v7 = get64(p0 + 0x1758);
+        put64(p1 + 8, 0);
+        v8 = get64(p0 + 0x1748);
+        p1 = v8;
+        do {
+            if (get64(p1 + 16) != 0) rattle_dealloc_at(get64(p1));
+            p1 = p1 + 24;
+            v6 = v6 - 1;
+        } while (v6 != 0);
+        put64(p0 + 0x1758, v7);
+        put64(p0 + 0x1750, 0);
+        put64(p0 + 0x1748, v8);
     }
-    put64(p1, 0);
-    v7 = get64(p0 + 0x1758);
-    put64(p1 + 8, 0);
-    v8 = get64(p0 + 0x1748);
-    p1 = v8;
-    do {
-        if (get64(p1 + 16) != 0) rattle_dealloc_at(get64(p1));
-        p1 = p1 + 24;
-        v6 = v6 - 1;
-    } while (v6 != 0);
-    put64(p0 + 0x1758, v7);
-    put64(p0 + 0x1750, 0);
-    put64(p0 + 0x1748, v8);
     put64(p0 + 0x1760, 0);
     put64(p0 + 0x1768, get64(p0 + 0x1778));
     return;
 }
 
+/* tc_frame::encoding::encode, crates/tc_frame/src/encoding.rt:18 */
 static void tc_frame_encoding_encode(uint64_t p0, uint64_t p1, uint64_t p2, uint64_t p3)
 {
     uint32_t v5 = 0, v6 = 0, v7 = 0, v8 = 0;
@@ -5575,126 +5357,122 @@ static void tc_frame_encoding_encode(uint64_t p0, uint64_t p1, uint64_t p2, uint
     v5 = 10;
     v6 = 1;
     v7 = get16(p1);
-    if (v7 <= 0x3ff) {
-        if (get8(p1 + 2) <= 63) {
-            v8 = get8(p1 + 8);
-            if (v8 == 2) {
-                v5 = 0x3000;
-                v4 = (get8(p1 + 9) != 0) ? 10ULL : 8ULL;
-                if (p3 >= v4) goto l2;
-                v5 = 9;
-                v4 = 0;
-                goto l1;
-            }
-            if (get8(p1 + 17) > 63) goto l1;
-            v9 = get64(p1 + 32);
-            if (v9 == 0) goto l1;
-            if ((v9 + 8) >= 0x401) goto l1;
-            v9 = get64(p1 + 32) + 8;
-            if (p3 < v9) {
-                v5 = 9;
-                goto l1;
-            }
-            v5 = (v8 != 0) ? 0x2000U : 0U;
-            v4 = v9;
-        l2:;
-            v5 = v5 | v7;
-            put16(p2, (v5 << 8) | (v5 >> 8));
-            v5 = ((uint32_t)v4 + (get8(p1 + 2) << 10)) - 1;
-            put16(p2 + 2, (v5 << 8) | ((v5 & 0xff00) >> 8));
-            switch ((uint32_t)(uint64_t)get8(p1 + 8)) {
-            case 1:
-                put8(p2 + 4, 0);
-                put8(p2 + 5, (get8(p1 + 16) << 6) + get8(p1 + 17));
-                p3 = p2 + 6;
-                v10 = get64(p1 + 24);
-                p1 = get64(p1 + 32);
-                if ((p3 - v10) < p1) {
-                    v11 = p1 & 3;
-                    p3 = 0;
-                    if (p1 >= 4) {
-                        v12 = p1 & ~3ULL;
-                        p3 = 0;
-                        do {
-                            p1 = p2 + p3;
-                            v9 = v10 + p3;
-                            put8(p1 + 6, get8(v9));
-                            put8(p1 + 7, get8(v9 + 1));
-                            put8(p1 + 8, get8(v9 + 2));
-                            put8(p1 + 9, get8(v9 + 3));
-                            p3 = p3 + 4;
-                        } while (v12 != p3);
-                        if (v11 == 0) goto l6;
-                    }
-                    p1 = v10 + p3;
-                    p3 = p3 + p2 + 6;
-                l17:;
-                    put8(p3, get8(p1));
-                    p3 = p3 + 1;
-                    p1 = p1 + 1;
-                    v11 = v11 - 1;
-                    if (v11 != 0) goto l17;
-                    goto l6;
-                }
-                if (p1 == 0) goto l6;
-                copy(p3, v10, p1);
-                goto l6;
-            case 2:
-                goto l7;
-            default:
-                put8(p2 + 4, get8(p1 + 9));
-                put8(p2 + 5, (get8(p1 + 16) << 6) + get8(p1 + 17));
-                p3 = p2 + 6;
-                v10 = get64(p1 + 24);
-                p1 = get64(p1 + 32);
-                if ((p3 - v10) < p1) {
-                    v11 = p1 & 3;
-                    p3 = 0;
-                    if (p1 >= 4) {
-                        v12 = p1 & ~3ULL;
-                        p3 = 0;
-                        do {
-                            p1 = p2 + p3;
-                            v9 = v10 + p3;
-                            put8(p1 + 6, get8(v9));
-                            put8(p1 + 7, get8(v9 + 1));
-                            put8(p1 + 8, get8(v9 + 2));
-                            put8(p1 + 9, get8(v9 + 3));
-                            p3 = p3 + 4;
-                        } while (v12 != p3);
-                        if (v11 == 0) goto l6;
-                    }
-                    p1 = v10 + p3;
-                    p3 = p3 + p2 + 6;
-                l13:;
-                    put8(p3, get8(p1));
-                    p3 = p3 + 1;
-                    p1 = p1 + 1;
-                    v11 = v11 - 1;
-                    if (v11 != 0) goto l13;
-                    goto l6;
-                }
-                if (p1 == 0) goto l6;
-                copy(p3, v10, p1);
-                goto l6;
-            }
-        l7:;
-            v5 = 0;
-            put8(p2 + 4, 0);
-            if (get8(p1 + 9) != 0) {
-                put8(p2 + 7, get8(p1 + 10));
-                put8(p2 + 6, 0);
-                v5 = 130;
-            }
-            put8(p2 + 5, v5);
-        l6:;
-            p1 = v4 - 2;
-            v5 = octets_frame_check_check(p2, p1);
-            put16(p2 + p1, (v5 << 8) | ((v5 & 0xff00) >> 8));
-            v6 = 0;
-            v5 = 0;
+    if (v7 > 0x3ff || get8(p1 + 2) > 63) goto l1;
+    v8 = get8(p1 + 8);
+    if (v8 != 2) {
+        if (get8(p1 + 17) > 63) goto l1;
+        v9 = get64(p1 + 32);
+        if (v9 == 0 || (v9 + 8) >= 0x401) goto l1;
+        v9 = get64(p1 + 32) + 8;
+        if (p3 < v9) {
+            v5 = 9;
+            goto l1;
+        }
+        v5 = (v8 != 0) ? 0x2000U : 0U;
+        v4 = v9;
+    } else {
+        v5 = 0x3000;
+        v4 = (get8(p1 + 9) != 0) ? 10ULL : 8ULL;
+        if (p3 < v4) {
+            v5 = 9;
+            v4 = 0;
+            goto l1;
         }
     }
+    v5 = v5 | v7;
+    put16(p2, (v5 << 8) | (v5 >> 8));
+    v5 = ((uint32_t)v4 + (get8(p1 + 2) << 10)) - 1;
+    put16(p2 + 2, (v5 << 8) | ((v5 & 0xff00) >> 8));
+    switch ((uint32_t)(uint64_t)get8(p1 + 8)) {
+    case 1:
+        put8(p2 + 4, 0);
+        put8(p2 + 5, (get8(p1 + 16) << 6) + get8(p1 + 17));
+        p3 = p2 + 6;
+        v10 = get64(p1 + 24);
+        p1 = get64(p1 + 32);
+        if ((p3 - v10) >= p1) {
+            if (p1 == 0) goto l6;
+            copy(p3, v10, p1);
+            goto l6;
+        }
+        v11 = p1 & 3;
+        p3 = 0;
+        if (p1 >= 4) {
+            v12 = p1 & ~3ULL;
+            p3 = 0;
+            do {
+                p1 = p2 + p3;
+                v9 = v10 + p3;
+                put8(p1 + 6, get8(v9));
+                put8(p1 + 7, get8(v9 + 1));
+                put8(p1 + 8, get8(v9 + 2));
+                put8(p1 + 9, get8(v9 + 3));
+                p3 = p3 + 4;
+            } while (v12 != p3);
+            if (v11 == 0) goto l6;
+        }
+        p1 = v10 + p3;
+        p3 = p3 + p2 + 6;
+        do {
+            put8(p3, get8(p1));
+            p3 = p3 + 1;
+            p1 = p1 + 1;
+            v11 = v11 - 1;
+        } while (v11 != 0);
+        goto l6;
+    case 2:
+        v5 = 0;
+        put8(p2 + 4, 0);
+        if (get8(p1 + 9) != 0) {
+            put8(p2 + 7, get8(p1 + 10));
+            put8(p2 + 6, 0);
+            v5 = 130;
+        }
+        put8(p2 + 5, v5);
+        goto l6;
+    default:
+        break;
+    }
+    put8(p2 + 4, get8(p1 + 9));
+    put8(p2 + 5, (get8(p1 + 16) << 6) + get8(p1 + 17));
+    p3 = p2 + 6;
+    v10 = get64(p1 + 24);
+    p1 = get64(p1 + 32);
+    if ((p3 - v10) >= p1) {
+        if (p1 == 0) goto l6;
+        copy(p3, v10, p1);
+    } else {
+        v11 = p1 & 3;
+        p3 = 0;
+        if (p1 >= 4) {
+            v12 = p1 & ~3ULL;
+            p3 = 0;
+            do {
+                p1 = p2 + p3;
+                v9 = v10 + p3;
+                put8(p1 + 6, get8(v9));
+                put8(p1 + 7, get8(v9 + 1));
+                put8(p1 + 8, get8(v9 + 2));
+                put8(p1 + 9, get8(v9 + 3));
+                p3 = p3 + 4;
+            } while (v12 != p3);
+            if (v11 == 0) goto l6;
+        }
+        p1 = v10 + p3;
+        p3 = p3 + p2 + 6;
+        do {
+            put8(p3, get8(p1));
+            p3 = p3 + 1;
+            p1 = p1 + 1;
+            v11 = v11 - 1;
+        } while (v11 != 0);
+    }
+l6:;
+    p1 = v4 - 2;
+    v5 = octets_frame_check_check(p2, p1);
+    put16(p2 + p1, (v5 << 8) | ((v5 & 0xff00) >> 8));
+    v6 = 0;
+    v5 = 0;
 l1:;
     put8(p0, v6);
     put64(p0 + 8, v4);
@@ -5711,7 +5489,7 @@ static uint32_t std_alloc_vec_deque_VecDeque_grow_1598ebf9113514c4(uint64_t p0)
     v1 = aligned(frame_octets);
     v2 = 1;
     v3 = get64(p0 + 8);
-    if (get64(p0 + 16) != v3) return v2;
+    if (get64(p0 + 16) != v3) return 1;
     v4 = p0 + 24;
     if (get64(v4) == 0) {
         v5 = get64(p0);
@@ -5729,28 +5507,153 @@ static uint32_t std_alloc_vec_deque_VecDeque_grow_1598ebf9113514c4(uint64_t p0)
         return v2;
     }
     v2 = 0;
-    if (v3 == ~0ULL) return v2;
+    if (v3 == ~0ULL) return 0;
     v5 = ((v3 > 3) ? v3 : 3ULL) + 1;
     v6 = v3 << 1;
     v7 = (v5 > v6) ? v5 : v6;
     v6 = (v3 < 0x4000000000000000ULL) ? v7 : v5;
-    if (get64(p0 + 32) <= (v6 - v3)) {
-        if (v6 > 0x555555555555555ULL) return v2;
-        if (v3 != 0) {
-            rattle_realloc_at(v1 + 40, get64(p0), v3 * 24, v6 * 24, 8);
-            if (((uint32_t)get64(v1 + 40) & 1) == 0) return v2;
-            v8 = get64(v1 + 48);
-            goto l5;
-        }
+    if (get64(p0 + 32) > (v6 - v3)) {
+        if (v6 > 0x555555555555555ULL) return 0;
+        rattle_alloc_at(v1 + 8, v6 * 24, 8);
+        if ((get32(v1 + 8) & 1) == 0) return 0;
+        v8 = get64(v1 + 16);
+        v13 = get64(p0);
+        v14 = get64(p0 + 24) * 24;
+        v15 = v13 + v14;
+        v16 = get64(p0 + 8);
+        v17 = get64(p0 + 32);
+        v3 = v16 - v17;
+        v18 = v3 * 24;
+        if ((v8 - v15) < v18) {
+            if (v16 != v17) {
+                v11 = v3 & 3;
+                v9 = 0;
+                if ((v17 - v16) <= ~3ULL) {
+                    v19 = v3 & ~3ULL;
+                    v7 = 0;
+                    v9 = 0;
+                    do {
+                        v3 = v15 + v7;
+                        v12 = get64(v3);
+                        v10 = get64(v3 + 8);
+                        v5 = v8 + v7;
+                        put64(v5 + 16, get64(v3 + 16));
+                        put64(v5 + 8, v10);
+                        put64(v5, v12);
+                        v12 = get64(v3 + 24);
+                        v10 = get64(v3 + 32);
+                        put64(v5 + 40, get64(v3 + 40));
+                        put64(v5 + 32, v10);
+                        put64(v5 + 24, v12);
+                        v12 = get64(v3 + 48);
+                        v10 = get64(v3 + 56);
+                        put64(v5 + 64, get64(v3 + 64));
+                        put64(v5 + 56, v10);
+                        put64(v5 + 48, v12);
+                        v12 = get64(v3 + 72);
+                        v10 = get64(v3 + 80);
+                        put64(v5 + 88, get64(v3 + 88));
+                        put64(v5 + 80, v10);
+                        put64(v5 + 72, v12);
+                        v7 = v7 + 96;
+                        v9 = v9 + 4;
+                    } while (v19 != v9);
+                    if (v11 == 0) goto l12;
+                }
+                v5 = v9 * 24;
+                v3 = v8 + v5;
+                v5 = v13 + (v5 + v14);
+                do {
+                    v7 = get64(v5);
+                    v9 = get64(v5 + 8);
+                    put64(v3 + 16, get64(v5 + 16));
+                    put64(v3 + 8, v9);
+                    put64(v3, v7);
+                    v3 = v3 + 24;
+                    v5 = v5 + 24;
+                    v11 = v11 - 1;
+                } while (v11 != 0);
+            }
+        } else if (v18 != 0) copy(v8, v15, v18);
+    l12:;
+        v3 = v8 + v18;
+        v15 = get64(p0);
+        v5 = get64(p0 + 32);
+        v7 = v5 * 24;
+        if ((v3 - v15) < v7) {
+            if (v5 != 0) {
+                v7 = v5 & 3;
+                v11 = 0;
+                if (v5 >= 4) {
+                    v11 = 0;
+                    v10 = 0 - (v5 & ~3ULL);
+                    v5 = v15;
+                    do {
+                        v9 = get64(v5);
+                        v12 = get64(v5 + 8);
+                        put64(v3 + 16, get64(v5 + 16));
+                        put64(v3 + 8, v12);
+                        put64(v3, v9);
+                        v9 = get64(v5 + 24);
+                        v12 = get64(v5 + 32);
+                        put64(v3 + 40, get64(v5 + 40));
+                        put64(v3 + 32, v12);
+                        put64(v3 + 24, v9);
+                        v9 = get64(v5 + 48);
+                        v12 = get64(v5 + 56);
+                        put64(v3 + 64, get64(v5 + 64));
+                        put64(v3 + 56, v12);
+                        put64(v3 + 48, v9);
+                        v9 = get64(v5 + 72);
+                        v12 = get64(v5 + 80);
+                        put64(v3 + 88, get64(v5 + 88));
+                        put64(v3 + 80, v12);
+                        put64(v3 + 72, v9);
+                        v3 = v3 + 96;
+                        v5 = v5 + 96;
+                        v11 = v11 - 4;
+                    } while (v10 != v11);
+                    if (v7 == 0) goto l17;
+                    v11 = 0 - v11;
+                }
+                v5 = v11 * 24;
+                v3 = v8 + ((v5 + (v16 * 24)) - (v17 * 24));
+                v5 = v15 + v5;
+                do {
+                    v11 = get64(v5);
+                    v9 = get64(v5 + 8);
+                    put64(v3 + 16, get64(v5 + 16));
+                    put64(v3 + 8, v9);
+                    put64(v3, v11);
+                    v3 = v3 + 24;
+                    v5 = v5 + 24;
+                    v7 = v7 - 1;
+                } while (v7 != 0);
+            }
+        } else if (v7 != 0) copy(v3, v15, v7);
+    l17:;
+        rattle_dealloc_at(get64(p0));
+        put64(p0 + 16, v6);
+        put64(p0, v8);
+        put64(v4, 0);
+        put64(v4 + 8, 0);
+        goto l3;
+    }
+    if (v6 > 0x555555555555555ULL) return 0;
+    if (v3 != 0) {
+        rattle_realloc_at(v1 + 40, get64(p0), v3 * 24, v6 * 24, 8);
+        if (((uint32_t)get64(v1 + 40) & 1) == 0) return 0;
+        v8 = get64(v1 + 48);
+    } else {
         rattle_alloc_at(v1 + 24, v7 * 24, 8);
-        if (((uint32_t)get64(v1 + 24) & 1) == 0) return v2;
+        if (((uint32_t)get64(v1 + 24) & 1) == 0) return 0;
         v8 = get64(v1 + 32);
-    l5:;
-        v9 = get64(p0 + 8) * 24;
-        v3 = get64(p0 + 32);
-        v5 = v3 * 24;
-        if (v9 < v5) {
-            if (v3 == 0) goto l7;
+    }
+    v9 = get64(p0 + 8) * 24;
+    v3 = get64(p0 + 32);
+    v5 = v3 * 24;
+    if (v9 < v5) {
+        if (v3 != 0) {
             v4 = v3 & 3;
             v7 = 0;
             if (v3 >= 4) {
@@ -5785,156 +5688,28 @@ static uint32_t std_alloc_vec_deque_VecDeque_grow_1598ebf9113514c4(uint64_t p0)
                 if (v4 == 0) goto l7;
             }
             v3 = v8 + (v7 * 24);
-        l11:;
-            v7 = get64(v3);
-            v11 = get64(v3 + 8);
-            v5 = v3 + v9;
-            put64(v5 + 16, get64(v3 + 16));
-            put64(v5 + 8, v11);
-            put64(v5, v7);
-            v3 = v3 + 24;
-            v4 = v4 - 1;
-            if (v4 != 0) goto l11;
-            goto l7;
-        }
-        if (v5 != 0) copy(v8 + v9, v8, v5);
-    l7:;
-        put64(p0, v8);
-        put64(p0 + 32, 0);
-        put64(p0 + 16, v6);
-        goto l3;
-    }
-    if (v6 > 0x555555555555555ULL) return v2;
-    rattle_alloc_at(v1 + 8, v6 * 24, 8);
-    if ((get32(v1 + 8) & 1) == 0) return v2;
-    v8 = get64(v1 + 16);
-    v13 = get64(p0);
-    v14 = get64(p0 + 24) * 24;
-    v15 = v13 + v14;
-    v16 = get64(p0 + 8);
-    v17 = get64(p0 + 32);
-    v3 = v16 - v17;
-    v18 = v3 * 24;
-    if ((v8 - v15) < v18) {
-        if (v16 == v17) goto l12;
-        v11 = v3 & 3;
-        v9 = 0;
-        if ((v17 - v16) <= ~3ULL) {
-            v19 = v3 & ~3ULL;
-            v7 = 0;
-            v9 = 0;
             do {
-                v3 = v15 + v7;
-                v12 = get64(v3);
-                v10 = get64(v3 + 8);
-                v5 = v8 + v7;
+                v7 = get64(v3);
+                v11 = get64(v3 + 8);
+                v5 = v3 + v9;
                 put64(v5 + 16, get64(v3 + 16));
-                put64(v5 + 8, v10);
-                put64(v5, v12);
-                v12 = get64(v3 + 24);
-                v10 = get64(v3 + 32);
-                put64(v5 + 40, get64(v3 + 40));
-                put64(v5 + 32, v10);
-                put64(v5 + 24, v12);
-                v12 = get64(v3 + 48);
-                v10 = get64(v3 + 56);
-                put64(v5 + 64, get64(v3 + 64));
-                put64(v5 + 56, v10);
-                put64(v5 + 48, v12);
-                v12 = get64(v3 + 72);
-                v10 = get64(v3 + 80);
-                put64(v5 + 88, get64(v3 + 88));
-                put64(v5 + 80, v10);
-                put64(v5 + 72, v12);
-                v7 = v7 + 96;
-                v9 = v9 + 4;
-            } while (v19 != v9);
-            if (v11 == 0) goto l12;
+                put64(v5 + 8, v11);
+                put64(v5, v7);
+                v3 = v3 + 24;
+                v4 = v4 - 1;
+            } while (v4 != 0);
         }
-        v5 = v9 * 24;
-        v3 = v8 + v5;
-        v5 = v13 + (v5 + v14);
-    l16:;
-        v7 = get64(v5);
-        v9 = get64(v5 + 8);
-        put64(v3 + 16, get64(v5 + 16));
-        put64(v3 + 8, v9);
-        put64(v3, v7);
-        v3 = v3 + 24;
-        v5 = v5 + 24;
-        v11 = v11 - 1;
-        if (v11 != 0) goto l16;
-        goto l12;
-    }
-    if (v18 != 0) copy(v8, v15, v18);
-l12:;
-    v3 = v8 + v18;
-    v15 = get64(p0);
-    v5 = get64(p0 + 32);
-    v7 = v5 * 24;
-    if ((v3 - v15) < v7) {
-        if (v5 == 0) goto l17;
-        v7 = v5 & 3;
-        v11 = 0;
-        if (v5 >= 4) {
-            v11 = 0;
-            v10 = 0 - (v5 & ~3ULL);
-            v5 = v15;
-            do {
-                v9 = get64(v5);
-                v12 = get64(v5 + 8);
-                put64(v3 + 16, get64(v5 + 16));
-                put64(v3 + 8, v12);
-                put64(v3, v9);
-                v9 = get64(v5 + 24);
-                v12 = get64(v5 + 32);
-                put64(v3 + 40, get64(v5 + 40));
-                put64(v3 + 32, v12);
-                put64(v3 + 24, v9);
-                v9 = get64(v5 + 48);
-                v12 = get64(v5 + 56);
-                put64(v3 + 64, get64(v5 + 64));
-                put64(v3 + 56, v12);
-                put64(v3 + 48, v9);
-                v9 = get64(v5 + 72);
-                v12 = get64(v5 + 80);
-                put64(v3 + 88, get64(v5 + 88));
-                put64(v3 + 80, v12);
-                put64(v3 + 72, v9);
-                v3 = v3 + 96;
-                v5 = v5 + 96;
-                v11 = v11 - 4;
-            } while (v10 != v11);
-            if (v7 == 0) goto l17;
-            v11 = 0 - v11;
-        }
-        v5 = v11 * 24;
-        v3 = v8 + ((v5 + (v16 * 24)) - (v17 * 24));
-        v5 = v15 + v5;
-    l21:;
-        v11 = get64(v5);
-        v9 = get64(v5 + 8);
-        put64(v3 + 16, get64(v5 + 16));
-        put64(v3 + 8, v9);
-        put64(v3, v11);
-        v3 = v3 + 24;
-        v5 = v5 + 24;
-        v7 = v7 - 1;
-        if (v7 != 0) goto l21;
-        goto l17;
-    }
-    if (v7 != 0) copy(v3, v15, v7);
-l17:;
-    rattle_dealloc_at(get64(p0));
-    put64(p0 + 16, v6);
+    } else if (v5 != 0) copy(v8 + v9, v8, v5);
+l7:;
     put64(p0, v8);
-    put64(v4, 0);
-    put64(v4 + 8, 0);
+    put64(p0 + 32, 0);
+    put64(p0 + 16, v6);
 l3:;
     v2 = 1;
-    return v2;
+    return 1;
 }
 
+/* nodes::spacecraft::Spacecraft::prepare, crates/nodes/src/spacecraft/receive.rt:39 */
 static void nodes_spacecraft_Spacecraft_prepare(uint64_t p0, uint64_t p1, uint64_t p2, uint64_t p3)
 {
     unsigned char frame_octets[288 + 15];
@@ -5952,921 +5727,828 @@ static void nodes_spacecraft_Spacecraft_prepare(uint64_t p0, uint64_t p1, uint64
     put32(v4 + 96, 0);
     put16(v4 + 100, 0);
     v5 = 0;
-    if (p3 >= 5) {
-        v6 = get8(p2);
-        if (v6 <= 63) {
-            if ((v6 & 48) != 16) {
-                if ((v6 & 12) == 0) {
-                    v5 = 4;
-                    v7 = get8(p2 + 2);
-                    v8 = ((v7 << 8) & 768) | get8(p2 + 3);
-                    if (p3 != (uint64_t)(v8 + 1)) goto l2;
-                    if (v8 < 6) goto l2;
-                    v8 = get8(p2 + 1);
-                    v9 = p3 - 2;
-                    v5 = get16(p2 + v9);
-                    t1 = octets_frame_check_check(p2, v9);
-                    if ((((v5 << 8) | (v5 >> 8)) & 0xffff) == (t1 & 0xffff)) {
-                        v5 = get8(p2 + 4);
-                        if (v6 >= 32) {
-                            if ((v5 & 255) != 0) {
-                                v5 = 6;
-                                goto l2;
-                            }
-                        }
-                        if ((v6 & 16) == 0) {
-                            if ((p3 - 9) <= ~2ULL) goto l9;
-                            v5 = 7;
-                            goto l2;
-                        }
-                        v9 = p3 - 7;
-                        if (v9 <= 3) {
-                            v5 = 7;
-                            switch ((uint32_t)v9) {
-                            case 1:
-                                if (get8(p2 + 5) == 0) {
-                                    v10 = 0;
-                                    v11 = 0;
-                                    goto l12;
-                                }
-                                v5 = 8;
-                                goto l2;
-                            case 2:
-                                goto l10;
-                            case 3:
-                                goto l13;
-                            default:
-                                goto l2;
-                            }
-                        l13:;
-                            v5 = 8;
-                            if (get8(p2 + 5) != 130) goto l2;
-                            if (get8(p2 + 6) != 0) goto l2;
-                            v11 = get8(p2 + 7);
-                            v10 = 1;
-                        l12:;
-                            v5 = 0;
-                            put16(v4 + 180, 0);
-                            put32(v4 + 176, 0);
-                            v12 = 2;
-                            v13 = 0;
-                            v9 = 0;
-                            v14 = 0;
-                            goto l8;
-                        }
-                    l10:;
-                        v5 = 8;
-                        goto l2;
-                    l9:;
-                        v11 = 0;
-                        put32(v4 + 240, 0);
-                        put16(v4 + 244, 0);
-                        put32(v4 + 176, 0);
-                        put16(v4 + 180, 0);
-                        v10 = (v6 < 32) ? v5 : 0U;
-                        v12 = v6 > 31;
-                        v9 = p3 - 8;
-                        v13 = p2 + 6;
-                        v14 = get8(p2 + 5);
-                        v5 = v14 & 63;
-                        v14 = v14 >> 6;
-                    l8:;
-                        put32(v4 + 120, get32(v4 + 176));
-                        put16(v4 + 124, get16(v4 + 180));
-                        if (get32(p1) == (((v6 << 8) & 768) | v8)) {
-                            if (get32(p1 + 4) == ((v7 & 252) >> 2)) {
-                                switch (v12) {
-                                case 1:
-                                    v8 = get8(p1 + 77);
-                                    v21 = 3;
-                                    v17 = get8(p1 + 76);
-                                    v18 = get8(p1 + 75);
-                                    v12 = get8(p1 + 74);
-                                    v7 = get8(p1 + 73);
-                                    v19 = get8(p1 + 72);
-                                    v26 = 0;
-                                    v15 = 0;
-                                    if (v14 != 3) goto l38;
-                                    if (((uint32_t)(get64(p1 + 40) >> ((uint64_t)v5 & 63)) & 1) == 0) goto l38;
-                                    if (v9 > (uint64_t)get32(p1 + 32)) goto l38;
-                                    v10 = 0;
-                                    v6 = 0;
-                                    v23 = 0;
-                                    p1 = 0;
-                                    if (v9 < 6) goto l37;
-                                    v6 = get8(v13);
-                                    if (v6 > 31) goto l39;
-                                    if ((v6 & 8) == 0) goto l85;
-                                    if ((((v6 << 8) & 0x700) | get8(v13 + 1)) == 0x7ff) goto l39;
-                                l85:;
-                                    if (((((uint64_t)get8(v13 + 4) << 8) | (uint64_t)get8(v13 + 5)) + 7) != v9) goto
-                                        l39;
-                                    rattle_alloc_at(v4 + 80, v9, 1);
-                                    if (((uint32_t)get64(v4 + 80) & 1) != 0) goto l86;
-                                    v10 = 0;
-                                    v26 = 0;
-                                    v33 = 5;
-                                    v15 = 1;
-                                    p2 = 0;
-                                    p3 = 0;
-                                    v21 = 0;
-                                    v19 = 0;
-                                    v7 = 0;
-                                    v12 = 0;
-                                    v18 = 0;
-                                    v17 = 0;
-                                    v16 = 0;
-                                    v34 = 0;
-                                    v23 = 0;
-                                    p1 = 0;
-                                    goto l36;
-                                l86:;
-                                    v23 = get64(v4 + 88);
-                                    if ((v23 - v13) >= v9) goto l89;
-                                    v22 = v9 & 3;
-                                    p1 = 0;
-                                    if ((v9 - 1) < 3) goto l90;
-                                    v27 = v9 & ~3ULL;
-                                    p1 = 0;
-                                    do {
-                                        v26 = v23 + p1;
-                                        v24 = v13 + p1;
-                                        put8(v26, get8(v24));
-                                        put8(v26 + 1, get8(v24 + 1));
-                                        put8(v26 + 2, get8(v24 + 2));
-                                        put8(v26 + 3, get8(v24 + 3));
-                                        p1 = p1 + 4;
-                                    } while (v27 != p1);
-                                    if (v22 == 0) goto l88;
-                                l90:;
-                                l92:;
-                                    put8(v23 + p1, get8(v13 + p1));
-                                    v26 = 1;
-                                    p1 = p1 + 1;
-                                    v10 = 1;
-                                    v22 = v22 - 1;
-                                    if (v22 != 0) goto l92;
-                                    goto l87;
-                                l89:;
-                                    if (v9 == 0) goto l88;
-                                    copy(v23, v13, v9);
-                                l88:;
-                                    v26 = 1;
-                                    v10 = 1;
-                                l87:;
-                                    v6 = v5;
-                                    p1 = v9;
-                                    goto l37;
-                                case 2:
-                                    goto l41;
-                                default:
-                                    v15 = 0;
-                                    put32(v4 + 168, 0);
-                                    put8(v4 + 172, 0);
-                                    put32(v4 + 160, 0);
-                                    put16(v4 + 164, 0);
-                                    put32(v4 + 152, 0);
-                                    put16(v4 + 156, 0);
-                                    put32(v4 + 144, get32(v4 + 120));
-                                    put16(v4 + 148, get16(v4 + 124));
-                                    put32(v4 + 136, 0);
-                                    put8(v4 + 140, 0);
-                                    put32(v4 + 128, 0);
-                                    put16(v4 + 132, 0);
-                                    v12 = 1;
-                                    v16 = get8(p1 + 77);
-                                    v17 = get8(p1 + 76);
-                                    v18 = get8(p1 + 75);
-                                    v7 = get8(p1 + 73);
-                                    v19 = get8(p1 + 72);
-                                    v11 = 5;
-                                    if ((get8(p1 + 74) & 1) != 0) goto l45;
-                                    if ((v10 & 255) == (v7 & 255)) goto l48;
-                                    v12 = 1;
-                                    v5 = v10 - v7;
-                                    v6 = (v19 >> 1) & 127;
-                                    if ((v5 & 255) < v6) goto l47;
-                                    if ((v5 & 255) > (~v6 & 255)) goto l46;
-                                    v11 = 4;
-                                    goto l45;
-                                l48:;
-                                    v12 = 0;
-                                    if ((v18 & 1) == 0) goto l49;
-                                    v18 = 1;
-                                    goto l45;
-                                l49:;
-                                    if (get64(p1 + 0x890) < (uint64_t)get32(p1 + 48)) goto l44;
-                                    v11 = 2;
-                                    v18 = 1;
-                                    v17 = 1;
-                                    goto l45;
-                                l47:;
-                                    if ((v18 & 1) == 0) goto l50;
-                                    v12 = 0;
-                                    v18 = 1;
-                                    goto l45;
-                                l50:;
-                                    v17 = 1;
-                                    v12 = 0;
-                                    v18 = 0;
-                                    v11 = 1;
-                                    goto l45;
-                                l46:;
-                                    v11 = ((v18 & 1) != 0) ? 5U : 3U;
-                                    v12 = 0;
-                                l45:;
-                                    put8(v4 + 116, 0);
-                                    put32(v4 + 112, 0);
-                                    put32(v4 + 104, 0);
-                                    put16(v4 + 108, 0);
-                                    put32(v4 + 96, 0);
-                                    put16(v4 + 100, 0);
-                                    v20 = 0;
-                                    v21 = 2;
-                                    goto l40;
-                                l44:;
-                                    v22 = v4 + 287;
-                                    v15 = 0;
-                                    v23 = (uint64_t)v5;
-                                    if (((uint32_t)(get64(p1 + 88) >> (v23 & 63)) & 1) != 0) goto l51;
-                                    v24 = 0;
-                                    v25 = 0;
-                                    v8 = 0;
-                                    v6 = 1;
-                                    goto l22;
-                                l51:;
-                                    v26 = 0;
-                                    v23 = (p1 + (v23 << 5)) + 104;
-                                    v7 = get8(v23);
-                                    if (v7 != 1) goto l52;
-                                    v26 = get64(v23 + 16);
-                                l52:;
-                                    switch (v14) {
-                                    case 1:
-                                        v25 = 0;
-                                        v6 = get32(p1 + 84);
-                                        v30 = (uint64_t)v6;
-                                        if (v9 <= v30) goto l110;
-                                        v6 = 1;
-                                        v8 = 4;
-                                        v24 = 1;
-                                        goto l22;
-                                    l110:;
-                                        if (v6 != 0) goto l112;
-                                        v32 = v4 + 287;
-                                        goto l111;
-                                    l112:;
-                                        rattle_alloc_at(v4 + 40, v30, 1);
-                                        if (((uint32_t)get64(v4 + 40) & 1) == 0) goto l25;
-                                        v32 = get64(v4 + 48);
-                                    l111:;
-                                        if ((v32 - v13) >= v9) goto l116;
-                                        v25 = v9 & 3;
-                                        v23 = 0;
-                                        if ((v9 - 1) < 3) goto l114;
-                                        v24 = v9 & ~3ULL;
-                                        v23 = 0;
-                                        do {
-                                            p1 = v32 + v23;
-                                            v26 = v13 + v23;
-                                            put8(p1, get8(v26));
-                                            put8(p1 + 1, get8(v26 + 1));
-                                            put8(p1 + 2, get8(v26 + 2));
-                                            put8(p1 + 3, get8(v26 + 3));
-                                            v23 = v23 + 4;
-                                        } while (v24 != v23);
-                                        if (v25 != 0) goto l114;
-                                        v22 = v4 + 287;
-                                        v25 = 0;
-                                        goto l115;
-                                    l116:;
-                                        if (v9 == 0) goto l118;
-                                        copy(v32, v13, v9);
-                                    l118:;
-                                        v22 = v4 + 287;
-                                    l115:;
-                                        v24 = 2;
-                                        v8 = v7;
-                                        v6 = v7;
-                                        v28 = 0;
-                                        v29 = 0;
-                                        v27 = 0;
-                                        goto l113;
-                                    l114:;
-                                        p1 = v32 + v23;
-                                        v23 = v13 + v23;
-                                        do {
-                                            put8(p1, get8(v23));
-                                            p1 = p1 + 1;
-                                            v23 = v23 + 1;
-                                            v27 = 0;
-                                            v22 = v4 + 287;
-                                            v24 = 2;
-                                            v25 = v25 - 1;
-                                        } while (v25 != 0);
-                                        v25 = 0;
-                                        v8 = v7;
-                                        v6 = v7;
-                                        v28 = 0;
-                                        v29 = 0;
-                                    l113:;
-                                        v31 = v9;
-                                        goto l21;
-                                    case 2:
-                                        v6 = 1;
-                                        v25 = 0;
-                                        v24 = 1;
-                                        if (v7 == 0) goto l32;
-                                        if ((v26 + v9) > (uint64_t)get32(p1 + 84)) goto l23;
-                                        if (v7 != 1) UNREACHABLE;
-                                        v27 = get64(v23 + 8);
-                                        v23 = get64(v23 + 16);
-                                        v28 = 0;
-                                        put64(v4 + 272, 0);
-                                        put64(v4 + 264, 0);
-                                        put64(v4 + 256, 0);
-                                        put64(v4 + 248, 0);
-                                        put64(v4 + 240, 0);
-                                        v25 = v23 + v9;
-                                        if (v25 != 0) goto l102;
-                                        v20 = v4 + 287;
-                                        goto l101;
-                                    l102:;
-                                        if (v25 > 0x7fffffffffffffffULL) goto l25;
-                                        rattle_alloc_at(v4 + 64, v25, 1);
-                                        if (((uint32_t)get64(v4 + 64) & 1) == 0) goto l25;
-                                        v20 = get64(v4 + 72);
-                                    l101:;
-                                        put64(v4 + 184, 0);
-                                        put64(v4 + 176, v20);
-                                        put64(v4 + 192, v25);
-                                        if (v23 <= v25) goto l103;
-                                        t3 = std_alloc_vec_Vec_grow_amortized_a351ad16c7c032ee(v4 + 176, v23);
-                                        if (t3 == 0) goto l99;
-                                        v20 = get64(v4 + 176);
-                                        v25 = get64(v4 + 192);
-                                        v28 = get64(v4 + 184);
-                                    l103:;
-                                        v29 = v28 + v23;
-                                        v32 = v20 + v28;
-                                        if ((v32 - v27) >= v23) goto l105;
-                                        v22 = v23 & 3;
-                                        v26 = 0;
-                                        if (v23 < 4) goto l106;
-                                        v30 = v23 & ~3ULL;
-                                        v26 = 0;
-                                        do {
-                                            v23 = v32 + v26;
-                                            v24 = v27 + v26;
-                                            put8(v23, get8(v24));
-                                            put8(v23 + 1, get8(v24 + 1));
-                                            put8(v23 + 2, get8(v24 + 2));
-                                            put8(v23 + 3, get8(v24 + 3));
-                                            v26 = v26 + 4;
-                                        } while (v30 != v26);
-                                        if (v22 == 0) goto l104;
-                                    l106:;
-                                        v23 = v27 + v26;
-                                        v26 = v20 + (v28 + v26);
-                                    l108:;
-                                        put8(v26, get8(v23));
-                                        v26 = v26 + 1;
-                                        v23 = v23 + 1;
-                                        v22 = v22 - 1;
-                                        if (v22 != 0) goto l108;
-                                        goto l104;
-                                    l105:;
-                                        if (v23 == 0) goto l104;
-                                        copy(v32, v27, v23);
-                                    l104:;
-                                        put64(v4 + 192, v25);
-                                        put64(v4 + 184, v29);
-                                        t4 = std_alloc_vec_Vec_extend_from_slice_672334860c861157(v4 + 176, v13, v9);
-                                        if ((t4 & 255) != 0) goto l98;
-                                        t5 = get32(p1 + 84);
-                                        p1 = get64(v4 + 176);
-                                        map_service_packets_fault_of_one(v4 + 56, t5, p1, get64(v4 + 184));
-                                        v28 = 0;
-                                        put64(v4 + 256, 0);
-                                        put64(v4 + 240, 0);
-                                        put64(v4 + 264, 0);
-                                        put64(v4 + 272, 0);
-                                        v7 = get8(v4 + 56);
-                                        put64(v4 + 248, v4 + 287);
-                                        v8 = get8(v4 + 57);
-                                        if (v7 == 1) goto l109;
-                                        smallvec_small_vec_SmallVec_push_reserved_ed127ccbaaf726c4(v4 + 240, v4 +
-                                            176);
-                                        v28 = get64(v4 + 272);
-                                        v29 = get64(v4 + 264);
-                                        v27 = get64(v4 + 256);
-                                        v25 = (uint64_t)get8(v4 + 240);
-                                        v22 = get64(v4 + 248);
-                                        goto l27;
-                                    l109:;
-                                        v22 = v4 + 287;
-                                        if (get64(v4 + 192) == 0) goto l96;
-                                        rattle_dealloc_at(p1);
-                                        goto l96;
-                                    l99:;
-                                        if (get64(v4 + 192) == 0) goto l25;
-                                        goto l97;
-                                    l98:;
-                                        if (get64(v4 + 192) == 0) goto l25;
-                                    l97:;
-                                        rattle_dealloc_at(get64(v4 + 176));
-                                        goto l25;
-                                    l96:;
-                                        v29 = 0;
-                                        v27 = 0;
-                                        v25 = 0;
-                                        goto l27;
-                                    case 3:
-                                        goto l53;
-                                    default:
-                                        goto l33;
-                                    }
-                                l53:;
-                                    v27 = (uint64_t)get32(p1 + 84);
-                                    if (get8(p1 + 96) != 0) goto l55;
-                                    v6 = 1;
-                                    v25 = 0;
-                                    v24 = 1;
-                                    if (v9 > v27) goto l23;
-                                    v8 = 3;
-                                    if (v9 < 6) goto l22;
-                                    v11 = get8(v13);
-                                    if (v11 > 31) goto l22;
-                                    v24 = 1;
-                                    if ((v11 & 8) == 0) goto l56;
-                                    if ((((v11 << 8) & 0x700) | get8(v13 + 1)) == 0x7ff) goto l22;
-                                l56:;
-                                    v28 = 0;
-                                    v29 = 0;
-                                    v27 = 0;
-                                    v30 = 0;
-                                    v31 = 0;
-                                    v32 = 0;
-                                    v20 = 0;
-                                    if (((((uint64_t)get8(v13 + 4) << 8) | (uint64_t)get8(v13 + 5)) + 7) != v9) goto
-                                        l20;
-                                    rattle_alloc_at(v4 + 24, v9, 1);
-                                    if (((uint32_t)get64(v4 + 24) & 1) != 0) goto l54;
-                                    goto l25;
-                                l55:;
-                                    v6 = 1;
-                                    v8 = 3;
-                                    v25 = 0;
-                                    if (v9 < 6) goto l26;
-                                    v12 = 0;
-                                    p1 = v13;
-                                    v26 = v9;
-                                    do {
-                                        v11 = get8(p1);
-                                        if (v11 > 31) goto l26;
-                                        v24 = 1;
-                                        if ((v11 & 8) == 0) goto l58;
-                                        if ((((v11 << 8) & 0x700) | get8(p1 + 1)) == 0x7ff) goto l22;
-                                    l58:;
-                                        v23 = (((uint64_t)get8(p1 + 4) << 8) | (uint64_t)get8(p1 + 5)) + 7;
-                                        if (v26 < v23) goto l22;
-                                        p1 = p1 + v23;
-                                        v12 = v12 | (uint32_t)(v23 > v27);
-                                        v26 = v26 - v23;
-                                    } while (v26 > 5);
-                                    v8 = v26 == 0;
-                                    v11 = v8 & v12;
-                                    v8 = (v8 != 0) ? ((v11 != 0) ? 4U : 0U) : 3U;
-                                    if (v11 != 0) goto l22;
-                                    v28 = 0;
-                                    v29 = 0;
-                                    v27 = 0;
-                                    v30 = 0;
-                                    v31 = 0;
-                                    v32 = 0;
-                                    v20 = 0;
-                                    if (v26 != 0) goto l20;
-                                    put64(v4 + 256, 0);
-                                    put64(v4 + 240, 0);
-                                    put64(v4 + 264, 0);
-                                    put64(v4 + 272, 0);
-                                    put64(v4 + 248, v4 + 287);
-                                    v28 = v4 + 256;
-                                    v29 = v4 + 240 + 8;
-                                    v20 = v4 + 272;
-                                    v25 = v9;
-                                    v22 = v13;
-                                l60:;
-                                    v6 = get8(v22);
-                                    if (v6 > 31) goto l29;
-                                    if ((v6 & 8) == 0) goto l61;
-                                    if ((((v6 << 8) & 0x700) | get8(v22 + 1)) == 0x7ff) goto l29;
-                                l61:;
-                                    p1 = (uint64_t)get8(v22 + 4) << 8;
-                                    v26 = (uint64_t)get8(v22 + 5);
-                                    v32 = (p1 | v26) + 7;
-                                    if (v25 < v32) goto l29;
-                                    rattle_alloc_at(v4 + 8, v32, 1);
-                                    if (((uint32_t)get64(v4 + 8) & 1) == 0) goto l62;
-                                    v27 = get64(v4 + 16);
-                                    if ((v27 - v22) >= v32) goto l64;
-                                    v24 = v32 & 3;
-                                    v23 = 0;
-                                    if ((v26 + p1 + 6) < 3) goto l65;
-                                    v30 = v32 & 0x1fffc;
-                                    v23 = 0;
-                                    do {
-                                        p1 = v27 + v23;
-                                        v26 = v22 + v23;
-                                        put8(p1, get8(v26));
-                                        put8(p1 + 1, get8(v26 + 1));
-                                        put8(p1 + 2, get8(v26 + 2));
-                                        put8(p1 + 3, get8(v26 + 3));
-                                        v23 = v23 + 4;
-                                    } while (v30 != v23);
-                                    if (v24 == 0) goto l63;
-                                l65:;
-                                    p1 = v27 + v23;
-                                    v23 = v22 + v23;
-                                l67:;
-                                    put8(p1, get8(v23));
-                                    p1 = p1 + 1;
-                                    v23 = v23 + 1;
-                                    v24 = v24 - 1;
-                                    if (v24 != 0) goto l67;
-                                    goto l63;
-                                l64:;
-                                    if (v32 == 0) goto l63;
-                                    copy(v27, v22, v32);
-                                l63:;
-                                    v6 = get8(v4 + 240);
-                                    if (get64((v6 != 0) ? v28 : v20) != ((v6 != 0) ? get64(v4 + 264) : 1ULL)) goto
-                                        l68;
-                                    t2 = smallvec_small_vec_SmallVec_reserve_one_444910b390f8755b(v4 + 240);
-                                    if ((t2 & 255) != 0) goto l59;
-                                    v6 = get8(v4 + 240);
-                                l68:;
-                                    v25 = v25 - v32;
-                                    if ((v6 & 255) != 0) goto l70;
-                                    v23 = get64(v4 + 272);
-                                    p1 = v29 + (v23 * 24);
-                                    put64(p1 + 8, v32);
-                                    v26 = get64(p1 + 16);
-                                    put64(p1 + 16, v32);
-                                    v24 = get64(p1);
-                                    put64(p1, v27);
-                                    if (v26 == 0) goto l71;
-                                    rattle_dealloc_at(v24);
-                                l71:;
-                                    put64(v4 + 272, v23 + 1);
-                                    goto l69;
-                                l70:;
-                                    v23 = get64(v4 + 256);
-                                    p1 = get64(v4 + 248) + (v23 * 24);
-                                    put64(p1 + 16, v32);
-                                    put64(p1 + 8, v32);
-                                    put64(p1, v27);
-                                    put64(v4 + 256, v23 + 1);
-                                l69:;
-                                    v22 = v22 + v32;
-                                    if (v25 >= 6) goto l60;
-                                    goto l29;
-                                l62:;
-                                    v9 = get64(v4 + 264);
-                                    p2 = get64(v4 + 248);
-                                    if (get8(v4 + 240) != 0) goto l72;
-                                    if (v9 == 0) goto l25;
-                                    goto l35;
-                                l72:;
-                                    p1 = get64(v4 + 256);
-                                    if (p1 == 0) goto l73;
-                                    p3 = p2;
-                                    do {
-                                        if (get64(p3 + 16) == 0) goto l75;
-                                        rattle_dealloc_at(get64(p3));
-                                    l75:;
-                                        p3 = p3 + 24;
-                                        p1 = p1 - 1;
-                                    } while (p1 != 0);
-                                l73:;
-                                    if (v9 == 0) goto l25;
-                                    goto l35;
-                                l59:;
-                                    rattle_dealloc_at(v27);
-                                    v9 = get64(v4 + 264);
-                                    p2 = get64(v4 + 248);
-                                    if (get8(v4 + 240) != 0) goto l76;
-                                    if (v9 == 0) goto l25;
-                                    goto l35;
-                                l76:;
-                                    p1 = get64(v4 + 256);
-                                    if (p1 == 0) goto l77;
-                                    p3 = p2;
-                                    do {
-                                        if (get64(p3 + 16) == 0) goto l79;
-                                        rattle_dealloc_at(get64(p3));
-                                    l79:;
-                                        p3 = p3 + 24;
-                                        p1 = p1 - 1;
-                                    } while (p1 != 0);
-                                l77:;
-                                    if (v9 == 0) goto l25;
-                                    goto l35;
-                                l54:;
-                                    v22 = get64(v4 + 32);
-                                    if ((v22 - v13) >= v9) goto l81;
-                                    v24 = v9 & 3;
-                                    v23 = 0;
-                                    if ((v9 - 1) < 3) goto l82;
-                                    v27 = v9 & ~3ULL;
-                                    v23 = 0;
-                                    do {
-                                        p1 = v22 + v23;
-                                        v26 = v13 + v23;
-                                        put8(p1, get8(v26));
-                                        put8(p1 + 1, get8(v26 + 1));
-                                        put8(p1 + 2, get8(v26 + 2));
-                                        put8(p1 + 3, get8(v26 + 3));
-                                        v23 = v23 + 4;
-                                    } while (v27 != v23);
-                                    if (v24 == 0) goto l80;
-                                l82:;
-                                    p1 = v22 + v23;
-                                    v23 = v13 + v23;
-                                l84:;
-                                    put8(p1, get8(v23));
-                                    p1 = p1 + 1;
-                                    v23 = v23 + 1;
-                                    v24 = v24 - 1;
-                                    if (v24 != 0) goto l84;
-                                    goto l80;
-                                l81:;
-                                    if (v9 == 0) goto l80;
-                                    copy(v22, v13, v9);
-                                l80:;
-                                    p1 = v4 + 192;
-                                    put64(v4 + 208, 1);
-                                    put64(v4 + 200, v9);
-                                    put64(v4 + 192, v9);
-                                    v25 = 0;
-                                    v27 = v9;
-                                    goto l28;
-                                }
-                            l41:;
-                                v5 = get8(p1 + 77);
-                                v7 = get8(p1 + 73);
-                                v9 = p1 + 72;
-                                v15 = 0;
-                                if ((v10 & 255) != 0) {
-                                    v12 = 1;
-                                    if ((get8(p1 + 74) & 1) == 0) goto l95;
-                                    v18 = get8(p1 + 75);
-                                    v17 = get8(p1 + 76);
-                                    goto l93;
-                                l95:;
-                                    v7 = v11;
-                                }
-                                v12 = 0;
-                                v18 = 0;
-                                v17 = 0;
-                            l93:;
-                                v19 = get8(v9);
-                                put8(v4 + 116, 0);
-                                put32(v4 + 112, 0);
-                                put32(v4 + 104, 0);
-                                put16(v4 + 108, 0);
-                                put32(v4 + 96, 0);
-                                put16(v4 + 100, 0);
-                                v16 = (v5 + 1) & 3;
-                                v20 = 0;
-                                v21 = 4;
-                            l40:;
-                                v33 = 0;
-                                v6 = 0;
-                                v8 = 0;
-                                goto l24;
-                            l39:;
-                                v26 = 0;
-                            l38:;
-                                v10 = 0;
-                                v6 = 0;
-                                v23 = 0;
-                                p1 = 0;
-                            l37:;
-                                v16 = (v8 + 1) & 3;
-                                v34 = (uint64_t)v6;
-                                v33 = 0;
-                            l36:;
-                                v11 = 0;
-                                put8(v4 + 116, 0);
-                                put32(v4 + 112, 0);
-                                put32(v4 + 104, 0);
-                                put16(v4 + 108, 0);
-                                put32(v4 + 96, 0);
-                                put16(v4 + 100, 0);
-                                v20 = 0;
-                                v6 = 0;
-                                v8 = 0;
-                                v35 = 0;
-                                v14 = 0;
-                                v5 = 0;
-                                v13 = 0;
-                                v9 = 0;
-                                v25 = 0;
-                                v22 = 0;
-                                v27 = 0;
-                                v29 = 0;
-                                v28 = 0;
-                                v24 = 0;
-                                v32 = 0;
-                                v31 = 0;
-                                v30 = 0;
-                                goto l18;
-                            l35:;
-                                rattle_dealloc_at(p2);
-                                goto l25;
-                            l33:;
-                                v6 = 1;
-                                v25 = 0;
-                                v24 = 1;
-                                if (v7 != 0) {
-                                    if ((v26 + v9) > (uint64_t)get32(p1 + 84)) goto l23;
-                                    v8 = 0;
-                                    v24 = 3;
-                                    v6 = 0;
-                                    goto l22;
-                                }
-                            l32:;
-                                v8 = 2;
-                                goto l22;
-                            l29:;
-                                v27 = get64(v28);
-                                put64(v4 + 216, v27);
-                                put64(v4 + 224, get64(v28 + 8));
-                                put64(v4 + 232, get64(v28 + 16));
-                                v22 = get64(v4 + 248);
-                                v25 = (uint64_t)get8(v4 + 240);
-                                p1 = v4 + 216;
-                            l28:;
-                                v28 = get64(p1 + 16);
-                                v29 = get64(p1 + 8);
-                                v8 = v7;
-                            l27:;
-                                v20 = (v25 == 0) ? v28 : v27;
-                                v30 = 0;
-                                v24 = 1;
-                                v6 = v7;
-                                v31 = 0;
-                                v32 = 0;
-                                goto l20;
-                            l26:;
-                                v24 = 1;
-                                goto l22;
-                            l25:;
-                                put8(v4 + 116, get8(v4 + 172));
-                                put32(v4 + 112, get32(v4 + 168));
-                                put32(v4 + 104, get32(v4 + 160));
-                                put16(v4 + 108, get16(v4 + 164));
-                                put32(v4 + 96, get32(v4 + 152));
-                                put16(v4 + 100, get16(v4 + 156));
-                                v21 = 0;
-                                p2 = 0;
-                                v33 = 5;
-                                v15 = 1;
-                                p3 = 0;
-                                v10 = 0;
-                                v11 = 0;
-                                v20 = 0;
-                                v6 = 0;
-                                v8 = 0;
-                                v19 = 0;
-                                v7 = 0;
-                                v12 = 0;
-                                v18 = 0;
-                                v17 = 0;
-                                v16 = 0;
-                            l24:;
-                                v35 = 0;
-                                v14 = 0;
-                                v5 = 0;
-                                v13 = 0;
-                                v9 = 0;
-                                v25 = 0;
-                                v22 = 0;
-                                v27 = 0;
-                                v29 = 0;
-                                v28 = 0;
-                                v24 = 0;
-                                v32 = 0;
-                                v31 = 0;
-                                v30 = 0;
-                                goto l19;
-                            l23:;
-                                v8 = 4;
-                            l22:;
-                                v28 = 0;
-                                v29 = 0;
-                                v27 = 0;
-                                v30 = 0;
-                                v31 = 0;
-                                v32 = 0;
-                            l21:;
-                                v20 = 0;
-                            l20:;
-                                v7 = v10 + 1;
-                                put8(v4 + 116, get8(v4 + 140));
-                                put32(v4 + 112, get32(v4 + 136));
-                                put32(v4 + 104, get32(v4 + 128));
-                                put16(v4 + 108, get16(v4 + 132));
-                                put32(v4 + 96, get32(v4 + 144));
-                                put16(v4 + 100, get16(v4 + 148));
-                                v35 = 1;
-                                v21 = 2;
-                                v33 = 0;
-                                v11 = 0;
-                                v12 = 0;
-                                v18 = 0;
-                                v17 = 0;
-                            l19:;
-                                v26 = 0;
-                                v34 = 0;
-                                v23 = 0;
-                                p1 = 0;
-                            l18:;
-                                put8(p0, v15);
-                                put8(p0 + 26, v11);
-                                put8(p0 + 25, v10);
-                                put8(p0 + 24, v21);
-                                put64(p0 + 16, p3);
-                                put64(p0 + 8, p2);
-                                put8(p0 + 1, v33);
-                                put32(p0 + 27, get32(v4 + 112));
-                                put8(p0 + 31, get8(v4 + 116));
-                                put8(p0 + 41, v8);
-                                put8(p0 + 40, v6);
-                                put64(p0 + 32, v20);
-                                put32(p0 + 42, get32(v4 + 104));
-                                put16(p0 + 46, get16(v4 + 108));
-                                put16(p0 + 94, 0);
-                                put32(p0 + 90, 0);
-                                put8(p0 + 65, v5);
-                                put8(p0 + 64, v14);
-                                put64(p0 + 56, v35);
-                                put16(p0 + 54, 0);
-                                put8(p0 + 53, v16);
-                                put8(p0 + 52, v17);
-                                put8(p0 + 51, v18);
-                                put8(p0 + 50, v12);
-                                put8(p0 + 49, v7);
-                                put8(p0 + 48, v19);
-                                put64(p0 + 72, v13);
-                                put64(p0 + 80, v9);
-                                put64(p0 + 96, v25);
-                                put64(p0 + 104, v22);
-                                put64(p0 + 112, v27);
-                                put64(p0 + 120, v29);
-                                put64(p0 + 128, v28);
-                                put64(p0 + 136, v24);
-                                put64(p0 + 144, v32);
-                                put64(p0 + 152, v31);
-                                put64(p0 + 160, v30);
-                                put64(p0 + 168, v26);
-                                put64(p0 + 176, v34);
-                                put64(p0 + 184, v23);
-                                put64(p0 + 192, p1);
-                                put64(p0 + 200, p1);
-                                put8(p0 + 89, v8);
-                                put8(p0 + 88, v6);
-                                put32(p0 + 66, get32(v4 + 96));
-                                put16(p0 + 70, get16(v4 + 100));
-                                return;
-                            }
-                        }
-                        v5 = get32(p1 + 72);
-                        v6 = get16(p1 + 76);
-                        put64(p0 + 25, 0);
-                        put8(p0 + 24, 1);
-                        put64(p0 + 16, p3);
-                        put64(p0 + 8, p2);
-                        put16(p0, 0);
-                        put64(p0 + 33, 0);
-                        put64(p0 + 40, 0);
-                        put16(p0 + 52, v6);
-                        put32(p0 + 48, v5);
-                        fill(p0 + 54, 0, 154);
-                        return;
-                    }
-                    v5 = 5;
-                    goto l2;
-                }
-                v5 = 3;
-                goto l2;
-            }
-            v5 = 2;
+    if (p3 < 5) goto l2;
+    v6 = get8(p2);
+    if (v6 > 63) {
+        v5 = 1;
+        goto l2;
+    }
+    if ((v6 & 48) == 16) {
+        v5 = 2;
+        goto l2;
+    }
+    if ((v6 & 12) != 0) {
+        v5 = 3;
+        goto l2;
+    }
+    v5 = 4;
+    v7 = get8(p2 + 2);
+    v8 = ((v7 << 8) & 768) | get8(p2 + 3);
+    if (p3 != (uint64_t)(v8 + 1) || v8 < 6) goto l2;
+    v8 = get8(p2 + 1);
+    v9 = p3 - 2;
+    v5 = get16(p2 + v9);
+    t1 = octets_frame_check_check(p2, v9);
+    if ((((v5 << 8) | (v5 >> 8)) & 0xffff) != (t1 & 0xffff)) {
+        v5 = 5;
+        goto l2;
+    }
+    v5 = get8(p2 + 4);
+    if (v6 >= 32 && (v5 & 255) != 0) {
+        v5 = 6;
+        goto l2;
+    }
+    if ((v6 & 16) == 0) {
+        if ((p3 - 9) > ~2ULL) {
+            v5 = 7;
             goto l2;
         }
-        v5 = 1;
+        v11 = 0;
+        put32(v4 + 240, 0);
+        put16(v4 + 244, 0);
+        put32(v4 + 176, 0);
+        put16(v4 + 180, 0);
+        v10 = (v6 < 32) ? v5 : 0U;
+        v12 = v6 > 31;
+        v9 = p3 - 8;
+        v13 = p2 + 6;
+        v14 = get8(p2 + 5);
+        v5 = v14 & 63;
+        v14 = v14 >> 6;
+        goto l8;
     }
+    v9 = p3 - 7;
+    if (v9 <= 3) {
+        v5 = 7;
+        switch ((uint32_t)v9) {
+        case 1:
+            if (get8(p2 + 5) != 0) {
+                v5 = 8;
+                goto l2;
+            }
+            v10 = 0;
+            v11 = 0;
+            break;
+        case 2:
+            goto l10;
+        case 3:
+            v5 = 8;
+            if (get8(p2 + 5) != 130 || get8(p2 + 6) != 0) goto l2;
+            v11 = get8(p2 + 7);
+            v10 = 1;
+            break;
+        default:
+            goto l2;
+        }
+        v5 = 0;
+        put16(v4 + 180, 0);
+        put32(v4 + 176, 0);
+        v12 = 2;
+        v13 = 0;
+        v9 = 0;
+        v14 = 0;
+        goto l8;
+    }
+l10:;
+    v5 = 8;
+    goto l2;
+l8:;
+    put32(v4 + 120, get32(v4 + 176));
+    put16(v4 + 124, get16(v4 + 180));
+    if (get32(p1) != (((v6 << 8) & 768) | v8) || get32(p1 + 4) != ((v7 & 252) >> 2)) {
+        v5 = get32(p1 + 72);
+        v6 = get16(p1 + 76);
+        put64(p0 + 25, 0);
+        put8(p0 + 24, 1);
+        put64(p0 + 16, p3);
+        put64(p0 + 8, p2);
+        put16(p0, 0);
+        put64(p0 + 33, 0);
+        put64(p0 + 40, 0);
+        put16(p0 + 52, v6);
+        put32(p0 + 48, v5);
+        fill(p0 + 54, 0, 154);
+        return;
+    }
+    switch (v12) {
+    case 1:
+        v8 = get8(p1 + 77);
+        v21 = 3;
+        v17 = get8(p1 + 76);
+        v18 = get8(p1 + 75);
+        v12 = get8(p1 + 74);
+        v7 = get8(p1 + 73);
+        v19 = get8(p1 + 72);
+        v26 = 0;
+        v15 = 0;
+        if (v14 != 3 || ((uint32_t)(get64(p1 + 40) >> ((uint64_t)v5 & 63)) & 1) == 0 || v9 > (uint64_t)get32(p1 + 32))
+            goto l38;
+        v10 = 0;
+        v6 = 0;
+        v23 = 0;
+        p1 = 0;
+        if (v9 < 6) goto l37;
+        v6 = get8(v13);
+        if (v6 > 31 || (((v6 & 8) != 0 && (((v6 << 8) & 0x700) | get8(v13 + 1)) == 0x7ff) || ((((uint64_t)get8(v13 +
+            4) << 8) | (uint64_t)get8(v13 + 5)) + 7) != v9)) {
+            v26 = 0;
+            goto l38;
+        }
+        rattle_alloc_at(v4 + 80, v9, 1);
+        if (((uint32_t)get64(v4 + 80) & 1) == 0) {
+            v10 = 0;
+            v26 = 0;
+            v33 = 5;
+            v15 = 1;
+            p2 = 0;
+            p3 = 0;
+            v21 = 0;
+            v19 = 0;
+            v7 = 0;
+            v12 = 0;
+            v18 = 0;
+            v17 = 0;
+            v16 = 0;
+            v34 = 0;
+            v23 = 0;
+            p1 = 0;
+            goto l36;
+        }
+        v23 = get64(v4 + 88);
+        if ((v23 - v13) < v9) {
+            v22 = v9 & 3;
+            p1 = 0;
+            if ((v9 - 1) >= 3) {
+                v27 = v9 & ~3ULL;
+                p1 = 0;
+                do {
+                    v26 = v23 + p1;
+                    v24 = v13 + p1;
+                    put8(v26, get8(v24));
+                    put8(v26 + 1, get8(v24 + 1));
+                    put8(v26 + 2, get8(v24 + 2));
+                    put8(v26 + 3, get8(v24 + 3));
+                    p1 = p1 + 4;
+                } while (v27 != p1);
+                if (v22 == 0) goto l88;
+            }
+            do {
+                put8(v23 + p1, get8(v13 + p1));
+                v26 = 1;
+                p1 = p1 + 1;
+                v10 = 1;
+                v22 = v22 - 1;
+            } while (v22 != 0);
+            goto l87;
+        }
+        if (v9 != 0) copy(v23, v13, v9);
+    l88:;
+        v26 = 1;
+        v10 = 1;
+    l87:;
+        v6 = v5;
+        p1 = v9;
+        goto l37;
+    case 2:
+        v5 = get8(p1 + 77);
+        v7 = get8(p1 + 73);
+        v9 = p1 + 72;
+        v15 = 0;
+        if ((v10 & 255) != 0) {
+            v12 = 1;
+            if ((get8(p1 + 74) & 1) != 0) {
+                v18 = get8(p1 + 75);
+                v17 = get8(p1 + 76);
+                goto l93;
+            }
+            v7 = v11;
+        }
+        v12 = 0;
+        v18 = 0;
+        v17 = 0;
+    l93:;
+        v19 = get8(v9);
+        put8(v4 + 116, 0);
+        put32(v4 + 112, 0);
+        put32(v4 + 104, 0);
+        put16(v4 + 108, 0);
+        put32(v4 + 96, 0);
+        put16(v4 + 100, 0);
+        v16 = (v5 + 1) & 3;
+        v20 = 0;
+        v21 = 4;
+        goto l40;
+    default:
+        break;
+    }
+    v15 = 0;
+    put32(v4 + 168, 0);
+    put8(v4 + 172, 0);
+    put32(v4 + 160, 0);
+    put16(v4 + 164, 0);
+    put32(v4 + 152, 0);
+    put16(v4 + 156, 0);
+    put32(v4 + 144, get32(v4 + 120));
+    put16(v4 + 148, get16(v4 + 124));
+    put32(v4 + 136, 0);
+    put8(v4 + 140, 0);
+    put32(v4 + 128, 0);
+    put16(v4 + 132, 0);
+    v12 = 1;
+    v16 = get8(p1 + 77);
+    v17 = get8(p1 + 76);
+    v18 = get8(p1 + 75);
+    v7 = get8(p1 + 73);
+    v19 = get8(p1 + 72);
+    v11 = 5;
+    if ((get8(p1 + 74) & 1) == 0) {
+        if ((v10 & 255) == (v7 & 255)) {
+            v12 = 0;
+            if ((v18 & 1) != 0) {
+                v18 = 1;
+                goto l45;
+            }
+            if (get64(p1 + 0x890) < (uint64_t)get32(p1 + 48)) {
+                v22 = v4 + 287;
+                v15 = 0;
+                v23 = (uint64_t)v5;
+                if (((uint32_t)(get64(p1 + 88) >> (v23 & 63)) & 1) == 0) {
+                    v24 = 0;
+                    v25 = 0;
+                    v8 = 0;
+                    v6 = 1;
+                    goto l22;
+                }
+                v26 = 0;
+                v23 = (p1 + (v23 << 5)) + 104;
+                v7 = get8(v23);
+                if (v7 == 1) v26 = get64(v23 + 16);
+                switch (v14) {
+                case 1:
+                    v25 = 0;
+                    v6 = get32(p1 + 84);
+                    v30 = (uint64_t)v6;
+                    if (v9 > v30) {
+                        v6 = 1;
+                        v8 = 4;
+                        v24 = 1;
+                        goto l22;
+                    }
+                    if (v6 == 0) {
+                        v32 = v4 + 287;
+                    } else {
+                        rattle_alloc_at(v4 + 40, v30, 1);
+                        if (((uint32_t)get64(v4 + 40) & 1) == 0) goto l25;
+                        v32 = get64(v4 + 48);
+                    }
+                    if (v9 != 0) copy(v32, v13, v9);
+                    v22 = v4 + 287;
+                    v24 = 2;
+                    v8 = v7;
+                    v6 = v7;
+                    v28 = 0;
+                    v29 = 0;
+                    v27 = 0;
+                    v31 = v9;
+                    goto l21;
+                case 2:
+                    v6 = 1;
+                    v25 = 0;
+                    v24 = 1;
+                    if (v7 == 0) goto l32;
+                    if ((v26 + v9) > (uint64_t)get32(p1 + 84)) goto l23;
+                    if (v7 != 1) UNREACHABLE;
+                    v27 = get64(v23 + 8);
+                    v23 = get64(v23 + 16);
+                    v28 = 0;
+                    put64(v4 + 272, 0);
+                    put64(v4 + 264, 0);
+                    put64(v4 + 256, 0);
+                    put64(v4 + 248, 0);
+                    put64(v4 + 240, 0);
+                    v25 = v23 + v9;
+                    if (v25 == 0) {
+                        v20 = v4 + 287;
+                    } else {
+                        if (v25 > 0x7fffffffffffffffULL) goto l25;
+                        rattle_alloc_at(v4 + 64, v25, 1);
+                        if (((uint32_t)get64(v4 + 64) & 1) == 0) goto l25;
+                        v20 = get64(v4 + 72);
+                    }
+                    put64(v4 + 184, 0);
+                    put64(v4 + 176, v20);
+                    put64(v4 + 192, v25);
+                    if (v23 > v25) {
+                        t3 = std_alloc_vec_Vec_grow_amortized_a351ad16c7c032ee(v4 + 176, v23);
+                        if (t3 == 0) {
+                            if (get64(v4 + 192) == 0) goto l25;
+                            goto l97;
+                        }
+                        v20 = get64(v4 + 176);
+                        v25 = get64(v4 + 192);
+                        v28 = get64(v4 + 184);
+                    }
+                    v29 = v28 + v23;
+                    v32 = v20 + v28;
+                    if ((v32 - v27) < v23) {
+                        v22 = v23 & 3;
+                        v26 = 0;
+                        if (v23 >= 4) {
+                            v30 = v23 & ~3ULL;
+                            v26 = 0;
+                            do {
+                                v23 = v32 + v26;
+                                v24 = v27 + v26;
+                                put8(v23, get8(v24));
+                                put8(v23 + 1, get8(v24 + 1));
+                                put8(v23 + 2, get8(v24 + 2));
+                                put8(v23 + 3, get8(v24 + 3));
+                                v26 = v26 + 4;
+                            } while (v30 != v26);
+                            if (v22 == 0) goto l104;
+                        }
+                        v23 = v27 + v26;
+                        v26 = v20 + (v28 + v26);
+                        do {
+                            put8(v26, get8(v23));
+                            v26 = v26 + 1;
+                            v23 = v23 + 1;
+                            v22 = v22 - 1;
+                        } while (v22 != 0);
+                    } else if (v23 != 0) copy(v32, v27, v23);
+                l104:;
+                    put64(v4 + 192, v25);
+                    put64(v4 + 184, v29);
+                    t4 = std_alloc_vec_Vec_extend_from_slice_672334860c861157(v4 + 176, v13, v9);
+                    if ((t4 & 255) == 0) {
+                        t5 = get32(p1 + 84);
+                        p1 = get64(v4 + 176);
+                        map_service_packets_fault_of_one(v4 + 56, t5, p1, get64(v4 + 184));
+                        v28 = 0;
+                        put64(v4 + 256, 0);
+                        put64(v4 + 240, 0);
+                        put64(v4 + 264, 0);
+                        put64(v4 + 272, 0);
+                        v7 = get8(v4 + 56);
+                        put64(v4 + 248, v4 + 287);
+                        v8 = get8(v4 + 57);
+                        if (v7 != 1) {
+                            smallvec_small_vec_SmallVec_push_reserved_ed127ccbaaf726c4(v4 + 240, v4 + 176);
+                            v28 = get64(v4 + 272);
+                            v29 = get64(v4 + 264);
+                            v27 = get64(v4 + 256);
+                            v25 = (uint64_t)get8(v4 + 240);
+                            v22 = get64(v4 + 248);
+                            goto l27;
+                        }
+                        v22 = v4 + 287;
+                        if (get64(v4 + 192) == 0) goto l96;
+                        rattle_dealloc_at(p1);
+                        goto l96;
+                    }
+                    if (get64(v4 + 192) == 0) goto l25;
+                l97:;
+                    rattle_dealloc_at(get64(v4 + 176));
+                    goto l25;
+                l96:;
+                    v29 = 0;
+                    v27 = 0;
+                    v25 = 0;
+                    goto l27;
+                case 3:
+                    break;
+                default:
+                    v6 = 1;
+                    v25 = 0;
+                    v24 = 1;
+                    if (v7 == 0) goto l32;
+                    if ((v26 + v9) > (uint64_t)get32(p1 + 84)) goto l23;
+                    v8 = 0;
+                    v24 = 3;
+                    v6 = 0;
+                    goto l22;
+                }
+                v27 = (uint64_t)get32(p1 + 84);
+                if (get8(p1 + 96) == 0) {
+                    v6 = 1;
+                    v25 = 0;
+                    v24 = 1;
+                    if (v9 > v27) goto l23;
+                    v8 = 3;
+                    if (v9 < 6) goto l22;
+                    v11 = get8(v13);
+                    if (v11 > 31) goto l22;
+                    v24 = 1;
+                    if ((v11 & 8) != 0 && (((v11 << 8) & 0x700) | get8(v13 + 1)) == 0x7ff) goto l22;
+                    v28 = 0;
+                    v29 = 0;
+                    v27 = 0;
+                    v30 = 0;
+                    v31 = 0;
+                    v32 = 0;
+                    v20 = 0;
+                    if (((((uint64_t)get8(v13 + 4) << 8) | (uint64_t)get8(v13 + 5)) + 7) != v9) goto l20;
+                    rattle_alloc_at(v4 + 24, v9, 1);
+                    if (((uint32_t)get64(v4 + 24) & 1) == 0) goto l25;
+                    v22 = get64(v4 + 32);
+                    if ((v22 - v13) < v9) {
+                        v24 = v9 & 3;
+                        v23 = 0;
+                        if ((v9 - 1) >= 3) {
+                            v27 = v9 & ~3ULL;
+                            v23 = 0;
+                            do {
+                                p1 = v22 + v23;
+                                v26 = v13 + v23;
+                                put8(p1, get8(v26));
+                                put8(p1 + 1, get8(v26 + 1));
+                                put8(p1 + 2, get8(v26 + 2));
+                                put8(p1 + 3, get8(v26 + 3));
+                                v23 = v23 + 4;
+                            } while (v27 != v23);
+                            if (v24 == 0) goto l80;
+                        }
+                        p1 = v22 + v23;
+                        v23 = v13 + v23;
+                        do {
+                            put8(p1, get8(v23));
+                            p1 = p1 + 1;
+                            v23 = v23 + 1;
+                            v24 = v24 - 1;
+                        } while (v24 != 0);
+                    } else if (v9 != 0) copy(v22, v13, v9);
+                l80:;
+                    p1 = v4 + 192;
+                    put64(v4 + 208, 1);
+                    put64(v4 + 200, v9);
+                    put64(v4 + 192, v9);
+                    v25 = 0;
+                    v27 = v9;
+                    goto l28;
+                }
+                v6 = 1;
+                v8 = 3;
+                v25 = 0;
+                if (v9 < 6) goto l26;
+                v12 = 0;
+                p1 = v13;
+                v26 = v9;
+                do {
+                    v11 = get8(p1);
+                    if (v11 > 31) goto l26;
+                    v24 = 1;
+                    if ((v11 & 8) != 0 && (((v11 << 8) & 0x700) | get8(p1 + 1)) == 0x7ff) goto l22;
+                    v23 = (((uint64_t)get8(p1 + 4) << 8) | (uint64_t)get8(p1 + 5)) + 7;
+                    if (v26 < v23) goto l22;
+                    p1 = p1 + v23;
+                    v12 = v12 | (uint32_t)(v23 > v27);
+                    v26 = v26 - v23;
+                } while (v26 > 5);
+                v8 = v26 == 0;
+                v11 = v8 & v12;
+                v8 = (v8 != 0) ? ((v11 != 0) ? 4U : 0U) : 3U;
+                if (v11 != 0) goto l22;
+                v28 = 0;
+                v29 = 0;
+                v27 = 0;
+                v30 = 0;
+                v31 = 0;
+                v32 = 0;
+                v20 = 0;
+                if (v26 != 0) goto l20;
+                put64(v4 + 256, 0);
+                put64(v4 + 240, 0);
+                put64(v4 + 264, 0);
+                put64(v4 + 272, 0);
+                put64(v4 + 248, v4 + 287);
+                v28 = v4 + 256;
+                v29 = v4 + 240 + 8;
+                v20 = v4 + 272;
+                v25 = v9;
+                v22 = v13;
+                for (;;) {
+                    v6 = get8(v22);
+                    if (v6 > 31 || ((v6 & 8) != 0 && (((v6 << 8) & 0x700) | get8(v22 + 1)) == 0x7ff)) goto l29;
+                    p1 = (uint64_t)get8(v22 + 4) << 8;
+                    v26 = (uint64_t)get8(v22 + 5);
+                    v32 = (p1 | v26) + 7;
+                    if (v25 < v32) goto l29;
+                    rattle_alloc_at(v4 + 8, v32, 1);
+                    if (((uint32_t)get64(v4 + 8) & 1) == 0) break;
+                    v27 = get64(v4 + 16);
+                    if ((v27 - v22) < v32) {
+                        v24 = v32 & 3;
+                        v23 = 0;
+                        if ((v26 + p1 + 6) >= 3) {
+                            v30 = v32 & 0x1fffc;
+                            v23 = 0;
+                            do {
+                                p1 = v27 + v23;
+                                v26 = v22 + v23;
+                                put8(p1, get8(v26));
+                                put8(p1 + 1, get8(v26 + 1));
+                                put8(p1 + 2, get8(v26 + 2));
+                                put8(p1 + 3, get8(v26 + 3));
+                                v23 = v23 + 4;
+                            } while (v30 != v23);
+                            if (v24 == 0) goto l63;
+                        }
+                        p1 = v27 + v23;
+                        v23 = v22 + v23;
+                        do {
+                            put8(p1, get8(v23));
+                            p1 = p1 + 1;
+                            v23 = v23 + 1;
+                            v24 = v24 - 1;
+                        } while (v24 != 0);
+                    } else if (v32 != 0) copy(v27, v22, v32);
+                l63:;
+                    v6 = get8(v4 + 240);
+                    if (get64((v6 != 0) ? v28 : v20) == ((v6 != 0) ? get64(v4 + 264) : 1ULL)) {
+                        t2 = smallvec_small_vec_SmallVec_reserve_one_444910b390f8755b(v4 + 240);
+                        if ((t2 & 255) != 0) goto l59;
+                        v6 = get8(v4 + 240);
+                    }
+                    v25 = v25 - v32;
+                    if ((v6 & 255) == 0) {
+                        v23 = get64(v4 + 272);
+                        p1 = v29 + (v23 * 24);
+                        put64(p1 + 8, v32);
+                        v26 = get64(p1 + 16);
+                        put64(p1 + 16, v32);
+                        v24 = get64(p1);
+                        put64(p1, v27);
+                        if (v26 != 0) rattle_dealloc_at(v24);
+                        put64(v4 + 272, v23 + 1);
+                    } else {
+                        v23 = get64(v4 + 256);
+                        p1 = get64(v4 + 248) + (v23 * 24);
+                        put64(p1 + 16, v32);
+                        put64(p1 + 8, v32);
+                        put64(p1, v27);
+                        put64(v4 + 256, v23 + 1);
+                    }
+                    v22 = v22 + v32;
+                    if (v25 < 6) goto l29;
+                }
+                v9 = get64(v4 + 264);
+                p2 = get64(v4 + 248);
+                if (get8(v4 + 240) == 0) {
+                    if (v9 == 0) goto l25;
+                    goto l35;
+                }
+                p1 = get64(v4 + 256);
+                if (p1 != 0) {
+                    p3 = p2;
+                    do {
+                        if (get64(p3 + 16) != 0) rattle_dealloc_at(get64(p3));
+                        p3 = p3 + 24;
+                        p1 = p1 - 1;
+                    } while (p1 != 0);
+                }
+                if (v9 == 0) goto l25;
+                goto l35;
+            l59:;
+                rattle_dealloc_at(v27);
+                v9 = get64(v4 + 264);
+                p2 = get64(v4 + 248);
+                if (get8(v4 + 240) == 0) {
+                    if (v9 == 0) goto l25;
+                    goto l35;
+                }
+                p1 = get64(v4 + 256);
+                if (p1 != 0) {
+                    p3 = p2;
+                    do {
+                        if (get64(p3 + 16) != 0) rattle_dealloc_at(get64(p3));
+                        p3 = p3 + 24;
+                        p1 = p1 - 1;
+                    } while (p1 != 0);
+                }
+                if (v9 == 0) goto l25;
+                goto l35;
+            }
+            v11 = 2;
+            v18 = 1;
+            v17 = 1;
+        } else {
+            v12 = 1;
+            v5 = v10 - v7;
+            v6 = (v19 >> 1) & 127;
+            if ((v5 & 255) >= v6) {
+                if ((v5 & 255) > (~v6 & 255)) {
+                    v11 = ((v18 & 1) != 0) ? 5U : 3U;
+                    v12 = 0;
+                } else {
+                    v11 = 4;
+                }
+            } else if ((v18 & 1) != 0) {
+                v12 = 0;
+                v18 = 1;
+            } else {
+                v17 = 1;
+                v12 = 0;
+                v18 = 0;
+                v11 = 1;
+            }
+        }
+    }
+l45:;
+    put8(v4 + 116, 0);
+    put32(v4 + 112, 0);
+    put32(v4 + 104, 0);
+    put16(v4 + 108, 0);
+    put32(v4 + 96, 0);
+    put16(v4 + 100, 0);
+    v20 = 0;
+    v21 = 2;
+l40:;
+    v33 = 0;
+    v6 = 0;
+    v8 = 0;
+    goto l24;
+l38:;
+    v10 = 0;
+    v6 = 0;
+    v23 = 0;
+    p1 = 0;
+l37:;
+    v16 = (v8 + 1) & 3;
+    v34 = (uint64_t)v6;
+    v33 = 0;
+l36:;
+    v11 = 0;
+    put8(v4 + 116, 0);
+    put32(v4 + 112, 0);
+    put32(v4 + 104, 0);
+    put16(v4 + 108, 0);
+    put32(v4 + 96, 0);
+    put16(v4 + 100, 0);
+    v20 = 0;
+    v6 = 0;
+    v8 = 0;
+    v35 = 0;
+    v14 = 0;
+    v5 = 0;
+    v13 = 0;
+    v9 = 0;
+    v25 = 0;
+    v22 = 0;
+    v27 = 0;
+    v29 = 0;
+    v28 = 0;
+    v24 = 0;
+    v32 = 0;
+    v31 = 0;
+    v30 = 0;
+    goto l18;
+l35:;
+    rattle_dealloc_at(p2);
+    goto l25;
+l32:;
+    v8 = 2;
+    goto l22;
+l29:;
+    v27 = get64(v28);
+    put64(v4 + 216, v27);
+    put64(v4 + 224, get64(v28 + 8));
+    put64(v4 + 232, get64(v28 + 16));
+    v22 = get64(v4 + 248);
+    v25 = (uint64_t)get8(v4 + 240);
+    p1 = v4 + 216;
+l28:;
+    v28 = get64(p1 + 16);
+    v29 = get64(p1 + 8);
+    v8 = v7;
+l27:;
+    v20 = (v25 == 0) ? v28 : v27;
+    v30 = 0;
+    v24 = 1;
+    v6 = v7;
+    v31 = 0;
+    v32 = 0;
+    goto l20;
+l26:;
+    v24 = 1;
+    goto l22;
+l25:;
+    put8(v4 + 116, get8(v4 + 172));
+    put32(v4 + 112, get32(v4 + 168));
+    put32(v4 + 104, get32(v4 + 160));
+    put16(v4 + 108, get16(v4 + 164));
+    put32(v4 + 96, get32(v4 + 152));
+    put16(v4 + 100, get16(v4 + 156));
+    v21 = 0;
+    p2 = 0;
+    v33 = 5;
+    v15 = 1;
+    p3 = 0;
+    v10 = 0;
+    v11 = 0;
+    v20 = 0;
+    v6 = 0;
+    v8 = 0;
+    v19 = 0;
+    v7 = 0;
+    v12 = 0;
+    v18 = 0;
+    v17 = 0;
+    v16 = 0;
+l24:;
+    v35 = 0;
+    v14 = 0;
+    v5 = 0;
+    v13 = 0;
+    v9 = 0;
+    v25 = 0;
+    v22 = 0;
+    v27 = 0;
+    v29 = 0;
+    v28 = 0;
+    v24 = 0;
+    v32 = 0;
+    v31 = 0;
+    v30 = 0;
+    goto l19;
+l23:;
+    v8 = 4;
+l22:;
+    v28 = 0;
+    v29 = 0;
+    v27 = 0;
+    v30 = 0;
+    v31 = 0;
+    v32 = 0;
+l21:;
+    v20 = 0;
+l20:;
+    v7 = v10 + 1;
+    put8(v4 + 116, get8(v4 + 140));
+    put32(v4 + 112, get32(v4 + 136));
+    put32(v4 + 104, get32(v4 + 128));
+    put16(v4 + 108, get16(v4 + 132));
+    put32(v4 + 96, get32(v4 + 144));
+    put16(v4 + 100, get16(v4 + 148));
+    v35 = 1;
+    v21 = 2;
+    v33 = 0;
+    v11 = 0;
+    v12 = 0;
+    v18 = 0;
+    v17 = 0;
+l19:;
+    v26 = 0;
+    v34 = 0;
+    v23 = 0;
+    p1 = 0;
+l18:;
+    put8(p0, v15);
+    put8(p0 + 26, v11);
+    put8(p0 + 25, v10);
+    put8(p0 + 24, v21);
+    put64(p0 + 16, p3);
+    put64(p0 + 8, p2);
+    put8(p0 + 1, v33);
+    put32(p0 + 27, get32(v4 + 112));
+    put8(p0 + 31, get8(v4 + 116));
+    put8(p0 + 41, v8);
+    put8(p0 + 40, v6);
+    put64(p0 + 32, v20);
+    put32(p0 + 42, get32(v4 + 104));
+    put16(p0 + 46, get16(v4 + 108));
+    put16(p0 + 94, 0);
+    put32(p0 + 90, 0);
+    put8(p0 + 65, v5);
+    put8(p0 + 64, v14);
+    put64(p0 + 56, v35);
+    put16(p0 + 54, 0);
+    put8(p0 + 53, v16);
+    put8(p0 + 52, v17);
+    put8(p0 + 51, v18);
+    put8(p0 + 50, v12);
+    put8(p0 + 49, v7);
+    put8(p0 + 48, v19);
+    put64(p0 + 72, v13);
+    put64(p0 + 80, v9);
+    put64(p0 + 96, v25);
+    put64(p0 + 104, v22);
+    put64(p0 + 112, v27);
+    put64(p0 + 120, v29);
+    put64(p0 + 128, v28);
+    put64(p0 + 136, v24);
+    put64(p0 + 144, v32);
+    put64(p0 + 152, v31);
+    put64(p0 + 160, v30);
+    put64(p0 + 168, v26);
+    put64(p0 + 176, v34);
+    put64(p0 + 184, v23);
+    put64(p0 + 192, p1);
+    put64(p0 + 200, p1);
+    put8(p0 + 89, v8);
+    put8(p0 + 88, v6);
+    put32(p0 + 66, get32(v4 + 96));
+    put16(p0 + 70, get16(v4 + 100));
+    return;
 l2:;
     v6 = get32(p1 + 72);
     v8 = get16(p1 + 76);
@@ -6895,22 +6577,20 @@ static uint32_t smallvec_small_vec_SmallVec_reserve_one_444910b390f8755b(uint64_
     v3 = get64(p0 + ((v2 != 0) ? 16ULL : 32ULL));
     if (v2 == 0) {
         v4 = 1;
-        goto l1;
+    } else {
+        v4 = get64(p0 + 24);
     }
-    v4 = get64(p0 + 24);
-l1:;
     v5 = 0;
-    if (v4 != v3) return v5;
+    if (v4 != v3) return 0;
     v5 = 1;
-    if (v3 == ~0ULL) return v5;
-    if (ordered64(v3) < 0x7fffffffffffffffULL) return v5;
+    if (v3 == ~0ULL || ordered64(v3) < 0x7fffffffffffffffULL) return 1;
     v5 = 0;
     v4 = 0 - clz64(v3);
     v6 = 1ULL << (v4 & 63);
-    if (v6 < v3) return v5;
+    if (v6 < v3) return 0;
     v4 = v4 & 63;
     if (v4 == 0) {
-        if (v2 != 1) return v5;
+        if (v2 != 1) return 0;
         v3 = p0 + 16;
         v7 = get64(v3);
         v6 = 0;
@@ -6953,11 +6633,7 @@ l1:;
         put64(v9 + 16, get64(v1 + 88));
         put64(v9 + 24, get64(v1 + 96));
         if (v2 == 0) {
-            if (v6 != 0) {
-                rattle_dealloc_at(v4);
-                v5 = 0;
-                return v5;
-            }
+            if (v6 != 0) goto l11;
             return v5;
         }
         if (v3 != 0) {
@@ -6969,206 +6645,201 @@ l1:;
             } while (v3 != 0);
         }
         if (v6 == 0) return v5;
+    l11:;
         rattle_dealloc_at(v4);
         v5 = 0;
-        return v5;
+        return 0;
     }
     v9 = p0 + 8;
-    if (v2 == 0) {
-        if (v4 > 58) goto l4;
-        rattle_alloc_at(v1 + 8, 24ULL << (v4 & 63), 8);
-        if (((uint32_t)get64(v1 + 8) & 1) == 0) goto l4;
-        v14 = (ordered64(v3) > 0x7ffffffffffffffeULL) ? v6 : 0ULL;
-        v10 = get64(v1 + 16);
-        v15 = p0 + 32;
-        v16 = get64(v15);
-        if (v16 != 0) {
+    if (v2 != 0) {
+        v4 = get64(p0 + 24);
+        if (v6 < v4) {
+            v3 = get64(p0 + 16);
+            if (v3 >= v4) return 0;
+            t1 = v3 * 24;
+            v3 = (v3 > v6) ? v3 : v6;
+            rattle_realloc_at(v1 + 24, get64(v9), t1, v3 * 24, 8);
+            if (((uint32_t)get64(v1 + 24) & 1) == 0) return 0;
+            v4 = get64(v1 + 32);
+            put64(p0 + 24, v3);
+            put64(p0 + 8, v4);
+            return 0;
+        }
+        v6 = v6 - v3;
+        v3 = get64(p0 + 16);
+        if (v6 <= (v4 - v3)) return 0;
+        v5 = 1;
+        if (v6 > ~v3) return 1;
+        v6 = v3 + v6;
+        if (v6 > 0x555555555555555ULL) return 1;
+        if (v4 != 0) {
+            rattle_realloc_at(v1 + 56, get64(v9), v3 * 24, v6 * 24, 8);
+            v5 = 1;
+            if (((uint32_t)get64(v1 + 56) & 1) == 0) return 1;
+            v3 = get64(v1 + 64);
+        } else {
+            rattle_alloc_at(v1 + 40, v6 * 24, 8);
+            v5 = 1;
+            if (((uint32_t)get64(v1 + 40) & 1) == 0) return 1;
+            v3 = get64(v1 + 48);
+        }
+        put64(p0 + 24, v6);
+        put64(p0 + 8, v3);
+        v5 = 0;
+        return 0;
+    }
+    if (v4 > 58) goto l4;
+    rattle_alloc_at(v1 + 8, 24ULL << (v4 & 63), 8);
+    if (((uint32_t)get64(v1 + 8) & 1) == 0) goto l4;
+    v14 = (ordered64(v3) > 0x7ffffffffffffffeULL) ? v6 : 0ULL;
+    v10 = get64(v1 + 16);
+    v15 = p0 + 32;
+    v16 = get64(v15);
+    if (v16 != 0) {
+        v12 = 0;
+        if (v16 != 1) {
+            v17 = v16 & 1;
+            v8 = v16 & ~1ULL;
+            v6 = 0;
             v12 = 0;
-            if (v16 != 1) {
-                v17 = v16 & 1;
-                v8 = v16 & ~1ULL;
-                v6 = 0;
-                v12 = 0;
-                do {
-                    v3 = p0 + v6;
-                    v4 = v3 + 16;
-                    v13 = get64(v4);
-                    put64(v4, 0);
-                    v4 = v3 + 24;
-                    v11 = get64(v4);
-                    put64(v4, 0);
-                    v4 = v3 + 8;
-                    v7 = get64(v4);
-                    put64(v4, v1 + 104);
-                    v4 = v10 + v6;
-                    put64(v4 + 16, v11);
-                    put64(v4 + 8, v13);
-                    put64(v4, v7);
-                    v13 = v3 + 48;
-                    v11 = get64(v13);
-                    put64(v13, 0);
-                    v13 = v3 + 40;
-                    v7 = get64(v13);
-                    put64(v13, 0);
-                    v3 = v3 + 32;
-                    v13 = get64(v3);
-                    put64(v3, v1 + 104);
-                    put64(v1 + 72, v13);
-                    put64(v1 + 80, v7);
-                    put64(v1 + 88, v11);
-                    put64(v4 + 24, get64(v1 + 72));
-                    put64(v4 + 32, get64(v1 + 80));
-                    put64(v4 + 40, get64(v1 + 88));
-                    v6 = v6 + 48;
-                    v12 = v12 + 2;
-                } while (v8 != v12);
-                if (v17 == 0) goto l18;
-            }
-            v13 = v12 * 24;
-            v3 = v9 + v13;
-            v4 = get64(v3 + 8);
-            put64(v3 + 8, 0);
-            v6 = get64(v3 + 16);
-            put64(v3 + 16, 0);
-            v12 = get64(v3);
-            put64(v3, v1 + 104);
-            v3 = v10 + v13;
-            put64(v3 + 16, v6);
-            put64(v3 + 8, v4);
-            put64(v3, v12);
-            put64(v1 + 88, v6);
-            put64(v1 + 80, v4);
-            put64(v1 + 72, v12);
-        l18:;
-            v4 = get64(p0 + 32);
-            if (v4 != 0) {
-                v3 = p0 + 24;
-                do {
-                    put64(v3 - 8, 0);
-                    v6 = get64(v3);
-                    put64(v3, 0);
-                    v12 = v3 - 16;
-                    v13 = get64(v12);
-                    put64(v12, v1 + 104);
-                    if (v6 != 0) rattle_dealloc_at(v13);
-                    v3 = v3 + 24;
-                    v4 = v4 - 1;
-                } while (v4 != 0);
-            }
+            do {
+                v3 = p0 + v6;
+                v4 = v3 + 16;
+                v13 = get64(v4);
+                put64(v4, 0);
+                v4 = v3 + 24;
+                v11 = get64(v4);
+                put64(v4, 0);
+                v4 = v3 + 8;
+                v7 = get64(v4);
+                put64(v4, v1 + 104);
+                v4 = v10 + v6;
+                put64(v4 + 16, v11);
+                put64(v4 + 8, v13);
+                put64(v4, v7);
+                v13 = v3 + 48;
+                v11 = get64(v13);
+                put64(v13, 0);
+                v13 = v3 + 40;
+                v7 = get64(v13);
+                put64(v13, 0);
+                v3 = v3 + 32;
+                v13 = get64(v3);
+                put64(v3, v1 + 104);
+                put64(v1 + 72, v13);
+                put64(v1 + 80, v7);
+                put64(v1 + 88, v11);
+                put64(v4 + 24, get64(v1 + 72));
+                put64(v4 + 32, get64(v1 + 80));
+                put64(v4 + 40, get64(v1 + 88));
+                v6 = v6 + 48;
+                v12 = v12 + 2;
+            } while (v8 != v12);
+            if (v17 == 0) goto l18;
         }
-        put64(v15, 0);
-        v2 = get8(p0);
-        put64(p0, 1);
-        v3 = p0 + 24;
-        v6 = get64(v3);
-        put64(v3, v14);
-        v4 = p0 + 16;
-        v3 = get64(v4);
-        put64(v4, v16);
-        p0 = p0 + 8;
-        v4 = get64(p0);
-        put64(p0, v10);
-        if (v2 != 0) {
-            if (v3 != 0) {
-                p0 = v4;
-                do {
-                    if (get64(p0 + 16) != 0) rattle_dealloc_at(get64(p0));
-                    p0 = p0 + 24;
-                    v3 = v3 - 1;
-                } while (v3 != 0);
-            }
-            if (v6 == 0) return v5;
-            rattle_dealloc_at(v4);
-            return v5;
+        v13 = v12 * 24;
+        v3 = v9 + v13;
+        v4 = get64(v3 + 8);
+        put64(v3 + 8, 0);
+        v6 = get64(v3 + 16);
+        put64(v3 + 16, 0);
+        v12 = get64(v3);
+        put64(v3, v1 + 104);
+        v3 = v10 + v13;
+        put64(v3 + 16, v6);
+        put64(v3 + 8, v4);
+        put64(v3, v12);
+        put64(v1 + 88, v6);
+        put64(v1 + 80, v4);
+        put64(v1 + 72, v12);
+    l18:;
+        v4 = get64(p0 + 32);
+        if (v4 != 0) {
+            v3 = p0 + 24;
+            do {
+                put64(v3 - 8, 0);
+                v6 = get64(v3);
+                put64(v3, 0);
+                v12 = v3 - 16;
+                v13 = get64(v12);
+                put64(v12, v1 + 104);
+                if (v6 != 0) rattle_dealloc_at(v13);
+                v3 = v3 + 24;
+                v4 = v4 - 1;
+            } while (v4 != 0);
         }
+    }
+    put64(v15, 0);
+    v2 = get8(p0);
+    put64(p0, 1);
+    v3 = p0 + 24;
+    v6 = get64(v3);
+    put64(v3, v14);
+    v4 = p0 + 16;
+    v3 = get64(v4);
+    put64(v4, v16);
+    p0 = p0 + 8;
+    v4 = get64(p0);
+    put64(p0, v10);
+    if (v2 == 0) {
         if (v6 == 0) return v5;
         rattle_dealloc_at(v4);
         return v5;
     }
-    v4 = get64(p0 + 24);
-    if (v6 < v4) {
-        v3 = get64(p0 + 16);
-        if (v3 >= v4) return v5;
-        t1 = v3 * 24;
-        v3 = (v3 > v6) ? v3 : v6;
-        rattle_realloc_at(v1 + 24, get64(v9), t1, v3 * 24, 8);
-        if (((uint32_t)get64(v1 + 24) & 1) == 0) return v5;
-        v4 = get64(v1 + 32);
-        put64(p0 + 24, v3);
-        put64(p0 + 8, v4);
-        return v5;
+    if (v3 != 0) {
+        p0 = v4;
+        do {
+            if (get64(p0 + 16) != 0) rattle_dealloc_at(get64(p0));
+            p0 = p0 + 24;
+            v3 = v3 - 1;
+        } while (v3 != 0);
     }
-    v6 = v6 - v3;
-    v3 = get64(p0 + 16);
-    if (v6 <= (v4 - v3)) return v5;
-    v5 = 1;
-    if (v6 > ~v3) return v5;
-    v6 = v3 + v6;
-    if (v6 > 0x555555555555555ULL) return v5;
-    if (v4 != 0) {
-        rattle_realloc_at(v1 + 56, get64(v9), v3 * 24, v6 * 24, 8);
-        v5 = 1;
-        if (((uint32_t)get64(v1 + 56) & 1) == 0) return v5;
-        v3 = get64(v1 + 64);
-        goto l28;
-    }
-    rattle_alloc_at(v1 + 40, v6 * 24, 8);
-    v5 = 1;
-    if (((uint32_t)get64(v1 + 40) & 1) == 0) return v5;
-    v3 = get64(v1 + 48);
-l28:;
-    put64(p0 + 24, v6);
-    put64(p0 + 8, v3);
-    v5 = 0;
+    if (v6 == 0) return v5;
+    rattle_dealloc_at(v4);
     return v5;
 l4:;
     v5 = 1;
-    return v5;
+    return 1;
 }
 
 static uint32_t std_alloc_vec_Vec_grow_amortized_a351ad16c7c032ee(uint64_t p0, uint64_t p1)
 {
     unsigned char frame_octets[32 + 15];
-    uint32_t v3 = 0;
     uint64_t v2 = 0, v4 = 0, v5 = 0, v6 = 0;
     v2 = aligned(frame_octets);
-    v3 = 0;
     v4 = get64(p0 + 8);
-    if (p1 > ~v4) return v3;
+    if (p1 > ~v4) return 0;
     p1 = v4 + p1;
     p1 = (p1 > 8) ? p1 : 8ULL;
     v5 = get64(p0 + 16);
     v6 = v5 << 1;
     v6 = (p1 > v6) ? p1 : v6;
     p1 = (v5 < 0x4000000000000000ULL) ? v6 : p1;
-    if (p1 > 0x7fffffffffffffffULL) return v3;
+    if (p1 > 0x7fffffffffffffffULL) return 0;
     if (v5 != 0) {
         rattle_realloc_at(v2 + 16, get64(p0), v4, p1, 1);
-        if (((uint32_t)get64(v2 + 16) & 1) == 0) return v3;
+        if (((uint32_t)get64(v2 + 16) & 1) == 0) return 0;
         v4 = get64(v2 + 24);
-        goto l2;
+    } else {
+        rattle_alloc_at(v2, v6, 1);
+        if (((uint32_t)get64(v2) & 1) == 0) return 0;
+        v4 = get64(v2 + 8);
     }
-    rattle_alloc_at(v2, v6, 1);
-    if (((uint32_t)get64(v2) & 1) == 0) return v3;
-    v4 = get64(v2 + 8);
-l2:;
     put64(p0 + 16, p1);
     put64(p0, v4);
-    v3 = 1;
-    return v3;
+    return 1;
 }
 
 static uint32_t std_alloc_vec_Vec_extend_from_slice_672334860c861157(uint64_t p0, uint64_t p1, uint64_t p2)
 {
-    uint32_t v6 = 0, t1;
+    uint32_t t1;
     uint64_t v3 = 0, v4 = 0, v5 = 0, v7 = 0, v8 = 0, v9 = 0, v10 = 0, v11 = 0, v12 = 0;
     v3 = get64(p0 + 16);
     v4 = p0 + 8;
     v5 = get64(v4);
     if (p2 > (v3 - v5)) {
-        v6 = 1;
         t1 = std_alloc_vec_Vec_grow_amortized_a351ad16c7c032ee(p0, p2);
-        if (t1 == 0) return v6;
+        if (t1 == 0) return 1;
         v3 = get64(p0 + 16);
         v5 = get64(p0 + 8);
     }
@@ -7196,23 +6867,21 @@ static uint32_t std_alloc_vec_Vec_extend_from_slice_672334860c861157(uint64_t p0
         }
         p2 = p1 + v7;
         v7 = v9 + (v5 + v7);
-    l7:;
-        put8(v7, get8(p2));
-        v7 = v7 + 1;
-        p2 = p2 + 1;
-        v11 = v11 - 1;
-        if (v11 != 0) goto l7;
-        goto l3;
-    }
-    if (p2 != 0) copy(v10, p1, p2);
+        do {
+            put8(v7, get8(p2));
+            v7 = v7 + 1;
+            p2 = p2 + 1;
+            v11 = v11 - 1;
+        } while (v11 != 0);
+    } else if (p2 != 0) copy(v10, p1, p2);
 l3:;
     put64(p0, v9);
     put64(p0 + 16, v3);
     put64(p0 + 8, v8);
-    v6 = 0;
-    return v6;
+    return 0;
 }
 
+/* map_service::packets::fault_of_one, crates/map_service/src/packets.rt:63 */
 static void map_service_packets_fault_of_one(uint64_t p0, uint32_t p1, uint64_t p2, uint64_t p3)
 {
     uint32_t v4 = 0;
@@ -7227,20 +6896,20 @@ static void map_service_packets_fault_of_one(uint64_t p0, uint32_t p1, uint64_t 
     v5 = 0;
     if (p3 < 6) {
         p1 = 0;
-        goto l3;
+    } else {
+        v4 = get8(p2);
+        if (v4 > 31) {
+            p1 = 0;
+        } else {
+            if ((v4 & 8) != 0) {
+                p1 = 0;
+                if ((((v4 << 8) & 0x700) | get8(p2 + 1)) == 0x7ff) goto l3;
+            }
+            p2 = (((uint64_t)get8(p2 + 4) << 8) | (uint64_t)get8(p2 + 5)) + 7;
+            p1 = p3 >= p2;
+            v5 = (p1 != 0) ? p2 : 0ULL;
+        }
     }
-    v4 = get8(p2);
-    if (v4 > 31) {
-        p1 = 0;
-        goto l3;
-    }
-    if ((v4 & 8) != 0) {
-        p1 = 0;
-        if ((((v4 << 8) & 0x700) | get8(p2 + 1)) == 0x7ff) goto l3;
-    }
-    p2 = (((uint64_t)get8(p2 + 4) << 8) | (uint64_t)get8(p2 + 5)) + 7;
-    p1 = p3 >= p2;
-    v5 = (p1 != 0) ? p2 : 0ULL;
 l3:;
     p1 = p1 & (uint32_t)(v5 == p3);
     v4 = (p1 != 0) ? 0U : 3U;
@@ -7254,38 +6923,35 @@ static void smallvec_small_vec_SmallVec_push_reserved_ed127ccbaaf726c4(uint64_t 
 {
     uint64_t v2 = 0, v3 = 0, v4 = 0, v5 = 0, v6 = 0, t1;
     v2 = p0 + 8;
-    if (get8(p0) != 0) {
-        v3 = get64(p1);
-        v4 = get64(p1 + 8);
-        t1 = get64(v2);
-        v2 = p0 + 16;
-        v5 = get64(v2);
-        p0 = t1 + (v5 * 24);
-        put64(p0 + 16, get64(p1 + 16));
-        put64(p0 + 8, v4);
-        put64(p0, v3);
-        put64(v2, v5 + 1);
-        return;
-    }
-    v3 = get64(p1 + 16);
-    v4 = get64(p1);
-    v5 = p0 + 32;
-    v6 = get64(v5);
-    p0 = v2 + (v6 * 24);
-    put64(p0 + 8, get64(p1 + 8));
-    v2 = get64(p0);
-    put64(p0, v4);
-    p1 = get64(p0 + 16);
-    put64(p0 + 16, v3);
-    if (p1 == 0) {
+    if (get8(p0) == 0) {
+        v3 = get64(p1 + 16);
+        v4 = get64(p1);
+        v5 = p0 + 32;
+        v6 = get64(v5);
+        p0 = v2 + (v6 * 24);
+        put64(p0 + 8, get64(p1 + 8));
+        v2 = get64(p0);
+        put64(p0, v4);
+        p1 = get64(p0 + 16);
+        put64(p0 + 16, v3);
+        if (p1 != 0) rattle_dealloc_at(v2);
         put64(v5, v6 + 1);
         return;
     }
-    rattle_dealloc_at(v2);
-    put64(v5, v6 + 1);
+    v3 = get64(p1);
+    v4 = get64(p1 + 8);
+    t1 = get64(v2);
+    v2 = p0 + 16;
+    v5 = get64(v2);
+    p0 = t1 + (v5 * 24);
+    put64(p0 + 16, get64(p1 + 16));
+    put64(p0 + 8, v4);
+    put64(p0, v3);
+    put64(v2, v5 + 1);
     return;
 }
 
+/* nodes::spacecraft::Spacecraft::commit, crates/nodes/src/spacecraft/receive.rt:65 */
 static void nodes_spacecraft_Spacecraft_commit(uint64_t p0, uint64_t p1, uint64_t p2)
 {
     unsigned char frame_octets[176 + 15];
@@ -7306,165 +6972,156 @@ static void nodes_spacecraft_Spacecraft_commit(uint64_t p0, uint64_t p1, uint64_
     v12 = get8(p2 + 18);
     v13 = get8(p2 + 17);
     v14 = get8(p2 + 16);
-    if (get8(p2 + 48) == 1) {
-        v15 = get8(p2 + 88);
-        v16 = (uint64_t)v15 & 255;
-        v17 = get8(p2 + 57);
-        v18 = get64(p2 + 152);
-        v19 = get64(p2 + 144);
-        v20 = get64(p2 + 136);
-        v21 = get8(p2 + 128);
-        v22 = get64(p2 + 72);
-        v23 = get64(p2 + 64);
-        put64(v3 + 55, get64(p2 + 120));
-        put64(v3 + 48, get64(p2 + 113));
-        put64(v3 + 40, get64(p2 + 105));
-        put64(v3 + 32, get64(p2 + 97));
-        put64(v3 + 24, get64(p2 + 89));
-        if ((v17 & 255) <= 63) {
-            p2 = (uint64_t)v17 & 255;
-            if (((uint32_t)(get64(p1 + 88) >> (p2 & 63)) & 1) != 0) goto l3;
-        }
-        if (v21 != 2) goto l2;
-        if (v18 == 0) goto l2;
-        rattle_dealloc_at(v20);
-        goto l2;
-    l3:;
-        v24 = (p1 + (p2 << 5)) + 104;
-        switch (v21) {
-        case 1:
-            goto l6;
-        case 2:
-            put64(v24 + 16, v19);
-            v21 = get8(v24);
-            put64(v24, 1);
-            v23 = v24 + 24;
-            p2 = get64(v23);
-            put64(v23, v18);
-            v23 = v24 + 8;
-            v18 = get64(v23);
-            put64(v23, v20);
-            goto l5;
-        case 3:
-            if (get8(v24) != 1) goto l2;
-            v25 = get64(v24 + 24);
-            p2 = v24 + 16;
-            v26 = get64(p2);
-            if (v22 > (v25 - v26)) {
-                t1 = std_alloc_vec_Vec_grow_amortized_a351ad16c7c032ee(v24 + 8, v22);
-                if (t1 == 0) goto l2;
-                v25 = get64(v24 + 24);
-                v26 = get64(v24 + 16);
-            }
-            v18 = 0;
-            put64(p2, 0);
-            put64(p2 + 8, 0);
-            v27 = v26 + v22;
-            v28 = get64(v24 + 8);
-            v29 = v28 + v26;
-            if ((v29 - v23) < v22) {
-                v19 = v22 & 3;
-                if (v22 >= 4) {
-                    v22 = v22 & ~3ULL;
-                    v18 = 0;
-                    do {
-                        p2 = v29 + v18;
-                        v20 = v23 + v18;
-                        put8(p2, get8(v20));
-                        put8(p2 + 1, get8(v20 + 1));
-                        put8(p2 + 2, get8(v20 + 2));
-                        put8(p2 + 3, get8(v20 + 3));
-                        v18 = v18 + 4;
-                    } while (v22 != v18);
-                    if (v19 == 0) goto l10;
-                }
-                p2 = v23 + v18;
-                v18 = v28 + (v26 + v18);
-            l14:;
-                put8(v18, get8(p2));
-                v18 = v18 + 1;
-                p2 = p2 + 1;
-                v19 = v19 - 1;
-                if (v19 != 0) goto l14;
-                goto l10;
-            }
-            if (v22 != 0) copy(v29, v23, v22);
-        l10:;
-            put64(v24 + 24, v25);
-            put64(v24 + 16, v27);
-            put64(v24 + 8, v28);
-            goto l2;
-        default:
-            goto l2;
-        }
-    l6:;
-        put64(v24 + 16, 0);
-        v21 = get8(v24);
-        put64(v24, 0);
-        p2 = v24 + 8;
-        v18 = get64(p2);
-        put64(p2, 0);
-        v20 = v24 + 24;
-        p2 = get64(v20);
-        put64(v20, 0);
-    l5:;
-        if ((v21 & 255) == 1) {
-            if (p2 != 0) rattle_dealloc_at(v18);
-        }
-    l2:;
-        p2 = get64(v3 + 55);
-        put64(v3 + 160, p2);
-        put64(v3 + 152, get64(v3 + 47));
-        v18 = get64(v3 + 39);
-        put64(v3 + 144, v18);
-        put64(v3 + 136, get64(v3 + 31));
-        put64(v3 + 128, v16);
-        v21 = v15 & 255;
-        if (((v21 != 0) ? v18 : p2) != 0) {
-            v21 = v21 == 0;
-            v29 = v3 + 136;
-            v16 = v3 + 31;
-            v26 = p1 + 0x8a0;
-            v28 = p1 + 0x898;
-            v24 = p1 + 0x8a8;
-            v23 = p1 + 0x890;
-            v25 = p1 + 0x888;
-            p2 = 0;
-            do {
-                put64(v3 + 120, p2 + 1);
-                p2 = (((v21 & 1) != 0) ? v29 : get64(v3 + 136)) + (p2 * 24);
-                v18 = get64(p2 + 16);
-                put64(p2 + 16, 0);
-                v20 = get64(p2 + 8);
-                put64(p2 + 8, 0);
-                v22 = get64(p2);
-                put64(v3 + 96, v22);
-                put64(v3 + 104, v20);
-                put64(v3 + 112, v18);
-                put64(p2, v3 + 175);
-                put64(v16 + 16, v18);
-                put64(v16 + 8, v20);
-                put64(v16, v22);
-                put32(v3 + 27, 0);
-                put32(v3 + 24, 0);
-                put64(v3 + 87, get64(v3 + 47));
-                put64(v3 + 80, get64(v3 + 40));
-                put64(v3 + 72, get64(v3 + 32));
-                put64(v3 + 64, get64(v3 + 24));
-                p2 = get64(v25);
+    if (get8(p2 + 48) != 1) goto l1;
+    v15 = get8(p2 + 88);
+    v16 = (uint64_t)v15 & 255;
+    v17 = get8(p2 + 57);
+    v18 = get64(p2 + 152);
+    v19 = get64(p2 + 144);
+    v20 = get64(p2 + 136);
+    v21 = get8(p2 + 128);
+    v22 = get64(p2 + 72);
+    v23 = get64(p2 + 64);
+    put64(v3 + 55, get64(p2 + 120));
+    put64(v3 + 48, get64(p2 + 113));
+    put64(v3 + 40, get64(p2 + 105));
+    put64(v3 + 32, get64(p2 + 97));
+    put64(v3 + 24, get64(p2 + 89));
+    if ((v17 & 255) <= 63) {
+        p2 = (uint64_t)v17 & 255;
+        if (((uint32_t)(get64(p1 + 88) >> (p2 & 63)) & 1) != 0) {
+            v24 = (p1 + (p2 << 5)) + 104;
+            switch (v21) {
+            case 1:
+                put64(v24 + 16, 0);
+                v21 = get8(v24);
+                put64(v24, 0);
+                p2 = v24 + 8;
+                v18 = get64(p2);
+                put64(p2, 0);
+                v20 = v24 + 24;
+                p2 = get64(v20);
+                put64(v20, 0);
+                break;
+            case 2:
+                put64(v24 + 16, v19);
+                v21 = get8(v24);
+                put64(v24, 1);
+                v23 = v24 + 24;
+                p2 = get64(v23);
+                put64(v23, v18);
+                v23 = v24 + 8;
                 v18 = get64(v23);
-                v20 = get64(v24);
-                v22 = v18 - v20;
-                v19 = get64(v26);
-                if (v22 < (get64(v28) - v19)) {
-                    p2 = p2 + ((v19 + v22) << 5);
-                    put8(p2, v17);
-                    put64(p2 + 1, get64(v3 + 64));
-                    put64(p2 + 9, get64(v3 + 72));
-                    put64(p2 + 17, get64(v3 + 80));
-                    put64(p2 + 24, get64(v3 + 87));
-                    goto l17;
+                put64(v23, v20);
+                break;
+            case 3:
+                if (get8(v24) != 1) goto l2;
+                v25 = get64(v24 + 24);
+                p2 = v24 + 16;
+                v26 = get64(p2);
+                if (v22 > (v25 - v26)) {
+                    t1 = std_alloc_vec_Vec_grow_amortized_a351ad16c7c032ee(v24 + 8, v22);
+                    if (t1 == 0) goto l2;
+                    v25 = get64(v24 + 24);
+                    v26 = get64(v24 + 16);
                 }
+                v18 = 0;
+                put64(p2, 0);
+                put64(p2 + 8, 0);
+                v27 = v26 + v22;
+                v28 = get64(v24 + 8);
+                v29 = v28 + v26;
+                if ((v29 - v23) < v22) {
+                    v19 = v22 & 3;
+                    if (v22 >= 4) {
+                        v22 = v22 & ~3ULL;
+                        v18 = 0;
+                        do {
+                            p2 = v29 + v18;
+                            v20 = v23 + v18;
+                            put8(p2, get8(v20));
+                            put8(p2 + 1, get8(v20 + 1));
+                            put8(p2 + 2, get8(v20 + 2));
+                            put8(p2 + 3, get8(v20 + 3));
+                            v18 = v18 + 4;
+                        } while (v22 != v18);
+                        if (v19 == 0) goto l10;
+                    }
+                    p2 = v23 + v18;
+                    v18 = v28 + (v26 + v18);
+                    do {
+                        put8(v18, get8(p2));
+                        v18 = v18 + 1;
+                        p2 = p2 + 1;
+                        v19 = v19 - 1;
+                    } while (v19 != 0);
+                } else if (v22 != 0) copy(v29, v23, v22);
+            l10:;
+                put64(v24 + 24, v25);
+                put64(v24 + 16, v27);
+                put64(v24 + 8, v28);
+                goto l2;
+            default:
+                goto l2;
+            }
+            if ((v21 & 255) == 1 && p2 != 0) rattle_dealloc_at(v18);
+            goto l2;
+        }
+    }
+    if (v21 == 2 && v18 != 0) rattle_dealloc_at(v20);
+l2:;
+    p2 = get64(v3 + 55);
+    put64(v3 + 160, p2);
+    put64(v3 + 152, get64(v3 + 47));
+    v18 = get64(v3 + 39);
+    put64(v3 + 144, v18);
+    put64(v3 + 136, get64(v3 + 31));
+    put64(v3 + 128, v16);
+    v21 = v15 & 255;
+    if (((v21 != 0) ? v18 : p2) != 0) {
+        v21 = v21 == 0;
+        v29 = v3 + 136;
+        v16 = v3 + 31;
+        v26 = p1 + 0x8a0;
+        v28 = p1 + 0x898;
+        v24 = p1 + 0x8a8;
+        v23 = p1 + 0x890;
+        v25 = p1 + 0x888;
+        p2 = 0;
+        do {
+            put64(v3 + 120, p2 + 1);
+            p2 = (((v21 & 1) != 0) ? v29 : get64(v3 + 136)) + (p2 * 24);
+            v18 = get64(p2 + 16);
+            put64(p2 + 16, 0);
+            v20 = get64(p2 + 8);
+            put64(p2 + 8, 0);
+            v22 = get64(p2);
+            put64(v3 + 96, v22);
+            put64(v3 + 104, v20);
+            put64(v3 + 112, v18);
+            put64(p2, v3 + 175);
+            put64(v16 + 16, v18);
+            put64(v16 + 8, v20);
+            put64(v16, v22);
+            put32(v3 + 27, 0);
+            put32(v3 + 24, 0);
+            put64(v3 + 87, get64(v3 + 47));
+            put64(v3 + 80, get64(v3 + 40));
+            put64(v3 + 72, get64(v3 + 32));
+            put64(v3 + 64, get64(v3 + 24));
+            p2 = get64(v25);
+            v18 = get64(v23);
+            v20 = get64(v24);
+            v22 = v18 - v20;
+            v19 = get64(v26);
+            if (v22 < (get64(v28) - v19)) {
+                p2 = p2 + ((v19 + v22) << 5);
+                put8(p2, v17);
+                put64(p2 + 1, get64(v3 + 64));
+                put64(p2 + 9, get64(v3 + 72));
+                put64(p2 + 17, get64(v3 + 80));
+                put64(p2 + 24, get64(v3 + 87));
+            } else {
                 p2 = p2 + (v20 << 5);
                 put64(p2 + 1, get64(v3 + 64));
                 put8(p2, v17);
@@ -7472,73 +7129,70 @@ static void nodes_spacecraft_Spacecraft_commit(uint64_t p0, uint64_t p1, uint64_
                 put64(p2 + 17, get64(v3 + 80));
                 put64(p2 + 24, get64(v3 + 87));
                 put64(v24, v20 + 1);
-            l17:;
-                put64(v23, v18 + 1);
-                v15 = get8(v3 + 128);
-                v21 = v15 == 0;
-                p2 = get64(v3 + 120);
-                v18 = get64(v3 + 144);
-            } while (p2 != ((v15 != 0) ? v18 : get64(v3 + 160)));
-        }
-        v20 = get64(v3 + 152);
-        v16 = get64(v3 + 136);
-        if ((v15 & 255) == 0) {
-            if (v20 != 0) goto l19;
-            goto l1;
-        }
-        if (v18 != 0) {
-            p2 = v16;
-            do {
-                if (get64(p2 + 16) != 0) rattle_dealloc_at(get64(p2));
-                p2 = p2 + 24;
-                v18 = v18 - 1;
-            } while (v18 != 0);
-        }
-        if (v20 == 0) goto l1;
-    l19:;
-        rattle_dealloc_at(v16);
+            }
+            put64(v23, v18 + 1);
+            v15 = get8(v3 + 128);
+            v21 = v15 == 0;
+            p2 = get64(v3 + 120);
+            v18 = get64(v3 + 144);
+        } while (p2 != ((v15 != 0) ? v18 : get64(v3 + 160)));
     }
+    v20 = get64(v3 + 152);
+    v16 = get64(v3 + 136);
+    if ((v15 & 255) == 0) {
+        if (v20 != 0) goto l19;
+        goto l1;
+    }
+    if (v18 != 0) {
+        p2 = v16;
+        do {
+            if (get64(p2 + 16) != 0) rattle_dealloc_at(get64(p2));
+            p2 = p2 + 24;
+            v18 = v18 - 1;
+        } while (v18 != 0);
+    }
+    if (v20 == 0) goto l1;
+l19:;
+    rattle_dealloc_at(v16);
 l1:;
     if ((v8 & 255) == 1) {
         p2 = get64(p1 + 0x8b8);
         if (p2 == 0) {
             p2 = v4;
             v18 = v6;
-            goto l26;
+        } else {
+            v23 = p1 + 0x8c8;
+            v18 = get64(v23);
+            v16 = p1 + 0x8c0;
+            v20 = get64(v16);
+            if (p2 > v20) {
+                v18 = v18 + v20;
+                p2 = get64(p1 + 0x8b0) + ((v18 - ((v18 < p2) ? 0ULL : p2)) << 5);
+                put64(p2 + 24, v4);
+                put64(p2 + 16, v5);
+                put64(p2 + 8, v6);
+                put64(p2, v7);
+                put64(v16, get64(v16) + 1);
+                goto l24;
+            }
+            v20 = v20 - 1;
+            put64(v16, v20);
+            v22 = v18 + 1;
+            v22 = v22 - ((v22 < p2) ? 0ULL : p2);
+            put64(v23, v22);
+            v23 = get64(p1 + 0x8b0);
+            v20 = v22 + v20;
+            v20 = v23 + ((v20 - ((v20 < p2) ? 0ULL : p2)) << 5);
+            put64(v20, v7);
+            p2 = v23 + (v18 << 5);
+            v18 = get64(p2 + 8);
+            put64(v20 + 8, v6);
+            put64(v20 + 16, v5);
+            p2 = get64(p2 + 24);
+            put64(v20 + 24, v4);
+            put64(v16, get64(v16) + 1);
         }
-        v23 = p1 + 0x8c8;
-        v18 = get64(v23);
-        v16 = p1 + 0x8c0;
-        v20 = get64(v16);
-        if (p2 > v20) goto l25;
-        v20 = v20 - 1;
-        put64(v16, v20);
-        v22 = v18 + 1;
-        v22 = v22 - ((v22 < p2) ? 0ULL : p2);
-        put64(v23, v22);
-        v23 = get64(p1 + 0x8b0);
-        v20 = v22 + v20;
-        v20 = v23 + ((v20 - ((v20 < p2) ? 0ULL : p2)) << 5);
-        put64(v20, v7);
-        p2 = v23 + (v18 << 5);
-        v18 = get64(p2 + 8);
-        put64(v20 + 8, v6);
-        put64(v20 + 16, v5);
-        p2 = get64(p2 + 24);
-        put64(v20 + 24, v4);
-        put64(v16, get64(v16) + 1);
-    l26:;
-        if (p2 == 0) goto l24;
-        rattle_dealloc_at(v18);
-        goto l24;
-    l25:;
-        v18 = v18 + v20;
-        p2 = get64(p1 + 0x8b0) + ((v18 - ((v18 < p2) ? 0ULL : p2)) << 5);
-        put64(p2 + 24, v4);
-        put64(p2 + 16, v5);
-        put64(p2 + 8, v6);
-        put64(p2, v7);
-        put64(v16, get64(v16) + 1);
+        if (p2 != 0) rattle_dealloc_at(v18);
     }
 l24:;
     put16(p1 + 76, get16(v3 + 18));
@@ -7552,6 +7206,7 @@ l24:;
     return;
 }
 
+/* tm_link::turn::put_next, crates/tm_link/src/turn.rt:36 */
 static void tm_link_turn_put_next(uint64_t p0, uint64_t p1, uint64_t p2, uint32_t p3, uint64_t p4, uint64_t p5)
 {
     uint32_t v9 = 0, v10 = 0, v12 = 0, v20 = 0;
@@ -7565,9 +7220,7 @@ static void tm_link_turn_put_next(uint64_t p0, uint64_t p1, uint64_t p2, uint32_
         if (v6 == 0) goto l1;
         v11 = p5 - 13;
         v12 = v11 == 0;
-        if (v12 == 0) {
-            if (v12 == 0) fill(v7, 85, v11);
-        }
+        if (v12 == 0 && v12 == 0) fill(v7, 85, v11);
         put8(v7 + v11, 85);
         goto l1;
     }
@@ -7590,15 +7243,13 @@ static void tm_link_turn_put_next(uint64_t p0, uint64_t p1, uint64_t p2, uint32_
         }
         v11 = v17 + p4 + 6;
         v17 = v17 - v8 + address(constant_33 + 7);
-    l8:;
-        put8(v11, get8(v17));
-        v11 = v11 + 1;
-        v17 = v17 + 1;
-        v16 = v16 - 1;
-        if (v16 != 0) goto l8;
-        goto l4;
-    }
-    if (v13 != 0) copy(v7, v11, v13);
+        do {
+            put8(v11, get8(v17));
+            v11 = v11 + 1;
+            v17 = v17 + 1;
+            v16 = v16 - 1;
+        } while (v16 != 0);
+    } else if (v13 != 0) copy(v7, v11, v13);
 l4:;
     v19 = (v14 < p2) ? v14 : p2;
     v14 = v14 - v19;
@@ -7622,60 +7273,55 @@ l4:;
         }
         v11 = p1 + v17;
         v17 = v17 + v13 + p4 + 6;
-    l13:;
-        put8(v17, get8(v11));
-        v17 = v17 + 1;
-        v11 = v11 + 1;
-        v18 = v18 - 1;
-        if (v18 != 0) goto l13;
-        goto l9;
-    }
-    if (v19 != 0) copy(v15, p1, v19);
+        do {
+            put8(v17, get8(v11));
+            v17 = v17 + 1;
+            v11 = v11 + 1;
+            v18 = v18 - 1;
+        } while (v18 != 0);
+    } else if (v19 != 0) copy(v15, p1, v19);
 l9:;
     v11 = v15 + v19;
     if (v14 <= 6) {
-        if ((v11 - address(constant_33)) < v14) {
-            v18 = v14 & 3;
+        if ((v11 - address(constant_33)) >= v14) {
+            if (v14 == 0) goto l14;
+            copy(v11, address(constant_33), v14);
+            goto l14;
+        }
+        v18 = v14 & 3;
+        v11 = 0;
+        p1 = v19 + v13;
+        if ((p5 - p1 - 13) >= 3) {
+            v17 = p4 + p1;
+            v16 = v14 & 4;
             v11 = 0;
-            p1 = v19 + v13;
-            if ((p5 - p1 - 13) >= 3) {
-                v17 = p4 + p1;
-                v16 = v14 & 4;
-                v11 = 0;
-                do {
-                    put32(v17 + v11 + 6, get32(v11 + address(constant_33)));
-                    v11 = v11 + 4;
-                } while (v16 != v11);
-                if (v18 == 0) goto l14;
-            }
-            v17 = 0 - v18;
-            v16 = p4 + p1;
-        l19:;
+            do {
+                put32(v17 + v11 + 6, get32(v11 + address(constant_33)));
+                v11 = v11 + 4;
+            } while (v16 != v11);
+            if (v18 == 0) goto l14;
+        }
+        v17 = 0 - v18;
+        v16 = p4 + p1;
+        do {
             put8(v16 + v11 + 6, get8(v11 + address(constant_33)));
             v11 = v11 + 1;
             v17 = v17 + 1;
-            if (v17 != 0) goto l19;
-            goto l14;
+        } while (v17 != 0);
+    } else {
+        if ((v11 - address(constant_33)) <= 3) {
+            put32(v11, 0xc0ff07);
+        } else {
+            put32(v11, 0xc0ff07);
         }
-        if (v14 == 0) goto l14;
-        copy(v11, address(constant_33), v14);
-        goto l14;
+        v17 = v11 + 6;
+        v10 = (uint32_t)v14 - 7;
+        put16(v11 + 4, (v10 << 8) | ((v10 & 0xff00) >> 8));
+        v11 = v14 - 7;
+        v10 = v11 == 0;
+        if (v10 == 0 && v10 == 0) fill(v17, 85, v11);
+        put8(v17 + v11, 85);
     }
-    if ((v11 - address(constant_33)) <= 3) {
-        put32(v11, 0xc0ff07);
-        goto l20;
-    }
-    put32(v11, 0xc0ff07);
-l20:;
-    v17 = v11 + 6;
-    v10 = (uint32_t)v14 - 7;
-    put16(v11 + 4, (v10 << 8) | ((v10 & 0xff00) >> 8));
-    v11 = v14 - 7;
-    v10 = v11 == 0;
-    if (v10 == 0) {
-        if (v10 == 0) fill(v17, 85, v11);
-    }
-    put8(v17 + v11, 85);
 l14:;
     v11 = get64(p0 + 16) + get64(p0 + 8);
     v9 = v11 >= v6;
@@ -7689,15 +7335,13 @@ l1:;
     switch (v9) {
     case 1:
         v10 = 0x7ff;
-        goto l23;
+        break;
     case 2:
-        goto l24;
+        v10 = 0x7fe;
+        break;
     default:
-        goto l23;
+        break;
     }
-l24:;
-    v10 = 0x7fe;
-l23:;
     v10 = v10 + 0x1800;
     put16(p4 + 4, (v10 << 8) | ((v10 & 0xff00) >> 8));
     put32(v7 + v6, p3);
@@ -7707,6 +7351,7 @@ l23:;
     return;
 }
 
+/* nodes::spacecraft::Spacecraft::telemetry, crates/nodes/src/spacecraft.rt:237 */
 static void nodes_spacecraft_Spacecraft_telemetry(uint64_t p0, uint64_t p1, uint64_t p2, uint64_t p3)
 {
     uint32_t v4 = 0, v5 = 0, v6 = 0, t1, t2, t3;
@@ -7719,19 +7364,8 @@ static void nodes_spacecraft_Spacecraft_telemetry(uint64_t p0, uint64_t p1, uint
         return;
     }
     v6 = get8(p2);
-    if (v6 > 31) {
-        put8(p0 + 1, v5);
-        put8(p0, v4);
-        return;
-    }
-    if ((v6 & 8) != 0) {
-        if ((((v6 << 8) & 0x700) | get8(p2 + 1)) == 0x7ff) {
-            put8(p0 + 1, v5);
-            put8(p0, v4);
-            return;
-        }
-    }
-    if (((((uint64_t)get8(p2 + 4) << 8) | (uint64_t)get8(p2 + 5)) + 7) != p3) {
+    if (v6 > 31 || (((v6 & 8) != 0 && (((v6 << 8) & 0x700) | get8(p2 + 1)) == 0x7ff) || ((((uint64_t)get8(p2 + 4) <<
+        8) | (uint64_t)get8(p2 + 5)) + 7) != p3)) {
         put8(p0 + 1, v5);
         put8(p0, v4);
         return;
@@ -7746,41 +7380,41 @@ static void nodes_spacecraft_Spacecraft_telemetry(uint64_t p0, uint64_t p1, uint
     v8 = get64(v7);
     v9 = get64(p1 + 0x908);
     v10 = v8 - v9;
-    if (v10 <= v9) {
-        if (v8 != v9) {
-            v11 = get64(p1 + 0x8f0);
-            v12 = v10 & 3;
+    if (v10 > v9) goto l3;
+    if (v8 != v9) {
+        v11 = get64(p1 + 0x8f0);
+        v12 = v10 & 3;
+        v13 = 0;
+        if ((v9 - v8) <= ~3ULL) {
+            v14 = v11 + v9;
+            v15 = v10 & ~3ULL;
             v13 = 0;
-            if ((v9 - v8) <= ~3ULL) {
-                v14 = v11 + v9;
-                v15 = v10 & ~3ULL;
-                v13 = 0;
-                do {
-                    v8 = v11 + v13;
-                    v16 = v14 + v13;
-                    put8(v8, get8(v16));
-                    put8(v8 + 1, get8(v16 + 1));
-                    put8(v8 + 2, get8(v16 + 2));
-                    put8(v8 + 3, get8(v16 + 3));
-                    v13 = v13 + 4;
-                } while (v15 != v13);
-                if (v12 == 0) goto l5;
-            }
-            v13 = v11 + v13;
             do {
-                put8(v13, get8(v13 + v9));
-                v13 = v13 + 1;
-                v12 = v12 - 1;
-            } while (v12 != 0);
-        l5:;
-            v8 = get64(v7);
+                v8 = v11 + v13;
+                v16 = v14 + v13;
+                put8(v8, get8(v16));
+                put8(v8 + 1, get8(v16 + 1));
+                put8(v8 + 2, get8(v16 + 2));
+                put8(v8 + 3, get8(v16 + 3));
+                v13 = v13 + 4;
+            } while (v15 != v13);
+            if (v12 == 0) goto l5;
         }
-        if (v8 > v10) {
-            put64(v7, v10);
-            v8 = v10;
-        }
-        put64(p1 + 0x908, 0);
+        v13 = v11 + v13;
+        do {
+            put8(v13, get8(v13 + v9));
+            v13 = v13 + 1;
+            v12 = v12 - 1;
+        } while (v12 != 0);
+    l5:;
+        v8 = get64(v7);
     }
+    if (v8 > v10) {
+        put64(v7, v10);
+        v8 = v10;
+    }
+    put64(p1 + 0x908, 0);
+l3:;
     if (get64(p1 + 0x928) == get64(p1 + 0x920)) {
         t1 = std_alloc_vec_deque_VecDeque_grow_ee377714b7165a56(p1 + 0x918);
         if (t1 == 0) {
@@ -7824,15 +7458,13 @@ static void nodes_spacecraft_Spacecraft_telemetry(uint64_t p0, uint64_t p1, uint
         if (v12 == 0) goto l14;
         p2 = p2 + v13;
         v13 = v9 + v13;
-    l17:;
-        put8(v13, get8(p2));
-        v13 = v13 + 1;
-        p2 = p2 + 1;
-        v12 = v12 - 1;
-        if (v12 != 0) goto l17;
-        goto l14;
-    }
-    if (p3 != 0) copy(v9, p2, p3);
+        do {
+            put8(v13, get8(p2));
+            v13 = v13 + 1;
+            p2 = p2 + 1;
+            v12 = v12 - 1;
+        } while (v12 != 0);
+    } else if (p3 != 0) copy(v9, p2, p3);
 l14:;
     put64(p1 + 0x900, v14);
     put64(p1 + 0x8f8, v15);
@@ -7846,29 +7478,29 @@ l14:;
         v8 = get64(v16);
         v12 = p2 - v8;
         v9 = get64(p1 + 0x930);
-        if (v12 >= (p3 - v9)) {
-            put32(v13 + (v8 << 2), v5);
-            put64(v16, v8 + 1);
+        if (v12 < (p3 - v9)) {
+            put32(v13 + ((v12 + v9) << 2), v5);
             goto l19;
         }
-        put32(v13 + ((v12 + v9) << 2), v5);
-        goto l19;
+        put32(v13 + (v8 << 2), v5);
+        put64(v16, v8 + 1);
+    } else {
+        p2 = p1 + 0x918;
+        t3 = std_alloc_vec_deque_VecDeque_grow_ee377714b7165a56(p2);
+        if (t3 == 0) goto l18;
+        p3 = get64(p2);
+        p2 = get64(p1 + 0x920);
+        v8 = p1 + 0x938;
+        v13 = get64(v8);
+        v16 = p2 - v13;
+        v12 = get64(p1 + 0x930);
+        if (v16 < (get64(p1 + 0x928) - v12)) {
+            put32(p3 + ((v12 + v16) << 2), v5);
+        } else {
+            put32(p3 + (v13 << 2), v5);
+            put64(v8, v13 + 1);
+        }
     }
-    p2 = p1 + 0x918;
-    t3 = std_alloc_vec_deque_VecDeque_grow_ee377714b7165a56(p2);
-    if (t3 == 0) goto l18;
-    p3 = get64(p2);
-    p2 = get64(p1 + 0x920);
-    v8 = p1 + 0x938;
-    v13 = get64(v8);
-    v16 = p2 - v13;
-    v12 = get64(p1 + 0x930);
-    if (v16 < (get64(p1 + 0x928) - v12)) {
-        put32(p3 + ((v12 + v16) << 2), v5);
-        goto l19;
-    }
-    put32(p3 + (v13 << 2), v5);
-    put64(v8, v13 + 1);
 l19:;
     put64(p1 + 0x920, p2 + 1);
 l18:;
@@ -7888,7 +7520,7 @@ static uint32_t std_alloc_vec_deque_VecDeque_grow_ee377714b7165a56(uint64_t p0)
     v1 = aligned(frame_octets);
     v2 = 1;
     v3 = get64(p0 + 8);
-    if (get64(p0 + 16) != v3) return v2;
+    if (get64(p0 + 16) != v3) return 1;
     v4 = p0 + 24;
     if (get64(v4) == 0) {
         v5 = get64(p0);
@@ -7906,27 +7538,112 @@ static uint32_t std_alloc_vec_deque_VecDeque_grow_ee377714b7165a56(uint64_t p0)
         return v2;
     }
     v2 = 0;
-    if (v3 == ~0ULL) return v2;
+    if (v3 == ~0ULL) return 0;
     v5 = ((v3 > 3) ? v3 : 3ULL) + 1;
     v6 = v3 << 1;
     v6 = (v3 < 0x4000000000000000ULL) ? ((v5 > v6) ? v5 : v6) : v5;
-    if (get64(p0 + 32) <= (v6 - v3)) {
-        if (v6 > 0x1fffffffffffffffULL) return v2;
-        if (v3 != 0) {
-            rattle_realloc_at(v1 + 40, get64(p0), v3 << 2, v6 << 2, 4);
-            if (((uint32_t)get64(v1 + 40) & 1) == 0) return v2;
-            v7 = get64(v1 + 48);
-            goto l5;
-        }
+    if (get64(p0 + 32) > (v6 - v3)) {
+        if (v6 > 0x1fffffffffffffffULL) return 0;
+        rattle_alloc_at(v1 + 8, v6 << 2, 4);
+        if ((get32(v1 + 8) & 1) == 0) return 0;
+        v7 = get64(v1 + 16);
+        v11 = get64(p0);
+        v12 = get64(p0 + 24) << 2;
+        v13 = v11 + v12;
+        v14 = get64(p0 + 8);
+        v15 = get64(p0 + 32);
+        v3 = v14 - v15;
+        v16 = v3 << 2;
+        if ((v7 - v13) < v16) {
+            if (v14 != v15) {
+                v9 = v3 & 3;
+                v10 = 0;
+                if ((v15 - v14) <= ~3ULL) {
+                    v17 = v3 & ~3ULL;
+                    v3 = 0;
+                    v10 = 0;
+                    do {
+                        v5 = v7 + v3;
+                        v8 = v13 + v3;
+                        put32(v5, get32(v8));
+                        put32(v5 + 4, get32(v8 + 4));
+                        put32(v5 + 8, get32(v8 + 8));
+                        put32(v5 + 12, get32(v8 + 12));
+                        v3 = v3 + 16;
+                        v10 = v10 + 4;
+                    } while (v17 != v10);
+                    if (v9 == 0) goto l12;
+                }
+                v5 = v10 << 2;
+                v3 = v7 + v5;
+                v5 = v11 + (v5 + v12);
+                do {
+                    put32(v3, get32(v5));
+                    v3 = v3 + 4;
+                    v5 = v5 + 4;
+                    v9 = v9 - 1;
+                } while (v9 != 0);
+            }
+        } else if (v16 != 0) copy(v7, v13, v16);
+    l12:;
+        v3 = v7 + v16;
+        v13 = get64(p0);
+        v5 = get64(p0 + 32);
+        v8 = v5 << 2;
+        if ((v3 - v13) < v8) {
+            if (v5 != 0) {
+                v8 = v5 & 3;
+                v9 = 0;
+                if (v5 >= 4) {
+                    v9 = 0;
+                    v10 = 0 - (v5 & ~3ULL);
+                    v5 = v13;
+                    do {
+                        put32(v3, get32(v5));
+                        put32(v3 + 4, get32(v5 + 4));
+                        put32(v3 + 8, get32(v5 + 8));
+                        put32(v3 + 12, get32(v5 + 12));
+                        v3 = v3 + 16;
+                        v5 = v5 + 16;
+                        v9 = v9 - 4;
+                    } while (v10 != v9);
+                    if (v8 == 0) goto l17;
+                    v9 = 0 - v9;
+                }
+                v5 = v9 << 2;
+                v3 = v7 + ((v5 + (v14 << 2)) - (v15 << 2));
+                v5 = v13 + v5;
+                do {
+                    put32(v3, get32(v5));
+                    v3 = v3 + 4;
+                    v5 = v5 + 4;
+                    v8 = v8 - 1;
+                } while (v8 != 0);
+            }
+        } else if (v8 != 0) copy(v3, v13, v8);
+    l17:;
+        rattle_dealloc_at(get64(p0));
+        put64(p0 + 16, v6);
+        put64(p0, v7);
+        put64(v4, 0);
+        put64(v4 + 8, 0);
+        goto l3;
+    }
+    if (v6 > 0x1fffffffffffffffULL) return 0;
+    if (v3 != 0) {
+        rattle_realloc_at(v1 + 40, get64(p0), v3 << 2, v6 << 2, 4);
+        if (((uint32_t)get64(v1 + 40) & 1) == 0) return 0;
+        v7 = get64(v1 + 48);
+    } else {
         rattle_alloc_at(v1 + 24, 16, 4);
-        if (((uint32_t)get64(v1 + 24) & 1) == 0) return v2;
+        if (((uint32_t)get64(v1 + 24) & 1) == 0) return 0;
         v7 = get64(v1 + 32);
-    l5:;
-        v8 = get64(p0 + 8) << 2;
-        v3 = get64(p0 + 32);
-        v5 = v3 << 2;
-        if (v8 < v5) {
-            if (v3 == 0) goto l7;
+    }
+    v8 = get64(p0 + 8) << 2;
+    v3 = get64(p0 + 32);
+    v5 = v3 << 2;
+    if (v8 < v5) {
+        if (v3 != 0) {
             v4 = v3 & 3;
             v9 = 0;
             if (v3 >= 4) {
@@ -7945,142 +7662,50 @@ static uint32_t std_alloc_vec_deque_VecDeque_grow_ee377714b7165a56(uint64_t p0)
                 if (v4 == 0) goto l7;
             }
             v3 = v7 + (v9 << 2);
-        l11:;
-            put32(v3 + v8, get32(v3));
-            v3 = v3 + 4;
-            v4 = v4 - 1;
-            if (v4 != 0) goto l11;
-            goto l7;
-        }
-        if (v5 != 0) copy(v7 + v8, v7, v5);
-    l7:;
-        put64(p0, v7);
-        put64(p0 + 32, 0);
-        put64(p0 + 16, v6);
-        goto l3;
-    }
-    if (v6 > 0x1fffffffffffffffULL) return v2;
-    rattle_alloc_at(v1 + 8, v6 << 2, 4);
-    if ((get32(v1 + 8) & 1) == 0) return v2;
-    v7 = get64(v1 + 16);
-    v11 = get64(p0);
-    v12 = get64(p0 + 24) << 2;
-    v13 = v11 + v12;
-    v14 = get64(p0 + 8);
-    v15 = get64(p0 + 32);
-    v3 = v14 - v15;
-    v16 = v3 << 2;
-    if ((v7 - v13) < v16) {
-        if (v14 == v15) goto l12;
-        v9 = v3 & 3;
-        v10 = 0;
-        if ((v15 - v14) <= ~3ULL) {
-            v17 = v3 & ~3ULL;
-            v3 = 0;
-            v10 = 0;
             do {
-                v5 = v7 + v3;
-                v8 = v13 + v3;
-                put32(v5, get32(v8));
-                put32(v5 + 4, get32(v8 + 4));
-                put32(v5 + 8, get32(v8 + 8));
-                put32(v5 + 12, get32(v8 + 12));
-                v3 = v3 + 16;
-                v10 = v10 + 4;
-            } while (v17 != v10);
-            if (v9 == 0) goto l12;
+                put32(v3 + v8, get32(v3));
+                v3 = v3 + 4;
+                v4 = v4 - 1;
+            } while (v4 != 0);
         }
-        v5 = v10 << 2;
-        v3 = v7 + v5;
-        v5 = v11 + (v5 + v12);
-    l16:;
-        put32(v3, get32(v5));
-        v3 = v3 + 4;
-        v5 = v5 + 4;
-        v9 = v9 - 1;
-        if (v9 != 0) goto l16;
-        goto l12;
-    }
-    if (v16 != 0) copy(v7, v13, v16);
-l12:;
-    v3 = v7 + v16;
-    v13 = get64(p0);
-    v5 = get64(p0 + 32);
-    v8 = v5 << 2;
-    if ((v3 - v13) < v8) {
-        if (v5 == 0) goto l17;
-        v8 = v5 & 3;
-        v9 = 0;
-        if (v5 >= 4) {
-            v9 = 0;
-            v10 = 0 - (v5 & ~3ULL);
-            v5 = v13;
-            do {
-                put32(v3, get32(v5));
-                put32(v3 + 4, get32(v5 + 4));
-                put32(v3 + 8, get32(v5 + 8));
-                put32(v3 + 12, get32(v5 + 12));
-                v3 = v3 + 16;
-                v5 = v5 + 16;
-                v9 = v9 - 4;
-            } while (v10 != v9);
-            if (v8 == 0) goto l17;
-            v9 = 0 - v9;
-        }
-        v5 = v9 << 2;
-        v3 = v7 + ((v5 + (v14 << 2)) - (v15 << 2));
-        v5 = v13 + v5;
-    l21:;
-        put32(v3, get32(v5));
-        v3 = v3 + 4;
-        v5 = v5 + 4;
-        v8 = v8 - 1;
-        if (v8 != 0) goto l21;
-        goto l17;
-    }
-    if (v8 != 0) copy(v3, v13, v8);
-l17:;
-    rattle_dealloc_at(get64(p0));
-    put64(p0 + 16, v6);
+    } else if (v5 != 0) copy(v7 + v8, v7, v5);
+l7:;
     put64(p0, v7);
-    put64(v4, 0);
-    put64(v4 + 8, 0);
+    put64(p0 + 32, 0);
+    put64(p0 + 16, v6);
 l3:;
     v2 = 1;
-    return v2;
+    return 1;
 }
 
 static uint32_t std_alloc_vec_Vec_grow_amortized_ee377714b7165a56(uint64_t p0)
 {
     unsigned char frame_octets[32 + 15];
-    uint32_t v2 = 0;
     uint64_t v1 = 0, v3 = 0, v4 = 0, v5 = 0, v6 = 0;
     v1 = aligned(frame_octets);
-    v2 = 0;
     v3 = get64(p0 + 8);
-    if (v3 == ~0ULL) return v2;
+    if (v3 == ~0ULL) return 0;
     v4 = ((v3 > 3) ? v3 : 3ULL) + 1;
     v5 = get64(p0 + 16);
     v6 = v5 << 1;
     v6 = (v4 > v6) ? v4 : v6;
     v4 = (v5 < 0x4000000000000000ULL) ? v6 : v4;
-    if (v4 > 0x1fffffffffffffffULL) return v2;
+    if (v4 > 0x1fffffffffffffffULL) return 0;
     if (v5 != 0) {
         rattle_realloc_at(v1 + 16, get64(p0), v3 << 2, v4 << 2, 4);
-        if (((uint32_t)get64(v1 + 16) & 1) == 0) return v2;
+        if (((uint32_t)get64(v1 + 16) & 1) == 0) return 0;
         v3 = get64(v1 + 24);
-        goto l2;
+    } else {
+        rattle_alloc_at(v1, v6 << 2, 4);
+        if (((uint32_t)get64(v1) & 1) == 0) return 0;
+        v3 = get64(v1 + 8);
     }
-    rattle_alloc_at(v1, v6 << 2, 4);
-    if (((uint32_t)get64(v1) & 1) == 0) return v2;
-    v3 = get64(v1 + 8);
-l2:;
     put64(p0 + 16, v4);
     put64(p0, v3);
-    v2 = 1;
-    return v2;
+    return 1;
 }
 
+/* sedgechisel_nodes::spacecraft_take::taken, crates/sedgechisel_nodes/src/spacecraft_take.rt:79 */
 static uint32_t sedgechisel_nodes_spacecraft_take_taken(uint64_t p0, uint32_t p1, uint64_t p2, uint64_t p3, uint64_t
     p4, uint64_t p5)
 {
@@ -8088,99 +7713,94 @@ static uint32_t sedgechisel_nodes_spacecraft_take_taken(uint64_t p0, uint32_t p1
     uint64_t v6 = 0, v7 = 0, v8 = 0, v10 = 0, v11 = 0, v12 = 0, v13 = 0, t1;
     v6 = get64(p0);
     put64(p0, 0);
-    if (v6 != 0) {
-        if (p1 != 0) {
-            if (get64(v6 + 0x8c0) == 0) goto l4;
-            v7 = get64(v6 + 0x8c8);
-            v8 = get64(v6 + 0x8b8);
-            v7 = get64(v6 + 0x8b0) + ((v7 - ((v7 < v8) ? 0ULL : v8)) << 5);
-            goto l5;
-        }
+    if (v6 == 0) return 255;
+    if (p1 != 0) {
+        if (get64(v6 + 0x8c0) == 0) goto l4;
+        v7 = get64(v6 + 0x8c8);
+        v8 = get64(v6 + 0x8b8);
+        v7 = get64(v6 + 0x8b0) + ((v7 - ((v7 < v8) ? 0ULL : v8)) << 5);
+    } else {
         v8 = get64(v6 + 0x890);
         if (v8 == 0) goto l4;
         v7 = get64(v6 + 0x888);
         if (v8 != get64(v6 + 0x8a8)) v7 = v7 + (get64(v6 + 0x8a0) << 5);
-    l5:;
-        v9 = 252;
-        v10 = get64(v7 + 16);
-        if (p4 < v10) {
-            put64(p0, v6);
-            return v9;
-        }
-        v9 = get8(v7);
-        v11 = get64(v7 + 8);
-        if ((p3 - v11) < v10) {
-            v12 = v10 & 3;
+    }
+    v9 = 252;
+    v10 = get64(v7 + 16);
+    if (p4 < v10) {
+        put64(p0, v6);
+        return 252;
+    }
+    v9 = get8(v7);
+    v11 = get64(v7 + 8);
+    if ((p3 - v11) < v10) {
+        v12 = v10 & 3;
+        v7 = 0;
+        if (v10 >= 4) {
+            v13 = v10 & ~3ULL;
             v7 = 0;
-            if (v10 >= 4) {
-                v13 = v10 & ~3ULL;
-                v7 = 0;
-                do {
-                    p4 = p3 + v7;
-                    v8 = v11 + v7;
-                    put8(p4, get8(v8));
-                    put8(p4 + 1, get8(v8 + 1));
-                    put8(p4 + 2, get8(v8 + 2));
-                    put8(p4 + 3, get8(v8 + 3));
-                    v7 = v7 + 4;
-                } while (v13 != v7);
-                if (v12 == 0) goto l7;
-            }
-            p4 = p3 + v7;
-            v7 = v11 + v7;
-        l11:;
+            do {
+                p4 = p3 + v7;
+                v8 = v11 + v7;
+                put8(p4, get8(v8));
+                put8(p4 + 1, get8(v8 + 1));
+                put8(p4 + 2, get8(v8 + 2));
+                put8(p4 + 3, get8(v8 + 3));
+                v7 = v7 + 4;
+            } while (v13 != v7);
+            if (v12 == 0) goto l7;
+        }
+        p4 = p3 + v7;
+        v7 = v11 + v7;
+        do {
             put8(p4, get8(v7));
             p4 = p4 + 1;
             v7 = v7 + 1;
             v12 = v12 - 1;
-            if (v12 != 0) goto l11;
-            goto l7;
+        } while (v12 != 0);
+    } else if (v10 != 0) copy(p3, v11, v10);
+l7:;
+    put64(p5, v10);
+    put8(p2, v9);
+    goto l3;
+l4:;
+    put64(p5, 0);
+l3:;
+    if (p1 != 0) {
+        v9 = 0;
+        p4 = v6 + 0x8c0;
+        v7 = get64(p4);
+        if (v7 == 0) {
+            put64(p0, v6);
+            return 0;
         }
-        if (v10 != 0) copy(p3, v11, v10);
-    l7:;
-        put64(p5, v10);
-        put8(p2, v9);
-        goto l3;
-    l4:;
-        put64(p5, 0);
-    l3:;
-        if (p1 != 0) {
-            v9 = 0;
-            p4 = v6 + 0x8c0;
-            v7 = get64(p4);
-            if (v7 == 0) {
-                put64(p0, v6);
-                return v9;
-            }
-            put64(p4, v7 - 1);
-            p4 = v6 + 0x8c8;
-            t1 = p4;
-            p4 = get64(p4);
-            v7 = p4 + 1;
-            v8 = get64(v6 + 0x8b8);
-            put64(t1, v7 - ((v7 < v8) ? 0ULL : v8));
-            p4 = get64(v6 + 0x8b0) + (p4 << 5);
-            if (get64(p4 + 24) == 0) {
-                put64(p0, v6);
-                return v9;
-            }
-            p4 = get64(p4 + 8);
-            goto l12;
+        put64(p4, v7 - 1);
+        p4 = v6 + 0x8c8;
+        t1 = p4;
+        p4 = get64(p4);
+        v7 = p4 + 1;
+        v8 = get64(v6 + 0x8b8);
+        put64(t1, v7 - ((v7 < v8) ? 0ULL : v8));
+        p4 = get64(v6 + 0x8b0) + (p4 << 5);
+        if (get64(p4 + 24) == 0) {
+            put64(p0, v6);
+            return 0;
         }
+        p4 = get64(p4 + 8);
+    } else {
         v9 = 0;
         p4 = get64(v6 + 0x890);
         if (p4 == 0) {
             put64(p0, v6);
-            return v9;
+            return 0;
         }
         v8 = v6 + 0x8a8;
         if (get64(v8) != p4) {
             v7 = get64(v6 + 0x8a0);
-            goto l14;
+        } else {
+            v7 = 0;
+            put64(v8, 0);
         }
-        v7 = 0;
-        put64(v8, 0);
-    l14:;
         v8 = p4 - 1;
         put64(v6 + 0x890, v8);
         put64(v6 + 0x8a0, v7 + 1);
@@ -8190,31 +7810,31 @@ static uint32_t sedgechisel_nodes_spacecraft_take_taken(uint64_t p0, uint32_t p1
         if (v8 < (uint64_t)get32(v6 + 48)) put8(v6 + 75, 0);
         if (v7 == 0) {
             put64(p0, v6);
-            return v9;
+            return 0;
         }
-    l12:;
-        rattle_dealloc_at(p4);
-        v9 = 0;
-        put64(p0, v6);
-        return v9;
     }
-    return 255;
+    rattle_dealloc_at(p4);
+    v9 = 0;
+    put64(p0, v6);
+    return 0;
 }
 
+/* sedge_config_default, crates/sedgechisel_nodes/src/parameters.rt:40 */
 static void sedge_config_default_at(uint64_t config)
 {
-    put64(config + 64, 0);
-    put64(config + 56, 0x40000003e8ULL);
-    put64(config + 48, 0x400000040ULL);
-    put64(config + 40, ~0ULL);
-    put64(config + 32, 0x10006);
-    put64(config + 24, 0x3f80000000aULL);
-    put64(config + 16, 0x30000007fULL);
-    put64(config + 8, 0xfe00000000ULL);
-    put64(config, 0x200000001ULL);
+    put64(config + 64 /* blocking */, 0);
+    put64(config + 56 /* queue_slots, frame_length */, 0x40000003e8ULL);
+    put64(config + 48 /* ready_slots, bypass_slots */, 0x400000040ULL);
+    put64(config + 40 /* maps */, ~0ULL);
+    put64(config + 32 /* max_packet */, 0x10006);
+    put64(config + 24 /* timer, part */, 0x3f80000000aULL);
+    put64(config + 16 /* window, limit */, 0x30000007fULL);
+    put64(config + 8 /* tm_vcid, width */, 0xfe00000000ULL);
+    put64(config /* scid, vcid */, 0x200000001ULL);
     return;
 }
 
+/* sedge_config_fault, crates/sedgechisel_nodes/src/parameters.rt:29 */
 static uint32_t sedge_config_fault_at(uint64_t config)
 {
     unsigned char frame_octets[32 + 15];
@@ -8227,7 +7847,7 @@ static uint32_t sedge_config_fault_at(uint64_t config)
     nodes_config_Config_fault(v1 + 8, config);
     if (get8(v1 + 8) != 1) {
         v4 = 0;
-        return v4;
+        return 0;
     }
     config = ~14ULL;
     v2 = get64(v1 + 24);
@@ -8237,30 +7857,25 @@ static uint32_t sedge_config_fault_at(uint64_t config)
         v5 = ((uint64_t)v4 & 255) << 3;
         if (v2 == get64(v5 + address(switch_table_sedge_config_fault_395))) {
             v5 = address(switch_table_sedge_config_fault[v5 / 8]);
-            if (get8(v3) == get8(v5)) {
-                if ((get8(v3 + 1) & 255) == (get8(v5 + 1) & 255)) {
-                    if ((get8(v3 + 2) & 255) == (get8(v5 + 2) & 255)) {
-                        if ((get8(v3 + 3) & 255) == (get8(v5 + 3) & 255)) {
-                            t1 = core_cmp_slices_groups_equal_i8_31_core_cmp_numbers_U8PartialEq(v3, v2, v5);
-                            if (t1 != 0) goto l2;
-                        }
-                    }
-                }
+            if (get8(v3) == get8(v5) && (get8(v3 + 1) & 255) == (get8(v5 + 1) & 255) && (get8(v3 + 2) & 255) ==
+                (get8(v5 + 2) & 255) && (get8(v3 + 3) & 255) == (get8(v5 + 3) & 255)) {
+                t1 = core_cmp_slices_groups_equal_i8_31_core_cmp_numbers_U8PartialEq(v3, v2, v5);
+                if (t1 != 0) goto l2;
             }
         }
         config = config + 1;
     } while (config != 0);
     v4 = 0;
-    return v4;
+    return 0;
 l2:;
     v4 = v4 + 1;
     return v4;
 }
 
+/* sedge_ground_open, crates/sedgechisel_nodes/src/handles.rt:75 */
 static uint32_t sedge_ground_open_at(uint64_t config, uint64_t ground)
 {
     unsigned char frame_octets[896 + 15];
-    uint32_t v3 = 0;
     uint64_t v2 = 0, v4 = 0, v5 = 0;
     v2 = aligned(frame_octets);
     fill(v2 + 16, 0, 408);
@@ -8269,8 +7884,7 @@ static uint32_t sedge_ground_open_at(uint64_t config, uint64_t ground)
     put64(v2 + 496, 0);
     nodes_config_Config_fault(v2 + 496, config);
     if (get8(v2 + 496) != 0) {
-        v3 = 254;
-        return v3;
+        return 254;
     }
     copy(v2 + 424, config, 72);
     nodes_ground_node_Ground_of(v2 + 16, v2 + 424);
@@ -8282,23 +7896,22 @@ static uint32_t sedge_ground_open_at(uint64_t config, uint64_t ground)
             v5 = get64(v2 + 8);
             put64(v5, config);
             copy(v5 + 8, v4, 392);
-            config = get64(ground);
-            put64(ground, v5);
-            v3 = 0;
-            if (config == 0) return v3;
+            config = get64(ground /* node */);
+            put64(ground /* node */, v5);
+            if (config == 0) return 0;
             copy(v2 + 496, config, 400);
             rattle_dealloc_at(config);
             sedgechisel_nodes_nodes_ground_node_Ground_Destruct_drop(v2 + 496);
-            return v3;
+            return 0;
         }
         copy(v2 + 496 + 8, v4, 392);
         put64(v2 + 496, config);
         sedgechisel_nodes_nodes_ground_node_Ground_Destruct_drop(v2 + 496);
     }
-    v3 = 6;
-    return v3;
+    return 6;
 }
 
+/* sedge_link_fault_name, crates/sedgechisel_nodes/src/names.rt:24 */
 static uint64_t sedge_link_fault_name_at(uint64_t result, uint32_t number)
 {
     unsigned char frame_octets[16 + 15];
@@ -8325,6 +7938,7 @@ static uint64_t sedge_link_fault_name_at(uint64_t result, uint32_t number)
     return result;
 }
 
+/* sedge_parameter_name, crates/sedgechisel_nodes/src/names.rt:13 */
 static uint64_t sedge_parameter_name_at(uint64_t result, uint32_t number)
 {
     uint32_t v2 = 0, v3 = 0, v4 = 0;
@@ -8335,16 +7949,15 @@ static uint64_t sedge_parameter_name_at(uint64_t result, uint32_t number)
         v2 = 0;
         v3 = 0;
         v4 = 0;
-        goto l1;
+    } else {
+        v5 = (uint64_t)number & 255;
+        v6 = v5 << 2;
+        number = get32(v6 + address(switch_table_sedge_parameter_name_400));
+        v4 = get32(v6 + address(switch_table_sedge_parameter_name_399));
+        v5 = v5 << 1;
+        v3 = get16(v5 + address(switch_table_sedge_parameter_name_398));
+        v2 = get16(v5 + address(switch_table_sedge_parameter_name));
     }
-    v5 = (uint64_t)number & 255;
-    v6 = v5 << 2;
-    number = get32(v6 + address(switch_table_sedge_parameter_name_400));
-    v4 = get32(v6 + address(switch_table_sedge_parameter_name_399));
-    v5 = v5 << 1;
-    v3 = get16(v5 + address(switch_table_sedge_parameter_name_398));
-    v2 = get16(v5 + address(switch_table_sedge_parameter_name));
-l1:;
     put64(result + 12, 0);
     put16(result + 10, v2);
     put16(result + 8, v3);
@@ -8353,6 +7966,7 @@ l1:;
     return result;
 }
 
+/* sedge_sim_fault_name, crates/sedgechisel_nodes/src/names.rt:34 */
 static uint64_t sedge_sim_fault_name_at(uint64_t result, uint32_t number)
 {
     unsigned char frame_octets[16 + 15];
@@ -8365,27 +7979,25 @@ static uint64_t sedge_sim_fault_name_at(uint64_t result, uint32_t number)
         put32(v2, get32(address(constant_22 + 1)));
         put8(v2 + 4, get8(address(constant_22 + 5)));
         number = 77;
-        goto l1;
+        break;
     case 1:
         put64(v2 + 7, get64(address(constant_24 + 8)));
         put64(v2, get64(address(constant_24 + 1)));
         number = 78;
-        goto l1;
+        break;
     case 2:
         put8(v2 + 14, 0);
         put16(v2 + 12, 0);
         put64(v2, get64(address(constant_25 + 1)));
         put32(v2 + 8, get32(address(constant_25 + 9)));
         number = 78;
-        goto l1;
+        break;
     default:
-        goto l2;
+        put64(v2 + 7, 0);
+        put64(v2, 0);
+        number = 63;
+        break;
     }
-l2:;
-    put64(v2 + 7, 0);
-    put64(v2, 0);
-    number = 63;
-l1:;
     put8(result, number);
     put64(result + 1, get64(v2));
     put64(result + 8, get64(v2 + 7));
@@ -8393,6 +8005,7 @@ l1:;
     return result;
 }
 
+/* sedge_sim_open, crates/sedgechisel_nodes/src/handles.rt:219 */
 static uint32_t sedge_sim_open_at(uint64_t config, uint64_t sim)
 {
     unsigned char frame_octets[40688 + 15];
@@ -8445,7 +8058,7 @@ static uint32_t sedge_sim_open_at(uint64_t config, uint64_t sim)
     nodes_config_Config_fault(v2 + 0x1678, config);
     if (get8(v2 + 5752) == 1) {
         v3 = 254;
-        return v3;
+        return 254;
     }
     put64(v2 + 17248, 0);
     put64(v2 + 17240, 0);
@@ -8566,188 +8179,59 @@ static uint32_t sedge_sim_open_at(uint64_t config, uint64_t sim)
     put64(v2 + 34616, 0);
     put64(v2 + 34608, 0);
     nodes_config_Config_fault(v2 + 0x8730, v2 + 0x6f98);
-    if (get8(v2 + 34608) == 0) {
-        v4 = 0;
-        fill(v2 + 0x7f28, 0, 408);
-        put16(v2 + 30180, 0);
-        put32(v2 + 30176, 0);
-        fill(v2 + 0x80c0, 0, 0x600);
-        fill(v2 + 0x6fe0, 0, 0x600);
-        nodes_ground_node_Ground_of(v2 + 0x7f28, v2 + 0x6f98);
-        if (get8(v2 + 32552) == 0) {
-            v5 = get64(v2 + 32952);
-            v6 = get64(v2 + 32944);
-            v7 = get64(v2 + 32936);
-            v8 = get64(v2 + 32928);
-            v9 = get64(v2 + 32920);
-            v10 = get64(v2 + 32912);
-            v11 = get64(v2 + 32904);
-            v12 = get64(v2 + 32896);
-            v13 = get64(v2 + 32888);
-            v14 = get64(v2 + 32880);
-            v15 = get64(v2 + 32872);
-            v16 = get8(v2 + 32865);
-            v17 = get8(v2 + 32864);
-            v18 = get64(v2 + 32856);
-            v19 = get64(v2 + 32832);
-            v20 = get64(v2 + 32824);
-            v21 = get64(v2 + 32816);
-            v22 = get64(v2 + 32808);
-            v23 = get64(v2 + 32800);
-            v24 = get64(v2 + 32792);
-            v25 = get64(v2 + 32784);
-            v26 = get64(v2 + 32776);
-            v27 = get64(v2 + 32768);
-            v28 = get64(v2 + 32760);
-            v29 = get64(v2 + 32752);
-            v30 = get64(v2 + 32744);
-            v31 = get64(v2 + 32736);
-            v32 = get64(v2 + 32728);
-            v33 = get64(v2 + 32720);
-            v34 = get64(v2 + 32712);
-            v35 = get64(v2 + 32704);
-            v36 = get64(v2 + 32696);
-            v37 = get64(v2 + 32688);
-            v38 = get64(v2 + 32680);
-            v39 = get64(v2 + 32672);
-            v40 = get64(v2 + 32664);
-            v3 = get8(v2 + 32656);
-            v41 = get64(v2 + 32560);
-            fill(v2 + 0x8730, 0, 0x948);
-            nodes_spacecraft_Spacecraft_restarted(v2 + 0x8730, v2 + 0x6f98, 0);
-            v4 = get8(v2 + 34608);
-            v42 = v2 + 0x75e6;
-            copy(v42, v2 + 0x8730 + 8, 0x940);
-            if (v4 != 0) {
-                if ((v3 & 255) == 1) {
-                    if (v37 != 0) rattle_dealloc_at(v39);
-                }
-                if (v34 != 0) {
-                    v48 = (v33 < v35) ? 0ULL : v35;
-                    config = v33 - v48;
-                    v41 = v35 - config;
-                    v37 = (v41 < v34) ? v41 : v34;
-                    if (v35 != config) {
-                        config = (v36 + ((v33 << 5) - (v48 << 5))) + 24;
-                        v48 = v37;
-                        do {
-                            if (get64(config) != 0) rattle_dealloc_at(get64(config - 16));
-                            config = config + 32;
-                            v48 = v48 - 1;
-                        } while (v48 != 0);
-                    }
-                    if (v34 > v41) {
-                        v48 = v34 - v37;
-                        config = v36 + 24;
-                        do {
-                            if (get64(config) != 0) rattle_dealloc_at(get64(config - 16));
-                            config = config + 32;
-                            v48 = v48 - 1;
-                        } while (v48 != 0);
-                    }
-                }
-                rattle_dealloc_at(v36);
-                if (v31 != 0) {
-                    v48 = v31 - v28;
-                    if (v29 < (v48 + v29)) {
-                        config = ((v29 << 5) + v32) + 24;
-                        do {
-                            if (get64(config) != 0) rattle_dealloc_at(get64(config - 16));
-                            config = config + 32;
-                            v48 = v48 - 1;
-                        } while (v48 != 0);
-                    }
-                    if (v28 != 0) {
-                        config = v32 + 24;
-                        do {
-                            if (get64(config) != 0) rattle_dealloc_at(get64(config - 16));
-                            config = config + 32;
-                            v28 = v28 - 1;
-                        } while (v28 != 0);
-                    }
-                }
-                if (v30 != 0) rattle_dealloc_at(v32);
-                if (v26 != 0) {
-                    v48 = v26 - v23;
-                    if (v24 < (v48 + v24)) {
-                        config = ((v24 << 5) + v27) + 24;
-                        do {
-                            if (get64(config) != 0) rattle_dealloc_at(get64(config - 16));
-                            config = config + 32;
-                            v48 = v48 - 1;
-                        } while (v48 != 0);
-                    }
-                    if (v23 != 0) {
-                        config = v27 + 24;
-                        do {
-                            if (get64(config) != 0) rattle_dealloc_at(get64(config - 16));
-                            config = config + 32;
-                            v23 = v23 - 1;
-                        } while (v23 != 0);
-                    }
-                }
-                if (v25 != 0) rattle_dealloc_at(v27);
-                if (v19 != 0) rattle_dealloc_at(v21);
-                if (v13 != 0) rattle_dealloc_at(v15);
-                if (v11 != 0) {
-                    v48 = v11 - v8;
-                    if (v9 < (v48 + v9)) {
-                        config = v12 + (v9 * 24);
-                        do {
-                            if (get64(config + 16) != 0) rattle_dealloc_at(get64(config));
-                            config = config + 24;
-                            v48 = v48 - 1;
-                        } while (v48 != 0);
-                    }
-                    if (v8 != 0) {
-                        config = v12;
-                        do {
-                            if (get64(config + 16) != 0) rattle_dealloc_at(get64(config));
-                            config = config + 24;
-                            v8 = v8 - 1;
-                        } while (v8 != 0);
-                    }
-                }
-                if (v10 != 0) rattle_dealloc_at(v12);
-                if (v6 != 0) {
-                    config = v7;
-                    do {
-                        if (get64(config + 16) != 0) rattle_dealloc_at(get64(config));
-                        config = config + 24;
-                        v6 = v6 - 1;
-                    } while (v6 != 0);
-                }
-                if (v5 != 0) rattle_dealloc_at(v7);
-                v41 = 0;
-                put64(v2 + 22904, 0);
-                put64(v2 + 22896, 0);
-                v4 = 0;
-                fill(v2 + 0x5928, 0, 72);
-                put32(v2 + 22819, 0);
-                put32(v2 + 22816, 0);
-                put64(v2 + 22800, 0);
-                put64(v2 + 22808, 0);
-                put32(v2 + 22792, 0);
-                put16(v2 + 22796, 0);
-                fill(v2 + 0x4fc8, 0, 0x940);
-                put64(v2 + 20416, 0);
-                put64(v2 + 20408, 0);
-                put64(v2 + 20400, 0);
-                put64(v2 + 20392, 0);
-                put64(v2 + 20360, 0);
-                put64(v2 + 20368, 0);
-                put64(v2 + 20376, 0);
-                put64(v2 + 20384, 0);
-                put32(v2 + 20352, 0);
-                put16(v2 + 20356, 0);
-                put32(v2 + 20344, 0);
-                put32(v2 + 20347, 0);
-                put64(v2 + 20328, 0);
-                put64(v2 + 20336, 0);
-                fill(v2 + 0x4968, 0, 0x600);
-                fill(v2 + 0x4368, 0, 0x600);
-                goto l7;
-            }
+    if (get8(v2 + 34608) != 0) goto l5;
+    v4 = 0;
+    fill(v2 + 0x7f28, 0, 408);
+    put16(v2 + 30180, 0);
+    put32(v2 + 30176, 0);
+    fill(v2 + 0x80c0, 0, 0x600);
+    fill(v2 + 0x6fe0, 0, 0x600);
+    nodes_ground_node_Ground_of(v2 + 0x7f28, v2 + 0x6f98);
+    if (get8(v2 + 32552) == 0) {
+        v5 = get64(v2 + 32952);
+        v6 = get64(v2 + 32944);
+        v7 = get64(v2 + 32936);
+        v8 = get64(v2 + 32928);
+        v9 = get64(v2 + 32920);
+        v10 = get64(v2 + 32912);
+        v11 = get64(v2 + 32904);
+        v12 = get64(v2 + 32896);
+        v13 = get64(v2 + 32888);
+        v14 = get64(v2 + 32880);
+        v15 = get64(v2 + 32872);
+        v16 = get8(v2 + 32865);
+        v17 = get8(v2 + 32864);
+        v18 = get64(v2 + 32856);
+        v19 = get64(v2 + 32832);
+        v20 = get64(v2 + 32824);
+        v21 = get64(v2 + 32816);
+        v22 = get64(v2 + 32808);
+        v23 = get64(v2 + 32800);
+        v24 = get64(v2 + 32792);
+        v25 = get64(v2 + 32784);
+        v26 = get64(v2 + 32776);
+        v27 = get64(v2 + 32768);
+        v28 = get64(v2 + 32760);
+        v29 = get64(v2 + 32752);
+        v30 = get64(v2 + 32744);
+        v31 = get64(v2 + 32736);
+        v32 = get64(v2 + 32728);
+        v33 = get64(v2 + 32720);
+        v34 = get64(v2 + 32712);
+        v35 = get64(v2 + 32704);
+        v36 = get64(v2 + 32696);
+        v37 = get64(v2 + 32688);
+        v38 = get64(v2 + 32680);
+        v39 = get64(v2 + 32672);
+        v40 = get64(v2 + 32664);
+        v3 = get8(v2 + 32656);
+        v41 = get64(v2 + 32560);
+        fill(v2 + 0x8730, 0, 0x948);
+        nodes_spacecraft_Spacecraft_restarted(v2 + 0x8730, v2 + 0x6f98, 0);
+        v4 = get8(v2 + 34608);
+        v42 = v2 + 0x75e6;
+        copy(v42, v2 + 0x8730 + 8, 0x940);
+        if (v4 == 0) {
             v43 = v2 + 0x8062;
             v44 = v2 + 0x8048;
             v45 = v2 + 0x7f91;
@@ -8821,6 +8305,132 @@ static uint32_t sedge_sim_open_at(uint64_t config, uint64_t sim)
             v4 = 1;
             goto l6;
         }
+        if ((v3 & 255) == 1 && v37 != 0) rattle_dealloc_at(v39);
+        if (v34 != 0) {
+            v48 = (v33 < v35) ? 0ULL : v35;
+            config = v33 - v48;
+            v41 = v35 - config;
+            v37 = (v41 < v34) ? v41 : v34;
+            if (v35 != config) {
+                config = (v36 + ((v33 << 5) - (v48 << 5))) + 24;
+                v48 = v37;
+                do {
+                    if (get64(config) != 0) rattle_dealloc_at(get64(config - 16));
+                    config = config + 32;
+                    v48 = v48 - 1;
+                } while (v48 != 0);
+            }
+            if (v34 > v41) {
+                v48 = v34 - v37;
+                config = v36 + 24;
+                do {
+                    if (get64(config) != 0) rattle_dealloc_at(get64(config - 16));
+                    config = config + 32;
+                    v48 = v48 - 1;
+                } while (v48 != 0);
+            }
+        }
+        rattle_dealloc_at(v36);
+        if (v31 != 0) {
+            v48 = v31 - v28;
+            if (v29 < (v48 + v29)) {
+                config = ((v29 << 5) + v32) + 24;
+                do {
+                    if (get64(config) != 0) rattle_dealloc_at(get64(config - 16));
+                    config = config + 32;
+                    v48 = v48 - 1;
+                } while (v48 != 0);
+            }
+            if (v28 != 0) {
+                config = v32 + 24;
+                do {
+                    if (get64(config) != 0) rattle_dealloc_at(get64(config - 16));
+                    config = config + 32;
+                    v28 = v28 - 1;
+                } while (v28 != 0);
+            }
+        }
+        if (v30 != 0) rattle_dealloc_at(v32);
+        if (v26 != 0) {
+            v48 = v26 - v23;
+            if (v24 < (v48 + v24)) {
+                config = ((v24 << 5) + v27) + 24;
+                do {
+                    if (get64(config) != 0) rattle_dealloc_at(get64(config - 16));
+                    config = config + 32;
+                    v48 = v48 - 1;
+                } while (v48 != 0);
+            }
+            if (v23 != 0) {
+                config = v27 + 24;
+                do {
+                    if (get64(config) != 0) rattle_dealloc_at(get64(config - 16));
+                    config = config + 32;
+                    v23 = v23 - 1;
+                } while (v23 != 0);
+            }
+        }
+        if (v25 != 0) rattle_dealloc_at(v27);
+        if (v19 != 0) rattle_dealloc_at(v21);
+        if (v13 != 0) rattle_dealloc_at(v15);
+        if (v11 != 0) {
+            v48 = v11 - v8;
+            if (v9 < (v48 + v9)) {
+                config = v12 + (v9 * 24);
+                do {
+                    if (get64(config + 16) != 0) rattle_dealloc_at(get64(config));
+                    config = config + 24;
+                    v48 = v48 - 1;
+                } while (v48 != 0);
+            }
+            if (v8 != 0) {
+                config = v12;
+                do {
+                    if (get64(config + 16) != 0) rattle_dealloc_at(get64(config));
+                    config = config + 24;
+                    v8 = v8 - 1;
+                } while (v8 != 0);
+            }
+        }
+        if (v10 != 0) rattle_dealloc_at(v12);
+        if (v6 != 0) {
+            config = v7;
+            do {
+                if (get64(config + 16) != 0) rattle_dealloc_at(get64(config));
+                config = config + 24;
+                v6 = v6 - 1;
+            } while (v6 != 0);
+        }
+        if (v5 != 0) rattle_dealloc_at(v7);
+        v41 = 0;
+        put64(v2 + 22904, 0);
+        put64(v2 + 22896, 0);
+        v4 = 0;
+        fill(v2 + 0x5928, 0, 72);
+        put32(v2 + 22819, 0);
+        put32(v2 + 22816, 0);
+        put64(v2 + 22800, 0);
+        put64(v2 + 22808, 0);
+        put32(v2 + 22792, 0);
+        put16(v2 + 22796, 0);
+        fill(v2 + 0x4fc8, 0, 0x940);
+        put64(v2 + 20416, 0);
+        put64(v2 + 20408, 0);
+        put64(v2 + 20400, 0);
+        put64(v2 + 20392, 0);
+        put64(v2 + 20360, 0);
+        put64(v2 + 20368, 0);
+        put64(v2 + 20376, 0);
+        put64(v2 + 20384, 0);
+        put32(v2 + 20352, 0);
+        put16(v2 + 20356, 0);
+        put32(v2 + 20344, 0);
+        put32(v2 + 20347, 0);
+        put64(v2 + 20328, 0);
+        put64(v2 + 20336, 0);
+        fill(v2 + 0x4968, 0, 0x600);
+        fill(v2 + 0x4368, 0, 0x600);
+    } else {
         v41 = 0;
         put64(v2 + 22904, 0);
         put64(v2 + 22896, 0);
@@ -8848,99 +8458,98 @@ static uint32_t sedge_sim_open_at(uint64_t config, uint64_t sim)
         put64(v2 + 20336, 0);
         fill(v2 + 0x4968, 0, 0x600);
         fill(v2 + 0x4368, 0, 0x600);
-    l7:;
-        v3 = 0;
-        v40 = 0;
-        v39 = 0;
-        v38 = 0;
-        v37 = 0;
-        v36 = 0;
-        v35 = 0;
-        v34 = 0;
-        v33 = 0;
-        v32 = 0;
-        v31 = 0;
-        v30 = 0;
-        v29 = 0;
-        v28 = 0;
-        v27 = 0;
-        v26 = 0;
-        v25 = 0;
-        v24 = 0;
-        v23 = 0;
-        v22 = 0;
-        v21 = 0;
-        v20 = 0;
-        v19 = 0;
-        v18 = 0;
-        v17 = 0;
-        v16 = 0;
-        v15 = 0;
-        v14 = 0;
-        v13 = 0;
-        v12 = 0;
-        v11 = 0;
-        v10 = 0;
-        v9 = 0;
-        v8 = 0;
-        v7 = 0;
-        v6 = 0;
-        v5 = 0;
-        v48 = 0;
-    l6:;
-        fill(v2 + 0x6fe0, 0, 72);
-        put32(v2 + 34587, 0);
-        put32(v2 + 34584, 0);
-        put64(v2 + 34568, 0);
-        put64(v2 + 34576, 0);
-        put32(v2 + 34560, 0);
-        put16(v2 + 34564, 0);
-        fill(v2 + 0x8730, 0, 0x940);
-        put64(v2 + 32576, 0);
-        put64(v2 + 32568, 0);
-        put64(v2 + 32560, 0);
-        put64(v2 + 32552, 0);
-        put64(v2 + 34528, 0);
-        put64(v2 + 34536, 0);
-        put64(v2 + 34544, 0);
-        put64(v2 + 34552, 0);
-        put32(v2 + 34520, 0);
-        put16(v2 + 34524, 0);
-        put32(v2 + 34512, 0);
-        put32(v2 + 34515, 0);
-        put64(v2 + 34496, 0);
-        put64(v2 + 34504, 0);
-        fill(v2 + 0x75e0, 0, 0x600);
-        fill(v2 + 0x80c0, 0, 0x600);
-        if (v4 != 0) {
-            put64(v2 + 34600, get64(v2 + 22904));
-            put64(v2 + 34592, get64(v2 + 22896));
-            copy(v2 + 0x6fe0, v2 + 0x5928, 72);
-            put32(v2 + 34587, get32(v2 + 22819));
-            put32(v2 + 34584, get32(v2 + 22816));
-            put64(v2 + 34568, get64(v2 + 22800));
-            put64(v2 + 34576, get64(v2 + 22808));
-            put32(v2 + 34560, get32(v2 + 22792));
-            put16(v2 + 34564, get16(v2 + 22796));
-            copy(v2 + 0x8730, v2 + 0x4fc8, 0x940);
-            put64(v2 + 32576, get64(v2 + 20416));
-            put64(v2 + 32568, get64(v2 + 20408));
-            put64(v2 + 32560, get64(v2 + 20400));
-            put64(v2 + 32552, get64(v2 + 20392));
-            put64(v2 + 34528, get64(v2 + 20360));
-            put64(v2 + 34536, get64(v2 + 20368));
-            put64(v2 + 34544, get64(v2 + 20376));
-            put64(v2 + 34552, get64(v2 + 20384));
-            put32(v2 + 34520, get32(v2 + 20352));
-            put16(v2 + 34524, get16(v2 + 20356));
-            put32(v2 + 34515, get32(v2 + 20347));
-            put32(v2 + 34512, get32(v2 + 20344));
-            put64(v2 + 34504, get64(v2 + 20336));
-            put64(v2 + 34496, get64(v2 + 20328));
-            copy(v2 + 0x75e0, v2 + 0x4968, 0x600);
-            copy(v2 + 0x80c0, v2 + 0x4368, 0x600);
-            goto l46;
-        }
+    }
+    v3 = 0;
+    v40 = 0;
+    v39 = 0;
+    v38 = 0;
+    v37 = 0;
+    v36 = 0;
+    v35 = 0;
+    v34 = 0;
+    v33 = 0;
+    v32 = 0;
+    v31 = 0;
+    v30 = 0;
+    v29 = 0;
+    v28 = 0;
+    v27 = 0;
+    v26 = 0;
+    v25 = 0;
+    v24 = 0;
+    v23 = 0;
+    v22 = 0;
+    v21 = 0;
+    v20 = 0;
+    v19 = 0;
+    v18 = 0;
+    v17 = 0;
+    v16 = 0;
+    v15 = 0;
+    v14 = 0;
+    v13 = 0;
+    v12 = 0;
+    v11 = 0;
+    v10 = 0;
+    v9 = 0;
+    v8 = 0;
+    v7 = 0;
+    v6 = 0;
+    v5 = 0;
+    v48 = 0;
+l6:;
+    fill(v2 + 0x6fe0, 0, 72);
+    put32(v2 + 34587, 0);
+    put32(v2 + 34584, 0);
+    put64(v2 + 34568, 0);
+    put64(v2 + 34576, 0);
+    put32(v2 + 34560, 0);
+    put16(v2 + 34564, 0);
+    fill(v2 + 0x8730, 0, 0x940);
+    put64(v2 + 32576, 0);
+    put64(v2 + 32568, 0);
+    put64(v2 + 32560, 0);
+    put64(v2 + 32552, 0);
+    put64(v2 + 34528, 0);
+    put64(v2 + 34536, 0);
+    put64(v2 + 34544, 0);
+    put64(v2 + 34552, 0);
+    put32(v2 + 34520, 0);
+    put16(v2 + 34524, 0);
+    put32(v2 + 34512, 0);
+    put32(v2 + 34515, 0);
+    put64(v2 + 34496, 0);
+    put64(v2 + 34504, 0);
+    fill(v2 + 0x75e0, 0, 0x600);
+    fill(v2 + 0x80c0, 0, 0x600);
+    if (v4 != 0) {
+        put64(v2 + 34600, get64(v2 + 22904));
+        put64(v2 + 34592, get64(v2 + 22896));
+        copy(v2 + 0x6fe0, v2 + 0x5928, 72);
+        put32(v2 + 34587, get32(v2 + 22819));
+        put32(v2 + 34584, get32(v2 + 22816));
+        put64(v2 + 34568, get64(v2 + 22800));
+        put64(v2 + 34576, get64(v2 + 22808));
+        put32(v2 + 34560, get32(v2 + 22792));
+        put16(v2 + 34564, get16(v2 + 22796));
+        copy(v2 + 0x8730, v2 + 0x4fc8, 0x940);
+        put64(v2 + 32576, get64(v2 + 20416));
+        put64(v2 + 32568, get64(v2 + 20408));
+        put64(v2 + 32560, get64(v2 + 20400));
+        put64(v2 + 32552, get64(v2 + 20392));
+        put64(v2 + 34528, get64(v2 + 20360));
+        put64(v2 + 34536, get64(v2 + 20368));
+        put64(v2 + 34544, get64(v2 + 20376));
+        put64(v2 + 34552, get64(v2 + 20384));
+        put32(v2 + 34520, get32(v2 + 20352));
+        put16(v2 + 34524, get16(v2 + 20356));
+        put32(v2 + 34515, get32(v2 + 20347));
+        put32(v2 + 34512, get32(v2 + 20344));
+        put64(v2 + 34504, get64(v2 + 20336));
+        put64(v2 + 34496, get64(v2 + 20328));
+        copy(v2 + 0x75e0, v2 + 0x4968, 0x600);
+        copy(v2 + 0x80c0, v2 + 0x4368, 0x600);
+    } else {
         put64(v2 + 34600, get64(v2 + 22904));
         put64(v2 + 34592, get64(v2 + 22896));
         v41 = v41 & 255;
@@ -8982,35 +8591,101 @@ static uint32_t sedge_sim_open_at(uint64_t config, uint64_t sim)
         v6 = 0;
         v5 = 0;
         v48 = 0;
-    l46:;
-        put64(v2 + 28560, get64(v2 + 34600));
-        put64(v2 + 28552, get64(v2 + 34592));
-        copy(v2 + 0x6f40, v2 + 0x6fe0, 72);
-        put32(v2 + 28475, get32(v2 + 34587));
-        put32(v2 + 28472, get32(v2 + 34584));
-        put64(v2 + 28456, get64(v2 + 34568));
-        put64(v2 + 28464, get64(v2 + 34576));
-        put32(v2 + 28448, get32(v2 + 34560));
-        put16(v2 + 28452, get16(v2 + 34564));
-        copy(v2 + 0x65e0, v2 + 0x8730, 0x940);
-        put64(v2 + 26072, get64(v2 + 32576));
-        put64(v2 + 26064, get64(v2 + 32568));
-        put64(v2 + 26056, get64(v2 + 32560));
-        put64(v2 + 26048, get64(v2 + 32552));
-        put64(v2 + 26016, get64(v2 + 34528));
-        put64(v2 + 26024, get64(v2 + 34536));
-        put64(v2 + 26032, get64(v2 + 34544));
-        put64(v2 + 26040, get64(v2 + 34552));
-        put32(v2 + 26008, get32(v2 + 34520));
-        put16(v2 + 26012, get16(v2 + 34524));
-        put32(v2 + 26003, get32(v2 + 34515));
-        put32(v2 + 26000, get32(v2 + 34512));
-        put64(v2 + 25984, get64(v2 + 34496));
-        put64(v2 + 25992, get64(v2 + 34504));
-        copy(v2 + 0x5f80, v2 + 0x75e0, 0x600);
-        copy(v2 + 0x5980, v2 + 0x80c0, 0x600);
-        if (v4 != 0) goto l4;
     }
+    put64(v2 + 28560, get64(v2 + 34600));
+    put64(v2 + 28552, get64(v2 + 34592));
+    copy(v2 + 0x6f40, v2 + 0x6fe0, 72);
+    put32(v2 + 28475, get32(v2 + 34587));
+    put32(v2 + 28472, get32(v2 + 34584));
+    put64(v2 + 28456, get64(v2 + 34568));
+    put64(v2 + 28464, get64(v2 + 34576));
+    put32(v2 + 28448, get32(v2 + 34560));
+    put16(v2 + 28452, get16(v2 + 34564));
+    copy(v2 + 0x65e0, v2 + 0x8730, 0x940);
+    put64(v2 + 26072, get64(v2 + 32576));
+    put64(v2 + 26064, get64(v2 + 32568));
+    put64(v2 + 26056, get64(v2 + 32560));
+    put64(v2 + 26048, get64(v2 + 32552));
+    put64(v2 + 26016, get64(v2 + 34528));
+    put64(v2 + 26024, get64(v2 + 34536));
+    put64(v2 + 26032, get64(v2 + 34544));
+    put64(v2 + 26040, get64(v2 + 34552));
+    put32(v2 + 26008, get32(v2 + 34520));
+    put16(v2 + 26012, get16(v2 + 34524));
+    put32(v2 + 26003, get32(v2 + 34515));
+    put32(v2 + 26000, get32(v2 + 34512));
+    put64(v2 + 25984, get64(v2 + 34496));
+    put64(v2 + 25992, get64(v2 + 34504));
+    copy(v2 + 0x5f80, v2 + 0x75e0, 0x600);
+    copy(v2 + 0x5980, v2 + 0x80c0, 0x600);
+    if (v4 != 0) {
+        put64(v2 + 17248, get64(v2 + 28560));
+        put64(v2 + 17240, get64(v2 + 28552));
+        copy(v2 + 0x4310, v2 + 0x6f40, 72);
+        put32(v2 + 17163, get32(v2 + 28475));
+        put32(v2 + 17160, get32(v2 + 28472));
+        put64(v2 + 17144, get64(v2 + 28456));
+        put64(v2 + 17152, get64(v2 + 28464));
+        put32(v2 + 17136, get32(v2 + 28448));
+        put16(v2 + 17140, get16(v2 + 28452));
+        copy(v2 + 0x39b0, v2 + 0x65e0, 0x940);
+        put64(v2 + 14760, get64(v2 + 26072));
+        put64(v2 + 14752, get64(v2 + 26064));
+        put64(v2 + 14744, get64(v2 + 26056));
+        put64(v2 + 14736, get64(v2 + 26048));
+        put64(v2 + 14704, get64(v2 + 26016));
+        put64(v2 + 14712, get64(v2 + 26024));
+        put64(v2 + 14720, get64(v2 + 26032));
+        put64(v2 + 14728, get64(v2 + 26040));
+        put32(v2 + 14696, get32(v2 + 26008));
+        put16(v2 + 14700, get16(v2 + 26012));
+        put32(v2 + 14691, get32(v2 + 26003));
+        put32(v2 + 14688, get32(v2 + 26000));
+        put64(v2 + 14680, get64(v2 + 25992));
+        put64(v2 + 14672, get64(v2 + 25984));
+        copy(v2 + 0x3350, v2 + 0x5f80, 0x600);
+        copy(v2 + 0x2d50, v2 + 0x5980, 0x600);
+        put64(v2 + 11592, get64(v2 + 17248));
+        put64(v2 + 11584, get64(v2 + 17240));
+        copy(v2 + 0x2cf8, v2 + 0x4310, 72);
+        put32(v2 + 11507, get32(v2 + 17163));
+        put32(v2 + 11504, get32(v2 + 17160));
+        put64(v2 + 11488, get64(v2 + 17144));
+        put64(v2 + 11496, get64(v2 + 17152));
+        put32(v2 + 11480, get32(v2 + 17136));
+        put16(v2 + 11484, get16(v2 + 17140));
+        copy(v2 + 0x2398, v2 + 0x39b0, 0x940);
+        put64(v2 + 9104, get64(v2 + 14760));
+        put64(v2 + 9096, get64(v2 + 14752));
+        put64(v2 + 9088, get64(v2 + 14744));
+        put64(v2 + 9080, get64(v2 + 14736));
+        put64(v2 + 9048, get64(v2 + 14704));
+        put64(v2 + 9056, get64(v2 + 14712));
+        put64(v2 + 9064, get64(v2 + 14720));
+        put64(v2 + 9072, get64(v2 + 14728));
+        put32(v2 + 9040, get32(v2 + 14696));
+        put16(v2 + 9044, get16(v2 + 14700));
+        put32(v2 + 9035, get32(v2 + 14691));
+        put32(v2 + 9032, get32(v2 + 14688));
+        put64(v2 + 9024, get64(v2 + 14680));
+        put64(v2 + 9016, get64(v2 + 14672));
+        copy(v2 + 0x1d38, v2 + 0x3350, 0x600);
+        copy(v2 + 0x1738, v2 + 0x2d50, 0x600);
+        put64(v2 + 5936, 0);
+        put64(v2 + 5928, 0);
+        put64(v2 + 5920, 0);
+        put64(v2 + 5912, 0);
+        put64(v2 + 5896, 0);
+        put64(v2 + 5904, 0);
+        put64(v2 + 5880, 0);
+        put64(v2 + 5888, 0);
+        put64(v2 + 5864, 0);
+        put64(v2 + 5872, 0);
+        v4 = 1;
+        v42 = v2 + 0x9ee8;
+        goto l3;
+    }
+l5:;
     v3 = 0;
     v41 = 0;
     v40 = 0;
@@ -9052,72 +8727,6 @@ static uint32_t sedge_sim_open_at(uint64_t config, uint64_t sim)
     v48 = 0;
     v42 = 0;
     v4 = 0;
-    goto l3;
-l4:;
-    put64(v2 + 17248, get64(v2 + 28560));
-    put64(v2 + 17240, get64(v2 + 28552));
-    copy(v2 + 0x4310, v2 + 0x6f40, 72);
-    put32(v2 + 17163, get32(v2 + 28475));
-    put32(v2 + 17160, get32(v2 + 28472));
-    put64(v2 + 17144, get64(v2 + 28456));
-    put64(v2 + 17152, get64(v2 + 28464));
-    put32(v2 + 17136, get32(v2 + 28448));
-    put16(v2 + 17140, get16(v2 + 28452));
-    copy(v2 + 0x39b0, v2 + 0x65e0, 0x940);
-    put64(v2 + 14760, get64(v2 + 26072));
-    put64(v2 + 14752, get64(v2 + 26064));
-    put64(v2 + 14744, get64(v2 + 26056));
-    put64(v2 + 14736, get64(v2 + 26048));
-    put64(v2 + 14704, get64(v2 + 26016));
-    put64(v2 + 14712, get64(v2 + 26024));
-    put64(v2 + 14720, get64(v2 + 26032));
-    put64(v2 + 14728, get64(v2 + 26040));
-    put32(v2 + 14696, get32(v2 + 26008));
-    put16(v2 + 14700, get16(v2 + 26012));
-    put32(v2 + 14691, get32(v2 + 26003));
-    put32(v2 + 14688, get32(v2 + 26000));
-    put64(v2 + 14680, get64(v2 + 25992));
-    put64(v2 + 14672, get64(v2 + 25984));
-    copy(v2 + 0x3350, v2 + 0x5f80, 0x600);
-    copy(v2 + 0x2d50, v2 + 0x5980, 0x600);
-    put64(v2 + 11592, get64(v2 + 17248));
-    put64(v2 + 11584, get64(v2 + 17240));
-    copy(v2 + 0x2cf8, v2 + 0x4310, 72);
-    put32(v2 + 11507, get32(v2 + 17163));
-    put32(v2 + 11504, get32(v2 + 17160));
-    put64(v2 + 11488, get64(v2 + 17144));
-    put64(v2 + 11496, get64(v2 + 17152));
-    put32(v2 + 11480, get32(v2 + 17136));
-    put16(v2 + 11484, get16(v2 + 17140));
-    copy(v2 + 0x2398, v2 + 0x39b0, 0x940);
-    put64(v2 + 9104, get64(v2 + 14760));
-    put64(v2 + 9096, get64(v2 + 14752));
-    put64(v2 + 9088, get64(v2 + 14744));
-    put64(v2 + 9080, get64(v2 + 14736));
-    put64(v2 + 9048, get64(v2 + 14704));
-    put64(v2 + 9056, get64(v2 + 14712));
-    put64(v2 + 9064, get64(v2 + 14720));
-    put64(v2 + 9072, get64(v2 + 14728));
-    put32(v2 + 9040, get32(v2 + 14696));
-    put16(v2 + 9044, get16(v2 + 14700));
-    put32(v2 + 9035, get32(v2 + 14691));
-    put32(v2 + 9032, get32(v2 + 14688));
-    put64(v2 + 9024, get64(v2 + 14680));
-    put64(v2 + 9016, get64(v2 + 14672));
-    copy(v2 + 0x1d38, v2 + 0x3350, 0x600);
-    copy(v2 + 0x1738, v2 + 0x2d50, 0x600);
-    put64(v2 + 5936, 0);
-    put64(v2 + 5928, 0);
-    put64(v2 + 5920, 0);
-    put64(v2 + 5912, 0);
-    put64(v2 + 5896, 0);
-    put64(v2 + 5904, 0);
-    put64(v2 + 5880, 0);
-    put64(v2 + 5888, 0);
-    put64(v2 + 5864, 0);
-    put64(v2 + 5872, 0);
-    v4 = 1;
-    v42 = v2 + 0x9ee8;
 l3:;
     put64(v2 + 5744, get64(v2 + 11592));
     put64(v2 + 5736, get64(v2 + 11584));
@@ -9244,13 +8853,13 @@ l3:;
             put64(config + 6048, v42);
             put64(config + 6056, get64(v2 + 16));
             put64(config + 6064, get64(v2 + 24));
-            v6 = get64(sim);
-            put64(sim, config);
-            if (v6 == 0) return v3;
+            v6 = get64(sim /* link */);
+            put64(sim /* link */, config);
+            if (v6 == 0) return 0;
             copy(v2 + 0x8730, v6, 0x17b8);
             rattle_dealloc_at(v6);
             sedgechisel_nodes_sedgechisel_nodes_sim_link_Link_Destruct_drop(v2 + 0x8730);
-            return v3;
+            return 0;
         }
         copy(v2 + 0x8730 + 8, v2 + 0x1690, 88);
         put32(v2 + 34708, get32(v2 + 5659));
@@ -9336,9 +8945,10 @@ l3:;
         sedgechisel_nodes_sedgechisel_nodes_sim_link_Link_Destruct_drop(v2 + 0x8730);
     }
     v3 = 6;
-    return v3;
+    return 6;
 }
 
+/* sedge_spacecraft_open, crates/sedgechisel_nodes/src/handles.rt:125 */
 static uint32_t sedge_spacecraft_open_at(uint64_t config, uint64_t spacecraft)
 {
     unsigned char frame_octets[4832 + 15];
@@ -9351,7 +8961,7 @@ static uint32_t sedge_spacecraft_open_at(uint64_t config, uint64_t spacecraft)
     nodes_config_Config_fault(v2 + 0x998, config);
     if (get8(v2 + 2456) != 0) {
         v3 = 254;
-        return v3;
+        return 254;
     }
     copy(v2 + 0x950, config, 72);
     fill(v2 + 0x998, 0, 0x948);
@@ -9365,27 +8975,28 @@ static uint32_t sedge_spacecraft_open_at(uint64_t config, uint64_t spacecraft)
             v4 = get64(v2 + 16);
             put64(v4, config);
             copy(v4 + 8, v2 + 24, 0x938);
-            config = get64(spacecraft);
-            put64(spacecraft, v4);
+            config = get64(spacecraft /* node */);
+            put64(spacecraft /* node */, v4);
             v3 = 0;
-            if (config == 0) return v3;
+            if (config == 0) return 0;
             copy(v2 + 0x998, config, 0x940);
             rattle_dealloc_at(config);
             sedgechisel_nodes_nodes_spacecraft_Spacecraft_Destruct_drop(v2 + 0x998);
-            return v3;
+            return 0;
         }
         copy(v2 + 0x998 + 8, v2 + 24, 0x938);
         put64(v2 + 2456, config);
         sedgechisel_nodes_nodes_spacecraft_Spacecraft_Destruct_drop(v2 + 0x998);
     }
     v3 = 6;
-    return v3;
+    return 6;
 }
 
+/* sedge_spacecraft_open_kept, crates/sedgechisel_nodes/src/handles.rt:141 */
 static uint32_t sedge_spacecraft_open_kept_at(uint64_t config, uint64_t kept, uint64_t spacecraft)
 {
     unsigned char frame_octets[4832 + 15];
-    uint32_t v4 = 0, v5 = 0;
+    uint32_t v5 = 0;
     uint64_t v3 = 0, v6 = 0;
     v3 = aligned(frame_octets);
     fill(v3 + 16, 0, 0x948);
@@ -9393,15 +9004,13 @@ static uint32_t sedge_spacecraft_open_kept_at(uint64_t config, uint64_t kept, ui
     put64(v3 + 2472, 0);
     put64(v3 + 2464, 0);
     nodes_config_Config_fault(v3 + 0x9a0, config);
-    v4 = 254;
-    if (get8(v3 + 2464) != 0) return v4;
+    if (get8(v3 + 2464) != 0) return 254;
     copy(v3 + 0x958, config, 72);
     v5 = get8(kept + 27);
-    if (v5 > 3) return v4;
+    if (v5 > 3) return 254;
     nodes_spacecraft_Spacecraft_restarted(v3 + 16, v3 + 0x958, (((v5 << 8) | get8(kept + 28)) | (get8(kept + 30) <<
         16)) | (get8(kept + 31) << 24));
-    v4 = 6;
-    if (get8(v3 + 16) != 0) return v4;
+    if (get8(v3 + 16) != 0) return 6;
     config = get64(v3 + 24);
     rattle_alloc_at(v3, 0x940, 8);
     kept = v3 + 32;
@@ -9409,128 +9018,119 @@ static uint32_t sedge_spacecraft_open_kept_at(uint64_t config, uint64_t kept, ui
         v6 = get64(v3 + 8);
         put64(v6, config);
         copy(v6 + 8, kept, 0x938);
-        config = get64(spacecraft);
-        put64(spacecraft, v6);
-        v4 = 0;
-        if (config == 0) return v4;
+        config = get64(spacecraft /* node */);
+        put64(spacecraft /* node */, v6);
+        if (config == 0) return 0;
         copy(v3 + 0x9a0, config, 0x940);
         rattle_dealloc_at(config);
         sedgechisel_nodes_nodes_spacecraft_Spacecraft_Destruct_drop(v3 + 0x9a0);
-        return v4;
+        return 0;
     }
     copy(v3 + 0x9a0 + 8, kept, 0x938);
     put64(v3 + 2464, config);
     sedgechisel_nodes_nodes_spacecraft_Spacecraft_Destruct_drop(v3 + 0x9a0);
-    v4 = 6;
-    return v4;
+    return 6;
 }
 
+/* sedge_ground_advance, crates/sedgechisel_nodes/src/ground_take.rt:121 */
 static uint32_t sedge_ground_advance_at(uint64_t ground)
 {
     uint64_t v1 = 0;
-    v1 = get64(ground);
-    put64(ground, 0);
-    if (v1 != 0) {
-        nodes_ground_node_Ground_advance(v1);
-        put64(ground, v1);
-        return 0;
-    }
-    return 255;
+    v1 = get64(ground /* node */);
+    put64(ground /* node */, 0);
+    if (v1 == 0) return 255;
+    nodes_ground_node_Ground_advance(v1);
+    put64(ground /* node */, v1);
+    return 0;
 }
 
+/* sedge_ground_bypass, crates/sedgechisel_nodes/src/ground_telemetry.rt:239 */
 static uint32_t sedge_ground_bypass_at(uint64_t ground, uint32_t map, uint64_t octets, uint64_t count)
 {
     unsigned char frame_octets[16 + 15];
     uint64_t v4 = 0, v5 = 0;
     v4 = aligned(frame_octets);
-    v5 = get64(ground);
-    put64(ground, 0);
+    v5 = get64(ground /* node */);
+    put64(ground /* node */, 0);
     if (v5 == 0) {
         map = 255;
-        return map;
+        return 255;
     }
     nodes_ground_node_Ground_bypass(v4 + 8, v5, map, some(octets), count);
     octets = (uint64_t)get8(v4 + 9);
     map = get8(v4 + 8);
-    put64(ground, v5);
+    put64(ground /* node */, v5);
     map = ((map & 1) != 0) ? (uint32_t)(0xa060504030201ULL >> ((octets << 3) & 63)) : 0U;
     return map;
 }
 
+/* sedge_ground_clcw, crates/sedgechisel_nodes/src/ground_telemetry.rt:162 */
 static uint32_t sedge_ground_clcw_at(uint64_t ground, uint64_t octets, uint64_t count, uint64_t heard)
 {
     unsigned char frame_octets[16 + 15];
     uint32_t v6 = 0, v7 = 0, v8 = 0, v9 = 0, v10 = 0;
     uint64_t v4 = 0, v5 = 0;
     v4 = aligned(frame_octets);
-    v5 = get64(ground);
-    put64(ground, 0);
+    v5 = get64(ground /* node */);
+    put64(ground /* node */, 0);
     if (v5 == 0) {
         v6 = 255;
-        return v6;
+        return 255;
     }
     v6 = 253;
-    if (count == 4) {
-        octets = some(octets);
-        v7 = get8(octets + 3);
-        v8 = get8(octets + 2);
-        v9 = get8(octets + 1);
-        v6 = extend32(get8(octets), 0x80);
-        put32(v4 + 12, 0);
-        put32(v4 + 4, 0);
-        put16(v4 + 8, 0);
-        if (v6 > 0x7fffffffU) {
-            put32(v4 + 5, 0);
-            put8(v4 + 4, 1);
-            put8(v4 + 9, 0);
-            goto l4;
-        }
-        if (v6 >= 32) {
-            put16(v4 + 4, 257);
-            goto l4;
-        }
-        if ((v6 & 3) != 1) {
-            put16(v4 + 4, 513);
-            goto l4;
-        }
-        if ((v9 & 3) != 0) {
-            put16(v4 + 4, 769);
-            goto l4;
-        }
-        if ((v8 & 1) != 0) {
-            put16(v4 + 4, 769);
-            goto l4;
-        }
+    if (count != 4) goto l3;
+    octets = some(octets);
+    v7 = get8(octets + 3);
+    v8 = get8(octets + 2);
+    v9 = get8(octets + 1);
+    v6 = extend32(get8(octets), 0x80);
+    put32(v4 + 12, 0);
+    put32(v4 + 4, 0);
+    put16(v4 + 8, 0);
+    if (v6 > 0x7fffffffU) {
+        put32(v4 + 5, 0);
+        put8(v4 + 4, 1);
+        put8(v4 + 9, 0);
+    } else if (v6 >= 32) {
+        put16(v4 + 4, 257);
+    } else if ((v6 & 3) != 1) {
+        put16(v4 + 4, 513);
+    } else if ((v9 & 3) != 0) {
+        put16(v4 + 4, 769);
+    } else if ((v8 & 1) != 0) {
+        put16(v4 + 4, 769);
+    } else {
         put8(v4 + 9, v7);
         put8(v4 + 7, v8 & 248);
         put8(v4 + 8, (v8 >> 1) & 3);
         put8(v4 + 6, (v9 & 252) >> 2);
         put8(v4 + 5, (v6 & 252) >> 2);
-    l4:;
-        nodes_ground_node_Ground_report(v4 + 12, v5, v4 + 4);
-        v8 = get8(v4 + 13);
-        v9 = get8(v4 + 12);
-        v7 = get8(v4 + 14);
-        v10 = get8(v4 + 15);
-        v6 = 0;
-        put8(heard + 15, 0);
-        put8(heard + 14, (v7 != 0) ? (v10 + 1) : 0U);
-        put8(heard + 13, (v9 == 1) ? (v8 + 1) : 0U);
-        put8(heard + 12, v9);
-        put32(heard + 8, 4);
-        put64(heard, 0);
     }
-    put64(ground, v5);
+    nodes_ground_node_Ground_report(v4 + 12, v5, v4 + 4);
+    v8 = get8(v4 + 13);
+    v9 = get8(v4 + 12);
+    v7 = get8(v4 + 14);
+    v10 = get8(v4 + 15);
+    v6 = 0;
+    put8(heard + 15, 0);
+    put8(heard + 14 /* alert */, (v7 != 0) ? (v10 + 1) : 0U);
+    put8(heard + 13 /* word_fault */, (v9 == 1) ? (v8 + 1) : 0U);
+    put8(heard + 12 /* report */, v9);
+    put32(heard + 8 /* kind, fault, first, missing */, 4);
+    put64(heard /* packets */, 0);
+l3:;
+    put64(ground /* node */, v5);
     return v6;
 }
 
+/* sedge_ground_close, crates/sedgechisel_nodes/src/handles.rt:83 */
 static void sedge_ground_close_at(uint64_t ground)
 {
     unsigned char frame_octets[400 + 15];
     uint64_t v1 = 0, v2 = 0;
     v1 = aligned(frame_octets);
-    v2 = get64(ground);
-    put64(ground, 0);
+    v2 = get64(ground /* node */);
+    put64(ground /* node */, 0);
     if (v2 == 0) return;
     copy(v1, v2, 400);
     rattle_dealloc_at(v2);
@@ -9538,6 +9138,7 @@ static void sedge_ground_close_at(uint64_t ground)
     return;
 }
 
+/* sedge_ground_directive, crates/sedgechisel_nodes/src/ground_directive.rt:17 */
 static uint32_t sedge_ground_directive_at(uint64_t ground, uint32_t directive, uint32_t value)
 {
     unsigned char frame_octets[16 + 15];
@@ -9555,210 +9156,199 @@ static uint32_t sedge_ground_directive_at(uint64_t ground, uint32_t directive, u
     v9 = 0;
     switch ((directive & 255) - 1) {
     case 0:
-        goto l2;
+        break;
     case 1:
         v5 = 0;
         v9 = 1;
         v4 = 0;
-        goto l2;
+        break;
     case 2:
         v5 = 0;
         v9 = 2;
         v4 = 0;
-        goto l2;
+        break;
     case 3:
-        if (v6 == 0) return v8;
+        if (v6 == 0) return 255;
         v9 = 3;
         v5 = v7;
-        goto l2;
+        break;
     case 4:
         v5 = 0;
         v9 = 4;
         v4 = 0;
-        goto l2;
+        break;
     case 5:
-        if (v6 == 0) return v8;
+        if (v6 == 0) return 255;
         v9 = 5;
         v5 = v7;
-        goto l2;
+        break;
     case 6:
         v9 = 6;
         v5 = v7;
-        goto l2;
+        break;
     case 7:
         v9 = 7;
         v5 = v7;
-        goto l2;
+        break;
     case 8:
-        goto l3;
+        v9 = 8;
+        v5 = 0;
+        v4 = value;
+        break;
     default:
-        return v8;
+        return 255;
     }
-l3:;
-    v9 = 8;
-    v5 = 0;
-    v4 = value;
-l2:;
-    v10 = get64(ground);
-    put64(ground, 0);
+    v10 = get64(ground /* node */);
+    put64(ground /* node */, 0);
     put16(v3 + 14, v4);
     put8(v3 + 13, v5);
     put8(v3 + 12, v9);
     if (v10 == 0) return v8;
     nodes_ground_node_Ground_directive(v3 + 8, v10, v3 + 12);
-    put64(ground, v10);
+    put64(ground /* node */, v10);
     v8 = (get8(v3 + 8) != 0) ? (get8(v3 + 9) + 1) : 0U;
     return v8;
 }
 
+/* sedge_ground_forget_telemetry, crates/sedgechisel_nodes/src/ground_telemetry.rt:184 */
 static uint32_t sedge_ground_forget_telemetry_at(uint64_t ground)
 {
     uint64_t v1 = 0, v2 = 0;
-    v1 = get64(ground);
-    put64(ground, 0);
-    if (v1 != 0) {
-        put16(v1 + 304, 0);
-        v2 = v1 + 320;
-        if (get64(v2) == 0) {
-            put64(ground, v1);
-            return 0;
-        }
-        put64(v2, 0);
-        put64(ground, v1);
-        return 0;
-    }
-    return 255;
+    v1 = get64(ground /* node */);
+    put64(ground /* node */, 0);
+    if (v1 == 0) return 255;
+    put16(v1 + 304, 0);
+    v2 = v1 + 320;
+    if (get64(v2) != 0) put64(v2, 0);
+    put64(ground /* node */, v1);
+    return 0;
 }
 
+/* sedge_ground_next, crates/sedgechisel_nodes/src/ground_take.rt:33 */
 static uint32_t sedge_ground_next_at(uint64_t ground, uint64_t count)
 {
     unsigned char frame_octets[48 + 15];
-    uint32_t v5 = 0;
     uint64_t v2 = 0, v3 = 0, v4 = 0;
     v2 = aligned(frame_octets);
-    v3 = get64(ground);
+    v3 = get64(ground /* node */);
     v4 = 0;
-    put64(ground, 0);
+    put64(ground /* node */, 0);
     if (v3 == 0) {
-        v5 = 255;
-        return v5;
+        return 255;
     }
     nodes_ground_node_Ground_peek(v2, v3);
     if (get8(v2) == 1) v4 = ((get8(v2 + 16) == 2) ? ((get8(v2 + 17) != 0) ? 4ULL : 2ULL) : (get64(v2 + 40) + 2)) + 6;
     put64(count, v4);
-    put64(ground, v3);
-    v5 = 0;
-    return v5;
+    put64(ground /* node */, v3);
+    return 0;
 }
 
+/* sedge_ground_next_telemetry, crates/sedgechisel_nodes/src/ground_take.rt:134 */
 static uint32_t sedge_ground_next_telemetry_at(uint64_t ground, uint64_t count)
 {
     uint64_t v2 = 0, v3 = 0, v4 = 0;
-    v2 = get64(ground);
-    put64(ground, 0);
-    if (v2 != 0) {
-        v3 = get64(v2 + 344);
-        if (v3 != 0) {
-            v4 = get64(v2 + 336);
-            if (v3 == get64(v2 + 368)) goto l3;
-            v4 = v4 + (get64(v2 + 360) * 24);
-            goto l3;
-        }
+    v2 = get64(ground /* node */);
+    put64(ground /* node */, 0);
+    if (v2 == 0) return 255;
+    v3 = get64(v2 + 344);
+    if (v3 != 0) {
+        v4 = get64(v2 + 336);
+        if (v3 == get64(v2 + 368)) goto l3;
+        v4 = v4 + (get64(v2 + 360) * 24);
+    } else {
         if (get64(v2 + 384) == 0) {
             v4 = 0;
             put64(count, v4);
-            put64(ground, v2);
+            put64(ground /* node */, v2);
             return 0;
         }
         v4 = get64(v2 + 376);
-    l3:;
-        v4 = get64(v4 + 8);
-        put64(count, v4);
-        put64(ground, v2);
-        return 0;
     }
-    return 255;
+l3:;
+    v4 = get64(v4 + 8);
+    put64(count, v4);
+    put64(ground /* node */, v2);
+    return 0;
 }
 
+/* sedge_ground_read, crates/sedgechisel_nodes/src/readings.rt:79 */
 static uint32_t sedge_ground_read_at(uint64_t ground, uint64_t read)
 {
     uint32_t v4 = 0, v5 = 0, v15 = 0, v16 = 0, v17 = 0, v18 = 0, v19 = 0;
     uint64_t v2 = 0, v3 = 0, v6 = 0, v7 = 0, v8 = 0, v9 = 0, v10 = 0, v11 = 0, v12 = 0, v13 = 0, v14 = 0;
-    v2 = get64(ground);
+    v2 = get64(ground /* node */);
     v3 = 0;
-    put64(ground, 0);
-    if (v2 != 0) {
-        v4 = get8(v2 + 75);
-        v5 = get8(v2 + 74);
-        v6 = get64(v2 + 248);
-        v7 = get64(v2 + 264);
-        if (v7 != 0) {
-            v3 = get64(v2 + 288);
-            v8 = v3 - v7;
-            v9 = v7 - v3;
-            v10 = (uint64_t)(v5 - v4) & 255;
-            v11 = get64(v2 + 256);
-            v3 = 0;
-            v12 = v2 + 280;
-            do {
-                if (v3 < v9) {
-                    v13 = v11 + (get64(v12) << 3);
-                    v14 = v3;
-                    goto l4;
-                }
+    put64(ground /* node */, 0);
+    if (v2 == 0) return 255;
+    v4 = get8(v2 + 75);
+    v5 = get8(v2 + 74);
+    v6 = get64(v2 + 248);
+    v7 = get64(v2 + 264);
+    if (v7 != 0) {
+        v3 = get64(v2 + 288);
+        v8 = v3 - v7;
+        v9 = v7 - v3;
+        v10 = (uint64_t)(v5 - v4) & 255;
+        v11 = get64(v2 + 256);
+        v3 = 0;
+        v12 = v2 + 280;
+        do {
+            if (v3 < v9) {
+                v13 = v11 + (get64(v12) << 3);
+                v14 = v3;
+            } else {
                 v14 = v8 + v3;
                 v13 = v11;
-            l4:;
-                v13 = get64(v13 + (v14 << 3));
-                v13 = (v13 > 1) ? v13 : 1ULL;
-                if (v10 < v13) goto l2;
-                v10 = v10 - v13;
-                v3 = v3 + 1;
-            } while (v7 != v3);
-            v3 = v7;
-        }
-    l2:;
-        v10 = get64(v2 + 152);
-        v13 = get64(v2 + 216);
-        v15 = get8(v2 + 96);
-        v16 = get16(v2 + 86);
-        v17 = get8(v2 + 84);
-        v18 = get8(v2 + 73);
-        v14 = (uint64_t)get8(v2 + 78);
-        v9 = get64(v2 + 176);
-        v11 = (uint64_t)get32(v2 + 60);
-        v19 = get8(v2 + 88);
-        put16(read + 70, 0);
-        put8(read + 69, v19);
-        put8(read + 68, v4);
-        put8(read + 67, v5);
-        put64(read + 56, v11);
-        put64(read + 48, v9);
-        put64(read + 40, v14);
-        put64(read + 16, v6);
-        put64(read + 8, v3 + v6);
-        put64(read, v7 + v6);
-        put8(read + 66, v18 + 1);
-        put16(read + 64, (v17 == 1) ? v16 : 0U);
-        v3 = v13 + (uint64_t)(uint32_t)(v15 == 1);
-        put64(read + 32, v3);
-        put64(read + 24, v3 + v10);
-        put64(ground, v2);
-        return 0;
+            }
+            v13 = get64(v13 + (v14 << 3));
+            v13 = (v13 > 1) ? v13 : 1ULL;
+            if (v10 < v13) goto l2;
+            v10 = v10 - v13;
+            v3 = v3 + 1;
+        } while (v7 != v3);
+        v3 = v7;
     }
-    return 255;
+l2:;
+    v10 = get64(v2 + 152);
+    v13 = get64(v2 + 216);
+    v15 = get8(v2 + 96);
+    v16 = get16(v2 + 86);
+    v17 = get8(v2 + 84);
+    v18 = get8(v2 + 73);
+    v14 = (uint64_t)get8(v2 + 78);
+    v9 = get64(v2 + 176);
+    v11 = (uint64_t)get32(v2 + 60);
+    v19 = get8(v2 + 88);
+    put16(read + 70, 0);
+    put8(read + 69 /* count */, v19);
+    put8(read + 68 /* nn */, v4);
+    put8(read + 67 /* vs */, v5);
+    put64(read + 56 /* frame_length */, v11);
+    put64(read + 48 /* bypassed */, v9);
+    put64(read + 40 /* due */, v14);
+    put64(read + 16 /* acknowledged_whole */, v6);
+    put64(read + 8 /* sent_whole */, v3 + v6);
+    put64(read /* submitted */, v7 + v6);
+    put8(read + 66 /* state */, v18 + 1);
+    put16(read + 64 /* ticks */, (v17 == 1) ? v16 : 0U);
+    v3 = v13 + (uint64_t)(uint32_t)(v15 == 1);
+    put64(read + 32 /* unsent */, v3);
+    put64(read + 24 /* outstanding */, v3 + v10);
+    put64(ground /* node */, v2);
+    return 0;
 }
 
+/* sedge_ground_resume, crates/sedgechisel_nodes/src/ground_resume.rt:34 */
 static uint32_t sedge_ground_resume_at(uint64_t ground, uint32_t value, uint64_t whole)
 {
     unsigned char frame_octets[16 + 15];
     uint64_t v3 = 0, v4 = 0;
     v3 = aligned(frame_octets);
-    v4 = get64(ground);
-    put64(ground, 0);
+    v4 = get64(ground /* node */);
+    put64(ground /* node */, 0);
     if (v4 == 0) {
         value = 255;
-        return value;
+        return 255;
     }
     put64(v3 + 8, 0);
     put64(v3, 0);
@@ -9766,63 +9356,63 @@ static uint32_t sedge_ground_resume_at(uint64_t ground, uint32_t value, uint64_t
     if (get8(v3) == 0) {
         put64(whole, get64(v3 + 8));
         value = 0;
-        goto l3;
+    } else {
+        value = (uint32_t)(0xa060504030201ULL >> (((uint64_t)get8(v3 + 1) << 3) & 63));
     }
-    value = (uint32_t)(0xa060504030201ULL >> (((uint64_t)get8(v3 + 1) << 3) & 63));
-l3:;
-    put64(ground, v4);
+    put64(ground /* node */, v4);
     return value;
 }
 
+/* sedge_ground_submit, crates/sedgechisel_nodes/src/ground.rt:34 */
 static uint32_t sedge_ground_submit_at(uint64_t ground, uint32_t map, uint64_t octets, uint64_t count)
 {
     unsigned char frame_octets[128 + 15];
     uint32_t v6 = 0;
     uint64_t v4 = 0, v5 = 0;
     v4 = aligned(frame_octets);
-    v5 = get64(ground);
-    put64(ground, 0);
+    v5 = get64(ground /* node */);
+    put64(ground /* node */, 0);
     if (v5 == 0) {
         v6 = 255;
-        return v6;
+        return 255;
     }
     v6 = 0;
     fill(v4, 0, 128);
     nodes_ground_node_Ground_prepare(v4, v5, map, some(octets), count);
     if (get8(v4) == 0) {
         nodes_ground_node_Ground_commit(v5, v4 + 8);
-        goto l3;
+    } else {
+        v6 = (uint32_t)(0xa060504030201ULL >> (((uint64_t)get8(v4 + 1) << 3) & 63));
     }
-    v6 = (uint32_t)(0xa060504030201ULL >> (((uint64_t)get8(v4 + 1) << 3) & 63));
-l3:;
-    put64(ground, v5);
+    put64(ground /* node */, v5);
     return v6;
 }
 
+/* sedge_ground_take_telemetry, crates/sedgechisel_nodes/src/ground_take.rt:149 */
 static uint32_t sedge_ground_take_telemetry_at(uint64_t ground, uint64_t out, uint64_t room, uint64_t count)
 {
     unsigned char frame_octets[16 + 15];
     uint32_t v6 = 0;
     uint64_t v4 = 0, v5 = 0, v7 = 0, v8 = 0, v9 = 0, v10 = 0, v11 = 0, v12 = 0, v13 = 0, v14 = 0;
     v4 = aligned(frame_octets);
-    v5 = get64(ground);
-    put64(ground, 0);
+    v5 = get64(ground /* node */);
+    put64(ground /* node */, 0);
     if (v5 == 0) {
         v6 = 255;
-        return v6;
+        return 255;
     }
     v7 = get64(v5 + 344);
     if (v7 != 0) {
         v8 = get64(v5 + 336);
         if (v7 == get64(v5 + 368)) goto l5;
         v8 = v8 + (get64(v5 + 360) * 24);
-        goto l5;
+    } else {
+        if (get64(v5 + 384) == 0) {
+            v9 = 0;
+            goto l4;
+        }
+        v8 = get64(v5 + 376);
     }
-    if (get64(v5 + 384) == 0) {
-        v9 = 0;
-        goto l4;
-    }
-    v8 = get64(v5 + 376);
 l5:;
     v9 = get64(v8 + 8);
     if (room < v9) {
@@ -9851,15 +9441,13 @@ l5:;
         }
         v8 = v12 + room;
         room = out + (v10 + room);
-    l12:;
-        put8(room, get8(v8));
-        room = room + 1;
-        v8 = v8 + 1;
-        v13 = v13 - 1;
-        if (v13 != 0) goto l12;
-        goto l4;
-    }
-    if (v9 != 0) copy(v11, v12, v9);
+        do {
+            put8(room, get8(v8));
+            room = room + 1;
+            v8 = v8 + 1;
+            v13 = v13 - 1;
+        } while (v13 != 0);
+    } else if (v9 != 0) copy(v11, v12, v9);
 l4:;
     put64(count, v9);
     room = v5 + 344;
@@ -9894,36 +9482,36 @@ l4:;
     v7 = v5 + 368;
     if (get64(v7) != v8) {
         room = get64(v5 + 360);
-        goto l15;
+    } else {
+        room = 0;
+        put64(v7, 0);
     }
-    room = 0;
-    put64(v7, 0);
-l15:;
     put64(v5 + 344, v8 - 1);
     put64(v5 + 360, room + 1);
     v6 = 0;
     v8 = get64(v5 + 336) + (room * 24);
     if (get64(v8 + 16) != 0) rattle_dealloc_at(get64(v8));
 l3:;
-    put64(ground, v5);
+    put64(ground /* node */, v5);
     return v6;
 }
 
+/* sedge_ground_telemetry, crates/sedgechisel_nodes/src/ground_telemetry.rt:109 */
 static uint32_t sedge_ground_telemetry_at(uint64_t ground, uint64_t octets, uint64_t count, uint64_t heard)
 {
     unsigned char frame_octets[32 + 15];
     uint32_t v6 = 0, v7 = 0, v8 = 0, v9 = 0, v10 = 0, v11 = 0, v12 = 0, v13 = 0, v14 = 0;
     uint64_t v4 = 0, v5 = 0;
     v4 = aligned(frame_octets);
-    v5 = get64(ground);
-    put64(ground, 0);
+    v5 = get64(ground /* node */);
+    put64(ground /* node */, 0);
     put64(v4 + 24, 0);
     put64(v4 + 16, 0);
     put64(v4 + 8, 0);
     put64(v4, 0);
     if (v5 == 0) {
         v6 = 255;
-        return v6;
+        return 255;
     }
     nodes_ground_node_Ground_telemetry(v4, v5, some(octets), count);
     v6 = 6;
@@ -9940,9 +9528,18 @@ static uint32_t sedge_ground_telemetry_at(uint64_t ground, uint64_t octets, uint
         v14 = 0;
         switch ((uint32_t)(uint64_t)get8(v4 + 8)) {
         case 1:
-            goto l4;
+            break;
         case 2:
-            goto l5;
+            v9 = 0;
+            v12 = get8(v4 + 24);
+            v13 = (v12 == 1) ? (get8(v4 + 25) + 1) : 0U;
+            v14 = (get8(v4 + 26) != 0) ? (get8(v4 + 27) + 1) : 0U;
+            v7 = v8 & 255;
+            v11 = (v7 != 0) ? get8(v4 + 10) : 0U;
+            v10 = v7 == 0;
+            v7 = 3;
+            octets = get64(v4 + 16);
+            break;
         default:
             v7 = 1;
             v9 = v8 + 1;
@@ -9951,60 +9548,51 @@ static uint32_t sedge_ground_telemetry_at(uint64_t ground, uint64_t octets, uint
             v12 = 0;
             v13 = 0;
             v14 = 0;
-            goto l4;
+            break;
         }
-    l5:;
-        v9 = 0;
-        v12 = get8(v4 + 24);
-        v13 = (v12 == 1) ? (get8(v4 + 25) + 1) : 0U;
-        v14 = (get8(v4 + 26) != 0) ? (get8(v4 + 27) + 1) : 0U;
-        v7 = v8 & 255;
-        v11 = (v7 != 0) ? get8(v4 + 10) : 0U;
-        v10 = v7 == 0;
-        v7 = 3;
-        octets = get64(v4 + 16);
-    l4:;
         put8(heard + 15, 0);
-        put8(heard + 14, v14);
-        put8(heard + 13, v13);
-        put8(heard + 12, v12);
-        put8(heard + 11, v11);
-        put8(heard + 10, v10);
-        put8(heard + 9, v9);
-        put8(heard + 8, v7);
-        put64(heard, octets);
+        put8(heard + 14 /* alert */, v14);
+        put8(heard + 13 /* word_fault */, v13);
+        put8(heard + 12 /* report */, v12);
+        put8(heard + 11 /* missing */, v11);
+        put8(heard + 10 /* first */, v10);
+        put8(heard + 9 /* fault */, v9);
+        put8(heard + 8 /* kind */, v7);
+        put64(heard /* packets */, octets);
     }
-    put64(ground, v5);
+    put64(ground /* node */, v5);
     return v6;
 }
 
+/* sedge_ground_tick, crates/sedgechisel_nodes/src/ground_telemetry.rt:218 */
 static uint32_t sedge_ground_tick_at(uint64_t ground)
 {
     unsigned char frame_octets[16 + 15];
     uint32_t v3 = 0, v4 = 0;
     uint64_t v1 = 0, v2 = 0;
     v1 = aligned(frame_octets);
-    v2 = get64(ground);
-    put64(ground, 0);
+    v2 = get64(ground /* node */);
+    put64(ground /* node */, 0);
     if (v2 == 0) {
         v3 = 255;
-        return v3;
+        return 255;
     }
     nodes_ground_node_Ground_tick(v1 + 8, v2);
     v3 = get8(v1 + 8);
     v4 = get8(v1 + 9);
-    put64(ground, v2);
+    put64(ground /* node */, v2);
     v3 = (v3 != 0) ? (v4 + 1) : 0U;
     return v3;
 }
 
+/* sedge_sim_close, crates/sedgechisel_nodes/src/handles.rt:233 */
 static void sedge_sim_close_at(uint64_t sim)
 {
     unsigned char frame_octets[6080 + 15];
     uint64_t v1 = 0, v2 = 0;
     v1 = aligned(frame_octets);
-    v2 = get64(sim);
-    put64(sim, 0);
+    v2 = get64(sim /* link */);
+    put64(sim /* link */, 0);
     if (v2 == 0) return;
     copy(v1 + 8, v2, 0x17b8);
     rattle_dealloc_at(v2);
@@ -10012,102 +9600,78 @@ static void sedge_sim_close_at(uint64_t sim)
     return;
 }
 
+/* sedge_sim_count, crates/sedgechisel_nodes/src/sim/records.rt:54 */
 static uint32_t sedge_sim_count_at(uint64_t sim, uint32_t record, uint32_t map, uint64_t entries)
 {
     uint64_t v4 = 0, v5 = 0;
-    v4 = get64(sim);
+    v4 = get64(sim /* link */);
     v5 = 0;
-    put64(sim, 0);
-    if (v4 != 0) {
-        switch ((record & 255) - 1) {
-        case 0:
-            if ((map & 255) > 63) {
-                put64(entries, v5);
-                put64(sim, v4);
-                return 0;
-            }
-            v5 = get64((v4 + (((uint64_t)map & 255) * 24)) + 0xb50);
-            put64(entries, v5);
-            put64(sim, v4);
-            return 0;
-        case 1:
-            if ((map & 255) > 63) {
-                put64(entries, v5);
-                put64(sim, v4);
-                return 0;
-            }
-            v5 = get64((v4 + (((uint64_t)map & 255) * 24)) + 0x1150);
-            put64(entries, v5);
-            put64(sim, v4);
-            return 0;
-        case 2:
-            v5 = get64(v4 + 0x1750);
-            put64(entries, v5);
-            put64(sim, v4);
-            return 0;
-        case 3:
-            goto l3;
-        default:
-            put64(entries, v5);
-            put64(sim, v4);
-            return 0;
-        }
-    l3:;
+    put64(sim /* link */, 0);
+    if (v4 == 0) return 255;
+    switch ((record & 255) - 1) {
+    case 0:
+        if ((map & 255) <= 63) v5 = get64((v4 + (((uint64_t)map & 255) * 24)) + 0xb50);
+        break;
+    case 1:
+        if ((map & 255) <= 63) v5 = get64((v4 + (((uint64_t)map & 255) * 24)) + 0x1150);
+        break;
+    case 2:
+        v5 = get64(v4 + 0x1750);
+        break;
+    case 3:
         v5 = get64(v4 + 0x1778) - get64(v4 + 0x1768);
-        put64(entries, v5);
-        put64(sim, v4);
-        return 0;
+        break;
+    default:
+        break;
     }
-    return 255;
+    put64(entries, v5);
+    put64(sim /* link */, v4);
+    return 0;
 }
 
+/* sedge_sim_entry, crates/sedgechisel_nodes/src/sim/records.rt:106 */
 static uint32_t sedge_sim_entry_at(uint64_t sim, uint32_t record, uint32_t map, uint64_t k, uint64_t out, uint64_t
     room, uint64_t count)
 {
     uint32_t v8 = 0;
     uint64_t v7 = 0, v9 = 0, v10 = 0, v11 = 0, v12 = 0, v13 = 0, v14 = 0, v15 = 0;
-    v7 = get64(sim);
-    put64(sim, 0);
-    if (v7 != 0) {
-        v8 = 253;
-        switch ((record & 255) - 1) {
-        case 0:
-            if ((map & 255) > 63) {
-                put64(sim, v7);
-                return v8;
-            }
-            v9 = v7 + (((uint64_t)map & 255) * 24);
-            v10 = get64(v9 + 0xb50);
-            v9 = get64(v9 + 0xb48);
-            goto l4;
-        case 1:
-            if ((map & 255) > 63) {
-                put64(sim, v7);
-                return v8;
-            }
-            v9 = v7 + (((uint64_t)map & 255) * 24);
-            v10 = get64(v9 + 0x1150);
-            v9 = get64(v9 + 0x1148);
-            goto l4;
-        case 2:
-            v10 = get64(v7 + 0x1750);
-            v9 = get64(v7 + 0x1748);
-            goto l4;
-        case 3:
-            goto l5;
-        default:
-            put64(sim, v7);
-            return v8;
+    v7 = get64(sim /* link */);
+    put64(sim /* link */, 0);
+    if (v7 == 0) return 255;
+    v8 = 253;
+    switch ((record & 255) - 1) {
+    case 0:
+        if ((map & 255) > 63) {
+            put64(sim /* link */, v7);
+            return 253;
         }
-    l5:;
+        v9 = v7 + (((uint64_t)map & 255) * 24);
+        v10 = get64(v9 + 0xb50);
+        v9 = get64(v9 + 0xb48);
+        break;
+    case 1:
+        if ((map & 255) > 63) {
+            put64(sim /* link */, v7);
+            return 253;
+        }
+        v9 = v7 + (((uint64_t)map & 255) * 24);
+        v10 = get64(v9 + 0x1150);
+        v9 = get64(v9 + 0x1148);
+        break;
+    case 2:
+        v10 = get64(v7 + 0x1750);
+        v9 = get64(v7 + 0x1748);
+        break;
+    case 3:
         v9 = get64(v7 + 0x1768);
         v10 = get64(v7 + 0x1778) - v9;
         v9 = get64(v7 + 0x1770) + (v9 * 24);
-    l4:;
-        if (k >= v10) {
-            put64(sim, v7);
-            return v8;
-        }
+        break;
+    default:
+        put64(sim /* link */, v7);
+        return 253;
+    }
+    if (k < v10) {
         v8 = 252;
         k = v9 + (k * 24);
         v11 = get64(k + 8);
@@ -10115,39 +9679,37 @@ static uint32_t sedge_sim_entry_at(uint64_t sim, uint32_t record, uint32_t map, 
             v12 = (out == 0) ? 0x1000ULL : 0ULL;
             v13 = out + v12;
             v14 = get64(k);
-            if ((v13 - v14) < v11) {
-                v9 = v11 & 3;
-                room = 0;
-                if (v11 < 4) goto l10;
+            if ((v13 - v14) >= v11) {
+                if (v11 == 0) {
+                    put64(count, v11);
+                    put64(sim /* link */, v7);
+                    return 0;
+                }
+                copy(v13, v14, v11);
+                put64(count, v11);
+                put64(sim /* link */, v7);
+                return 0;
+            }
+            v9 = v11 & 3;
+            room = 0;
+            if (v11 >= 4) {
                 v15 = v11 & ~3ULL;
                 room = 0;
-            l13:;
-                k = v13 + room;
-                v10 = v14 + room;
-                put8(k, get8(v10));
-                put8(k + 1, get8(v10 + 1));
-                put8(k + 2, get8(v10 + 2));
-                put8(k + 3, get8(v10 + 3));
-                room = room + 4;
-                if (v15 != room) goto l13;
-                goto l11;
+                do {
+                    k = v13 + room;
+                    v10 = v14 + room;
+                    put8(k, get8(v10));
+                    put8(k + 1, get8(v10 + 1));
+                    put8(k + 2, get8(v10 + 2));
+                    put8(k + 3, get8(v10 + 3));
+                    room = room + 4;
+                } while (v15 != room);
+                if (v9 == 0) {
+                    put64(count, v11);
+                    put64(sim /* link */, v7);
+                    return 0;
+                }
             }
-            if (v11 == 0) {
-                put64(count, v11);
-                put64(sim, v7);
-                return 0;
-            }
-            copy(v13, v14, v11);
-            put64(count, v11);
-            put64(sim, v7);
-            return 0;
-        l11:;
-            if (v9 == 0) {
-                put64(count, v11);
-                put64(sim, v7);
-                return 0;
-            }
-        l10:;
             k = v14 + room;
             room = out + (v12 + room);
             do {
@@ -10157,240 +9719,234 @@ static uint32_t sedge_sim_entry_at(uint64_t sim, uint32_t record, uint32_t map, 
                 v9 = v9 - 1;
             } while (v9 != 0);
             put64(count, v11);
-            put64(sim, v7);
+            put64(sim /* link */, v7);
             return 0;
         }
-        put64(sim, v7);
-        return v8;
     }
-    return 255;
+    put64(sim /* link */, v7);
+    return v8;
 }
 
+/* sedge_sim_ground_read, crates/sedgechisel_nodes/src/sim/readings.rt:76 */
 static uint32_t sedge_sim_ground_read_at(uint64_t sim, uint64_t read)
 {
     uint32_t v4 = 0, v5 = 0, v15 = 0, v16 = 0, v17 = 0, v18 = 0, v19 = 0;
     uint64_t v2 = 0, v3 = 0, v6 = 0, v7 = 0, v8 = 0, v9 = 0, v10 = 0, v11 = 0, v12 = 0, v13 = 0, v14 = 0;
-    v2 = get64(sim);
+    v2 = get64(sim /* link */);
     v3 = 0;
-    put64(sim, 0);
-    if (v2 != 0) {
-        v4 = get8(v2 + 75);
-        v5 = get8(v2 + 74);
-        v6 = get64(v2 + 248);
-        v7 = get64(v2 + 264);
-        if (v7 != 0) {
-            v3 = get64(v2 + 288);
-            v8 = v3 - v7;
-            v9 = v7 - v3;
-            v10 = (uint64_t)(v5 - v4) & 255;
-            v11 = get64(v2 + 256);
-            v3 = 0;
-            v12 = v2 + 280;
-            do {
-                if (v3 < v9) {
-                    v13 = v11 + (get64(v12) << 3);
-                    v14 = v3;
-                    goto l4;
-                }
+    put64(sim /* link */, 0);
+    if (v2 == 0) return 255;
+    v4 = get8(v2 + 75);
+    v5 = get8(v2 + 74);
+    v6 = get64(v2 + 248);
+    v7 = get64(v2 + 264);
+    if (v7 != 0) {
+        v3 = get64(v2 + 288);
+        v8 = v3 - v7;
+        v9 = v7 - v3;
+        v10 = (uint64_t)(v5 - v4) & 255;
+        v11 = get64(v2 + 256);
+        v3 = 0;
+        v12 = v2 + 280;
+        do {
+            if (v3 < v9) {
+                v13 = v11 + (get64(v12) << 3);
+                v14 = v3;
+            } else {
                 v14 = v8 + v3;
                 v13 = v11;
-            l4:;
-                v13 = get64(v13 + (v14 << 3));
-                v13 = (v13 > 1) ? v13 : 1ULL;
-                if (v10 < v13) goto l2;
-                v10 = v10 - v13;
-                v3 = v3 + 1;
-            } while (v7 != v3);
-            v3 = v7;
-        }
-    l2:;
-        v10 = get64(v2 + 152);
-        v13 = get64(v2 + 216);
-        v15 = get8(v2 + 96);
-        v16 = get16(v2 + 86);
-        v17 = get8(v2 + 84);
-        v18 = get8(v2 + 73);
-        v14 = (uint64_t)get8(v2 + 78);
-        v9 = get64(v2 + 176);
-        v11 = (uint64_t)get32(v2 + 60);
-        v19 = get8(v2 + 88);
-        put16(read + 70, 0);
-        put8(read + 69, v19);
-        put8(read + 68, v4);
-        put8(read + 67, v5);
-        put64(read + 56, v11);
-        put64(read + 48, v9);
-        put64(read + 40, v14);
-        put64(read + 16, v6);
-        put64(read + 8, v3 + v6);
-        put64(read, v7 + v6);
-        put8(read + 66, v18 + 1);
-        put16(read + 64, (v17 == 1) ? v16 : 0U);
-        v3 = v13 + (uint64_t)(uint32_t)(v15 == 1);
-        put64(read + 32, v3);
-        put64(read + 24, v3 + v10);
-        put64(sim, v2);
-        return 0;
+            }
+            v13 = get64(v13 + (v14 << 3));
+            v13 = (v13 > 1) ? v13 : 1ULL;
+            if (v10 < v13) goto l2;
+            v10 = v10 - v13;
+            v3 = v3 + 1;
+        } while (v7 != v3);
+        v3 = v7;
     }
-    return 255;
+l2:;
+    v10 = get64(v2 + 152);
+    v13 = get64(v2 + 216);
+    v15 = get8(v2 + 96);
+    v16 = get16(v2 + 86);
+    v17 = get8(v2 + 84);
+    v18 = get8(v2 + 73);
+    v14 = (uint64_t)get8(v2 + 78);
+    v9 = get64(v2 + 176);
+    v11 = (uint64_t)get32(v2 + 60);
+    v19 = get8(v2 + 88);
+    put16(read + 70, 0);
+    put8(read + 69 /* count */, v19);
+    put8(read + 68 /* nn */, v4);
+    put8(read + 67 /* vs */, v5);
+    put64(read + 56 /* frame_length */, v11);
+    put64(read + 48 /* bypassed */, v9);
+    put64(read + 40 /* due */, v14);
+    put64(read + 16 /* acknowledged_whole */, v6);
+    put64(read + 8 /* sent_whole */, v3 + v6);
+    put64(read /* submitted */, v7 + v6);
+    put8(read + 66 /* state */, v18 + 1);
+    put16(read + 64 /* ticks */, (v17 == 1) ? v16 : 0U);
+    v3 = v13 + (uint64_t)(uint32_t)(v15 == 1);
+    put64(read + 32 /* unsent */, v3);
+    put64(read + 24 /* outstanding */, v3 + v10);
+    put64(sim /* link */, v2);
+    return 0;
 }
 
+/* sedge_sim_octets, crates/sedgechisel_nodes/src/sim/readings.rt:109 */
 static uint32_t sedge_sim_octets_at(uint64_t sim, uint64_t out, uint64_t room, uint64_t count)
 {
     uint64_t v4 = 0, v5 = 0, v6 = 0, v7 = 0, v8 = 0, v9 = 0, v10 = 0, v11 = 0, v12 = 0;
-    v4 = get64(sim);
-    put64(sim, 0);
-    if (v4 != 0) {
-        v5 = get64(v4 + 0x17a8);
-        if (room >= v5) {
-            v6 = (out == 0) ? 0x1000ULL : 0ULL;
-            v7 = out + v6;
-            v8 = get64(v4 + 0x17a0);
-            if ((v7 - v8) < v5) {
-                v9 = v5 & 3;
-                v10 = 0;
-                if (v5 < 4) goto l4;
-                v11 = v5 & ~3ULL;
-                v10 = 0;
-            l7:;
-                room = v7 + v10;
-                v12 = v8 + v10;
-                put8(room, get8(v12));
-                put8(room + 1, get8(v12 + 1));
-                put8(room + 2, get8(v12 + 2));
-                put8(room + 3, get8(v12 + 3));
-                v10 = v10 + 4;
-                if (v11 != v10) goto l7;
-                goto l5;
-            }
-            if (v5 == 0) {
-                put64(count, v5);
-                put64(sim, v4);
-                return 0;
-            }
-            copy(v7, v8, v5);
-            put64(count, v5);
-            put64(sim, v4);
-            return 0;
-        l5:;
-            if (v9 == 0) {
-                put64(count, v5);
-                put64(sim, v4);
-                return 0;
-            }
-        l4:;
-            room = v8 + v10;
-            v10 = out + (v6 + v10);
-            do {
-                put8(v10, get8(room));
-                v10 = v10 + 1;
-                room = room + 1;
-                v9 = v9 - 1;
-            } while (v9 != 0);
-            put64(count, v5);
-            put64(sim, v4);
-            return 0;
-        }
-        put64(sim, v4);
+    v4 = get64(sim /* link */);
+    put64(sim /* link */, 0);
+    if (v4 == 0) return 255;
+    v5 = get64(v4 + 0x17a8);
+    if (room < v5) {
+        put64(sim /* link */, v4);
         return 252;
     }
-    return 255;
+    v6 = (out == 0) ? 0x1000ULL : 0ULL;
+    v7 = out + v6;
+    v8 = get64(v4 + 0x17a0);
+    if ((v7 - v8) >= v5) {
+        if (v5 == 0) {
+            put64(count, v5);
+            put64(sim /* link */, v4);
+            return 0;
+        }
+        copy(v7, v8, v5);
+        put64(count, v5);
+        put64(sim /* link */, v4);
+        return 0;
+    }
+    v9 = v5 & 3;
+    v10 = 0;
+    if (v5 < 4) goto l4;
+    v11 = v5 & ~3ULL;
+    v10 = 0;
+    do {
+        room = v7 + v10;
+        v12 = v8 + v10;
+        put8(room, get8(v12));
+        put8(room + 1, get8(v12 + 1));
+        put8(room + 2, get8(v12 + 2));
+        put8(room + 3, get8(v12 + 3));
+        v10 = v10 + 4;
+    } while (v11 != v10);
+    if (v9 == 0) {
+        put64(count, v5);
+        put64(sim /* link */, v4);
+        return 0;
+    }
+l4:;
+    room = v8 + v10;
+    v10 = out + (v6 + v10);
+    do {
+        put8(v10, get8(room));
+        v10 = v10 + 1;
+        room = room + 1;
+        v9 = v9 - 1;
+    } while (v9 != 0);
+    put64(count, v5);
+    put64(sim /* link */, v4);
+    return 0;
 }
 
+/* sedge_sim_read, crates/sedgechisel_nodes/src/sim/readings.rt:68 */
 static uint32_t sedge_sim_read_at(uint64_t sim, uint64_t read)
 {
     uint32_t v3 = 0, v4 = 0, v5 = 0, v6 = 0, v9 = 0, v10 = 0, v11 = 0, v13 = 0;
     uint64_t v2 = 0, v7 = 0, v8 = 0, v12 = 0;
-    v2 = get64(sim);
-    put64(sim, 0);
-    if (v2 != 0) {
-        v3 = 1;
-        v4 = get8(v2 + 0xb20);
-        if (v4 == 1) {
-            v5 = get8(v2 + 0xb22);
-            switch ((uint32_t)((uint64_t)v5 & 255)) {
-            case 1:
-                v5 = 0;
-                v3 = 2;
-                goto l2;
-            case 2:
-                v5 = 0;
-                v3 = 3;
-                goto l2;
-            case 3:
-                v5 = get8(v2 + 0xb23);
-                v3 = 4;
-                goto l2;
-            case 4:
-            case 5:
-            case 6:
-            case 7:
-            case 8:
-                goto l3;
-            default:
-                goto l2;
-            }
+    v2 = get64(sim /* link */);
+    put64(sim /* link */, 0);
+    if (v2 == 0) return 255;
+    v3 = 1;
+    v4 = get8(v2 + 0xb20);
+    if (v4 == 1) {
+        v5 = get8(v2 + 0xb22);
+        switch ((uint32_t)((uint64_t)v5 & 255)) {
+        case 1:
+            v5 = 0;
+            v3 = 2;
+            goto l2;
+        case 2:
+            v5 = 0;
+            v3 = 3;
+            goto l2;
+        case 3:
+            break;
+        case 4:
+        case 5:
+        case 6:
+        case 7:
+        case 8:
+            goto l3;
+        default:
+            goto l2;
         }
-    l3:;
-        v3 = 0;
-        v5 = 0;
-    l2:;
-        v6 = get8(v2 + 96);
-        v7 = get64(v2 + 216);
-        v8 = get64(v2 + 152);
-        v9 = get8(v2 + 0xb26);
-        v10 = get8(v2 + 0xb27);
-        v11 = get8(v2 + 73);
-        v12 = get64(v2 + 0x1760);
-        v13 = get8(v2 + 0xb28);
-        put16(read + 22, 0);
-        put8(read + 21, v13);
-        put8(read + 18, v5);
-        put8(read + 17, v3);
-        put64(read + 8, v12);
-        put8(read + 16, v11 + 1);
-        v3 = v4 == 1;
-        put8(read + 20, v10 & v3);
-        put8(read + 19, v3 & v9);
-        put64(read, v7 + v8 + (uint64_t)(uint32_t)(v6 == 1));
-        put64(sim, v2);
-        return 0;
+        v5 = get8(v2 + 0xb23);
+        v3 = 4;
+        goto l2;
     }
-    return 255;
+l3:;
+    v3 = 0;
+    v5 = 0;
+l2:;
+    v6 = get8(v2 + 96);
+    v7 = get64(v2 + 216);
+    v8 = get64(v2 + 152);
+    v9 = get8(v2 + 0xb26);
+    v10 = get8(v2 + 0xb27);
+    v11 = get8(v2 + 73);
+    v12 = get64(v2 + 0x1760);
+    v13 = get8(v2 + 0xb28);
+    put16(read + 22, 0);
+    put8(read + 21 /* confirmed */, v13);
+    put8(read + 18 /* vr */, v5);
+    put8(read + 17 /* begun */, v3);
+    put64(read + 8 /* acknowledged */, v12);
+    put8(read + 16 /* state */, v11 + 1);
+    v3 = v4 == 1;
+    put8(read + 20 /* idle */, v10 & v3);
+    put8(read + 19 /* clean */, v3 & v9);
+    put64(read /* outstanding */, v7 + v8 + (uint64_t)(uint32_t)(v6 == 1));
+    put64(sim /* link */, v2);
+    return 0;
 }
 
+/* sedge_sim_spacecraft_read, crates/sedgechisel_nodes/src/sim/readings.rt:89 */
 static uint32_t sedge_sim_spacecraft_read_at(uint64_t sim, uint64_t read)
 {
     uint32_t v3 = 0, v4 = 0, v5 = 0, v7 = 0, v8 = 0, v9 = 0, v10 = 0;
     uint64_t v2 = 0, v6 = 0, v11 = 0;
-    v2 = get64(sim);
-    put64(sim, 0);
-    if (v2 != 0) {
-        v3 = get8(v2 + 476);
-        v4 = get8(v2 + 475);
-        v5 = get8(v2 + 474);
-        v6 = (uint64_t)get32(v2 + 460);
-        v7 = get16(v2 + 0xa70);
-        v8 = get8(v2 + 473);
-        v9 = get8(v2 + 477);
-        v10 = get32(v2 + 404);
-        v11 = get64(v2 + 0xa50);
-        put64(read + 8, get64(v2 + 0xa20));
-        put64(read + 16, v11);
-        put8(read + 24, 0);
-        put8(read + 25, v10);
-        put8(read + 27, v9);
-        put8(read + 28, v8);
-        put16(read + 30, v7);
-        put64(read, v6);
-        put8(read + 29, (v5 != 0) ? 2U : v4);
-        put8(read + 26, ((v4 << 4) | (v5 << 5)) | (v3 << 3));
-        put64(sim, v2);
-        return 0;
-    }
-    return 255;
+    v2 = get64(sim /* link */);
+    put64(sim /* link */, 0);
+    if (v2 == 0) return 255;
+    v3 = get8(v2 + 476);
+    v4 = get8(v2 + 475);
+    v5 = get8(v2 + 474);
+    v6 = (uint64_t)get32(v2 + 460);
+    v7 = get16(v2 + 0xa70);
+    v8 = get8(v2 + 473);
+    v9 = get8(v2 + 477);
+    v10 = get32(v2 + 404);
+    v11 = get64(v2 + 0xa50);
+    put64(read + 8 /* ready */, get64(v2 + 0xa20));
+    put64(read + 16 /* bypassed */, v11);
+    put8(read + 24 /* status */, 0);
+    put8(read + 25 /* vcid */, v10);
+    put8(read + 27 /* farm_b */, v9);
+    put8(read + 28 /* value */, v8);
+    put16(read + 30 /* mc_count, vc_count */, v7);
+    put64(read /* frame_length */, v6);
+    put8(read + 29 /* state */, (v5 != 0) ? 2U : v4);
+    put8(read + 26 /* flags */, ((v4 << 4) | (v5 << 5)) | (v3 << 3));
+    put64(sim /* link */, v2);
+    return 0;
 }
 
+/* sedge_sim_step, crates/sedgechisel_nodes/src/sim/events.rt:74 */
 static uint32_t sedge_sim_step_at(uint64_t sim, uint64_t event, uint64_t reply)
 {
     unsigned char frame_octets[2576 + 15];
@@ -10433,80 +9989,7 @@ static uint32_t sedge_sim_step_at(uint64_t sim, uint64_t event, uint64_t reply)
         v13 = 1;
         goto l2;
     case 2:
-        v14 = get16(event + 4);
-        v15 = v14 < 256;
-        v16 = (v15 != 0) ? v14 : 256U;
-        v13 = 2;
-        v5 = 0;
-        v7 = 0;
-        v8 = 0;
-        v9 = 0;
-        v10 = 1;
-        v11 = 0;
-        v12 = 0;
-        switch (get8(event + 2) - 1) {
-        case 0:
-            goto l2;
-        case 1:
-            v4 = 1;
-            v5 = 0;
-            v7 = 0;
-            v8 = 0;
-            v9 = 0;
-            v10 = 0;
-            v11 = 1;
-            v12 = 0;
-            goto l2;
-        case 2:
-            v11 = 2;
-            v5 = 0;
-            v7 = 0;
-            v8 = 0;
-            v9 = 0;
-            v10 = 0;
-            v12 = 0;
-            v13 = 2;
-            goto l2;
-        case 3:
-            if (v15 == 0) return v6;
-            v5 = 0;
-            v11 = 3;
-            v7 = 0;
-            v8 = 0;
-            v9 = v16;
-            v10 = 0;
-            v12 = 0;
-            goto l2;
-        case 4:
-            v11 = 4;
-            v5 = 0;
-            v7 = 0;
-            v8 = 0;
-            v9 = 0;
-            goto l3;
-        case 5:
-            if (v15 == 0) return v6;
-            v5 = 0;
-            v11 = 5;
-            goto l4;
-        case 6:
-            v5 = 0;
-            v11 = 6;
-            goto l4;
-        case 7:
-            v5 = 0;
-            v11 = 7;
-            goto l4;
-        case 8:
-            v11 = 8;
-            v9 = 0;
-            v7 = 0;
-            v8 = 0;
-            v5 = v14;
-            goto l3;
-        default:
-            return v6;
-        }
+        break;
     case 3:
     case 4:
     case 5:
@@ -10544,7 +10027,7 @@ static uint32_t sedge_sim_step_at(uint64_t sim, uint64_t event, uint64_t reply)
     case 16:
         v6 = 255;
         v12 = get16(event + 4);
-        if (v12 > 255) return v6;
+        if (v12 > 255) return 255;
         v13 = 3;
         v5 = 0;
         v8 = 0;
@@ -10553,6 +10036,80 @@ static uint32_t sedge_sim_step_at(uint64_t sim, uint64_t event, uint64_t reply)
         v10 = 1;
         v11 = 0;
         goto l2;
+    default:
+        return 255;
+    }
+    v14 = get16(event + 4);
+    v15 = v14 < 256;
+    v16 = (v15 != 0) ? v14 : 256U;
+    v13 = 2;
+    v5 = 0;
+    v7 = 0;
+    v8 = 0;
+    v9 = 0;
+    v10 = 1;
+    v11 = 0;
+    v12 = 0;
+    switch (get8(event + 2) - 1) {
+    case 0:
+        goto l2;
+    case 1:
+        v4 = 1;
+        v5 = 0;
+        v7 = 0;
+        v8 = 0;
+        v9 = 0;
+        v10 = 0;
+        v11 = 1;
+        v12 = 0;
+        goto l2;
+    case 2:
+        v11 = 2;
+        v5 = 0;
+        v7 = 0;
+        v8 = 0;
+        v9 = 0;
+        v10 = 0;
+        v12 = 0;
+        v13 = 2;
+        goto l2;
+    case 3:
+        if (v15 == 0) return v6;
+        v5 = 0;
+        v11 = 3;
+        v7 = 0;
+        v8 = 0;
+        v9 = v16;
+        v10 = 0;
+        v12 = 0;
+        goto l2;
+    case 4:
+        v11 = 4;
+        v5 = 0;
+        v7 = 0;
+        v8 = 0;
+        v9 = 0;
+        goto l3;
+    case 5:
+        if (v15 == 0) return v6;
+        v5 = 0;
+        v11 = 5;
+        goto l4;
+    case 6:
+        v5 = 0;
+        v11 = 6;
+        goto l4;
+    case 7:
+        v5 = 0;
+        v11 = 7;
+        goto l4;
+    case 8:
+        v11 = 8;
+        v9 = 0;
+        v7 = 0;
+        v8 = 0;
+        v5 = v14;
+        goto l3;
     default:
         return v6;
     }
@@ -10578,10 +10135,10 @@ l3:;
     v4 = 0;
     v12 = 0;
 l2:;
-    event = get64(sim);
-    put64(sim, 0);
+    event = get64(sim /* link */);
+    put64(sim /* link */, 0);
     v6 = 255;
-    if (event == 0) return v6;
+    if (event == 0) return 255;
     v17 = 0;
     put16(v3 + 220, 0);
     put32(v3 + 216, 0);
@@ -10604,17 +10161,17 @@ l2:;
         v6 = 0;
         put16(v3 + 248, 0);
         put8(v3 + 250, 0);
-        if (v10 == 0) {
-            if (v4 != 0) goto l57;
-            v13 = v11;
+        if (v10 != 0) {
+            v13 = 0;
             v12 = 0;
-            goto l56;
+            v6 = 0;
+            if (get8(event + 473) != get8(event + 74)) goto l56;
+            goto l57;
         }
-        v13 = 0;
+        if (v4 != 0) goto l57;
+        v13 = v11;
         v12 = 0;
-        v6 = 0;
-        if (get8(event + 473) != get8(event + 74)) goto l56;
-        goto l57;
+        goto l56;
     case 3:
         put64(v3 + 496, 0);
         put64(v3 + 504, 0);
@@ -10628,12 +10185,11 @@ l2:;
             simulated_link_world_World_begin(event, v3 + 248, v6, v13);
             v24 = 0;
             v6 = 10;
-            goto l114;
+        } else {
+            v7 = 0;
+            v6 = 3;
+            v24 = get8(v3 + 497);
         }
-        v7 = 0;
-        v6 = 3;
-        v24 = get8(v3 + 497);
-    l114:;
         v26 = v7 & 0xffffffffff000000ULL;
         v25 = (uint32_t)(v7 >> 16);
         v27 = (uint32_t)(v7 >> 8);
@@ -10669,34 +10225,32 @@ l2:;
         if (v12 != 0) {
             v7 = 0;
             v19 = v3 + 0xa08;
-            goto l116;
+        } else {
+            if (v29 > 0x7fffffffffffffffULL) goto l58;
+            rattle_alloc_at(v3 + 88, v29, 1);
+            if (((uint32_t)get64(v3 + 88) & 1) == 0) goto l58;
+            v19 = get64(v3 + 96);
+            v8 = 0;
+            if (v29 != 1) {
+                v8 = v7 + 5;
+                if (v8 != 0) fill(v19, 0, v8);
+            }
+            put8(v19 + v8, 0);
+            v7 = v8 + 1;
         }
-        if (v29 > 0x7fffffffffffffffULL) goto l58;
-        rattle_alloc_at(v3 + 88, v29, 1);
-        if (((uint32_t)get64(v3 + 88) & 1) == 0) goto l58;
-        v19 = get64(v3 + 96);
-        v8 = 0;
-        if (v29 != 1) {
-            v8 = v7 + 5;
-            if (v8 != 0) fill(v19, 0, v8);
-        }
-        put8(v19 + v8, 0);
-        v7 = v8 + 1;
-    l116:;
         tc_frame_encoding_encode(v3 + 248, v3 + 504, v19, v7);
         if (get8(v3 + 248) != 0) UNREACHABLE;
         v5 = v7 == 0;
         if (v5 != 0) {
             v21 = v3 + 0xa08;
-            goto l123;
+        } else {
+            rattle_alloc_at(v3 + 72, v7, 1);
+            if (((uint32_t)get64(v3 + 72) & 1) == 0) {
+                if (v12 == 0) goto l120;
+                goto l58;
+            }
+            v21 = get64(v3 + 80);
         }
-        rattle_alloc_at(v3 + 72, v7, 1);
-        if (((uint32_t)get64(v3 + 72) & 1) == 0) {
-            if (v12 == 0) goto l120;
-            goto l58;
-        }
-        v21 = get64(v3 + 80);
-    l123:;
         if ((v21 - v19) < v7) {
             v23 = v7 & 3;
             v22 = 0;
@@ -10716,15 +10270,13 @@ l2:;
             }
             v8 = v21 + v22;
             v22 = v19 + v22;
-        l129:;
-            put8(v8, get8(v22));
-            v8 = v8 + 1;
-            v22 = v22 + 1;
-            v23 = v23 - 1;
-            if (v23 != 0) goto l129;
-            goto l125;
-        }
-        if (v5 == 0) copy(v21, v19, v7);
+            do {
+                put8(v8, get8(v22));
+                v8 = v8 + 1;
+                v22 = v22 + 1;
+                v23 = v23 - 1;
+            } while (v23 != 0);
+        } else if (v5 == 0) copy(v21, v19, v7);
     l125:;
         v31 = 0;
         v23 = 0;
@@ -10757,14 +10309,12 @@ l2:;
                     } while (v18 != v8);
                     if (v30 == 0) goto l130;
                 }
-            l135:;
-                put8(v23 + v8 + 1, get8(v26 + v8));
-                v8 = v8 + 1;
-                v30 = v30 - 1;
-                if (v30 != 0) goto l135;
-                goto l130;
-            }
-            if (v18 != 0) copy(v8, v26, v18);
+                do {
+                    put8(v23 + v8 + 1, get8(v26 + v8));
+                    v8 = v8 + 1;
+                    v30 = v30 - 1;
+                } while (v30 != 0);
+            } else if (v18 != 0) copy(v8, v26, v18);
         }
     l130:;
         if (get64(event + 0xae0) == get64(event + 0xad8)) {
@@ -10800,14 +10350,13 @@ l2:;
             put64(v8 + 16, v29);
             put64(v8 + 8, v7);
             put64(v8, v19);
-            goto l141;
+        } else {
+            v8 = v8 + (v20 * 24);
+            put64(v8 + 16, v29);
+            put64(v8 + 8, v7);
+            put64(v8, v19);
+            put64(v26, v20 + 1);
         }
-        v8 = v8 + (v20 * 24);
-        put64(v8 + 16, v29);
-        put64(v8 + 8, v7);
-        put64(v8, v19);
-        put64(v26, v20 + 1);
-    l141:;
         put64(event + 0xad8, v22 + 1);
         if (v13 == 0) {
             v22 = event + 0x1750;
@@ -10863,442 +10412,421 @@ l2:;
         put64(v3 + 240, 0);
         v13 = 1;
         v8 = get64(event + 0xad8);
-        if (v8 != 0) {
-            v7 = get64(event + 0xad0);
-            if (v8 != get64(event + 0xaf0)) v7 = v7 + (get64(event + 0xae8) * 24);
-            v31 = event + 400;
-            nodes_spacecraft_Spacecraft_prepare(v3 + 496, v31, get64(v7), get64(v7 + 8));
-            v6 = 0;
-            if (get8(v3 + 496) != 0) goto l62;
-            copy(v3 + 248, v3 + 496 + 8, 200);
-            v12 = get8(v3 + 296);
-            if (v12 == 1) {
-                v21 = get64(v3 + 344);
-                v5 = get8(v3 + 336);
-                v38 = get64((v5 != 0) ? (v3 + 352) : (v3 + 368));
-                v13 = get8(v3 + 305);
-                v23 = get64(v3 + 312);
-                v11 = get8(v3 + 304);
-                v7 = get64(v3 + 320);
-                v39 = v7 + 1;
-                v10 = v39 == 0;
-                if (v10 != 0) {
-                    v18 = v3 + 0xa08;
-                    goto l152;
-                }
-                if (v39 > 0x7fffffffffffffffULL) goto l151;
-                rattle_alloc_at(v3 + 136, v39, 1);
-                if (((uint32_t)get64(v3 + 136) & 1) == 0) goto l151;
-                v18 = get64(v3 + 144);
-            l152:;
-                put8(v18, (v11 << 6) + v13);
-                v8 = v18 + 1;
-                if ((v8 - v23) < v7) {
-                    v20 = v7 & 3;
-                    v8 = 0;
-                    if (v7 >= 4) {
-                        v19 = v7 & ~3ULL;
-                        v8 = 0;
-                        do {
-                            v7 = v18 + v8;
-                            v22 = v23 + v8;
-                            put8(v7 + 1, get8(v22));
-                            put8(v7 + 2, get8(v22 + 1));
-                            put8(v7 + 3, get8(v22 + 2));
-                            put8(v7 + 4, get8(v22 + 3));
-                            v8 = v8 + 4;
-                        } while (v19 != v8);
-                        if (v20 == 0) goto l154;
-                    }
-                    v7 = v23 + v8;
-                    v8 = v8 + v18 + 1;
-                l158:;
-                    put8(v8, get8(v7));
-                    v8 = v8 + 1;
-                    v7 = v7 + 1;
-                    v20 = v20 - 1;
-                    if (v20 != 0) goto l158;
-                    goto l154;
-                }
-                if (v7 != 0) copy(v8, v23, v7);
-            l154:;
-                if (v38 == 0) {
-                    v40 = v3 + 0xa08;
-                    v38 = 0;
-                    v30 = 0;
-                    goto l163;
-                }
-                if (v38 > 0x555555555555555ULL) goto l159;
-                rattle_alloc_at(v3 + 120, v38 * 24, 8);
-                if (((uint32_t)get64(v3 + 120) & 1) == 0) goto l159;
-                v41 = (v5 != 0) ? v21 : (v3 + 344);
-                v42 = get64(v3 + 128);
-                put64(v3 + 2560, v38);
-                put64(v3 + 2552, 0);
-                put64(v3 + 2544, v42);
-                v30 = 0;
-                v40 = 0;
-                do {
-                    v7 = v41 + (v40 * 24);
-                    v19 = get64(v7);
-                    v29 = get64(v7 + 8);
-                    v11 = v29 == 0;
-                    if (v11 != 0) {
-                        v23 = v3 + 0xa08;
-                        goto l166;
-                    }
-                    if (v29 > 0x7fffffffffffffffULL) goto l162;
-                    rattle_alloc_at(v3 + 104, v29, 1);
-                    if (((uint32_t)get64(v3 + 104) & 1) == 0) goto l162;
-                    v23 = get64(v3 + 112);
-                l166:;
-                    if ((v23 - v19) < v29) {
-                        v20 = v29 & 3;
-                        v8 = 0;
-                        if (v29 >= 4) {
-                            v21 = v29 & ~3ULL;
-                            v8 = 0;
-                            do {
-                                v7 = v23 + v8;
-                                v22 = v19 + v8;
-                                put8(v7, get8(v22));
-                                put8(v7 + 1, get8(v22 + 1));
-                                put8(v7 + 2, get8(v22 + 2));
-                                put8(v7 + 3, get8(v22 + 3));
-                                v8 = v8 + 4;
-                            } while (v21 != v8);
-                            if (v20 == 0) goto l168;
-                        }
-                        v7 = v23 + v8;
-                        v8 = v19 + v8;
-                    l172:;
-                        put8(v7, get8(v8));
-                        v7 = v7 + 1;
-                        v8 = v8 + 1;
-                        v20 = v20 - 1;
-                        if (v20 != 0) goto l172;
-                        goto l168;
-                    }
-                    if (v11 == 0) copy(v23, v19, v29);
-                l168:;
-                    if (get64(v3 + 2560) == v30) {
-                        t4 = std_alloc_vec_Vec_grow_amortized_1598ebf9113514c4(v3 + 0x9f0, 1);
-                        if (t4 == 0) goto l161;
-                        v42 = get64(v3 + 2544);
-                        v30 = get64(v3 + 2552);
-                    }
-                    v7 = v42 + (v30 * 24);
-                    put64(v7 + 16, v29);
-                    put64(v7 + 8, v29);
-                    put64(v7, v23);
-                    v30 = v30 + 1;
-                    put64(v3 + 2552, v30);
-                    v40 = v40 + 1;
-                } while (v40 != v38);
-                v38 = get64(v3 + 2560);
-                v40 = get64(v3 + 2544);
-            l163:;
-                if (get64(event + 0x1780) == get64(event + 0x1778)) {
-                    t5 = std_alloc_vec_Vec_grow_amortized_1598ebf9113514c4(event + 0x1770, 1);
-                    if (t5 == 0) goto l174;
-                }
-                v7 = event + 0x1148 + (((uint64_t)v13 & 255) * 24);
-                if (v30 <= (get64(v7 + 16) - get64(v7 + 8))) goto l146;
-                t6 = std_alloc_vec_Vec_grow_amortized_1598ebf9113514c4(v7, v30);
-                if (t6 != 0) goto l146;
-            l174:;
-                if (v10 == 0) rattle_dealloc_at(v18);
-                put64(v3 + 464, v38);
-                put64(v3 + 456, v30);
-                put64(v3 + 448, v40);
-                std_alloc_vec_Vec_drop_b0c2e3ac61d256b1(v3 + 448);
-                v13 = 1;
-                if (get8(v3 + 296) != 1) goto l148;
-                v22 = get64(v3 + 400);
-                v20 = get64(v3 + 384);
-                v12 = get8(v3 + 376);
-                v7 = get64(v3 + 360);
-                v8 = get64(v3 + 344);
-                if (get8(v3 + 336) != 0) goto l150;
-                if (v7 == 0) goto l149;
-                rattle_dealloc_at(v8);
-                goto l149;
-            l162:;
-                v8 = get64(v3 + 2560);
-                if (v30 != 0) {
-                    v7 = v42;
-                    do {
-                        if (get64(v7 + 16) != 0) rattle_dealloc_at(get64(v7));
-                        v7 = v7 + 24;
-                        v30 = v30 - 1;
-                    } while (v30 != 0);
-                }
-                if (v8 != 0) goto l160;
-                goto l159;
-            l161:;
-                if (v11 == 0) rattle_dealloc_at(v23);
-                v22 = get64(v3 + 2560);
-                v42 = get64(v3 + 2544);
-                v8 = get64(v3 + 2552);
-                if (v8 != 0) {
-                    v7 = v42;
-                    do {
-                        if (get64(v7 + 16) != 0) rattle_dealloc_at(get64(v7));
-                        v7 = v7 + 24;
-                        v8 = v8 - 1;
-                    } while (v8 != 0);
-                }
-                if (v22 == 0) goto l159;
-            l160:;
-                rattle_dealloc_at(v42);
-            l159:;
-                if (v10 == 0) rattle_dealloc_at(v18);
-            l151:;
-                v13 = 1;
-                if (get8(v3 + 296) == 1) {
-                    v23 = get64(v3 + 400);
-                    v19 = get64(v3 + 384);
-                    v12 = get8(v3 + 376);
-                    v20 = get64(v3 + 360);
-                    v22 = get64(v3 + 344);
-                    if (get8(v3 + 336) == 0) {
-                        if (v20 != 0) goto l186;
-                        goto l185;
-                    }
-                    v8 = get64(v3 + 352);
-                    if (v8 != 0) {
-                        v7 = v22;
-                        do {
-                            if (get64(v7 + 16) != 0) rattle_dealloc_at(get64(v7));
-                            v7 = v7 + 24;
-                            v8 = v8 - 1;
-                        } while (v8 != 0);
-                    }
-                    if (v20 == 0) goto l185;
-                l186:;
-                    rattle_dealloc_at(v22);
-                l185:;
-                    if ((v12 & 255) == 2) {
-                        if (v23 != 0) rattle_dealloc_at(v19);
-                    }
-                }
-                if (get8(v3 + 408) != 1) goto l62;
-                if (get64(v3 + 440) == 0) goto l62;
-                rattle_dealloc_at(get64(v3 + 424));
-                v28 = 0;
-                goto l61;
-            l150:;
-                v23 = get64(v3 + 352);
-                put64(v3 + 240, v7);
-                put64(v3 + 232, v23);
-                put64(v3 + 224, v8);
-                std_alloc_vec_Vec_drop_b0c2e3ac61d256b1(v3 + 224);
-            l149:;
-                if ((v12 & 255) == 2) {
-                    if (v22 != 0) rattle_dealloc_at(v20);
-                }
-            l148:;
-                v7 = 0;
-                if (get8(v3 + 408) != 1) goto l63;
-                if (get64(v3 + 440) == 0) goto l63;
-                rattle_dealloc_at(get64(v3 + 424));
-                goto l63;
-            }
+        if (v8 == 0) {
+            v6 = 1;
+            goto l61;
+        }
+        v7 = get64(event + 0xad0);
+        if (v8 != get64(event + 0xaf0)) v7 = v7 + (get64(event + 0xae8) * 24);
+        v31 = event + 400;
+        nodes_spacecraft_Spacecraft_prepare(v3 + 496, v31, get64(v7), get64(v7 + 8));
+        v6 = 0;
+        if (get8(v3 + 496) != 0) goto l62;
+        copy(v3 + 248, v3 + 496 + 8, 200);
+        v12 = get8(v3 + 296);
+        if (v12 != 1) {
             v13 = 0;
             v40 = 0;
             v30 = 0;
             v38 = 0;
             v18 = 0;
             v39 = 0;
-        l146:;
-            nodes_spacecraft_Spacecraft_commit(v3 + 472, v31, v3 + 248);
-            v7 = get64(event + 0xad8);
-            if (v7 != 0) {
-                v22 = event + 0xaf0;
-                if (get64(v22) != v7) {
-                    v8 = get64(event + 0xae8);
-                    goto l192;
-                }
-                v8 = 0;
-                put64(v22, 0);
-            l192:;
-                put64(event + 0xad8, v7 - 1);
-                put64(event + 0xae8, v8 + 1);
-                v7 = get64(event + 0xad0) + (v8 * 24);
-                if (get64(v7 + 16) != 0) rattle_dealloc_at(get64(v7));
-            }
-            if (v12 == 1) {
-                v8 = event + 0x1778;
-                v22 = get64(v8);
-                v7 = get64(event + 0x1770) + (v22 * 24);
-                put64(v7 + 16, v39);
-                put64(v7 + 8, v39);
-                put64(v7, v18);
-                put64(v8, v22 + 1);
-                if (v30 != 0) {
-                    v23 = (event + (((uint64_t)v13 & 255) * 24)) + 0x1148;
-                    v19 = v23 + 8;
-                    v18 = get64(v19);
-                    v22 = 0;
-                    if (v30 != 1) {
-                        v39 = v30 & 1;
-                        v8 = v18 * 24;
-                        v31 = v30 & ~1ULL;
-                        v22 = 0;
-                        v7 = v40;
-                        do {
-                            v21 = get64(v7);
-                            v30 = get64(v7 + 8);
-                            v20 = get64(v23) + v8;
-                            put64(v20 + 16, get64(v7 + 16));
-                            put64(v20 + 8, v30);
-                            put64(v20, v21);
-                            v21 = v18 + v22;
-                            put64(v19, v21 + 1);
-                            v30 = get64(v7 + 24);
-                            v29 = get64(v7 + 32);
-                            v20 = get64(v23) + v8;
-                            put64(v20 + 40, get64(v7 + 40));
-                            put64(v20 + 32, v29);
-                            put64(v20 + 24, v30);
-                            put64(v19, v21 + 2);
-                            v7 = v7 + 48;
-                            v8 = v8 + 48;
-                            v22 = v22 + 2;
-                        } while (v31 != v22);
-                        if (v39 == 0) goto l195;
-                        v18 = v18 + v22;
-                    }
-                    v7 = v40 + (v22 * 24);
-                    v22 = get64(v7);
-                    v20 = get64(v7 + 8);
-                    v8 = get64(v23) + (v18 * 24);
-                    put64(v8 + 16, get64(v7 + 16));
-                    put64(v8 + 8, v20);
-                    put64(v8, v22);
-                    put64(v19, v18 + 1);
-                }
-            l195:;
-                if (v38 != 0) rattle_dealloc_at(v40);
-            }
-            v6 = 7;
-            v13 = 0;
-            v22 = (uint64_t)get16(v3 + 488);
-            v7 = get64(v3 + 480);
-            v25 = get8(v3 + 474);
-            v27 = get8(v3 + 473);
-            v28 = get8(v3 + 472);
-            goto l60;
+            goto l146;
         }
-        v6 = 1;
+        v21 = get64(v3 + 344);
+        v5 = get8(v3 + 336);
+        v38 = get64((v5 != 0) ? (v3 + 352) : (v3 + 368));
+        v13 = get8(v3 + 305);
+        v23 = get64(v3 + 312);
+        v11 = get8(v3 + 304);
+        v7 = get64(v3 + 320);
+        v39 = v7 + 1;
+        v10 = v39 == 0;
+        if (v10 != 0) {
+            v18 = v3 + 0xa08;
+        } else {
+            if (v39 > 0x7fffffffffffffffULL) goto l151;
+            rattle_alloc_at(v3 + 136, v39, 1);
+            if (((uint32_t)get64(v3 + 136) & 1) == 0) goto l151;
+            v18 = get64(v3 + 144);
+        }
+        put8(v18, (v11 << 6) + v13);
+        v8 = v18 + 1;
+        if ((v8 - v23) < v7) {
+            v20 = v7 & 3;
+            v8 = 0;
+            if (v7 >= 4) {
+                v19 = v7 & ~3ULL;
+                v8 = 0;
+                do {
+                    v7 = v18 + v8;
+                    v22 = v23 + v8;
+                    put8(v7 + 1, get8(v22));
+                    put8(v7 + 2, get8(v22 + 1));
+                    put8(v7 + 3, get8(v22 + 2));
+                    put8(v7 + 4, get8(v22 + 3));
+                    v8 = v8 + 4;
+                } while (v19 != v8);
+                if (v20 == 0) goto l154;
+            }
+            v7 = v23 + v8;
+            v8 = v8 + v18 + 1;
+            do {
+                put8(v8, get8(v7));
+                v8 = v8 + 1;
+                v7 = v7 + 1;
+                v20 = v20 - 1;
+            } while (v20 != 0);
+        } else if (v7 != 0) copy(v8, v23, v7);
+    l154:;
+        if (v38 == 0) {
+            v40 = v3 + 0xa08;
+            v38 = 0;
+            v30 = 0;
+            goto l163;
+        }
+        if (v38 > 0x555555555555555ULL) goto l159;
+        rattle_alloc_at(v3 + 120, v38 * 24, 8);
+        if (((uint32_t)get64(v3 + 120) & 1) == 0) goto l159;
+        v41 = (v5 != 0) ? v21 : (v3 + 344);
+        v42 = get64(v3 + 128);
+        put64(v3 + 2560, v38);
+        put64(v3 + 2552, 0);
+        put64(v3 + 2544, v42);
+        v30 = 0;
+        v40 = 0;
+        do {
+            v7 = v41 + (v40 * 24);
+            v19 = get64(v7);
+            v29 = get64(v7 + 8);
+            v11 = v29 == 0;
+            if (v11 != 0) {
+                v23 = v3 + 0xa08;
+            } else {
+                if (v29 > 0x7fffffffffffffffULL) goto l162;
+                rattle_alloc_at(v3 + 104, v29, 1);
+                if (((uint32_t)get64(v3 + 104) & 1) == 0) goto l162;
+                v23 = get64(v3 + 112);
+            }
+            if ((v23 - v19) < v29) {
+                v20 = v29 & 3;
+                v8 = 0;
+                if (v29 >= 4) {
+                    v21 = v29 & ~3ULL;
+                    v8 = 0;
+                    do {
+                        v7 = v23 + v8;
+                        v22 = v19 + v8;
+                        put8(v7, get8(v22));
+                        put8(v7 + 1, get8(v22 + 1));
+                        put8(v7 + 2, get8(v22 + 2));
+                        put8(v7 + 3, get8(v22 + 3));
+                        v8 = v8 + 4;
+                    } while (v21 != v8);
+                    if (v20 == 0) goto l168;
+                }
+                v7 = v23 + v8;
+                v8 = v19 + v8;
+                do {
+                    put8(v7, get8(v8));
+                    v7 = v7 + 1;
+                    v8 = v8 + 1;
+                    v20 = v20 - 1;
+                } while (v20 != 0);
+            } else if (v11 == 0) copy(v23, v19, v29);
+        l168:;
+            if (get64(v3 + 2560) == v30) {
+                t4 = std_alloc_vec_Vec_grow_amortized_1598ebf9113514c4(v3 + 0x9f0, 1);
+                if (t4 == 0) goto l161;
+                v42 = get64(v3 + 2544);
+                v30 = get64(v3 + 2552);
+            }
+            v7 = v42 + (v30 * 24);
+            put64(v7 + 16, v29);
+            put64(v7 + 8, v29);
+            put64(v7, v23);
+            v30 = v30 + 1;
+            put64(v3 + 2552, v30);
+            v40 = v40 + 1;
+        } while (v40 != v38);
+        v38 = get64(v3 + 2560);
+        v40 = get64(v3 + 2544);
+    l163:;
+        if (get64(event + 0x1780) == get64(event + 0x1778)) {
+            t5 = std_alloc_vec_Vec_grow_amortized_1598ebf9113514c4(event + 0x1770, 1);
+            if (t5 == 0) goto l174;
+        }
+        v7 = event + 0x1148 + (((uint64_t)v13 & 255) * 24);
+        if (v30 <= (get64(v7 + 16) - get64(v7 + 8))) goto l146;
+        t6 = std_alloc_vec_Vec_grow_amortized_1598ebf9113514c4(v7, v30);
+        if (t6 != 0) goto l146;
+    l174:;
+        if (v10 == 0) rattle_dealloc_at(v18);
+        put64(v3 + 464, v38);
+        put64(v3 + 456, v30);
+        put64(v3 + 448, v40);
+        std_alloc_vec_Vec_drop_b0c2e3ac61d256b1(v3 + 448);
+        v13 = 1;
+        if (get8(v3 + 296) != 1) goto l148;
+        v22 = get64(v3 + 400);
+        v20 = get64(v3 + 384);
+        v12 = get8(v3 + 376);
+        v7 = get64(v3 + 360);
+        v8 = get64(v3 + 344);
+        if (get8(v3 + 336) != 0) {
+            v23 = get64(v3 + 352);
+            put64(v3 + 240, v7);
+            put64(v3 + 232, v23);
+            put64(v3 + 224, v8);
+            std_alloc_vec_Vec_drop_b0c2e3ac61d256b1(v3 + 224);
+            goto l149;
+        }
+        if (v7 == 0) goto l149;
+        rattle_dealloc_at(v8);
+        goto l149;
+    l162:;
+        v8 = get64(v3 + 2560);
+        if (v30 != 0) {
+            v7 = v42;
+            do {
+                if (get64(v7 + 16) != 0) rattle_dealloc_at(get64(v7));
+                v7 = v7 + 24;
+                v30 = v30 - 1;
+            } while (v30 != 0);
+        }
+        if (v8 != 0) goto l160;
+        goto l159;
+    l161:;
+        if (v11 == 0) rattle_dealloc_at(v23);
+        v22 = get64(v3 + 2560);
+        v42 = get64(v3 + 2544);
+        v8 = get64(v3 + 2552);
+        if (v8 != 0) {
+            v7 = v42;
+            do {
+                if (get64(v7 + 16) != 0) rattle_dealloc_at(get64(v7));
+                v7 = v7 + 24;
+                v8 = v8 - 1;
+            } while (v8 != 0);
+        }
+        if (v22 == 0) goto l159;
+    l160:;
+        rattle_dealloc_at(v42);
+    l159:;
+        if (v10 == 0) rattle_dealloc_at(v18);
+    l151:;
+        v13 = 1;
+        if (get8(v3 + 296) != 1) goto l184;
+        v23 = get64(v3 + 400);
+        v19 = get64(v3 + 384);
+        v12 = get8(v3 + 376);
+        v20 = get64(v3 + 360);
+        v22 = get64(v3 + 344);
+        if (get8(v3 + 336) == 0) {
+            if (v20 != 0) goto l186;
+            goto l185;
+        }
+        v8 = get64(v3 + 352);
+        if (v8 != 0) {
+            v7 = v22;
+            do {
+                if (get64(v7 + 16) != 0) rattle_dealloc_at(get64(v7));
+                v7 = v7 + 24;
+                v8 = v8 - 1;
+            } while (v8 != 0);
+        }
+        if (v20 == 0) goto l185;
+    l186:;
+        rattle_dealloc_at(v22);
+    l185:;
+        if ((v12 & 255) == 2 && v23 != 0) rattle_dealloc_at(v19);
+    l184:;
+        if (get8(v3 + 408) != 1 || get64(v3 + 440) == 0) goto l62;
+        rattle_dealloc_at(get64(v3 + 424));
+        v28 = 0;
         goto l61;
-    case 6:
+    l149:;
+        if ((v12 & 255) == 2 && v22 != 0) rattle_dealloc_at(v20);
+    l148:;
+        v7 = 0;
+        if (get8(v3 + 408) != 1 || get64(v3 + 440) == 0) goto l63;
+        rattle_dealloc_at(get64(v3 + 424));
+        goto l63;
+    l146:;
+        nodes_spacecraft_Spacecraft_commit(v3 + 472, v31, v3 + 248);
         v7 = get64(event + 0xad8);
         if (v7 != 0) {
             v22 = event + 0xaf0;
             if (get64(v22) != v7) {
                 v8 = get64(event + 0xae8);
-                goto l199;
+            } else {
+                v8 = 0;
+                put64(v22, 0);
             }
-            v8 = 0;
-            put64(v22, 0);
-        l199:;
             put64(event + 0xad8, v7 - 1);
             put64(event + 0xae8, v8 + 1);
             v7 = get64(event + 0xad0) + (v8 * 24);
-            if (get64(v7 + 16) != 0) goto l82;
-            goto l64;
+            if (get64(v7 + 16) != 0) rattle_dealloc_at(get64(v7));
         }
-        v6 = 1;
-        goto l51;
+        if (v12 != 1) goto l194;
+        v8 = event + 0x1778;
+        v22 = get64(v8);
+        v7 = get64(event + 0x1770) + (v22 * 24);
+        put64(v7 + 16, v39);
+        put64(v7 + 8, v39);
+        put64(v7, v18);
+        put64(v8, v22 + 1);
+        if (v30 != 0) {
+            v23 = (event + (((uint64_t)v13 & 255) * 24)) + 0x1148;
+            v19 = v23 + 8;
+            v18 = get64(v19);
+            v22 = 0;
+            if (v30 != 1) {
+                v39 = v30 & 1;
+                v8 = v18 * 24;
+                v31 = v30 & ~1ULL;
+                v22 = 0;
+                v7 = v40;
+                do {
+                    v21 = get64(v7);
+                    v30 = get64(v7 + 8);
+                    v20 = get64(v23) + v8;
+                    put64(v20 + 16, get64(v7 + 16));
+                    put64(v20 + 8, v30);
+                    put64(v20, v21);
+                    v21 = v18 + v22;
+                    put64(v19, v21 + 1);
+                    v30 = get64(v7 + 24);
+                    v29 = get64(v7 + 32);
+                    v20 = get64(v23) + v8;
+                    put64(v20 + 40, get64(v7 + 40));
+                    put64(v20 + 32, v29);
+                    put64(v20 + 24, v30);
+                    put64(v19, v21 + 2);
+                    v7 = v7 + 48;
+                    v8 = v8 + 48;
+                    v22 = v22 + 2;
+                } while (v31 != v22);
+                if (v39 == 0) goto l195;
+                v18 = v18 + v22;
+            }
+            v7 = v40 + (v22 * 24);
+            v22 = get64(v7);
+            v20 = get64(v7 + 8);
+            v8 = get64(v23) + (v18 * 24);
+            put64(v8 + 16, get64(v7 + 16));
+            put64(v8 + 8, v20);
+            put64(v8, v22);
+            put64(v19, v18 + 1);
+        }
+    l195:;
+        if (v38 != 0) rattle_dealloc_at(v40);
+    l194:;
+        v6 = 7;
+        v13 = 0;
+        v22 = (uint64_t)get16(v3 + 488);
+        v7 = get64(v3 + 480);
+        v25 = get8(v3 + 474);
+        v27 = get8(v3 + 473);
+        v28 = get8(v3 + 472);
+        goto l60;
+    case 6:
+        v7 = get64(event + 0xad8);
+        if (v7 == 0) {
+            v6 = 1;
+            goto l51;
+        }
+        v22 = event + 0xaf0;
+        if (get64(v22) != v7) {
+            v8 = get64(event + 0xae8);
+        } else {
+            v8 = 0;
+            put64(v22, 0);
+        }
+        put64(event + 0xad8, v7 - 1);
+        put64(event + 0xae8, v8 + 1);
+        v7 = get64(event + 0xad0) + (v8 * 24);
+        if (get64(v7 + 16) != 0) goto l82;
+        goto l64;
     case 7:
         v22 = get64(event + 0xad8);
-        if (v22 != 0) {
-            if (v8 < 5) {
-                v27 = 0;
-                goto l202;
-            }
-            v6 = get8(v7);
-            if (v6 > 63) {
-                v27 = 1;
-                goto l202;
-            }
-            if ((v6 & 48) == 16) {
-                v27 = 2;
-                goto l202;
-            }
-            if ((v6 & 12) != 0) {
-                v27 = 3;
-                goto l202;
-            }
-            v27 = 4;
-            v20 = (((uint64_t)get8(v7 + 2) << 8) & 768) | (uint64_t)get8(v7 + 3);
-            if (v8 == (v20 + 1)) {
-                if (v20 >= 6) {
-                    v20 = v8 - 2;
-                    v13 = get16(v7 + v20);
-                    t7 = octets_frame_check_check(v7, v20);
-                    if ((((v13 << 8) | (v13 >> 8)) & 0xffff) != (t7 & 0xffff)) {
-                        v27 = 5;
-                        goto l202;
-                    }
-                    if (v6 >= 32) {
-                        if ((get8(v7 + 4) & 255) != 0) {
-                            v27 = 6;
-                            goto l202;
-                        }
-                    }
-                    if ((v6 & 16) != 0) {
-                        v8 = v8 - 7;
-                        if (v8 <= 3) {
-                            v27 = 7;
-                            switch ((uint32_t)v8) {
-                            case 1:
-                                goto l212;
-                            case 2:
-                                goto l211;
-                            case 3:
-                                v27 = 8;
-                                if (get8(v7 + 5) != 130) goto l202;
-                                if (get8(v7 + 6) != 0) goto l202;
-                                goto l65;
-                            default:
-                                goto l202;
-                            }
-                        l212:;
-                            if (get8(v7 + 5) == 0) goto l65;
-                        }
-                    l211:;
-                        v27 = 8;
-                        goto l202;
-                    }
-                    if ((v8 - 9) < ~1ULL) goto l65;
-                    v27 = 7;
+        if (v22 == 0) {
+            v6 = 1;
+            goto l51;
+        }
+        if (v8 < 5) {
+            v27 = 0;
+            goto l202;
+        }
+        v6 = get8(v7);
+        if (v6 > 63) {
+            v27 = 1;
+            goto l202;
+        }
+        if ((v6 & 48) == 16) {
+            v27 = 2;
+            goto l202;
+        }
+        if ((v6 & 12) != 0) {
+            v27 = 3;
+            goto l202;
+        }
+        v27 = 4;
+        v20 = (((uint64_t)get8(v7 + 2) << 8) & 768) | (uint64_t)get8(v7 + 3);
+        if (v8 != (v20 + 1) || v20 < 6) goto l202;
+        v20 = v8 - 2;
+        v13 = get16(v7 + v20);
+        t7 = octets_frame_check_check(v7, v20);
+        if ((((v13 << 8) | (v13 >> 8)) & 0xffff) != (t7 & 0xffff)) {
+            v27 = 5;
+            goto l202;
+        }
+        if (v6 >= 32 && (get8(v7 + 4) & 255) != 0) {
+            v27 = 6;
+            goto l202;
+        }
+        if ((v6 & 16) != 0) {
+            v8 = v8 - 7;
+            if (v8 <= 3) {
+                v27 = 7;
+                switch ((uint32_t)v8) {
+                case 1:
+                    if (get8(v7 + 5) == 0) goto l65;
+                    break;
+                case 2:
+                    break;
+                case 3:
+                    v27 = 8;
+                    if (get8(v7 + 5) != 130 || get8(v7 + 6) != 0) goto l202;
+                    goto l65;
+                default:
+                    goto l202;
                 }
             }
-        l202:;
-            v8 = event + 0xaf0;
-            if (get64(v8) != v22) {
-                v7 = get64(event + 0xae8);
-                goto l213;
-            }
+            v27 = 8;
+        } else {
+            if ((v8 - 9) < ~1ULL) goto l65;
+            v27 = 7;
+        }
+    l202:;
+        v8 = event + 0xaf0;
+        if (get64(v8) != v22) {
+            v7 = get64(event + 0xae8);
+        } else {
             v7 = 0;
             put64(v8, 0);
-        l213:;
-            put64(event + 0xad8, v22 - 1);
-            put64(event + 0xae8, v7 + 1);
-            v7 = get64(event + 0xad0) + (v7 * 24);
-            if (get64(v7 + 16) != 0) rattle_dealloc_at(get64(v7));
-            v25 = 0;
-            put16(v3 + 500, 0);
-            put32(v3 + 496, 0);
-            v22 = 0;
-            v7 = 0;
-            v26 = 0;
-            goto l35;
         }
-        v6 = 1;
-        goto l51;
+        put64(event + 0xad8, v22 - 1);
+        put64(event + 0xae8, v7 + 1);
+        v7 = get64(event + 0xad0) + (v7 * 24);
+        if (get64(v7 + 16) != 0) rattle_dealloc_at(get64(v7));
+        v25 = 0;
+        put16(v3 + 500, 0);
+        put32(v3 + 496, 0);
+        v22 = 0;
+        v7 = 0;
+        v26 = 0;
+        goto l35;
     case 8:
         put64(v3 + 472, 0);
         put64(v3 + 480, 0);
@@ -11311,19 +10839,18 @@ l2:;
         v21 = (uint64_t)v6;
         if (v6 == 0) {
             v18 = v3 + 0xa08;
-            goto l216;
+        } else {
+            rattle_alloc_at(v3 + 152, v21, 1);
+            v13 = 1;
+            if (((uint32_t)get64(v3 + 152) & 1) == 0) {
+                v8 = 0;
+                put64(v3 + 480, 0);
+                put64(v3 + 472, 0);
+                v7 = v3 + 472;
+                goto l67;
+            }
+            v18 = get64(v3 + 160);
         }
-        rattle_alloc_at(v3 + 152, v21, 1);
-        v13 = 1;
-        if (((uint32_t)get64(v3 + 152) & 1) == 0) {
-            v8 = 0;
-            put64(v3 + 480, 0);
-            put64(v3 + 472, 0);
-            v7 = v3 + 472;
-            goto l67;
-        }
-        v18 = get64(v3 + 160);
-    l216:;
         put64(v3 + 464, v21);
         put64(v3 + 456, 0);
         put64(v3 + 448, v18);
@@ -11347,8 +10874,7 @@ l2:;
         v10 = get8(event + 475);
         v5 = get8(event + 474);
         fill(v3 + 496, 0, 0x800);
-        if ((v13 & 192) != 0) UNREACHABLE;
-        if ((v12 & 255) > 3) UNREACHABLE;
+        if ((v13 & 192) != 0 || (v12 & 255) > 3) UNREACHABLE;
         put16(v3 + 2549, 0);
         put8(v3 + 2551, 0);
         put8(v3 + 2548, get8(event + 0xa71));
@@ -11373,9 +10899,7 @@ l2:;
         v7 = get64(v7);
         v8 = get64(v20);
         v22 = get64(v22);
-        if (v22 == 0) {
-            if (v8 == v7) goto l219;
-        }
+        if (v22 == 0 && v8 == v7) goto l219;
         v20 = v8 - v7;
         v8 = v26 - 12;
         v19 = (v8 < v22) ? v8 : v22;
@@ -11383,11 +10907,10 @@ l2:;
         v23 = (v20 < v8) ? v20 : v8;
         if (v8 <= v20) {
             v22 = v22 - v19;
-            goto l221;
+        } else {
+            v22 = v8 - v20;
+            v22 = (v22 < 7) ? (v22 ^ 7) : 0ULL;
         }
-        v22 = v8 - v20;
-        v22 = (v22 < 7) ? (v22 ^ 7) : 0ULL;
-    l221:;
         put64(event + 0xa98, v23 + v7);
         put64(event + 0xa78, v22);
         v6 = get32(event + 0xaa0);
@@ -11405,11 +10928,10 @@ l2:;
                 }
                 if (v7 != get64(v23)) {
                     v22 = get64(v19);
-                    goto l227;
+                } else {
+                    v22 = 0;
+                    put64(v23, 0);
                 }
-                v22 = 0;
-                put64(v23, 0);
-            l227:;
                 v7 = v7 - 1;
                 put64(v30, v7);
                 put64(v19, v22 + 1);
@@ -11452,14 +10974,13 @@ l2:;
             put64(v7 + 16, get64(v3 + 464));
             put64(v7 + 8, get64(v3 + 456));
             put64(v7, get64(v3 + 448));
-            goto l232;
+        } else {
+            v7 = v7 + (v22 * 24);
+            put64(v7 + 16, get64(v3 + 464));
+            put64(v7 + 8, get64(v3 + 456));
+            put64(v7, get64(v3 + 448));
+            put64(v20, v22 + 1);
         }
-        v7 = v7 + (v22 * 24);
-        put64(v7 + 16, get64(v3 + 464));
-        put64(v7 + 8, get64(v3 + 456));
-        put64(v7, get64(v3 + 448));
-        put64(v20, v22 + 1);
-    l232:;
         put64(event + 0xb00, v8 + 1);
         t12 = (((((uint64_t)v12 & 255) << 24) | (uint64_t)((v13 << 8) & 0x3f00)) | ((uint64_t)v11 << 32)) |
             (((uint64_t)v6 & 255) << 16);
@@ -11476,51 +10997,66 @@ l2:;
         put64(v3 + 504, 0);
         put64(v3 + 496, 0);
         v8 = get64(event + 0xb00);
-        if (v8 != 0) {
-            v7 = get64(event + 0xaf8);
-            if (v8 != get64(event + 0xb18)) v7 = v7 + (get64(event + 0xb10) * 24);
-            v6 = get8(event + 75);
-            v13 = get8(event + 73);
-            nodes_ground_node_Ground_telemetry(v3 + 496, event, get64(v7), get64(v7 + 8));
-            if (get8(v3 + 496) == 0) {
-                v22 = (uint64_t)get32(v3 + 520);
-                v7 = get64(v3 + 512);
-                v25 = get8(v3 + 506);
-                v27 = get8(v3 + 505);
-                v28 = get8(v3 + 504);
-                v8 = get64(event + 0xb00);
-                if (v8 != 0) {
-                    v23 = event + 0xb18;
-                    if (get64(v23) != v8) {
-                        v20 = get64(event + 0xb10);
-                        goto l238;
-                    }
-                    v20 = 0;
-                    put64(v23, 0);
-                l238:;
-                    put64(event + 0xb00, v8 - 1);
-                    put64(event + 0xb10, v20 + 1);
-                    v8 = get64(event + 0xaf8) + (v20 * 24);
-                    if (get64(v8 + 16) != 0) rattle_dealloc_at(get64(v8));
-                }
-                v8 = event + 0x1760;
-                put64(v8, get64(v8) + ((uint64_t)(get8(event + 75) - v6) & 255));
-                v6 = 1;
-                v8 = event + 0xb28;
-                if (get8(v8) == 0) v6 = ((v13 - 3) & 255) < 2 && get8(event + 73) == 0;
-                put8(v8, v6);
-                v6 = 8;
-                goto l59;
-            }
+        if (v8 == 0) {
+            v28 = 0;
+            v6 = 1;
+            goto l68;
+        }
+        v7 = get64(event + 0xaf8);
+        if (v8 != get64(event + 0xb18)) v7 = v7 + (get64(event + 0xb10) * 24);
+        v6 = get8(event + 75);
+        v13 = get8(event + 73);
+        nodes_ground_node_Ground_telemetry(v3 + 496, event, get64(v7), get64(v7 + 8));
+        if (get8(v3 + 496) != 0) {
             v6 = 0;
             v28 = 0;
             goto l68;
         }
-        v28 = 0;
+        v22 = (uint64_t)get32(v3 + 520);
+        v7 = get64(v3 + 512);
+        v25 = get8(v3 + 506);
+        v27 = get8(v3 + 505);
+        v28 = get8(v3 + 504);
+        v8 = get64(event + 0xb00);
+        if (v8 != 0) {
+            v23 = event + 0xb18;
+            if (get64(v23) != v8) {
+                v20 = get64(event + 0xb10);
+            } else {
+                v20 = 0;
+                put64(v23, 0);
+            }
+            put64(event + 0xb00, v8 - 1);
+            put64(event + 0xb10, v20 + 1);
+            v8 = get64(event + 0xaf8) + (v20 * 24);
+            if (get64(v8 + 16) != 0) rattle_dealloc_at(get64(v8));
+        }
+        v8 = event + 0x1760;
+        put64(v8, get64(v8) + ((uint64_t)(get8(event + 75) - v6) & 255));
         v6 = 1;
-        goto l68;
+        v8 = event + 0xb28;
+        if (get8(v8) == 0) v6 = ((v13 - 3) & 255) < 2 && get8(event + 73) == 0;
+        put8(v8, v6);
+        v6 = 8;
+        goto l59;
     case 10:
-        goto l83;
+        v7 = get64(event + 0xb00);
+        if (v7 == 0) {
+            v6 = 1;
+            goto l51;
+        }
+        v22 = event + 0xb18;
+        if (get64(v22) != v7) {
+            v8 = get64(event + 0xb10);
+        } else {
+            v8 = 0;
+            put64(v22, 0);
+        }
+        put64(event + 0xb00, v7 - 1);
+        put64(event + 0xb10, v8 + 1);
+        v7 = get64(event + 0xaf8) + (v8 * 24);
+        if (get64(v7 + 16) == 0) goto l64;
+        goto l82;
     case 11:
         put64(v3 + 536, 0);
         put64(v3 + 528, 0);
@@ -11532,33 +11068,31 @@ l2:;
         if (get64(event + 0xb00) == 0) {
             v13 = 1;
             v6 = 1;
-            goto l244;
-        }
-        tm_link_decoding_decode(v3 + 496, v7, v8, (uint64_t)get32(event + 60));
-        v13 = 1;
-        if (get8(v3 + 496) != 1) {
-            v6 = 2;
-            goto l244;
-        }
-        v6 = 8;
-        v13 = 0;
-        v27 = get8(v3 + 497);
-        v7 = get64(event + 0xb00);
-        if (v7 != 0) {
-            v22 = event + 0xb18;
-            if (get64(v22) != v7) {
-                v8 = get64(event + 0xb10);
-                goto l247;
+        } else {
+            tm_link_decoding_decode(v3 + 496, v7, v8, (uint64_t)get32(event + 60));
+            v13 = 1;
+            if (get8(v3 + 496) != 1) {
+                v6 = 2;
+            } else {
+                v6 = 8;
+                v13 = 0;
+                v27 = get8(v3 + 497);
+                v7 = get64(event + 0xb00);
+                if (v7 != 0) {
+                    v22 = event + 0xb18;
+                    if (get64(v22) != v7) {
+                        v8 = get64(event + 0xb10);
+                    } else {
+                        v8 = 0;
+                        put64(v22, 0);
+                    }
+                    put64(event + 0xb00, v7 - 1);
+                    put64(event + 0xb10, v8 + 1);
+                    v7 = get64(event + 0xaf8) + (v8 * 24);
+                    if (get64(v7 + 16) != 0) rattle_dealloc_at(get64(v7));
+                }
             }
-            v8 = 0;
-            put64(v22, 0);
-        l247:;
-            put64(event + 0xb00, v7 - 1);
-            put64(event + 0xb10, v8 + 1);
-            v7 = get64(event + 0xaf8) + (v8 * 24);
-            if (get64(v7 + 16) != 0) rattle_dealloc_at(get64(v7));
         }
-    l244:;
         if (v13 != 0) goto l51;
         v22 = 0;
         v25 = 0;
@@ -11594,11 +11128,10 @@ l2:;
             v22 = event + 0xb18;
             if (get64(v22) != v7) {
                 v8 = get64(event + 0xb10);
-                goto l253;
+            } else {
+                v8 = 0;
+                put64(v22, 0);
             }
-            v8 = 0;
-            put64(v22, 0);
-        l253:;
             put64(event + 0xb00, v7 - 1);
             put64(event + 0xb10, v8 + 1);
             v7 = get64(event + 0xaf8) + (v8 * 24);
@@ -11620,32 +11153,27 @@ l2:;
             put32(v3 + 249, 0);
             put8(v3 + 248, 1);
             put8(v3 + 253, 0);
-            goto l257;
-        }
-        if ((v13 & 255) >= 32) {
+        } else if ((v13 & 255) >= 32) {
             put16(v3 + 248, 257);
-            goto l257;
-        }
-        if ((v13 & 3) != 1) {
+        } else if ((v13 & 3) != 1) {
             put16(v3 + 248, 513);
-            goto l257;
+        } else {
+            v10 = v13 >> 8;
+            if ((v10 & 3) != 0) {
+                put16(v3 + 248, 769);
+            } else {
+                v5 = v13 >> 16;
+                if ((v5 & 1) != 0) {
+                    put16(v3 + 248, 769);
+                } else {
+                    put8(v3 + 253, v13 >> 24);
+                    put8(v3 + 251, v5 & 248);
+                    put8(v3 + 252, (v5 >> 1) & 3);
+                    put8(v3 + 250, (v10 & 252) >> 2);
+                    put8(v3 + 249, (v13 & 252) >> 2);
+                }
+            }
         }
-        v10 = v13 >> 8;
-        if ((v10 & 3) != 0) {
-            put16(v3 + 248, 769);
-            goto l257;
-        }
-        v5 = v13 >> 16;
-        if ((v5 & 1) != 0) {
-            put16(v3 + 248, 769);
-            goto l257;
-        }
-        put8(v3 + 253, v13 >> 24);
-        put8(v3 + 251, v5 & 248);
-        put8(v3 + 252, (v5 >> 1) & 3);
-        put8(v3 + 250, (v10 & 252) >> 2);
-        put8(v3 + 249, (v13 & 252) >> 2);
-    l257:;
         nodes_ground_node_Ground_report(v3 + 0x9f0, event, v3 + 248);
         v17 = get32(v3 + 2544);
         v7 = event + 0x1760;
@@ -11683,44 +11211,43 @@ l2:;
     case 14:
         v13 = 0;
         v7 = get64(event + 0xa20);
-        if (v7 != 0) {
-            v22 = event + 0xa38;
-            if (get64(v22) != v7) {
-                v8 = get64(event + 0xa30);
-                goto l265;
-            }
+        if (v7 == 0) {
+            v6 = 1;
+            v8 = 0;
+            v7 = 0;
+            v22 = 0;
+            v17 = 0;
+            goto l70;
+        }
+        v22 = event + 0xa38;
+        if (get64(v22) != v7) {
+            v8 = get64(event + 0xa30);
+        } else {
             v8 = 0;
             put64(v22, 0);
-        l265:;
-            v23 = v7 - 1;
-            put64(event + 0xa20, v23);
-            put64(event + 0xa30, v8 + 1);
-            v7 = get64(event + 0xa18) + (v8 << 5);
-            v20 = get64(v7 + 24);
-            v22 = get64(v7 + 16);
-            v8 = get64(v7 + 8);
-            v17 = get8(v7);
-            if (v23 < (uint64_t)get32(event + 448)) put8(event + 475, 0);
-            v6 = 11;
-            if (v20 <= v22) goto l71;
-            v7 = 0;
-            if (v22 != 0) {
-                rattle_realloc_at(v3 + 176, v8, v22, v22, 1);
-                if (((uint32_t)get64(v3 + 176) & 1) == 0) goto l71;
-                v8 = get64(v3 + 184);
-                v7 = v22;
-                goto l70;
-            }
+        }
+        v23 = v7 - 1;
+        put64(event + 0xa20, v23);
+        put64(event + 0xa30, v8 + 1);
+        v7 = get64(event + 0xa18) + (v8 << 5);
+        v20 = get64(v7 + 24);
+        v22 = get64(v7 + 16);
+        v8 = get64(v7 + 8);
+        v17 = get8(v7);
+        if (v23 < (uint64_t)get32(event + 448)) put8(event + 475, 0);
+        v6 = 11;
+        if (v20 <= v22) goto l71;
+        v7 = 0;
+        if (v22 == 0) {
             rattle_dealloc_at(v8);
             v8 = v3 + 0xa08;
             v22 = 0;
             goto l70;
         }
-        v6 = 1;
-        v8 = 0;
-        v7 = 0;
-        v22 = 0;
-        v17 = 0;
+        rattle_realloc_at(v3 + 176, v8, v22, v22, 1);
+        if (((uint32_t)get64(v3 + 176) & 1) == 0) goto l71;
+        v8 = get64(v3 + 184);
+        v7 = v22;
         goto l70;
     case 15:
         v7 = event + 0xa50;
@@ -11730,36 +11257,35 @@ l2:;
             v8 = 0;
             v7 = 0;
             v22 = 0;
-            goto l269;
-        }
-        put64(v7, v8 - 1);
-        v7 = event + 0xa58;
-        t13 = v7;
-        v7 = get64(v7);
-        v8 = v7 + 1;
-        v22 = get64(event + 0xa48);
-        put64(t13, v8 - ((v8 < v22) ? 0ULL : v22));
-        v7 = get64(event + 0xa40) + (v7 << 5);
-        v8 = get64(v7 + 8);
-        v17 = get8(v7);
-        v6 = 11;
-        v22 = get64(v7 + 24);
-        v7 = get64(v7 + 16);
-        if (v22 > v7) {
-            if (v7 == 0) {
-                rattle_dealloc_at(v8);
-                v7 = 0;
-                v8 = v3 + 0xa08;
-                v22 = 0;
-                goto l269;
+        } else {
+            put64(v7, v8 - 1);
+            v7 = event + 0xa58;
+            t13 = v7;
+            v7 = get64(v7);
+            v8 = v7 + 1;
+            v22 = get64(event + 0xa48);
+            put64(t13, v8 - ((v8 < v22) ? 0ULL : v22));
+            v7 = get64(event + 0xa40) + (v7 << 5);
+            v8 = get64(v7 + 8);
+            v17 = get8(v7);
+            v6 = 11;
+            v22 = get64(v7 + 24);
+            v7 = get64(v7 + 16);
+            if (v22 > v7) {
+                if (v7 == 0) {
+                    rattle_dealloc_at(v8);
+                    v7 = 0;
+                    v8 = v3 + 0xa08;
+                    v22 = 0;
+                } else {
+                    rattle_realloc_at(v3 + 192, v8, v7, v7, 1);
+                    if (((uint32_t)get64(v3 + 192) & 1) != 0) {
+                        v8 = get64(v3 + 200);
+                        v22 = v7;
+                    }
+                }
             }
-            rattle_realloc_at(v3 + 192, v8, v7, v7, 1);
-            if (((uint32_t)get64(v3 + 192) & 1) != 0) {
-                v8 = get64(v3 + 200);
-                v22 = v7;
-            }
         }
-    l269:;
         v26 = v8 & 0xffffffffff000000ULL;
         v25 = (uint32_t)(v8 >> 16);
         v27 = (uint32_t)(v8 >> 8);
@@ -11781,115 +11307,97 @@ l2:;
         v28 = 0;
         goto l37;
     default:
-        fill(v3 + 496, 0, 128);
-        put64(v3 + 488, 0);
-        put64(v3 + 480, 0);
-        put64(v3 + 472, 0);
-        nodes_ground_node_Ground_prepare(v3 + 496, event, v12, v7, v8);
-        if (get8(v3 + 496) != 0) {
-            v6 = get8(v3 + 497);
-            v13 = v6 == 5;
-            v24 = (v13 != 0) ? 0U : v6;
-            v6 = (v13 != 0) ? 0U : 3U;
-            goto l53;
-        }
-        copy(v3 + 248, v3 + 504, 120);
-        v13 = v8 == 0;
-        if (v13 != 0) {
-            v18 = v3 + 0xa08;
-            goto l96;
-        }
+        break;
+    }
+    fill(v3 + 496, 0, 128);
+    put64(v3 + 488, 0);
+    put64(v3 + 480, 0);
+    put64(v3 + 472, 0);
+    nodes_ground_node_Ground_prepare(v3 + 496, event, v12, v7, v8);
+    if (get8(v3 + 496) != 0) {
+        v6 = get8(v3 + 497);
+        v13 = v6 == 5;
+        v24 = (v13 != 0) ? 0U : v6;
+        v6 = (v13 != 0) ? 0U : 3U;
+        goto l53;
+    }
+    copy(v3 + 248, v3 + 504, 120);
+    v13 = v8 == 0;
+    if (v13 != 0) {
+        v18 = v3 + 0xa08;
+    } else {
         if (v8 > 0x7fffffffffffffffULL) goto l94;
         rattle_alloc_at(v3 + 32, v8, 1);
         if (((uint32_t)get64(v3 + 32) & 1) == 0) goto l94;
         v18 = get64(v3 + 40);
-    l96:;
-        if ((v18 - v7) < v8) {
-            v19 = v8 & 3;
-            v20 = 0;
-            if (v8 >= 4) {
-                v21 = v8 & ~3ULL;
-                v20 = 0;
-                do {
-                    v22 = v18 + v20;
-                    v23 = v7 + v20;
-                    put8(v22, get8(v23));
-                    put8(v22 + 1, get8(v23 + 1));
-                    put8(v22 + 2, get8(v23 + 2));
-                    put8(v22 + 3, get8(v23 + 3));
-                    v20 = v20 + 4;
-                } while (v21 != v20);
-                if (v19 == 0) goto l55;
-            }
-            v22 = v18 + v20;
-            v7 = v7 + v20;
-        l101:;
-            put8(v22, get8(v7));
-            v22 = v22 + 1;
-            v7 = v7 + 1;
-            v19 = v19 - 1;
-            if (v19 != 0) goto l101;
-            goto l55;
-        }
+    }
+    if ((v18 - v7) >= v8) {
         if (v13 != 0) goto l55;
         copy(v18, v7, v8);
         goto l55;
-    l94:;
-        if (get8(v3 + 288) == 1) {
-            if (get64(v3 + 312) != 0) rattle_dealloc_at(get64(v3 + 296));
-        }
-        v7 = get64(v3 + 352);
-        v22 = get64(v3 + 336);
-        if (get8(v3 + 320) != 0) {
-            v23 = get64(v3 + 344);
-            v20 = get64(v3 + 328);
-            if (v22 != 0) {
-                v8 = get64(v3 + 360);
-                v22 = v22 - v8;
-                if (v7 < (v22 + v7)) {
-                    v7 = ((v7 << 5) + v20) + 24;
-                    do {
-                        if (get64(v7) != 0) rattle_dealloc_at(get64(v7 - 16));
-                        v7 = v7 + 32;
-                        v22 = v22 - 1;
-                    } while (v22 != 0);
-                }
-                if (v8 != 0) {
-                    v7 = v20 + 24;
-                    do {
-                        if (get64(v7) != 0) rattle_dealloc_at(get64(v7 - 16));
-                        v7 = v7 + 32;
-                        v8 = v8 - 1;
-                    } while (v8 != 0);
-                }
-            }
-            if (v23 == 0) goto l54;
+    }
+    v19 = v8 & 3;
+    v20 = 0;
+    if (v8 >= 4) {
+        v21 = v8 & ~3ULL;
+        v20 = 0;
+        do {
+            v22 = v18 + v20;
+            v23 = v7 + v20;
+            put8(v22, get8(v23));
+            put8(v22 + 1, get8(v23 + 1));
+            put8(v22 + 2, get8(v23 + 2));
+            put8(v22 + 3, get8(v23 + 3));
+            v20 = v20 + 4;
+        } while (v21 != v20);
+        if (v19 == 0) goto l55;
+    }
+    v22 = v18 + v20;
+    v7 = v7 + v20;
+    do {
+        put8(v22, get8(v7));
+        v22 = v22 + 1;
+        v7 = v7 + 1;
+        v19 = v19 - 1;
+    } while (v19 != 0);
+    goto l55;
+l94:;
+    if (get8(v3 + 288) == 1 && get64(v3 + 312) != 0) rattle_dealloc_at(get64(v3 + 296));
+    v7 = get64(v3 + 352);
+    v22 = get64(v3 + 336);
+    if (get8(v3 + 320) == 0) {
+        if (v7 != 0) {
+            v20 = v22;
             goto l103;
         }
-        if (v7 == 0) goto l54;
-        v20 = v22;
-    l103:;
-        rattle_dealloc_at(v20);
         goto l54;
     }
-l83:;
-    v7 = get64(event + 0xb00);
-    if (v7 == 0) {
-        v6 = 1;
-        goto l51;
+    v23 = get64(v3 + 344);
+    v20 = get64(v3 + 328);
+    if (v22 != 0) {
+        v8 = get64(v3 + 360);
+        v22 = v22 - v8;
+        if (v7 < (v22 + v7)) {
+            v7 = ((v7 << 5) + v20) + 24;
+            do {
+                if (get64(v7) != 0) rattle_dealloc_at(get64(v7 - 16));
+                v7 = v7 + 32;
+                v22 = v22 - 1;
+            } while (v22 != 0);
+        }
+        if (v8 != 0) {
+            v7 = v20 + 24;
+            do {
+                if (get64(v7) != 0) rattle_dealloc_at(get64(v7 - 16));
+                v7 = v7 + 32;
+                v8 = v8 - 1;
+            } while (v8 != 0);
+        }
     }
-    v22 = event + 0xb18;
-    if (get64(v22) != v7) {
-        v8 = get64(event + 0xb10);
-        goto l242;
-    }
-    v8 = 0;
-    put64(v22, 0);
-l242:;
-    put64(event + 0xb00, v7 - 1);
-    put64(event + 0xb10, v8 + 1);
-    v7 = get64(event + 0xaf8) + (v8 * 24);
-    if (get64(v7 + 16) == 0) goto l64;
+    if (v23 == 0) goto l54;
+l103:;
+    rattle_dealloc_at(v20);
+    goto l54;
 l82:;
     rattle_dealloc_at(get64(v7));
     goto l64;
@@ -11984,15 +11492,14 @@ l56:;
     if (get8(v3 + 248) != 0) {
         v17 = 1;
         v6 = 3;
-        goto l274;
+    } else {
+        v11 = get8(v3 + 250);
+        if (v13 <= 3) simulated_link_world_World_begin(event, v3 + 496, v12, v6);
+        v13 = v24 & 255;
+        v24 = 0;
+        v6 = (v13 != 0) ? 4U : 0U;
+        v17 = (v13 != 0) ? v11 : 0U;
     }
-    v11 = get8(v3 + 250);
-    if (v13 <= 3) simulated_link_world_World_begin(event, v3 + 496, v12, v6);
-    v13 = v24 & 255;
-    v24 = 0;
-    v6 = (v13 != 0) ? 4U : 0U;
-    v17 = (v13 != 0) ? v11 : 0U;
-l274:;
     v25 = 0;
     v22 = 0;
     v7 = 0;
@@ -12028,13 +11535,12 @@ l55:;
         v6 = v29 == 0;
         if (v6 != 0) {
             v19 = v3 + 0xa08;
-            goto l287;
+        } else {
+            if (v29 > 0x7fffffffffffffffULL) goto l283;
+            rattle_alloc_at(v3, v29, 1);
+            if (((uint32_t)get64(v3) & 1) == 0) goto l283;
+            v19 = get64(v3 + 8);
         }
-        if (v29 > 0x7fffffffffffffffULL) goto l283;
-        rattle_alloc_at(v3, v29, 1);
-        if (((uint32_t)get64(v3) & 1) == 0) goto l283;
-        v19 = get64(v3 + 8);
-    l287:;
         if ((v19 - v21) < v29) {
             v23 = v29 & 3;
             v22 = 0;
@@ -12054,34 +11560,17 @@ l55:;
             }
             v7 = v19 + v22;
             v22 = v21 + v22;
-        l293:;
-            put8(v7, get8(v22));
-            v7 = v7 + 1;
-            v22 = v22 + 1;
-            v23 = v23 - 1;
-            if (v23 != 0) goto l293;
-            goto l289;
-        }
-        if (v6 == 0) copy(v19, v21, v29);
+            do {
+                put8(v7, get8(v22));
+                v7 = v7 + 1;
+                v22 = v22 + 1;
+                v23 = v23 - 1;
+            } while (v23 != 0);
+        } else if (v6 == 0) copy(v19, v21, v29);
     l289:;
         if (get64(v3 + 2560) == v30) {
             t15 = std_alloc_vec_Vec_grow_amortized_1598ebf9113514c4(v3 + 0x9f0, 1);
-            if (t15 == 0) {
-                if (v6 == 0) rattle_dealloc_at(v19);
-                v22 = get64(v3 + 2560);
-                v39 = get64(v3 + 2544);
-                v8 = get64(v3 + 2552);
-                if (v8 != 0) {
-                    v7 = v39;
-                    do {
-                        if (get64(v7 + 16) != 0) rattle_dealloc_at(get64(v7));
-                        v7 = v7 + 24;
-                        v8 = v8 - 1;
-                    } while (v8 != 0);
-                }
-                if (v22 != 0) goto l278;
-                goto l277;
-            }
+            if (t15 == 0) goto l282;
             v39 = get64(v3 + 2544);
             v30 = get64(v3 + 2552);
         }
@@ -12098,7 +11587,10 @@ l55:;
 l284:;
     if (get64(event + 0xb40) == get64(event + 0xb38)) {
         t16 = std_alloc_vec_Vec_grow_amortized_722da43a23cbcade(event + 0xb30);
-        if (t16 == 0) goto l281;
+        if (t16 == 0) {
+            if (v30 == 0) goto l279;
+            goto l280;
+        }
     }
     v23 = event + 0xb48;
     v7 = v23 + (((uint64_t)v12 & 255) * 24);
@@ -12137,8 +11629,21 @@ l283:;
     }
     if (v8 == 0) goto l277;
     goto l278;
-l281:;
-    if (v30 == 0) goto l279;
+l282:;
+    if (v6 == 0) rattle_dealloc_at(v19);
+    v22 = get64(v3 + 2560);
+    v39 = get64(v3 + 2544);
+    v8 = get64(v3 + 2552);
+    if (v8 != 0) {
+        v7 = v39;
+        do {
+            if (get64(v7 + 16) != 0) rattle_dealloc_at(get64(v7));
+            v7 = v7 + 24;
+            v8 = v8 - 1;
+        } while (v8 != 0);
+    }
+    if (v22 != 0) goto l278;
+    goto l277;
 l280:;
     v7 = v22;
     do {
@@ -12149,48 +11654,7 @@ l280:;
 l279:;
     if (v20 != 0) rattle_dealloc_at(v22);
     if (v13 == 0) rattle_dealloc_at(v18);
-    if (get8(v3 + 288) == 1) {
-        if (get64(v3 + 312) != 0) rattle_dealloc_at(get64(v3 + 296));
-    }
-    v7 = get64(v3 + 352);
-    v22 = get64(v3 + 336);
-    if (get8(v3 + 320) != 0) {
-        v23 = get64(v3 + 344);
-        v20 = get64(v3 + 328);
-        if (v22 != 0) {
-            v8 = get64(v3 + 360);
-            v22 = v22 - v8;
-            if (v7 < (v22 + v7)) {
-                v7 = ((v7 << 5) + v20) + 24;
-                do {
-                    if (get64(v7) != 0) rattle_dealloc_at(get64(v7 - 16));
-                    v7 = v7 + 32;
-                    v22 = v22 - 1;
-                } while (v22 != 0);
-            }
-            if (v8 != 0) {
-                v7 = v20 + 24;
-                do {
-                    if (get64(v7) != 0) rattle_dealloc_at(get64(v7 - 16));
-                    v7 = v7 + 32;
-                    v8 = v8 - 1;
-                } while (v8 != 0);
-            }
-        }
-        if (v23 == 0) goto l54;
-        rattle_dealloc_at(v20);
-        goto l54;
-    }
-    if (v7 == 0) goto l54;
-    rattle_dealloc_at(v22);
-    goto l54;
-l278:;
-    rattle_dealloc_at(v39);
-l277:;
-    if (v13 == 0) rattle_dealloc_at(v18);
-    if (get8(v3 + 288) == 1) {
-        if (get64(v3 + 312) != 0) rattle_dealloc_at(get64(v3 + 296));
-    }
+    if (get8(v3 + 288) == 1 && get64(v3 + 312) != 0) rattle_dealloc_at(get64(v3 + 296));
     v7 = get64(v3 + 352);
     v22 = get64(v3 + 336);
     if (get8(v3 + 320) == 0) {
@@ -12220,7 +11684,43 @@ l277:;
             } while (v8 != 0);
         }
     }
-    if (v23 != 0) rattle_dealloc_at(v20);
+    if (v23 == 0) goto l54;
+    rattle_dealloc_at(v20);
+    goto l54;
+l278:;
+    rattle_dealloc_at(v39);
+l277:;
+    if (v13 == 0) rattle_dealloc_at(v18);
+    if (get8(v3 + 288) == 1 && get64(v3 + 312) != 0) rattle_dealloc_at(get64(v3 + 296));
+    v7 = get64(v3 + 352);
+    v22 = get64(v3 + 336);
+    if (get8(v3 + 320) == 0) {
+        if (v7 != 0) rattle_dealloc_at(v22);
+    } else {
+        v23 = get64(v3 + 344);
+        v20 = get64(v3 + 328);
+        if (v22 != 0) {
+            v8 = get64(v3 + 360);
+            v22 = v22 - v8;
+            if (v7 < (v22 + v7)) {
+                v7 = ((v7 << 5) + v20) + 24;
+                do {
+                    if (get64(v7) != 0) rattle_dealloc_at(get64(v7 - 16));
+                    v7 = v7 + 32;
+                    v22 = v22 - 1;
+                } while (v22 != 0);
+            }
+            if (v8 != 0) {
+                v7 = v20 + 24;
+                do {
+                    if (get64(v7) != 0) rattle_dealloc_at(get64(v7 - 16));
+                    v7 = v7 + 32;
+                    v8 = v8 - 1;
+                } while (v8 != 0);
+            }
+        }
+        if (v23 != 0) rattle_dealloc_at(v20);
+    }
 l54:;
     v6 = 0;
     v13 = 1;
@@ -12288,76 +11788,77 @@ l50:;
         case 2:
             goto l37;
         default:
-            v44 = 1;
+            break;
+        }
+        v44 = 1;
+        v8 = 0;
+        v6 = 3;
+        v20 = 0;
+        v23 = 0;
+        v19 = 0;
+        v13 = v43;
+        v12 = v43;
+        v11 = v43;
+        v10 = v43;
+        v5 = v43;
+        v9 = v43;
+        v4 = v43;
+        v14 = v43;
+        v21 = 0;
+        v16 = v43;
+        v15 = v43;
+        v32 = v43;
+        v33 = v43;
+        v34 = v43;
+        v35 = v43;
+        v36 = v43;
+        v37 = 3;
+        v45 = 1;
+        v46 = v43;
+        v47 = v43;
+        switch ((uint32_t)(v30 & 255)) {
+        case 1:
+            v45 = 2;
+            goto l39;
+        case 2:
             v8 = 0;
             v6 = 3;
             v20 = 0;
             v23 = 0;
             v19 = 0;
-            v13 = v43;
-            v12 = v43;
-            v11 = v43;
-            v10 = v43;
-            v5 = v43;
-            v9 = v43;
-            v4 = v43;
-            v14 = v43;
+            v13 = 0;
+            v12 = 0;
+            v11 = 0;
+            v10 = 0;
+            v5 = 0;
+            v9 = 0;
+            v4 = 0;
+            v14 = 0;
             v21 = 0;
-            v16 = v43;
-            v15 = v43;
-            v32 = v43;
-            v33 = v43;
-            v34 = v43;
-            v35 = v43;
-            v36 = v43;
+            v16 = 0;
+            v15 = 0;
+            v32 = 0;
+            v33 = 0;
+            v34 = 0;
+            v35 = 0;
+            v36 = 0;
             v37 = 3;
-            v45 = 1;
-            v46 = v43;
-            v47 = v43;
-            switch ((uint32_t)(v30 & 255)) {
-            case 1:
-                v45 = 2;
-                goto l39;
-            case 2:
-                v8 = 0;
-                v6 = 3;
-                v20 = 0;
-                v23 = 0;
-                v19 = 0;
-                v13 = 0;
-                v12 = 0;
-                v11 = 0;
-                v10 = 0;
-                v5 = 0;
-                v9 = 0;
-                v4 = 0;
-                v14 = 0;
-                v21 = 0;
-                v16 = 0;
-                v15 = 0;
-                v32 = 0;
-                v33 = 0;
-                v34 = 0;
-                v35 = 0;
-                v36 = 0;
-                v37 = 3;
-                v45 = 3;
-                goto l29;
-            case 3:
-                v45 = 4;
-                goto l39;
-            case 4:
-                v45 = 5;
-                goto l39;
-            case 5:
-                v45 = 6;
-                goto l39;
-            case 6:
-                v45 = 10;
-                goto l39;
-            default:
-                goto l28;
-            }
+            v45 = 3;
+            goto l29;
+        case 3:
+            v45 = 4;
+            goto l39;
+        case 4:
+            v45 = 5;
+            goto l39;
+        case 5:
+            v45 = 6;
+            goto l39;
+        case 6:
+            v45 = 10;
+            goto l39;
+        default:
+            goto l28;
         }
     case 4:
         goto l36;
@@ -12617,7 +12118,7 @@ l50:;
         v47 = v17;
         goto l28;
     default:
-        goto l49;
+        break;
     }
 l49:;
     v6 = 0;
@@ -12859,112 +12360,106 @@ l28:;
     v6 = 0;
     if (v8 != 0) rattle_dealloc_at(v22);
 l27:;
-    put64(sim, event);
+    put64(sim /* link */, event);
     return v6;
 }
 
+/* sedge_sim_submission, crates/sedgechisel_nodes/src/sim/submissions.rt:63 */
 static uint32_t sedge_sim_submission_at(uint64_t sim, uint64_t k, uint64_t map, uint64_t out, uint64_t room, uint64_t
     count)
 {
     uint32_t v8 = 0;
     uint64_t v6 = 0, v7 = 0, v9 = 0, v10 = 0, v11 = 0, v12 = 0, v13 = 0, v14 = 0;
-    v6 = get64(sim);
-    put64(sim, 0);
-    if (v6 != 0) {
-        if (k < get64(v6 + 0xb38)) {
-            k = get64(v6 + 0xb30) + (k << 5);
-            v7 = get64(k + 16);
-            if (room >= v7) {
-                v8 = get8(k);
-                v9 = (out == 0) ? 0x1000ULL : 0ULL;
-                v10 = out + v9;
-                v11 = get64(k + 8);
-                if ((v10 - v11) < v7) {
-                    v12 = v7 & 3;
-                    room = 0;
-                    if (v7 >= 4) {
-                        v13 = v7 & ~3ULL;
-                        room = 0;
-                        do {
-                            k = v10 + room;
-                            v14 = v11 + room;
-                            put8(k, get8(v14));
-                            put8(k + 1, get8(v14 + 1));
-                            put8(k + 2, get8(v14 + 2));
-                            put8(k + 3, get8(v14 + 3));
-                            room = room + 4;
-                        } while (v13 != room);
-                        if (v12 == 0) goto l4;
-                    }
-                    k = v11 + room;
-                    room = out + (v9 + room);
-                l8:;
-                    put8(room, get8(k));
-                    room = room + 1;
-                    k = k + 1;
-                    v12 = v12 - 1;
-                    if (v12 != 0) goto l8;
-                    goto l4;
-                }
-                if (v7 != 0) copy(v10, v11, v7);
-            l4:;
-                put64(count, v7);
-                put8(map, v8);
-                put64(sim, v6);
-                return 0;
-            }
-            put64(sim, v6);
-            return 252;
-        }
-        put64(sim, v6);
+    v6 = get64(sim /* link */);
+    put64(sim /* link */, 0);
+    if (v6 == 0) return 255;
+    if (k >= get64(v6 + 0xb38)) {
+        put64(sim /* link */, v6);
         return 253;
     }
-    return 255;
+    k = get64(v6 + 0xb30) + (k << 5);
+    v7 = get64(k + 16);
+    if (room < v7) {
+        put64(sim /* link */, v6);
+        return 252;
+    }
+    v8 = get8(k);
+    v9 = (out == 0) ? 0x1000ULL : 0ULL;
+    v10 = out + v9;
+    v11 = get64(k + 8);
+    if ((v10 - v11) < v7) {
+        v12 = v7 & 3;
+        room = 0;
+        if (v7 >= 4) {
+            v13 = v7 & ~3ULL;
+            room = 0;
+            do {
+                k = v10 + room;
+                v14 = v11 + room;
+                put8(k, get8(v14));
+                put8(k + 1, get8(v14 + 1));
+                put8(k + 2, get8(v14 + 2));
+                put8(k + 3, get8(v14 + 3));
+                room = room + 4;
+            } while (v13 != room);
+            if (v12 == 0) goto l4;
+        }
+        k = v11 + room;
+        room = out + (v9 + room);
+        do {
+            put8(room, get8(k));
+            room = room + 1;
+            k = k + 1;
+            v12 = v12 - 1;
+        } while (v12 != 0);
+    } else if (v7 != 0) copy(v10, v11, v7);
+l4:;
+    put64(count, v7);
+    put8(map, v8);
+    put64(sim /* link */, v6);
+    return 0;
 }
 
+/* sedge_sim_submission_length, crates/sedgechisel_nodes/src/sim/submissions.rt:37 */
 static uint32_t sedge_sim_submission_length_at(uint64_t sim, uint64_t k, uint64_t map, uint64_t count)
 {
     uint32_t v5 = 0;
     uint64_t v4 = 0, v6 = 0;
-    v4 = get64(sim);
-    put64(sim, 0);
-    if (v4 != 0) {
-        v5 = 253;
-        if (k >= get64(v4 + 0xb38)) {
-            put64(sim, v4);
-            return v5;
-        }
+    v4 = get64(sim /* link */);
+    put64(sim /* link */, 0);
+    if (v4 == 0) return 255;
+    v5 = 253;
+    if (k < get64(v4 + 0xb38)) {
         k = get64(v4 + 0xb30) + (k << 5);
         v6 = get64(k + 16);
         put8(map, get8(k));
         put64(count, v6);
         v5 = 0;
-        put64(sim, v4);
-        return v5;
     }
-    return 255;
+    put64(sim /* link */, v4);
+    return v5;
 }
 
+/* sedge_sim_submissions, crates/sedgechisel_nodes/src/sim/submissions.rt:16 */
 static uint32_t sedge_sim_submissions_at(uint64_t sim, uint64_t count)
 {
     uint64_t v2 = 0;
-    v2 = get64(sim);
-    put64(sim, 0);
-    if (v2 != 0) {
-        put64(count, get64(v2 + 0xb38));
-        put64(sim, v2);
-        return 0;
-    }
-    return 255;
+    v2 = get64(sim /* link */);
+    put64(sim /* link */, 0);
+    if (v2 == 0) return 255;
+    put64(count, get64(v2 + 0xb38));
+    put64(sim /* link */, v2);
+    return 0;
 }
 
+/* sedge_spacecraft_close, crates/sedgechisel_nodes/src/handles.rt:177 */
 static void sedge_spacecraft_close_at(uint64_t spacecraft)
 {
     unsigned char frame_octets[2368 + 15];
     uint64_t v1 = 0, v2 = 0;
     v1 = aligned(frame_octets);
-    v2 = get64(spacecraft);
-    put64(spacecraft, 0);
+    v2 = get64(spacecraft /* node */);
+    put64(spacecraft /* node */, 0);
     if (v2 == 0) return;
     copy(v1, v2, 0x940);
     rattle_dealloc_at(v2);
@@ -12972,97 +12467,89 @@ static void sedge_spacecraft_close_at(uint64_t spacecraft)
     return;
 }
 
+/* sedge_spacecraft_next, crates/sedgechisel_nodes/src/spacecraft_take.rt:55 */
 static uint32_t sedge_spacecraft_next_at(uint64_t spacecraft, uint64_t map, uint64_t count)
 {
     uint64_t v3 = 0, v4 = 0, v5 = 0, v6 = 0;
-    v3 = get64(spacecraft);
+    v3 = get64(spacecraft /* node */);
     v4 = 0;
-    put64(spacecraft, 0);
-    if (v3 != 0) {
-        v5 = get64(v3 + 0x890);
-        if (v5 == 0) {
-            put64(count, v4);
-            put64(spacecraft, v3);
-            return 0;
-        }
+    put64(spacecraft /* node */, 0);
+    if (v3 == 0) return 255;
+    v5 = get64(v3 + 0x890);
+    if (v5 != 0) {
         v6 = get64(v3 + 0x888);
         if (v5 != get64(v3 + 0x8a8)) v6 = v6 + (get64(v3 + 0x8a0) << 5);
         v4 = get64(v6 + 16);
         put8(map, get8(v6));
-        put64(count, v4);
-        put64(spacecraft, v3);
-        return 0;
     }
-    return 255;
+    put64(count, v4);
+    put64(spacecraft /* node */, v3);
+    return 0;
 }
 
+/* sedge_spacecraft_next_bypass, crates/sedgechisel_nodes/src/spacecraft_take.rt:68 */
 static uint32_t sedge_spacecraft_next_bypass_at(uint64_t spacecraft, uint64_t map, uint64_t count)
 {
     uint64_t v3 = 0, v4 = 0, v5 = 0;
-    v3 = get64(spacecraft);
+    v3 = get64(spacecraft /* node */);
     v4 = 0;
-    put64(spacecraft, 0);
-    if (v3 != 0) {
-        if (get64(v3 + 0x8c0) == 0) {
-            put64(count, v4);
-            put64(spacecraft, v3);
-            return 0;
-        }
+    put64(spacecraft /* node */, 0);
+    if (v3 == 0) return 255;
+    if (get64(v3 + 0x8c0) != 0) {
         v4 = get64(v3 + 0x8c8);
         v5 = get64(v3 + 0x8b8);
         v5 = get64(v3 + 0x8b0) + ((v4 - ((v4 < v5) ? 0ULL : v5)) << 5);
         v4 = get64(v5 + 16);
         put8(map, get8(v5));
-        put64(count, v4);
-        put64(spacecraft, v3);
-        return 0;
     }
-    return 255;
+    put64(count, v4);
+    put64(spacecraft /* node */, v3);
+    return 0;
 }
 
+/* sedge_spacecraft_read, crates/sedgechisel_nodes/src/readings.rt:144 */
 static uint32_t sedge_spacecraft_read_at(uint64_t spacecraft, uint64_t read)
 {
     uint32_t v3 = 0, v4 = 0, v5 = 0, v7 = 0, v8 = 0, v9 = 0, v10 = 0;
     uint64_t v2 = 0, v6 = 0, v11 = 0;
-    v2 = get64(spacecraft);
-    put64(spacecraft, 0);
-    if (v2 != 0) {
-        v3 = get8(v2 + 76);
-        v4 = get8(v2 + 75);
-        v5 = get8(v2 + 74);
-        v6 = (uint64_t)get32(v2 + 60);
-        v7 = get16(v2 + 0x8e0);
-        v8 = get8(v2 + 73);
-        v9 = get8(v2 + 77);
-        v10 = get32(v2 + 4);
-        v11 = get64(v2 + 0x8c0);
-        put64(read + 8, get64(v2 + 0x890));
-        put64(read + 16, v11);
-        put8(read + 24, 0);
-        put8(read + 25, v10);
-        put8(read + 27, v9);
-        put8(read + 28, v8);
-        put16(read + 30, v7);
-        put64(read, v6);
-        put8(read + 29, (v5 != 0) ? 2U : v4);
-        put8(read + 26, ((v4 << 4) | (v5 << 5)) | (v3 << 3));
-        put64(spacecraft, v2);
-        return 0;
-    }
-    return 255;
+    v2 = get64(spacecraft /* node */);
+    put64(spacecraft /* node */, 0);
+    if (v2 == 0) return 255;
+    v3 = get8(v2 + 76);
+    v4 = get8(v2 + 75);
+    v5 = get8(v2 + 74);
+    v6 = (uint64_t)get32(v2 + 60);
+    v7 = get16(v2 + 0x8e0);
+    v8 = get8(v2 + 73);
+    v9 = get8(v2 + 77);
+    v10 = get32(v2 + 4);
+    v11 = get64(v2 + 0x8c0);
+    put64(read + 8 /* ready */, get64(v2 + 0x890));
+    put64(read + 16 /* bypassed */, v11);
+    put8(read + 24 /* status */, 0);
+    put8(read + 25 /* vcid */, v10);
+    put8(read + 27 /* farm_b */, v9);
+    put8(read + 28 /* value */, v8);
+    put16(read + 30 /* mc_count, vc_count */, v7);
+    put64(read /* frame_length */, v6);
+    put8(read + 29 /* state */, (v5 != 0) ? 2U : v4);
+    put8(read + 26 /* flags */, ((v4 << 4) | (v5 << 5)) | (v3 << 3));
+    put64(spacecraft /* node */, v2);
+    return 0;
 }
 
+/* sedge_spacecraft_receive, crates/sedgechisel_nodes/src/spacecraft.rt:103 */
 static uint32_t sedge_spacecraft_receive_at(uint64_t spacecraft, uint64_t octets, uint64_t count, uint64_t received)
 {
     unsigned char frame_octets[240 + 15];
     uint32_t v6 = 0, v7 = 0, v8 = 0, v9 = 0, v10 = 0, v11 = 0, v12 = 0, v13 = 0, v14 = 0, v15 = 0;
     uint64_t v4 = 0, v5 = 0;
     v4 = aligned(frame_octets);
-    v5 = get64(spacecraft);
-    put64(spacecraft, 0);
+    v5 = get64(spacecraft /* node */);
+    put64(spacecraft /* node */, 0);
     if (v5 == 0) {
         v6 = 255;
-        return v6;
+        return 255;
     }
     v6 = 0;
     fill(v4 + 32, 0, 208);
@@ -13072,273 +12559,267 @@ static uint32_t sedge_spacecraft_receive_at(uint64_t spacecraft, uint64_t octets
     nodes_spacecraft_Spacecraft_prepare(v4 + 32, v5, some(octets), count);
     if (get8(v4 + 32) != 0) {
         v6 = 6;
-        goto l3;
-    }
-    nodes_spacecraft_Spacecraft_commit(v4 + 8, v5, v4 + 40);
-    v7 = get8(v4 + 10);
-    v8 = get8(v4 + 9);
-    octets = 0;
-    v9 = 2;
-    v10 = 0;
-    v11 = 0;
-    v12 = 0;
-    v13 = 0;
-    v14 = 0;
-    v15 = 0;
-    switch ((uint32_t)(uint64_t)get8(v4 + 8)) {
-    case 1:
-        goto l5;
-    case 2:
-        octets = get64(v4 + 16);
-        v6 = 0;
-        v12 = ((get8(v4 + 24) & 255) != 0) ? (get8(v4 + 25) + 1) : 0U;
-        v9 = 3;
-        v10 = 0;
-        v11 = 0;
-        v13 = v7;
-        v14 = v8;
-        goto l6;
-    case 3:
-        v11 = v8 & 1;
-        v9 = 4;
-        v10 = 0;
-        v12 = 0;
-        v13 = 0;
-        goto l7;
-    case 4:
-        goto l8;
-    default:
-        v9 = 1;
-        v15 = v8 + 1;
+    } else {
+        nodes_spacecraft_Spacecraft_commit(v4 + 8, v5, v4 + 40);
+        v7 = get8(v4 + 10);
+        v8 = get8(v4 + 9);
+        octets = 0;
+        v9 = 2;
         v10 = 0;
         v11 = 0;
         v12 = 0;
         v13 = 0;
         v14 = 0;
-        goto l5;
+        v15 = 0;
+        switch ((uint32_t)(uint64_t)get8(v4 + 8)) {
+        case 1:
+            goto l5;
+        case 2:
+            octets = get64(v4 + 16);
+            v6 = 0;
+            v12 = ((get8(v4 + 24) & 255) != 0) ? (get8(v4 + 25) + 1) : 0U;
+            v9 = 3;
+            v10 = 0;
+            v11 = 0;
+            v13 = v7;
+            v14 = v8;
+            goto l6;
+        case 3:
+            v11 = v8 & 1;
+            v9 = 4;
+            v10 = 0;
+            v12 = 0;
+            v13 = 0;
+            break;
+        case 4:
+            v13 = 0;
+            v9 = v8 & 255;
+            v6 = (v9 != 0) ? v7 : 0U;
+            v10 = v9 != 0;
+            v9 = 5;
+            v11 = 0;
+            v12 = 0;
+            break;
+        default:
+            v9 = 1;
+            v15 = v8 + 1;
+            v10 = 0;
+            v11 = 0;
+            v12 = 0;
+            v13 = 0;
+            v14 = 0;
+            goto l5;
+        }
+        v14 = 0;
+    l6:;
+        v15 = 0;
+    l5:;
+        put8(received + 15 /* vr */, v6);
+        put8(received + 14 /* command */, v10);
+        put8(received + 13 /* kept */, v11);
+        put8(received + 12 /* dropped */, v12);
+        put8(received + 11 /* verdict */, v13);
+        put8(received + 10 /* n */, v14);
+        put8(received + 9 /* fault */, v15);
+        put8(received + 8 /* kind */, v9);
+        put64(received /* ready */, octets);
+        v6 = 0;
     }
-l8:;
-    v13 = 0;
-    v9 = v8 & 255;
-    v6 = (v9 != 0) ? v7 : 0U;
-    v10 = v9 != 0;
-    v9 = 5;
-    v11 = 0;
-    v12 = 0;
-l7:;
-    v14 = 0;
-l6:;
-    v15 = 0;
-l5:;
-    put8(received + 15, v6);
-    put8(received + 14, v10);
-    put8(received + 13, v11);
-    put8(received + 12, v12);
-    put8(received + 11, v13);
-    put8(received + 10, v14);
-    put8(received + 9, v15);
-    put8(received + 8, v9);
-    put64(received, octets);
-    v6 = 0;
-l3:;
-    put64(spacecraft, v5);
+    put64(spacecraft /* node */, v5);
     return v6;
 }
 
+/* sedge_spacecraft_telemetry, crates/sedgechisel_nodes/src/spacecraft.rt:127 */
 static uint32_t sedge_spacecraft_telemetry_at(uint64_t spacecraft, uint64_t packet, uint64_t count)
 {
     unsigned char frame_octets[16 + 15];
     uint32_t v5 = 0, v6 = 0;
     uint64_t v3 = 0, v4 = 0;
     v3 = aligned(frame_octets);
-    v4 = get64(spacecraft);
-    put64(spacecraft, 0);
+    v4 = get64(spacecraft /* node */);
+    put64(spacecraft /* node */, 0);
     if (v4 == 0) {
         v5 = 255;
-        return v5;
+        return 255;
     }
     nodes_spacecraft_Spacecraft_telemetry(v3 + 8, v4, some(packet), count);
     v5 = get8(v3 + 8);
     v6 = get8(v3 + 9);
-    put64(spacecraft, v4);
+    put64(spacecraft /* node */, v4);
     v5 = (v5 != 0) ? (v6 + 1) : 0U;
     return v5;
 }
 
+/* sedge_spacecraft_telemetry_frame, crates/sedgechisel_nodes/src/spacecraft_take.rt:154 */
 static uint32_t sedge_spacecraft_telemetry_frame_at(uint64_t spacecraft, uint64_t out, uint64_t room, uint64_t count)
 {
     unsigned char frame_octets[32 + 15];
     uint32_t v6 = 0, v7 = 0, v8 = 0, v9 = 0, v10 = 0, v11 = 0, t1;
     uint64_t v4 = 0, v5 = 0, v12 = 0, v13 = 0, v14 = 0, v15 = 0, v16 = 0, v17 = 0, v18 = 0, t2;
     v4 = aligned(frame_octets);
-    v5 = get64(spacecraft);
-    put64(spacecraft, 0);
+    v5 = get64(spacecraft /* node */);
+    put64(spacecraft /* node */, 0);
     if (v5 == 0) {
         v6 = 255;
-        return v6;
+        return 255;
     }
     v6 = 252;
-    if (room >= (uint64_t)get32(v5 + 60)) {
-        v6 = get32(v5 + 4);
-        if ((v6 & 192) != 0) UNREACHABLE;
-        v7 = get8(v5 + 77);
-        if ((v7 & 255) > 3) UNREACHABLE;
-        v8 = get8(v5 + 73);
-        v9 = get8(v5 + 76);
-        v10 = get8(v5 + 74);
-        v11 = get8(v5 + 75);
-        put16(v4 + 13, 0);
-        put8(v4 + 15, 0);
-        put8(v4 + 12, get8(v5 + 0x8e1));
-        put8(v4 + 11, get8(v5 + 0x8e0));
-        put8(v4 + 10, get8(v5 + 0x8d2));
-        put16(v4 + 8, get16(v5 + 0x8d0));
-        put64(v4 + 24, (uint64_t)get32(v5 + 0x910));
-        v12 = v5 + 0x8e8;
-        put64(v4 + 16, get64(v12));
-        room = v5 + 0x908;
-        v13 = get64(room);
-        v14 = v5 + 0x8f8;
-        t1 = (((((((v11 << 4) | (v7 << 1)) | (v10 << 5)) | (v9 << 3)) & 254) << 16) | ((v6 << 10) & 0xfc00)) | (v8 <<
-            24);
-        t2 = some(out);
-        out = v5 + 0x8d8;
-        tm_link_turn_put_next(v4 + 8, get64(v5 + 0x8f0) + v13, get64(v14) - v13, t1 | 1, t2, get64(out));
-        v15 = get64(out);
-        room = get64(room);
-        out = get64(v14);
-        v12 = get64(v12);
-        if (v12 == 0) {
-            if (out == room) goto l5;
-        }
-        v13 = out - room;
-        out = v15 - 12;
-        v16 = (out < v12) ? out : v12;
-        out = out - v16;
-        v14 = (v13 < out) ? v13 : out;
-        if (out <= v13) {
-            v12 = v12 - v16;
-            goto l7;
-        }
+    if (room < (uint64_t)get32(v5 + 60)) goto l4;
+    v6 = get32(v5 + 4);
+    if ((v6 & 192) != 0) UNREACHABLE;
+    v7 = get8(v5 + 77);
+    if ((v7 & 255) > 3) UNREACHABLE;
+    v8 = get8(v5 + 73);
+    v9 = get8(v5 + 76);
+    v10 = get8(v5 + 74);
+    v11 = get8(v5 + 75);
+    put16(v4 + 13, 0);
+    put8(v4 + 15, 0);
+    put8(v4 + 12, get8(v5 + 0x8e1));
+    put8(v4 + 11, get8(v5 + 0x8e0));
+    put8(v4 + 10, get8(v5 + 0x8d2));
+    put16(v4 + 8, get16(v5 + 0x8d0));
+    put64(v4 + 24, (uint64_t)get32(v5 + 0x910));
+    v12 = v5 + 0x8e8;
+    put64(v4 + 16, get64(v12));
+    room = v5 + 0x908;
+    v13 = get64(room);
+    v14 = v5 + 0x8f8;
+    t1 = (((((((v11 << 4) | (v7 << 1)) | (v10 << 5)) | (v9 << 3)) & 254) << 16) | ((v6 << 10) & 0xfc00)) | (v8 << 24);
+    t2 = some(out);
+    out = v5 + 0x8d8;
+    tm_link_turn_put_next(v4 + 8, get64(v5 + 0x8f0) + v13, get64(v14) - v13, t1 | 1, t2, get64(out));
+    v15 = get64(out);
+    room = get64(room);
+    out = get64(v14);
+    v12 = get64(v12);
+    if (v12 == 0 && out == room) goto l5;
+    v13 = out - room;
+    out = v15 - 12;
+    v16 = (out < v12) ? out : v12;
+    out = out - v16;
+    v14 = (v13 < out) ? v13 : out;
+    if (out <= v13) {
+        v12 = v12 - v16;
+    } else {
         v12 = out - v13;
         v12 = (v12 < 7) ? (v12 ^ 7) : 0ULL;
-    l7:;
-        put64(v5 + 0x908, v14 + room);
-        put64(v5 + 0x8e8, v12);
-        v6 = get32(v5 + 0x910);
-        v13 = (uint64_t)v6;
-        if (out > v13) {
-            v17 = v5 + 0x920;
-            room = get64(v17);
-            v14 = v5 + 0x938;
-            v16 = v5 + 0x930;
-            v18 = v5 + 0x918;
-            do {
-                if (room == 0) {
-                    v6 = 0;
-                    goto l9;
-                }
-                if (room != get64(v14)) {
-                    v12 = get64(v16);
-                    goto l13;
-                }
+    }
+    put64(v5 + 0x908, v14 + room);
+    put64(v5 + 0x8e8, v12);
+    v6 = get32(v5 + 0x910);
+    v13 = (uint64_t)v6;
+    if (out > v13) {
+        v17 = v5 + 0x920;
+        room = get64(v17);
+        v14 = v5 + 0x938;
+        v16 = v5 + 0x930;
+        v18 = v5 + 0x918;
+        do {
+            if (room == 0) {
+                v6 = 0;
+                goto l9;
+            }
+            if (room != get64(v14)) {
+                v12 = get64(v16);
+            } else {
                 v12 = 0;
                 put64(v14, 0);
-            l13:;
-                room = room - 1;
-                put64(v17, room);
-                put64(v16, v12 + 1);
-                out = out - v13;
-                v6 = get32(get64(v18) + (v12 << 2));
-                v12 = (uint64_t)v6;
-                v13 = v12;
-            } while (out > v12);
-        }
-        v6 = v6 - (uint32_t)out;
-    l9:;
-        put32(v5 + 0x910, v6);
-    l5:;
-        room = v5 + 0x8e0;
-        put8(room, get8(room) + 1);
-        room = v5 + 0x8e1;
-        put8(room, get8(room) + 1);
-        put64(count, v15);
-        v6 = 0;
+            }
+            room = room - 1;
+            put64(v17, room);
+            put64(v16, v12 + 1);
+            out = out - v13;
+            v6 = get32(get64(v18) + (v12 << 2));
+            v12 = (uint64_t)v6;
+            v13 = v12;
+        } while (out > v12);
     }
-    put64(spacecraft, v5);
+    v6 = v6 - (uint32_t)out;
+l9:;
+    put32(v5 + 0x910, v6);
+l5:;
+    room = v5 + 0x8e0;
+    put8(room, get8(room) + 1);
+    room = v5 + 0x8e1;
+    put8(room, get8(room) + 1);
+    put64(count, v15);
+    v6 = 0;
+l4:;
+    put64(spacecraft /* node */, v5);
     return v6;
 }
 
+/* sedge_spacecraft_take, crates/sedgechisel_nodes/src/spacecraft_take.rt:103 */
 static uint32_t sedge_spacecraft_take_at(uint64_t spacecraft, uint64_t map, uint64_t out, uint64_t room, uint64_t
     count)
 {
     return sedgechisel_nodes_spacecraft_take_taken(spacecraft, 0, map, some(out), room, count);
 }
 
+/* sedge_spacecraft_take_bypass, crates/sedgechisel_nodes/src/spacecraft_take.rt:120 */
 static uint32_t sedge_spacecraft_take_bypass_at(uint64_t spacecraft, uint64_t map, uint64_t out, uint64_t room,
     uint64_t count)
 {
     uint32_t v6 = 0;
     uint64_t v5 = 0, v7 = 0, v8 = 0, v9 = 0, v10 = 0, v11 = 0, v12 = 0, v13 = 0, v14 = 0, t1;
-    v5 = get64(spacecraft);
-    put64(spacecraft, 0);
-    if (v5 != 0) {
-        if (get64(v5 + 0x8c0) == 0) {
-            put64(count, 0);
-            goto l3;
-        }
-        v6 = 252;
-        v7 = get64(v5 + 0x8c8);
-        v8 = get64(v5 + 0x8b8);
-        v7 = get64(v5 + 0x8b0) + ((v7 - ((v7 < v8) ? 0ULL : v8)) << 5);
-        v9 = get64(v7 + 16);
-        if (room < v9) {
-            put64(spacecraft, v5);
-            return v6;
-        }
-        v6 = get8(v7);
-        v10 = (out == 0) ? 0x1000ULL : 0ULL;
-        v11 = out + v10;
-        v12 = get64(v7 + 8);
-        if ((v11 - v12) < v9) {
-            v13 = v9 & 3;
-            v7 = 0;
-            if (v9 >= 4) {
-                v14 = v9 & ~3ULL;
-                v7 = 0;
-                do {
-                    room = v11 + v7;
-                    v8 = v12 + v7;
-                    put8(room, get8(v8));
-                    put8(room + 1, get8(v8 + 1));
-                    put8(room + 2, get8(v8 + 2));
-                    put8(room + 3, get8(v8 + 3));
-                    v7 = v7 + 4;
-                } while (v14 != v7);
-                if (v13 == 0) goto l4;
-            }
-            room = v12 + v7;
-            v7 = out + (v10 + v7);
-        l9:;
-            put8(v7, get8(room));
-            v7 = v7 + 1;
-            room = room + 1;
-            v13 = v13 - 1;
-            if (v13 != 0) goto l9;
-            goto l4;
-        }
-        if (v9 != 0) copy(v11, v12, v9);
-    l4:;
-        put64(count, v9);
-        put8(map, v6);
-    l3:;
-        v6 = 0;
-        room = v5 + 0x8c0;
-        v7 = get64(room);
-        if (v7 == 0) {
-            put64(spacecraft, v5);
-            return v6;
-        }
+    v5 = get64(spacecraft /* node */);
+    put64(spacecraft /* node */, 0);
+    if (v5 == 0) return 255;
+    if (get64(v5 + 0x8c0) == 0) {
+        put64(count, 0);
+        goto l3;
+    }
+    v6 = 252;
+    v7 = get64(v5 + 0x8c8);
+    v8 = get64(v5 + 0x8b8);
+    v7 = get64(v5 + 0x8b0) + ((v7 - ((v7 < v8) ? 0ULL : v8)) << 5);
+    v9 = get64(v7 + 16);
+    if (room < v9) {
+        put64(spacecraft /* node */, v5);
+        return 252;
+    }
+    v6 = get8(v7);
+    v10 = (out == 0) ? 0x1000ULL : 0ULL;
+    v11 = out + v10;
+    v12 = get64(v7 + 8);
+    if ((v11 - v12) >= v9) {
+        if (v9 == 0) goto l4;
+        copy(v11, v12, v9);
+        goto l4;
+    }
+    v13 = v9 & 3;
+    v7 = 0;
+    if (v9 >= 4) {
+        v14 = v9 & ~3ULL;
+        v7 = 0;
+        do {
+            room = v11 + v7;
+            v8 = v12 + v7;
+            put8(room, get8(v8));
+            put8(room + 1, get8(v8 + 1));
+            put8(room + 2, get8(v8 + 2));
+            put8(room + 3, get8(v8 + 3));
+            v7 = v7 + 4;
+        } while (v14 != v7);
+        if (v13 == 0) goto l4;
+    }
+    room = v12 + v7;
+    v7 = out + (v10 + v7);
+    do {
+        put8(v7, get8(room));
+        v7 = v7 + 1;
+        room = room + 1;
+        v13 = v13 - 1;
+    } while (v13 != 0);
+l4:;
+    put64(count, v9);
+    put8(map, v6);
+l3:;
+    v6 = 0;
+    room = v5 + 0x8c0;
+    v7 = get64(room);
+    if (v7 != 0) {
         put64(room, v7 - 1);
         room = v5 + 0x8c8;
         t1 = room;
@@ -13347,54 +12828,47 @@ static uint32_t sedge_spacecraft_take_bypass_at(uint64_t spacecraft, uint64_t ma
         v8 = get64(v5 + 0x8b8);
         put64(t1, v7 - ((v7 < v8) ? 0ULL : v8));
         room = get64(v5 + 0x8b0) + (room << 5);
-        if (get64(room + 24) == 0) {
-            put64(spacecraft, v5);
-            return v6;
-        }
-        rattle_dealloc_at(get64(room + 8));
-        put64(spacecraft, v5);
-        return v6;
+        if (get64(room + 24) != 0) rattle_dealloc_at(get64(room + 8));
     }
-    return 255;
+    put64(spacecraft /* node */, v5);
+    return 0;
 }
 
+/* sedge_ground_accepted_beyond, crates/sedgechisel_nodes/src/readings.rt:161 */
 static uint32_t sedge_ground_accepted_beyond_at(uint64_t ground, uint32_t value, uint64_t accepted)
 {
-    uint32_t v4 = 0, v5 = 0, v6 = 0, v7 = 0;
+    uint32_t v4 = 0, v5 = 0, v6 = 0;
     uint64_t v3 = 0;
-    v3 = get64(ground);
-    put64(ground, 0);
-    if (v3 != 0) {
-        v4 = 0;
-        v5 = get8(v3 + 74);
-        v6 = get8(v3 + 75);
-        if (v5 != v6) {
-            v7 = 253;
-            v4 = value - v6;
-            if (((v5 - v6) & 255) < (v4 & 255)) {
-                put64(ground, v3);
-                return v7;
-            }
+    v3 = get64(ground /* node */);
+    put64(ground /* node */, 0);
+    if (v3 == 0) return 255;
+    v4 = 0;
+    v5 = get8(v3 + 74);
+    v6 = get8(v3 + 75);
+    if (v5 != v6) {
+        v4 = value - v6;
+        if (((v5 - v6) & 255) < (v4 & 255)) {
+            put64(ground /* node */, v3);
+            return 253;
         }
-        put8(accepted, v4);
-        v7 = 0;
-        put64(ground, v3);
-        return v7;
     }
-    return 255;
+    put8(accepted, v4);
+    put64(ground /* node */, v3);
+    return 0;
 }
 
+/* sedge_ground_clcw_in, crates/sedgechisel_nodes/src/ground_telemetry.rt:199 */
 static uint32_t sedge_ground_clcw_in_at(uint64_t ground, uint64_t octets, uint64_t count, uint64_t word)
 {
     unsigned char frame_octets[48 + 15];
     uint32_t v6 = 0, v8 = 0;
     uint64_t v4 = 0, v5 = 0, v7 = 0;
     v4 = aligned(frame_octets);
-    v5 = get64(ground);
-    put64(ground, 0);
+    v5 = get64(ground /* node */);
+    put64(ground /* node */, 0);
     if (v5 == 0) {
         v6 = 255;
-        return v6;
+        return 255;
     }
     v7 = (uint64_t)get32(v5 + 60);
     put64(v4 + 40, 0);
@@ -13406,149 +12880,140 @@ static uint32_t sedge_ground_clcw_in_at(uint64_t ground, uint64_t octets, uint64
     tm_link_decoding_decode(v4, some(octets), count, v7);
     if (get8(v4) == 0) {
         v6 = get32(v4 + 40);
-        if ((v6 & 224) == 0) {
-            if ((v6 & 3) == 1) {
-                v8 = v6 >> 16;
-                if ((((v6 >> 8) & 3) | (v8 & 1)) == 0) goto l4;
+        if ((v6 & 224) == 0 && (v6 & 3) == 1) {
+            v8 = v6 >> 16;
+            if ((((v6 >> 8) & 3) | (v8 & 1)) == 0) {
+                put8(word /* status */, (v6 & 252) >> 2);
+                put32(word + 1 /* vcid, flags, farm_b, value */, ((((v6 >> 10) & 63) | (v6 & 0xff000000U)) | ((v6 >>
+                    1) & 0x30000)) | ((v8 << 8) & 0xf800));
+                v6 = 0;
+                goto l3;
             }
         }
     }
     v6 = 253;
-    goto l3;
-l4:;
-    put8(word, (v6 & 252) >> 2);
-    put32(word + 1, ((((v6 >> 10) & 63) | (v6 & 0xff000000U)) | ((v6 >> 1) & 0x30000)) | ((v8 << 8) & 0xf800));
-    v6 = 0;
 l3:;
-    put64(ground, v5);
+    put64(ground /* node */, v5);
     return v6;
 }
 
+/* sedge_ground_known_on_board, crates/sedgechisel_nodes/src/readings.rt:184 */
 static uint32_t sedge_ground_known_on_board_at(uint64_t ground, uint32_t value, uint64_t whole)
 {
-    uint32_t v4 = 0, v7 = 0, v8 = 0;
+    uint32_t v7 = 0, v8 = 0;
     uint64_t v3 = 0, v5 = 0, v6 = 0, v9 = 0, v10 = 0, v11 = 0, v12 = 0, v13 = 0, v14 = 0, v15 = 0, v16 = 0;
-    v3 = get64(ground);
-    put64(ground, 0);
-    if (v3 != 0) {
-        v4 = 253;
-        if (get8(v3 + 296) != 1) {
-            put64(ground, v3);
-            return v4;
+    v3 = get64(ground /* node */);
+    put64(ground /* node */, 0);
+    if (v3 == 0) return 255;
+    if (get8(v3 + 296) != 1) {
+        put64(ground /* node */, v3);
+        return 253;
+    }
+    v5 = 0;
+    v6 = 0;
+    v7 = get8(v3 + 74);
+    v8 = get8(v3 + 75);
+    if (v7 != v8) {
+        value = value - v8;
+        v8 = ((v7 - v8) & 255) < (value & 255);
+        if (v8 != 0) {
+            put64(ground /* node */, v3);
+            return 253;
         }
+        v6 = (uint64_t)((v8 != 0) ? 0U : value) & 255;
+    }
+    v9 = get64(v3 + 248);
+    v10 = get64(v3 + 264);
+    if (v10 != 0) {
+        v5 = get64(v3 + 288);
+        v11 = v5 - v10;
+        v12 = v10 - v5;
+        v13 = get64(v3 + 256);
         v5 = 0;
-        v6 = 0;
-        v7 = get8(v3 + 74);
-        v8 = get8(v3 + 75);
-        if (v7 != v8) {
-            value = value - v8;
-            v8 = ((v7 - v8) & 255) < (value & 255);
-            if (v8 != 0) {
-                put64(ground, v3);
-                return v4;
-            }
-            v6 = (uint64_t)((v8 != 0) ? 0U : value) & 255;
-        }
-        v9 = get64(v3 + 248);
-        v10 = get64(v3 + 264);
-        if (v10 != 0) {
-            v5 = get64(v3 + 288);
-            v11 = v5 - v10;
-            v12 = v10 - v5;
-            v13 = get64(v3 + 256);
-            v5 = 0;
-            v14 = v3 + 280;
-            do {
-                if (v5 < v12) {
-                    v15 = v13 + (get64(v14) << 3);
-                    v16 = v5;
-                    goto l6;
-                }
+        v14 = v3 + 280;
+        do {
+            if (v5 < v12) {
+                v15 = v13 + (get64(v14) << 3);
+                v16 = v5;
+            } else {
                 v16 = v11 + v5;
                 v15 = v13;
-            l6:;
-                v15 = get64(v15 + (v16 << 3));
-                v15 = (v15 > 1) ? v15 : 1ULL;
-                if (v6 < v15) goto l4;
-                v6 = v6 - v15;
-                v5 = v5 + 1;
-            } while (v10 != v5);
-            v5 = v10;
-        }
-    l4:;
-        put64(whole, v5 + v9);
-        v4 = 0;
-        put64(ground, v3);
-        return v4;
+            }
+            v15 = get64(v15 + (v16 << 3));
+            v15 = (v15 > 1) ? v15 : 1ULL;
+            if (v6 < v15) goto l4;
+            v6 = v6 - v15;
+            v5 = v5 + 1;
+        } while (v10 != v5);
+        v5 = v10;
     }
-    return 255;
+l4:;
+    put64(whole, v5 + v9);
+    put64(ground /* node */, v3);
+    return 0;
 }
 
+/* sedge_sim_entry_length, crates/sedgechisel_nodes/src/sim/records.rt:84 */
 static uint32_t sedge_sim_entry_length_at(uint64_t sim, uint32_t record, uint32_t map, uint64_t k, uint64_t count)
 {
     uint32_t v6 = 0;
     uint64_t v5 = 0, v7 = 0, v8 = 0;
-    v5 = get64(sim);
-    put64(sim, 0);
-    if (v5 != 0) {
-        v6 = 253;
-        switch ((record & 255) - 1) {
-        case 0:
-            if ((map & 255) > 63) {
-                put64(sim, v5);
-                return v6;
-            }
-            v7 = v5 + (((uint64_t)map & 255) * 24);
-            v8 = get64(v7 + 0xb50);
-            v7 = get64(v7 + 0xb48);
-            goto l3;
-        case 1:
-            if ((map & 255) > 63) {
-                put64(sim, v5);
-                return v6;
-            }
-            v7 = v5 + (((uint64_t)map & 255) * 24);
-            v8 = get64(v7 + 0x1150);
-            v7 = get64(v7 + 0x1148);
-            goto l3;
-        case 2:
-            v8 = get64(v5 + 0x1750);
-            v7 = get64(v5 + 0x1748);
-            goto l3;
-        case 3:
-            goto l4;
-        default:
-            put64(sim, v5);
-            return v6;
+    v5 = get64(sim /* link */);
+    put64(sim /* link */, 0);
+    if (v5 == 0) return 255;
+    v6 = 253;
+    switch ((record & 255) - 1) {
+    case 0:
+        if ((map & 255) > 63) {
+            put64(sim /* link */, v5);
+            return 253;
         }
-    l4:;
+        v7 = v5 + (((uint64_t)map & 255) * 24);
+        v8 = get64(v7 + 0xb50);
+        v7 = get64(v7 + 0xb48);
+        break;
+    case 1:
+        if ((map & 255) > 63) {
+            put64(sim /* link */, v5);
+            return 253;
+        }
+        v7 = v5 + (((uint64_t)map & 255) * 24);
+        v8 = get64(v7 + 0x1150);
+        v7 = get64(v7 + 0x1148);
+        break;
+    case 2:
+        v8 = get64(v5 + 0x1750);
+        v7 = get64(v5 + 0x1748);
+        break;
+    case 3:
         v7 = get64(v5 + 0x1768);
         v8 = get64(v5 + 0x1778) - v7;
         v7 = get64(v5 + 0x1770) + (v7 * 24);
-    l3:;
-        if (k >= v8) {
-            put64(sim, v5);
-            return v6;
-        }
+        break;
+    default:
+        put64(sim /* link */, v5);
+        return 253;
+    }
+    if (k < v8) {
         put64(count, get64((v7 + (k * 24)) + 8));
         v6 = 0;
-        put64(sim, v5);
-        return v6;
     }
-    return 255;
+    put64(sim /* link */, v5);
+    return v6;
 }
 
+/* sedge_ground_peek, crates/sedgechisel_nodes/src/ground_take.rt:105 */
 static uint32_t sedge_ground_peek_at(uint64_t ground, uint64_t out, uint64_t room, uint64_t count)
 {
     unsigned char frame_octets[64 + 15];
     uint32_t v6 = 0;
     uint64_t v4 = 0, v5 = 0;
     v4 = aligned(frame_octets);
-    v5 = get64(ground);
-    put64(ground, 0);
+    v5 = get64(ground /* node */);
+    put64(ground /* node */, 0);
     if (v5 == 0) {
         v6 = 255;
-        return v6;
+        return 255;
     }
     nodes_ground_node_Ground_peek(v4, v5);
     if (get8(v4) == 1) {
@@ -13558,46 +13023,46 @@ static uint32_t sedge_ground_peek_at(uint64_t ground, uint64_t out, uint64_t roo
         v6 = 252;
         if (get8(v4 + 48) != 0) goto l3;
         put64(count, get64(v4 + 56));
-        goto l4;
+    } else {
+        put64(count, 0);
     }
-    put64(count, 0);
-l4:;
     v6 = 0;
 l3:;
-    put64(ground, v5);
+    put64(ground /* node */, v5);
     return v6;
 }
 
+/* sedge_ground_pull, crates/sedgechisel_nodes/src/ground_take.rt:81 */
 static uint32_t sedge_ground_pull_at(uint64_t ground, uint64_t out, uint64_t room, uint64_t count)
 {
     unsigned char frame_octets[64 + 15];
     uint32_t v6 = 0;
     uint64_t v4 = 0, v5 = 0;
     v4 = aligned(frame_octets);
-    v5 = get64(ground);
-    put64(ground, 0);
+    v5 = get64(ground /* node */);
+    put64(ground /* node */, 0);
     if (v5 == 0) {
         v6 = 255;
-        return v6;
+        return 255;
     }
     nodes_ground_node_Ground_peek(v4, v5);
     if (get8(v4) == 1) {
         put64(v4 + 56, 0);
         put64(v4 + 48, 0);
         tc_frame_encoding_encode(v4 + 48, v4 + 8, some(out), room);
-        if (get8(v4 + 48) != 0) {
-            v6 = 252;
-            goto l3;
+        if (get8(v4 + 48) == 0) {
+            put64(count, get64(v4 + 56));
+            goto l4;
         }
-        put64(count, get64(v4 + 56));
-        goto l4;
+        v6 = 252;
+        goto l3;
     }
     put64(count, 0);
 l4:;
     nodes_ground_node_Ground_advance(v5);
     v6 = 0;
 l3:;
-    put64(ground, v5);
+    put64(ground /* node */, v5);
     return v6;
 }
 

@@ -1,5 +1,5 @@
-/* What tctool asks of its system (tctool_system.h), for POSIX and for Windows, and its main. Tested on POSIX, not proved;
- * the part for Windows has not been tried. */
+/* What tctool asks of its system (tctool_system.h), for POSIX and for Windows, and its main. Tested, not proved: on Linux,
+ * and as a program for Windows under wine (c/check_portable). */
 #ifndef _WIN32
 #define _POSIX_C_SOURCE 200809L
 #define _FILE_OFFSET_BITS 64
@@ -26,10 +26,26 @@ uint32_t tctool_error;
 static int word_count;
 static char **words;
 
+/* An error as Linux numbers it, 5 for one that the program says nothing of. */
+static uint32_t number_of(int error)
+{
+    switch (error) {
+    case ENOENT: return 2;
+    case EINTR: return 4;
+    case EACCES: return 13;
+    case ENOTDIR: return 20;
+    case EISDIR: return 21;
+    case EINVAL: return 22;
+    case ENAMETOOLONG: return 36;
+    case ELOOP: return 40;
+    default: return 5;
+    }
+}
+
 /* Keeps why a call failed, and returns -1. */
 static int failed(int error)
 {
-    tctool_error = error == EINTR ? 4 : 5;
+    tctool_error = number_of(error);
     return -1;
 }
 
@@ -46,17 +62,37 @@ int64_t tctool_word(uint64_t place, unsigned char *to, uint64_t room)
 #ifdef _WIN32
 enum { MOST = 1 << 30 };
 
-/* The name is UTF-8; Windows takes UTF-16. */
+/* Why a file was not opened, as POSIX has it. */
+static int why_of(DWORD error)
+{
+    switch (error) {
+    case ERROR_FILE_NOT_FOUND:
+    case ERROR_PATH_NOT_FOUND: return ENOENT;
+    case ERROR_ACCESS_DENIED: return EACCES;
+    case ERROR_DIRECTORY: return ENOTDIR;
+    case ERROR_INVALID_NAME:
+    case ERROR_BAD_PATHNAME:
+    case ERROR_FILENAME_EXCED_RANGE: return ENAMETOOLONG;
+    default: return EIO;
+    }
+}
+
+/* The name is UTF-8; Windows takes UTF-16. A folder is opened too, and then not read, as on POSIX. */
 int32_t tctool_open(const char *name, uint32_t flags)
 {
     wchar_t *wide;
+    HANDLE handle = INVALID_HANDLE_VALUE;
     int file = -1;
     const int count = MultiByteToWideChar(CP_UTF8, MB_ERR_INVALID_CHARS, name, -1, NULL, 0);
     if ((flags & 3) != 0 || count <= 0 || (wide = malloc(sizeof *wide * (size_t)count)) == NULL) return failed(EIO);
     if (MultiByteToWideChar(CP_UTF8, MB_ERR_INVALID_CHARS, name, -1, wide, count) > 0) {
-        file = _wopen(wide, _O_RDONLY | _O_BINARY | _O_NOINHERIT);
+        handle = CreateFileW(wide, GENERIC_READ, FILE_SHARE_READ | FILE_SHARE_WRITE | FILE_SHARE_DELETE, NULL,
+            OPEN_EXISTING, FILE_FLAG_BACKUP_SEMANTICS, NULL);
     }
     free(wide);
+    if (handle == INVALID_HANDLE_VALUE) return failed(count > MAX_PATH ? ENAMETOOLONG : why_of(GetLastError()));
+    file = _open_osfhandle((intptr_t)handle, _O_RDONLY | _O_BINARY);
+    if (file < 0) CloseHandle(handle);
     return file >= 0 ? file : failed(errno);
 }
 
@@ -68,7 +104,7 @@ int32_t tctool_close(int file)
 int64_t tctool_read(int file, unsigned char *to, uint64_t count)
 {
     const int got = _read(file, to, count < MOST ? (unsigned)count : MOST);
-    return got >= 0 ? got : failed(errno);
+    return got >= 0 ? got : failed(errno == EINVAL ? EISDIR : errno); /* (a folder is opened, and then not read) */
 }
 
 int64_t tctool_write(int file, const unsigned char *from, uint64_t count)

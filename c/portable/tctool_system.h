@@ -7,7 +7,9 @@
 #include <stddef.h>
 #include <stdint.h>
 
-/* The last error: 4 for a call that was interrupted, which is made again, and 5 for any other. */
+/* The last error, as Linux numbers it: 4 for a call that was interrupted, which is made again; 2, 13, 20, 21, 36 and 40 for a
+ * file that is not there, that may not be read, within no directory, that is a directory, whose name is too long, and whose
+ * links go round in a circle; 22 for what cannot be asked; and 5 for any other. */
 extern uint32_t tctool_error;
 
 /* Copies a word that the program was given, at place 0 the program's name, and returns the number of its octets: -1 where
