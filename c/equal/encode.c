@@ -1,0 +1,128 @@
+/* cbmc: what writes octets equals the reference, with the FECF as any function of what it is given (MODEL.c of
+ * c/equal/model), for every struct, every octet of data, every room up to 20 octets more than the data, and all numbers
+ * of octets of data from 0 to COUNT, or with -DFROM=n from that. No octet after what is written changes. */
+#include <stddef.h>
+#include <stdint.h>
+#include <stdlib.h>
+static const unsigned char *checked_octets;
+static unsigned short the_check;
+unsigned nondet_u(void);
+#define CHECK(x, what) __CPROVER_assert(x, what)
+
+unsigned model_check(const unsigned char *octets, size_t count) {
+    CHECK(octets == checked_octets, "the check is that of these octets");
+    return (nondet_u() & 0xffff0000U) | the_check;
+}
+
+uint64_t model_quotient(uint64_t of, uint64_t by) {
+    return of + by;
+}
+
+#define REF_CRC(o, n) the_check
+#include "reference_encode.h"
+#ifndef COUNT
+#define COUNT 7
+#endif
+#ifndef FROM
+#define FROM 0
+#endif
+#define ROOM (COUNT + 20)
+uint8_t nondet_8(void);
+uint16_t nondet_16(void);
+size_t nondet_size(void);
+struct sedge_tc_frame nondet_tc(void);
+struct sedge_tm_frame nondet_tm(void);
+struct sedge_packet nondet_packet(void);
+static uint8_t data[COUNT + 1], out[ROOM], other[ROOM];
+static size_t room, total, the_total;
+
+static void begin(void) {
+    __CPROVER_havoc_object(data);
+    __CPROVER_havoc_object(out);
+    __CPROVER_array_copy(other, out);
+    room = nondet_size();
+    __CPROVER_assume(room <= ROOM);
+    total = the_total = nondet_size();
+    checked_octets = out;
+    the_check = nondet_16();
+}
+
+static void end(void) {
+    size_t k = nondet_size();
+    CHECK(total == the_total, "total");
+    if (k < ROOM) CHECK(out[k] == other[k], "octets");
+}
+
+static void tc(struct sedge_tc_frame f, size_t n, bool checked) {
+    begin();
+    CHECK(sedge_tc_encode(&f, data, n, checked, out, room, &total) ==
+              ref_tc_encode(&f, data, n, checked, other, room, &the_total),
+          "answer");
+    end();
+}
+
+static void tc_of(uint8_t kind, bool checked) {
+    for (size_t n = FROM; n <= COUNT; n++) {
+        struct sedge_tc_frame f = nondet_tc();
+        f.kind = kind;
+        tc(f, n, checked);
+    }
+}
+
+void tc_encode_ad(void) {
+    tc_of(SEDGE_TC_AD, false);
+    tc_of(SEDGE_TC_AD, true);
+}
+
+void tc_encode_bd(void) {
+    tc_of(SEDGE_TC_BD, false);
+    tc_of(SEDGE_TC_BD, true);
+}
+
+void tc_encode_bc(void) {
+    struct sedge_tc_frame f = nondet_tc();
+    f.kind = SEDGE_TC_BC;
+    f.command = SEDGE_UNLOCK;
+    tc(f, COUNT, false);
+    tc(f, COUNT, true);
+    f.command = SEDGE_SET_VR;
+    tc(f, COUNT, false);
+    tc(f, COUNT, true);
+}
+
+void packet_encode(void) {
+    for (size_t n = FROM; n <= COUNT; n++) {
+        struct sedge_packet p = nondet_packet();
+        begin();
+        CHECK(sedge_packet_encode(&p, data, n, out, room, &total) ==
+                  ref_packet_encode(&p, data, n, other, room, &the_total),
+              "answer");
+        end();
+    }
+}
+
+void tm_encode(void) {
+    for (size_t n = FROM; n <= COUNT; n++) {
+        struct sedge_tm_frame f = nondet_tm();
+        begin();
+        CHECK(sedge_tm_encode(&f, data, n, out, room, &total) == ref_tm_encode(&f, data, n, other, room, &the_total),
+              "answer");
+        end();
+    }
+}
+
+void check_append(void) {
+    for (size_t n = FROM; n <= COUNT; n++) {
+        begin();
+        CHECK(sedge_check_append(out, n) == ref_check_append(other, n), "answer");
+        end();
+    }
+}
+
+void check_holds(void) {
+    for (size_t n = FROM; n <= COUNT; n++) {
+        begin();
+        CHECK(sedge_check_holds(out, n) == ref_check_holds(other, n), "answer");
+        end();
+    }
+}
