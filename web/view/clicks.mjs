@@ -39,4 +39,5 @@ const wait = setInterval(() => {
     if (at('version').textContent === '') return;
     clearInterval(wait);
     play();
+    document.documentElement.dataset.clicked = '';
 }, 50);

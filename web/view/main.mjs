@@ -1,7 +1,9 @@
 // The page: a script is played line by line, and what is shown is that of the line played last. The address says what
-// to begin with: #example=NAME or #script=TEXT, then &line=N or &play; and octets to read, &octets=HEX&kind=KIND.
+// to begin with: #example=NAME or #script=TEXT, then &line=N or &play; and octets to read, &octets=HEX&kind=KIND. The
+// captures are another view of the page (captures.mjs), which begins with #capture.
 import { load } from '../sedgechisel.mjs';
 import { octetsOf } from '../link.mjs';
+import { Captures } from './captures.mjs';
 import { Ladder } from './ladder.mjs';
 import { decoded, make, showMachines, showPromises, showTransit } from './panels.mjs';
 import { Player } from './player.mjs';
@@ -154,6 +156,22 @@ class Page {
     }
 }
 
+// Shows the scripts, or the captures.
+function turnTo(name) {
+    for (const [id, view] of [['player', 'scripts'], ['scripts', 'scripts'], ['captures', 'captures']]) {
+        at(id).hidden = view !== name;
+    }
+    for (const view of ['scripts', 'captures']) at(`to-${view}`).setAttribute('aria-pressed', view === name);
+}
+
+// Shows what the address says.
+function begin(page, captures) {
+    const asked = new URLSearchParams(location.hash.slice(1));
+    turnTo(asked.has('capture') ? 'captures' : 'scripts');
+    if (asked.has('capture')) captures.beginWith(asked);
+    else page.begin();
+}
+
 // Binds the buttons of the player, and its keys where no field has the focus.
 function bindPlayer(page) {
     const moves = { first: -Infinity, back: -1, step: 1, end: Infinity };
@@ -162,7 +180,8 @@ function bindPlayer(page) {
     for (const name of Object.keys(moves)) at(name).addEventListener('click', () => move(name));
     document.addEventListener('keydown', (event) => {
         const isPlain = !event.altKey && !event.ctrlKey && !event.metaKey && !event.shiftKey, name = keys[event.key];
-        if (!isPlain || name === undefined || /^(INPUT|TEXTAREA|SELECT)$/.test(event.target.tagName)) return;
+        const isField = /^(INPUT|TEXTAREA|SELECT)$/.test(event.target.tagName);
+        if (!isPlain || name === undefined || isField || at('scripts').hidden) return;
         event.preventDefault();
         move(name);
     });
@@ -183,12 +202,39 @@ function bindScript(page) {
     at('text').addEventListener('input', () => page.choose('', page.player.at));
     at('events').addEventListener('click', ({ target }) => target.dataset.line && page.insert(target.dataset.line));
     for (const name of ['kind', 'pasted']) at(name).addEventListener('input', () => page.decode());
-    addEventListener('hashchange', () => location.hash.length > 1 && page.begin());
-    addEventListener('resize', () => {
-        if (at('ladder').clientWidth === page.ladder.from) return;
-        page.ladder.clear();
-        page.ladder.show(page.player.steps, page.player.at);
+    addEventListener('resize', () => drawAnew(page));
+}
+
+// Draws the ladder where its room has another width.
+function drawAnew({ ladder, player }) {
+    if (at('scripts').hidden || at('ladder').clientWidth === ladder.from) return;
+    ladder.clear();
+    ladder.show(player.steps, player.at);
+}
+
+// Binds the buttons of both views; and a file that is dropped anywhere is a capture.
+function bindViews(page, captures) {
+    at('to-scripts').addEventListener('click', () => {
+        turnTo('scripts');
+        if (page.items === undefined) page.begin();
+        drawAnew(page);
     });
+    at('to-captures').addEventListener('click', () => {
+        page.pause();
+        turnTo('captures');
+    });
+    addEventListener('hashchange', () => location.hash.length > 1 && begin(page, captures));
+    for (const name of ['dragover', 'dragleave', 'drop']) {
+        addEventListener(name, (event) => {
+            if (!event.dataTransfer?.types.includes('Files')) return;
+            event.preventDefault();
+            document.body.classList.toggle('dropping', name === 'dragover');
+            if (name !== 'drop' || event.dataTransfer.files.length === 0) return;
+            page.pause();
+            turnTo('captures');
+            captures.open(event.dataTransfer.files[0]);
+        });
+    }
 }
 
 async function start() {
@@ -199,9 +245,11 @@ async function start() {
     at('example').append(...examples, option('', 'a script of your own'));
     at('kind').append(...Object.entries(KINDS).map(([kind, [name]]) => option(kind, name)));
     at('version').textContent = calls.sedge_version();
-    page.begin();
+    const captures = new Captures(made);
+    begin(page, captures);
     bindPlayer(page);
     bindScript(page);
+    bindViews(page, captures);
 }
 
 start().catch((error) => {

@@ -1,0 +1,35 @@
+#!/usr/bin/env node
+// The command tctool in node, by its module: `web/tctool_node.mjs WORDS ..`. The module is tctool.wasm beside this
+// file, or what TCTOOL_MODULE names.
+import { existsSync, openSync, readFileSync, readSync, writeSync } from 'node:fs';
+import { run } from './tctool.mjs';
+
+// What a call of the system returns, less its error where it fails. Where a pipe is not ready it is made again.
+function tried(call) {
+    for (;;) {
+        try {
+            return call();
+        } catch (error) {
+            if (error.code !== 'EAGAIN') return error.errno < 0 ? error.errno : -1;
+            Atomics.wait(new Int32Array(new SharedArrayBuffer(4)), 0, 0, 5);
+        }
+    }
+}
+
+// The words of the command line: texts, or octets where one may not be UTF-8, of which node makes U+FFFD, and the system
+// (Linux) says them.
+function words() {
+    const texts = process.argv.slice(2);
+    const whole = '/proc/self/cmdline';
+    if (!texts.some((it) => it.includes('\ufffd')) || !existsSync(whole)) return texts;
+    const all = readFileSync(whole, 'latin1').split('\0').slice(0, -1);
+    return all.slice(-texts.length).map((it) => Buffer.from(it, 'latin1'));
+}
+
+const file = process.env.TCTOOL_MODULE ?? new URL('tctool.wasm', import.meta.url);
+const module = new WebAssembly.Module(readFileSync(file));
+process.exitCode = run(module, words(), {
+    open: (name) => tried(() => openSync(Buffer.from(name), 'r')),
+    read: (file, room) => tried(() => readSync(file, room, 0, room.length, null)),
+    write: (file, octets) => tried(() => writeSync(file, octets)),
+});
