@@ -151,3 +151,31 @@ def peak(pid):
     """The most memory that a process has held by now, in kilobytes; 0 where it has ended."""
     with open(f"/proc/{pid}/status", encoding="ascii") as status:
         return max([int(it.split()[1]) for it in status if it.startswith("VmHWM:")], default=0)
+
+
+# The inputs, each by its size, and what it has.
+FILES = {
+    "6": (lambda size: frames(size, 6, False, 1), "frames of 6 octets"),
+    "33": (lambda size: frames(size, 33, False, 2), "frames of 33 octets"),
+    "33c": (lambda size: frames(size, 33, True, 3), "frames of 33 octets"),
+    "1024": (lambda size: frames(size, 1024, False, 4), "frames of 1,024 octets"),
+    "1024c": (lambda size: frames(size, 1024, True, 5), "frames of 1,024 octets"),
+    "mixed": (lambda size: mixed_frames(size, False, 6), "frames of mixed length"),
+    "mixedc": (lambda size: mixed_frames(size, True, 7), "frames of mixed length"),
+    "packets": (lambda size: packets(size, 8), "packets of mixed length"),
+    "tm": (lambda size: telemetry(size, 9), "frames of 1,115 octets"),
+    "clcw": (lambda size: words(size, 10), "control words"),
+}
+
+# What is measured: the words of the command, and its input.
+ROWS = [
+    *((command, it) for command in ("tc", "farm", "map") for it in ("6", "33", "1024")),
+    *((f"{command} --check", it) for command in ("tc", "farm", "map") for it in ("33c", "1024c")),
+    ("check", "33c"),
+    ("check", "1024c"),
+    ("tc", "mixed"),
+    ("tc --check", "mixedc"),
+    ("packets", "packets"),
+    ("tm --length 1115", "tm"),
+    ("clcw", "clcw"),
+]

@@ -1,6 +1,7 @@
-"""Archives whose octets depend on their files and one time alone: a tarball, and a package for Debian. For
-tools/release. A file is its name, its octets and its mode."""
+"""Archives whose octets depend on their files and one time alone: a tarball, a package for Debian, and what says of a
+tarball that it is a source package there. For tools/release. A file is its name, its octets and its mode."""
 import gzip
+import hashlib
 import io
 import os
 import tarfile
@@ -45,3 +46,13 @@ def debian(control, files, when):
         packed += f"{name:<16}{when:<12}{0:<6}{0:<6}{100644:<8}{len(octets):<10}`\n".encode() + octets
         packed += b"\n" * (len(octets) % 2)
     return packed
+
+
+def debian_source(control, version, name, octets):
+    """What a .dsc says of a source package of one tarball, by its debian/control."""
+    of = dict(line.split(": ", 1) for line in control.splitlines() if ": " in line)
+    sums = {"Checksums-Sha256": hashlib.sha256, "Files": hashlib.md5}
+    told = {"Format": "3.0 (native)", "Source": of["Source"], "Binary": of["Package"], "Architecture": of["Architecture"]}
+    told |= {"Version": version, **{it: of[it] for it in ("Maintainer", "Standards-Version", "Build-Depends")}}
+    told |= {it: f"\n {summed(octets).hexdigest()} {len(octets)} {name}" for it, summed in sums.items()}
+    return "".join(f"{it}: {what}\n".replace(": \n", ":\n") for it, what in told.items()).encode()
