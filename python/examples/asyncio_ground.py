@@ -1,6 +1,6 @@
 """A ground by asyncio on bare control words, and on a loopback socket a front end with a spacecraft after it. Both ways
 are slow and lose frames; for a while the link is dark, and once the spacecraft restarts. Each command is executed once,
-in order: after an alert the ground goes on as docs/TOUR.md says, by "After an alert" or by "After a reset". Control
+in order: each session begins by the six steps of docs/TOUR.md, "The steps". Control
 words and housekeeping come in one ordered stream, so housekeeping that comes after a word was made after it. Where they
 come by two ways, that has to be known otherwise.
 Run it by PYTHONPATH=DIR/lib/python python3 python/examples/asyncio_ground.py."""
@@ -33,13 +33,14 @@ class Station:
         self.first = 0  # the command that is submission 0 of this session
         self.silence = 0  # the ticks since a frame was pulled
         self.stopped = True  # nothing is pulled until a session begins
+        self.is_open = False  # whether no restart was seen since its command arrived: nothing is submitted before
         self.is_known = False  # whether the session that ended says what is on board
         self.word = None  # a report that was made when nothing was on its way up
         self.boots, self.executed = None, 0
         self.alerts, self.done = set(), asyncio.Event()
 
     def stops(self, is_known):
-        self.stopped, self.is_known, self.word = True, self.is_known and is_known, None
+        self.stopped, self.is_known, self.word, self.silence = True, self.is_known and is_known, None, 0
 
     def gives_up(self, alert):
         if alert:
@@ -53,7 +54,7 @@ class Station:
             if heard.word.wait:
                 self.silence = 0  # the reports before the wait flag is gone say otherwise
             elif self.silence > ROUND_TRIP:
-                self.word = heard.word
+                self.word, self.is_known = heard.word, self.is_known and not heard.word.lockout
 
     def hears_housekeeping(self, boots, executed):
         if self.boots not in (None, boots):  # it has restarted
@@ -63,23 +64,28 @@ class Station:
         self.boots, self.executed = boots, executed
         if self.word:  # it came before, and no restart was between
             self.begins(self.word.value)
+        elif self.silence > ROUND_TRIP:  # so too since the command of the session arrived or was lost
+            self.is_open = True
         if executed == len(self.commands):
             self.done.set()
 
     def begins(self, value):
-        """The next session. Where the last one does not say what is on board, the spacecraft's telemetry does."""
-        if self.is_known and self.ground.known_on_board(value) is not None:
+        """The next session. Where the last one does not say what is on board, the spacecraft's telemetry does; where it
+        does, both agree, since the spacecraft has executed all that was ready."""
+        known = self.ground.known_on_board(value)
+        if self.is_known and known is not None and self.first + known == self.executed:
             self.first += self.ground.resume(value)
         else:
             self.first = self.executed
             self.ground.set_vs(value)
             self.ground.init_unlock()
-        self.stopped, self.is_known, self.word = False, True, None
+        self.stopped, self.is_open, self.is_known, self.word = False, False, True, None
 
     async def sends(self):
         if not self.stopped:
-            for packet in self.commands[self.first + self.ground.submitted:][:20 - self.ground.unsent]:
-                self.ground.submit(MAP, packet)
+            if self.is_open:
+                for packet in self.commands[self.first + self.ground.submitted:][:20 - self.ground.unsent]:
+                    self.ground.submit(MAP, packet)
             for frame in self.ground.frames():
                 self.writer.write(frame)
                 self.silence = 0

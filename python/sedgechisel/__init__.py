@@ -7,6 +7,9 @@
 - Nodes: the ground (`Ground`) and the spacecraft (`Spacecraft`), with their queues, and the simulated link between them
   (`Link`).
 - Files: `read_frames` reads telemetry frames.
+- Old names, which give a DeprecationWarning and go after 0.3: `Farm.report` (now `control_word`), `Fop.report` (now
+  `clcw`), `Ground.report_in` (now `clcw_in`), `Spacecraft.report` (now `telemetry_frame`), `Report.NONE` and
+  `Report.OTHER` (now `REFUSED` and `OTHER_CHANNEL`).
 
 Octets are `bytes`. What the library refuses is a `Fault` with its number and its name, those of the headers for C, and
 its meaning. The fields of structs are those of the headers too; a number that does not fit its field is an

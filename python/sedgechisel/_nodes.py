@@ -371,8 +371,9 @@ class Ground(Directives, Handle):
 
     def telemetry_all(self, octets: bytes, length: int) -> Iterator[Heard]:
         """Octets came that are telemetry frames of `length` octets, one after another: what comes of each, as
-        `telemetry` gives it, when it is asked for. Take the `packets` of each, or at the end those of all. What is left
-        at the end is no frame. A ValueError for a length that is not in 16 to 2,048, and a LinkFault, 6 Memory."""
+        `telemetry` gives it, when it is asked for, and in the same time. Take the `packets` of each, or at the end
+        those of all. What is left at the end is no frame. A ValueError for a length that is not in 16 to 2,048, and a
+        LinkFault, 6 Memory."""
         octets, length = _octets_of("octets", octets), _frame_length_of(length)
         return (self.telemetry(octets[start:start + length]) for start in range(0, len(octets), length))
 
@@ -484,7 +485,8 @@ class Ground(Directives, Handle):
 
     @property
     def outstanding(self) -> int:
-        """How many segments were submitted and are not acknowledged."""
+        """How many segments were submitted, and are not acknowledged. After an alert it is 0: the sender has let go of
+        them."""
         return int(self._read().outstanding)
 
     @property

@@ -34,6 +34,9 @@ class Whole:
         return True
 
     def compared(self, answer):
+        """The answer; of one that says why a line is unreadable that it is."""
+        if answer.startswith("unreadable:"):
+            return "unreadable"
         return " ".join(it for it in answer.split(" ") if not (self.ignored and it.startswith(self.ignored)))
 
 

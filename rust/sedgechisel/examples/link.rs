@@ -1,6 +1,7 @@
 //! A session over both nodes and a link that loses frames: packets are submitted as the queue has room, and each round is
 //! a tick of the clock. After an alert the ground resumes by a report, which says how many packets are on board: the new
-//! session submits the others alone, so that each packet is delivered once.
+//! session submits the others alone, so that each packet is delivered once. No node restarts here. A program for a real
+//! link looks at a boot counter before it resumes, as the example `select` does.
 
 use sedgechisel::{Alert, Clcw, Config, FopState, Ground, Heard, HeardReport, Spacecraft, TcFrame, TmFrame};
 use std::error::Error;

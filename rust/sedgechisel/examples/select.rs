@@ -1,10 +1,10 @@
 //! A ground on bare control words, as a loop of select: it waits for what comes down, for a command to be sent, or for the
 //! next tick, whichever comes first, and after each sends up what is to be sent. On a loopback socket is a front end with
 //! a spacecraft after it. Both ways are slow and lose frames; for a while the link is dark, and once the spacecraft
-//! restarts. Each command is executed once, in order: after an alert the ground goes on as docs/TOUR.md says, by "After an
-//! alert" or by "After a reset". Control words and housekeeping come in one ordered stream, so housekeeping that comes after
-//! a word was made after it; where they come by two ways, that has to be known otherwise. All channels are std's; with an
-//! executor the arms are those of its own select.
+//! restarts. Each command is executed once, in order: each session begins by the six steps of docs/TOUR.md, "The steps".
+//! Control words and housekeeping come in one ordered stream, so housekeeping that comes after a word was made after it;
+//! where they come by two ways, that has to be known otherwise. All channels are std's; with an executor the arms are those
+//! of its own select.
 
 use sedgechisel::{
     Alert, Body, Clcw, Config, Fecf, FopState, Ground, HeardReport, LinkFault, Packet, PacketKind,
@@ -58,6 +58,8 @@ struct Station {
     silence: u32,
     /// Nothing is sent until a session begins.
     is_stopped: bool,
+    /// Whether no restart was seen since its command arrived: nothing is submitted before.
+    is_open: bool,
     /// Whether the session that ended says what is on board.
     is_known: bool,
     /// A report that was made when nothing was on its way up.
@@ -92,6 +94,7 @@ impl Station {
 
     fn stop(&mut self, is_known: bool) {
         (self.is_stopped, self.is_known, self.word) = (true, self.is_known && is_known, None);
+        self.silence = 0;
     }
 
     fn give_up(&mut self, alert: Option<Alert>) {
@@ -111,6 +114,7 @@ impl Station {
         if word.wait {
             self.silence = 0; // the reports before the wait flag is gone say otherwise
         } else if self.silence > ROUND_TRIP {
+            self.is_known &= !word.lockout;
             self.word = Some(word);
         }
         Ok(())
@@ -125,20 +129,27 @@ impl Station {
             self.stop(false);
         }
         (self.boots, self.executed) = (Some(boots), executed);
-        // A word that is kept came before this, and no restart was between.
-        self.word.take().map_or(Ok(()), |word| self.begin(word.value))
+        if let Some(word) = self.word.take() {
+            // It came before this, and no restart was between.
+            return self.begin(word.value);
+        }
+        // So too since the command of the session arrived or was lost.
+        self.is_open |= self.silence > ROUND_TRIP;
+        Ok(())
     }
 
-    /// The next session. Where the last one does not say what is on board, the spacecraft's telemetry does.
+    /// The next session. Where the last one does not say what is on board, the spacecraft's telemetry does; where it
+    /// does, both agree, since the spacecraft has executed all that was ready.
     fn begin(&mut self, value: u8) -> Outcome<()> {
-        if self.is_known && self.ground.known_on_board(value).is_some() {
+        let known = self.ground.known_on_board(value).map(|it| self.first + it as usize);
+        if self.is_known && known == Some(self.executed) {
             self.first += self.ground.resume(value)? as usize;
         } else {
             self.first = self.executed;
             self.ground.set_vs(value)?;
             self.ground.init_unlock()?;
         }
-        (self.is_stopped, self.is_known) = (false, true);
+        (self.is_stopped, self.is_open, self.is_known) = (false, false, true);
         Ok(())
     }
 
@@ -147,7 +158,7 @@ impl Station {
         if self.is_stopped {
             return Ok(());
         }
-        let next = self.first + self.ground.submitted() as usize;
+        let next = if self.is_open { self.first + self.ground.submitted() as usize } else { COMMANDS };
         for command in self.commands.iter().skip(next) {
             match self.ground.submit(MAP, command) {
                 Ok(_) => {}
@@ -311,10 +322,22 @@ fn main() -> Outcome<()> {
     thread::spawn(move || listen(down, &events));
     thread::spawn(move || submit(&submitting));
     let (commands, first, silence, alerts) = (Vec::new(), 0, 0, Vec::new());
-    let (is_stopped, is_known, word, boots, executed) = (true, false, None, None, 0);
+    let (is_stopped, is_open, is_known, word, boots, executed) = (true, false, false, None, None, 0);
     let ground = Ground::new(&config())?;
-    let mut station =
-        Station { ground, up, commands, first, silence, is_stopped, is_known, word, boots, executed, alerts };
+    let mut station = Station {
+        ground,
+        up,
+        commands,
+        first,
+        silence,
+        is_stopped,
+        is_open,
+        is_known,
+        word,
+        boots,
+        executed,
+        alerts,
+    };
     station.run(&waiting)?;
     station.up.shutdown(Shutdown::Both)?;
     let executed = front.join().map_err(|_| "the front end stopped")??;
