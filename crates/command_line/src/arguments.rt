@@ -2,6 +2,7 @@
 
 ghost use Rattle.std.specs.Prelude.{◌≡◌, ◌≤◌, Some, None, IfOk};
 ghost use Rattle.clap.specs.Facts.{least_values};
+ghost use Rattle.command_line.specs.declared.commands.Named.TheVariants as commands;
 ghost use Rattle.command_line.specs.Arguments.{AreArguments, IsArgument, wanted_of};
 ghost use Rattle.command_line.specs.Arguments.{apid, blocking, check, count, file, input, length, map, named, report, resync};
 ghost use Rattle.command_line.specs.Arguments.{scid, skip_invalid, telemetry_vcid, vcid, vr, width};
@@ -26,36 +27,9 @@ impl Named {
         ensures { IfOk result (λ arguments. AreArguments arguments.items (wanted_of self)) }
     {
         Ok(match self {
-            Named::Farm => vec![in alloc;
-                width_option(alloc),
-                vr_option(alloc, by_word),
-                scid_option(alloc),
-                vcid_option(alloc),
-                check_flag(alloc),
-                needs_check(resync_flag(alloc)?)?,
-                count_flag(alloc),
-                file_argument(alloc, help),
-            ]?,
-            Named::Map => vec![in alloc;
-                width_option(alloc),
-                vr_option(alloc, by_word),
-                scid_option(alloc),
-                vcid_option(alloc),
-                map_option(alloc),
-                check_flag(alloc),
-                needs_check(resync_flag(alloc)?)?,
-                blocking_flag(alloc),
-                count_flag(alloc),
-                file_argument(alloc, help),
-            ]?,
-            Named::Tc => vec![in alloc;
-                scid_option(alloc),
-                vcid_option(alloc),
-                check_flag(alloc),
-                needs_check(resync_flag(alloc)?)?,
-                count_flag(alloc),
-                file_argument(alloc, help),
-            ]?,
+            Named::Farm => farm_arguments(alloc, help, by_word)?,
+            Named::Map => map_arguments(alloc, help, by_word)?,
+            Named::Tc => tc_arguments(alloc, help)?,
             Named::Tm => vec![in alloc;
                 length_option(alloc),
                 scid_option(alloc),
@@ -64,13 +38,7 @@ impl Named {
                 count_flag(alloc),
                 file_argument(alloc, help),
             ]?,
-            Named::Check => vec![in alloc;
-                scid_option(alloc),
-                vcid_option(alloc),
-                resync_flag(alloc)?,
-                count_flag(alloc),
-                file_argument(alloc, help),
-            ]?,
+            Named::Check => check_arguments(alloc, help)?,
             Named::Clcw => vec![in alloc; count_flag(alloc), file_argument(alloc, help)]?,
             Named::Packets => vec![in alloc;
                 apid_option(alloc),
@@ -86,6 +54,71 @@ impl Named {
             Named::Ground | Named::Spacecraft => vec![in alloc; input_argument(alloc, help)]?,
         })
     }
+}
+
+// The arguments of `farm`.
+fn farm_arguments<'a>(alloc: Global, help: &'a str, by_word: bool) -> Result<Vec<Arg<'a>>, AllocError>
+    ensures { IfOk result (λ arguments. AreArguments arguments.items (wanted_of commands.Farm)) }
+{
+    let resync = needs_check(resync_flag(alloc)?)?;
+    vec![in alloc;
+        width_option(alloc),
+        vr_option(alloc, by_word),
+        scid_option(alloc),
+        vcid_option(alloc),
+        check_flag(alloc),
+        resync,
+        count_flag(alloc),
+        file_argument(alloc, help),
+    ]
+}
+
+// The arguments of `map`.
+fn map_arguments<'a>(alloc: Global, help: &'a str, by_word: bool) -> Result<Vec<Arg<'a>>, AllocError>
+    ensures { IfOk result (λ arguments. AreArguments arguments.items (wanted_of commands.Map)) }
+{
+    let resync = needs_check(resync_flag(alloc)?)?;
+    vec![in alloc;
+        width_option(alloc),
+        vr_option(alloc, by_word),
+        scid_option(alloc),
+        vcid_option(alloc),
+        map_option(alloc),
+        check_flag(alloc),
+        resync,
+        blocking_flag(alloc),
+        count_flag(alloc),
+        file_argument(alloc, help),
+    ]
+}
+
+// The arguments of `tc`.
+fn tc_arguments<'a>(alloc: Global, help: &'a str) -> Result<Vec<Arg<'a>>, AllocError>
+    ensures { IfOk result (λ arguments. AreArguments arguments.items (wanted_of commands.Tc)) }
+{
+    let resync = needs_check(resync_flag(alloc)?)?;
+    vec![in alloc;
+        scid_option(alloc),
+        vcid_option(alloc),
+        check_flag(alloc),
+        resync,
+        count_flag(alloc),
+        file_argument(alloc, help),
+    ]
+}
+
+// The arguments of `check`.
+fn check_arguments<'a>(alloc: Global, help: &'a str) -> Result<Vec<Arg<'a>>, AllocError>
+    ensures { IfOk result (λ arguments. AreArguments arguments.items (wanted_of commands.Check)) }
+{
+    let resync = resync_flag(alloc)?;
+    vec![in alloc;
+        scid_option(alloc),
+        vcid_option(alloc),
+        resync,
+        count_flag(alloc),
+        file_argument(alloc, help),
+    ]
 }
 
 // `--width W`, the width of the window.
