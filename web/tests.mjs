@@ -51,7 +51,7 @@ function alerts() {
         const alert = n[`SEDGE_ALERT_${name}`], advice = sedge.sedge_alert_advice(alert);
         assert.equal(sedge.sedge_alert_shows_broken_condition(alert), k < 4);
         assert.equal(advice.includes('restart on board'), k < 4);
-        assert.equal(advice.includes('resume by the next CLCW'), k >= 4);
+        assert.equal(advice.includes('resume by a newer CLCW'), k >= 4);
     }
     assert.equal(sedge.sedge_alert_shows_broken_condition(n.SEDGE_NO_ALERT), false);
     assert.equal(sedge.sedge_alert_advice(n.SEDGE_NO_ALERT), '?');

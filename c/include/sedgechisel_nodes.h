@@ -292,7 +292,8 @@ uint8_t sedge_ground_read(struct sedge_ground *ground, struct sedge_ground_readi
 
 /* Writes how many of the segments that were sent and not acknowledged were accepted on board when a report of this
  * value was made: the oldest ones (232.1-B-2, 5.1). It does so after an alert too, until V(S) is set or an initiation
- * begins. If V(S) is NN(R) there are no such segments, and it writes 0 whatever the value. Returns 0, or
+ * begins, and goes by the numbers alone: after an alert that shows a broken condition nothing of them is known,
+ * whatever it writes. If V(S) is NN(R) there are no such segments, and it writes 0 whatever the value. Returns 0, or
  * SEDGE_NODE_ABSENT if there are and the value does not lie from NN(R) to V(S), so that nothing is known of them. */
 SEDGE_CHECK uint8_t sedge_ground_accepted_beyond(struct sedge_ground *ground, uint8_t value, uint8_t *accepted);
 

@@ -36,7 +36,7 @@ static void advice(void) {
         WANT(sedge_alert_shows_broken_condition((uint8_t)number) == is_broken);
         WANT(strlen(it.text) < sizeof it.text && (strcmp(it.text, "?") == 0) == !is_alert);
         WANT((strstr(it.text, "restart on board") != NULL) == is_broken);
-        WANT((strstr(it.text, "resume by the next CLCW") != NULL) == (is_alert && !is_broken));
+        WANT((strstr(it.text, "resume by a newer CLCW") != NULL) == (is_alert && !is_broken));
     }
 }
 

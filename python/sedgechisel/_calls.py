@@ -448,7 +448,8 @@ class Fop(_Struct, Directives):
         """How many of the units that were sent and not acknowledged were accepted on board when a report of this value
         was made, the oldest ones. Where V(S) = NN(R) it is 0, whatever the value. Elsewhere None, where the value is
         beyond V(S): nothing is known of them. After an alert too, in S6, until V(S) is set or an initiation begins
-        (5.1)."""
+        (5.1), by the numbers alone: after one that shows a broken condition nothing is known of them, whatever it
+        says."""
         return _accepted_of(_fop_accepted_beyond, self, value)
 
 

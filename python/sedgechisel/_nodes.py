@@ -417,7 +417,8 @@ class Ground(Directives, Handle):
         """How many of the segments that were sent and not acknowledged were accepted on board when a report of this
         value was made, the oldest ones. Where V(S) = NN(R) it is 0, whatever the value. Elsewhere None, where the value
         is beyond V(S): nothing is known of them. After an alert too, in S6, until V(S) is set or an initiation begins
-        (232.1-B-2, 5.1)."""
+        (232.1-B-2, 5.1), by the numbers alone: after one that shows a broken condition nothing is known of them,
+        whatever it says."""
         accepted = c_uint8()
         return None if self._is_absent(_ground_accepted_beyond(self._handle, value, accepted)) else accepted.value
 

@@ -63,7 +63,7 @@ def alerts(it):
     assert broken == ["LOCKOUT", "NNR", "CLCW", "SYNCH"] and it.Alert.NONE.advice == ""
     for one in [*it.Alert][1:]:
         looks_for = "restart on board" in one.advice and one.advice.endswith("begin anew")
-        assert looks_for == one.shows_a_broken_condition != ("resume by the next CLCW" in one.advice), one.advice
+        assert looks_for == one.shows_a_broken_condition != ("resume by a newer CLCW" in one.advice), one.advice
     return [*(alert for alert, _ in found), active_alert(it)]
 
 

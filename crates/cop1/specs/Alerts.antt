@@ -27,8 +27,8 @@ advice NnR = begin_anew
 advice Clcw = begin_anew
 advice Synch = begin_anew
 advice Limit =
-    codes "frames or reports were lost: after one round trip of silence, resume by the next CLCW"
+    codes "frames or CLCWs were lost: after a silent round trip, resume by a newer CLCW, if the boot count is the same"
 advice Timer =
-    codes "frames or reports were lost: after one round trip of silence, resume by the next CLCW"
+    codes "frames or CLCWs were lost: after a silent round trip, resume by a newer CLCW, if the boot count is the same"
 advice Terminated =
-    codes "the session was terminated: after one round trip of silence, resume by the next CLCW"
+    codes "the session was terminated: after a silent round trip, resume by a newer CLCW, if the boot count is the same"

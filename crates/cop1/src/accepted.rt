@@ -8,7 +8,8 @@ ghost use Rattle.cop1.specs.Accepted.{accepted_beyond};
 /// from NN(R) to `value` - 1. Where V(S) is NN(R) nothing was sent that is not acknowledged, and the
 /// number is 0 whatever the value. None where something was, and the value does not lie from NN(R) to
 /// V(S): nothing is known of it. It is for a sender that gave up, too: an alert leaves both numbers as
-/// they were. It takes no memory.
+/// they were. But it goes by the numbers alone: after an alert that shows a broken condition it says nothing
+/// of these units, whatever it answers. It takes no memory.
 pub fn accepted_beyond(nn: u8, vs: u8, value: u8) -> Option<u8>
     ensures { result ≡ accepted_beyond nn vs value }
 {

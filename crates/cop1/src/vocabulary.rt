@@ -117,10 +117,10 @@ impl Alert {
                 "a condition is broken (restart on board, reordering, second station?): begin anew"
             }
             Alert::Limit | Alert::Timer => {
-                "frames or reports were lost: after one round trip of silence, resume by the next CLCW"
+                "frames or CLCWs were lost: after a silent round trip, resume by a newer CLCW, if the boot count is the same"
             }
             Alert::Terminated => {
-                "the session was terminated: after one round trip of silence, resume by the next CLCW"
+                "the session was terminated: after a silent round trip, resume by a newer CLCW, if the boot count is the same"
             }
         }
     }

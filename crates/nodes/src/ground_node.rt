@@ -138,7 +138,8 @@ impl Ground {
     /// report of this value was made, the oldest ones: 0 whatever the value where V(S) is NN(R), so that
     /// there are none of them; None where there are, and the value does not lie from NN(R) to V(S), so
     /// that nothing is known of them. After an alert too, in S6, since V(S) and NN(R) stay until V(S) is
-    /// set or an initiation begins (CCSDS 232.1-B-2, 5.1). It takes no memory.
+    /// set or an initiation begins (CCSDS 232.1-B-2, 5.1); it goes by these numbers alone, so after an
+    /// alert that shows a broken condition it says nothing of them, whatever it answers. It takes no memory.
     pub fn accepted_beyond(&self, value: u8) -> Option<u8>
         ensures { result ≡ accepted_beyond self.now.fop.nn self.now.fop.vs value }
     {

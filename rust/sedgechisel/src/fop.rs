@@ -259,9 +259,10 @@ impl Fop {
     /// The number of units, of those sent and not acknowledged, that were accepted on board when a report of this
     /// value was made: the oldest ones, those with the numbers from NN(R) to `value` - 1 (CCSDS 232.1-B-2, 5.1). Where
     /// V(S) = NN(R) that is 0, whatever the value. It says so after an alert too, until V(S) is set or an initiation
-    /// begins. `None` if V(S) is not NN(R) and the value is beyond V(S): then nothing is known of these units. A report
-    /// that was made while frames were on their way up says too little for what is sent again (docs/TOUR.md, "A session
-    /// with losses").
+    /// begins. `None` if V(S) is not NN(R) and the value is beyond V(S): then nothing is known of these units. It goes
+    /// by the numbers alone: after an alert that shows a broken condition nothing is known of them, whatever it says. A
+    /// report that was made while frames were on their way up says too little for what is sent again (docs/TOUR.md, "A
+    /// session with losses").
     #[must_use]
     pub fn accepted_beyond(&self, value: u8) -> Option<u8> {
         let mut accepted = 0;
@@ -305,10 +306,10 @@ impl Alert {
                 "a condition is broken (restart on board, reordering, second station?): begin anew"
             }
             Self::Limit | Self::Timer => {
-                "frames or reports were lost: after one round trip of silence, resume by the next CLCW"
+                "frames or CLCWs were lost: after a silent round trip, resume by a newer CLCW, if the boot count is the same"
             }
             Self::Terminated => {
-                "the session was terminated: after one round trip of silence, resume by the next CLCW"
+                "the session was terminated: after a silent round trip, resume by a newer CLCW, if the boot count is the same"
             }
         }
     }

@@ -11,9 +11,10 @@ use cop1::accepted_beyond;
 
 /// Writes how many of the units that were sent and not acknowledged were accepted on board when a report of this value
 /// was made: the oldest ones, those with the numbers from NN(R) to value - 1 (5.1). It does so after an alert too,
-/// until V(S) is set or an initiation begins. If V(S) is NN(R) there are no such units, and it writes 0 whatever the
-/// value. Returns 0, or `SEDGE_DAMAGED`, or `SEDGE_ABSENT` if there are such units and the value does not lie from
-/// NN(R) to V(S), so that nothing is known of them; nothing is written then.
+/// until V(S) is set or an initiation begins, and goes by the numbers alone: after an alert that shows a broken
+/// condition nothing of them is known, whatever it writes. If V(S) is NN(R) there are no such units, and it writes 0
+/// whatever the value. Returns 0, or `SEDGE_DAMAGED`, or `SEDGE_ABSENT` if there are such units and the value does not
+/// lie from NN(R) to V(S), so that nothing is known of them; nothing is written then.
 #[unsafe(no_mangle)]
 #[must_use]
 pub extern "C" fn sedge_fop_accepted_beyond(sender: &KeptSender, value: u8, accepted: &mut u8) -> u8
