@@ -12,6 +12,7 @@ each frame where the code was compiled. LLVM writes `|` for `+` where it knows t
 
 What breaks a rule, or is not known here, is refused with the name of the function."""
 import collections
+import itertools
 import re
 import struct
 import textwrap
@@ -707,7 +708,7 @@ class Translation:
         if self.program.header:
             items, _ = with_numbers(items)
         body = self.without_unread(without_kept(shown(items, 1)))
-        body = self.program.with_fields(self.function, body)
+        body = self.program.with_fields(self.function, body) if self.program.header else with_fillings(body)
         if any(TABLE in it for it in body):
             raise Refused(f"{self.name}: {MISREAD}")
         used = set(re.findall(r"\b[vt]\d+\b", "\n".join(body)))
@@ -740,6 +741,38 @@ def without_kept(body):
     counts = collections.Counter(re.findall(r"\bt\d+\b", "\n".join(body)))
     kept = re.compile(r"^( *)(t\d+) = (\w+\(.*\);)$")
     return [kept.sub(lambda it: it[1] + it[3] if counts[it[2]] == 1 else it[0], line) for line in body]
+
+
+ZEROS = re.compile(r"( *)(?:put(\d+)|fill)\((\w+)(?: \+ (\d\w*))?, 0(?:, (\d\w*))?\);")
+
+
+def with_fillings(body):
+    """A body in which zeros that are put side by side, one statement after another, are one filling."""
+    found = []
+    for where, lines in itertools.groupby(body, lambda line: (it := ZEROS.fullmatch(line)) and (it[1], it[3])):
+        if where is None:
+            found += lines
+            continue
+        rooms = []
+        for it in map(ZEROS.fullmatch, lines):
+            at = int(it[4] or "0", 0)
+            rooms.append((at, at + (int(it[2]) // 8 if it[2] else int(it[5], 0))))
+        for at, end in joined(sorted(rooms)):
+            how, more = (f"put{8 * (end - at)}", "") if end - at in (1, 2, 4, 8) else ("fill", f", {spelled(end - at)}")
+            place = f"{where[1]} + {spelled(at)}" if at else where[1]
+            found.append(f"{where[0]}{how}({place}, 0{more});")
+    return found
+
+
+def joined(rooms):
+    """Places in order, of which those that touch are one."""
+    found = []
+    for at, end in rooms:
+        if found and at <= found[-1][1]:
+            found[-1] = (found[-1][0], max(end, found[-1][1]))
+        else:
+            found.append((at, end))
+    return found
 
 
 def wrapped(text, width=118):
