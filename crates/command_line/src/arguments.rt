@@ -61,7 +61,7 @@ fn farm_arguments<'a>(alloc: Global, help: &'a str, by_word: bool) -> Result<Vec
     ensures { IfOk result (λ arguments. AreArguments arguments.items (wanted_of commands.Farm)) }
 {
     let resync = needs_check(resync_flag(alloc)?)?;
-    vec![in alloc;
+    Ok(vec![in alloc;
         width_option(alloc),
         vr_option(alloc, by_word),
         scid_option(alloc),
@@ -70,7 +70,7 @@ fn farm_arguments<'a>(alloc: Global, help: &'a str, by_word: bool) -> Result<Vec
         resync,
         count_flag(alloc),
         file_argument(alloc, help),
-    ]
+    ]?)
 }
 
 // The arguments of `map`.
@@ -78,7 +78,7 @@ fn map_arguments<'a>(alloc: Global, help: &'a str, by_word: bool) -> Result<Vec<
     ensures { IfOk result (λ arguments. AreArguments arguments.items (wanted_of commands.Map)) }
 {
     let resync = needs_check(resync_flag(alloc)?)?;
-    vec![in alloc;
+    Ok(vec![in alloc;
         width_option(alloc),
         vr_option(alloc, by_word),
         scid_option(alloc),
@@ -89,7 +89,7 @@ fn map_arguments<'a>(alloc: Global, help: &'a str, by_word: bool) -> Result<Vec<
         blocking_flag(alloc),
         count_flag(alloc),
         file_argument(alloc, help),
-    ]
+    ]?)
 }
 
 // The arguments of `tc`.
@@ -97,14 +97,14 @@ fn tc_arguments<'a>(alloc: Global, help: &'a str) -> Result<Vec<Arg<'a>>, AllocE
     ensures { IfOk result (λ arguments. AreArguments arguments.items (wanted_of commands.Tc)) }
 {
     let resync = needs_check(resync_flag(alloc)?)?;
-    vec![in alloc;
+    Ok(vec![in alloc;
         scid_option(alloc),
         vcid_option(alloc),
         check_flag(alloc),
         resync,
         count_flag(alloc),
         file_argument(alloc, help),
-    ]
+    ]?)
 }
 
 // The arguments of `check`.
@@ -112,13 +112,13 @@ fn check_arguments<'a>(alloc: Global, help: &'a str) -> Result<Vec<Arg<'a>>, All
     ensures { IfOk result (λ arguments. AreArguments arguments.items (wanted_of commands.Check)) }
 {
     let resync = resync_flag(alloc)?;
-    vec![in alloc;
+    Ok(vec![in alloc;
         scid_option(alloc),
         vcid_option(alloc),
         resync,
         count_flag(alloc),
         file_argument(alloc, help),
-    ]
+    ]?)
 }
 
 // `--width W`, the width of the window.
