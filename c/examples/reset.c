@@ -1,11 +1,12 @@
 /* A spacecraft that restarts unasked in the middle of a session, and a ground that goes on so that each command is
  * executed once and in sequence. The spacecraft begins in Lockout, so that no report of its new receiver is believed,
- * and each telemetry frame has a packet with its boot count and the number of commands that it has executed. It writes
- * what happens, and ends with 0 where all is as wanted. */
+ * and each telemetry frame has a packet with its boot count and the number of commands that it has executed; all that
+ * it has taken is executed. Each session begins by the six steps of docs/TOUR.md, "The steps". It writes what happens,
+ * and ends with 0 where all is as wanted. */
 #include <sedgechisel_nodes.h>
 #include <stdio.h>
 
-enum { SCID = 1, CHANNEL = 2, MAP = 4, COMMANDS = 8, ROUND_TRIP = 2, RESET_AT = 8, TURNS = 40 };
+enum { SCID = 1, CHANNEL = 2, MAP = 4, COMMANDS = 8, ROUND_TRIP = 2, RESET_AT = 12, TURNS = 40 };
 
 static struct sedge_config config;
 static struct sedge_ground ground;
@@ -13,9 +14,11 @@ static struct sedge_spacecraft spacecraft;
 /* What the spacecraft keeps over a restart, and says of itself. */
 static uint8_t boots, executed;
 /* On the ground: the commands that the sessions before this one have brought on board, the turns since something was
- * sent, the boot count that was last heard, and whether nothing is known of the session. */
-static uint8_t done, quiet, boots_heard;
-static bool has_begun, is_lost;
+ * sent or the session ended, the boot count that was last heard, and a report that was made in silence. */
+static uint8_t done, quiet, boots_heard, value;
+/* Whether there is such a report; whether the session that ended says nothing of what is on board; and whether the
+ * spacecraft has said, with the command of the session on board, that V(R) is V(S). */
+static bool has_value, is_lost = true, is_open;
 
 static void write_packet(uint8_t *packet, uint8_t type, uint8_t one, uint8_t two) {
     const uint8_t octets[8] = {type, 5, 0xc0, 0, 0, 1, one, two};
@@ -58,6 +61,11 @@ static bool telemetry(uint8_t *frame, size_t room, size_t *count) {
 
 /* ---- On the ground. ---- */
 
+/* The session has ended: a silence begins. */
+static void stop(void) {
+    quiet = 0, has_value = false, is_open = false;
+}
+
 /* After an alert that shows a broken condition nothing is known of the session, and `sedge_ground_resume` refuses. */
 static void see(uint8_t alert) {
     struct sedge_text name = sedge_alert_name(alert);
@@ -65,24 +73,38 @@ static void see(uint8_t alert) {
     uint64_t whole;
     if (alert == SEDGE_NO_ALERT) return;
     printf("alert %s: %s\n", name.text, advice.text);
+    stop();
     if (!sedge_alert_shows_broken_condition(alert)) return;
     is_lost = true;
     printf("resume: %d\n", sedge_ground_resume(&ground, 0, &whole));
 }
 
-/* Begins a session by a report that was made after the silence, and by what telemetry said beside it. */
-static bool begin(uint8_t value, uint8_t said) {
+/* Begins a session by a report that was made after the silence, and by what telemetry said after it. Where both speak
+ * of the session that ended, they agree. */
+static bool begin(uint8_t said) {
     uint64_t whole;
-    if (has_begun && !is_lost) {
+    if (!is_lost) {
         if (sedge_ground_resume(&ground, value, &whole) != SEDGE_NODE_OK) return false;
         done += (uint8_t)whole;
+        if (done != said) return false;
     } else {
         if (sedge_ground_set_vs(&ground, value) != SEDGE_OK || sedge_ground_init_unlock(&ground) != SEDGE_OK) return false;
         done = said;
     }
     printf("a session from V(R) %d, and from command %d\n", value, done);
-    has_begun = true, is_lost = false;
+    has_value = false, is_lost = false;
     return true;
+}
+
+/* What a report says that was made one round trip after the last frame was sent: in S6 the value of the next session,
+ * else whether its command is on board. */
+static void hear_report(const struct sedge_clcw *report, const struct sedge_ground_reading *reading) {
+    const uint8_t flags = SEDGE_CLCW_LOCKOUT | SEDGE_CLCW_WAIT | SEDGE_CLCW_RETRANSMIT;
+    if (reading->state != SEDGE_FOP_S6) {
+        is_open = is_open || (report->value == reading->vs && (report->flags & flags) == 0);
+    } else {
+        value = report->value, has_value = true, is_lost = is_lost || (report->flags & SEDGE_CLCW_LOCKOUT) != 0;
+    }
 }
 
 /* Hears a telemetry frame: its report, and its packet. Where the boot count has changed, the session ends. */
@@ -95,18 +117,22 @@ static bool hear(const uint8_t *frame, size_t count) {
     if (sedge_ground_telemetry(&ground, frame, count, &heard) != SEDGE_NODE_OK) return false;
     see(heard.alert);
     if (sedge_ground_take_telemetry(&ground, packet, sizeof packet, &octets) != SEDGE_NODE_OK || octets != 8) return false;
+    if (sedge_ground_read(&ground, &reading) != SEDGE_NODE_OK) return false;
     if (packet[6] != boots_heard) {
         printf("boot count %d, executed %d\n", packet[6], packet[7]);
-        boots_heard = packet[6], is_lost = true, quiet = 0;
-        if (sedge_ground_read(&ground, &reading) != SEDGE_NODE_OK) return false;
-        if (reading.state != SEDGE_FOP_S6 && sedge_ground_terminate(&ground) != SEDGE_OK) return false;
+        boots_heard = packet[6], is_lost = true;
+        stop();
+        return reading.state == SEDGE_FOP_S6 || sedge_ground_terminate(&ground) == SEDGE_OK;
     }
-    if (sedge_ground_read(&ground, &reading) != SEDGE_NODE_OK) return false;
-    if (reading.state != SEDGE_FOP_S6 || heard.report != SEDGE_REPORT_USED || quiet <= ROUND_TRIP) return true;
-    return sedge_ground_clcw_in(&ground, frame, count, &report) == SEDGE_NODE_OK && begin(report.value, packet[7]);
+    if (has_value) return begin(packet[7]); /* (this frame was made after that report) */
+    if (heard.report != SEDGE_REPORT_USED || quiet <= ROUND_TRIP) return true;
+    if (sedge_ground_clcw_in(&ground, frame, count, &report) != SEDGE_NODE_OK) return false;
+    hear_report(&report, &reading);
+    return true;
 }
 
-/* Submits what is not submitted in this session, and sends what may be sent: nothing during the silence, in S6. */
+/* Submits what is not submitted in this session, once its command is on board, and sends what may be sent: nothing
+ * during the silence, in S6. */
 static bool send(void) {
     struct sedge_ground_reading reading;
     struct sedge_received received;
@@ -115,7 +141,7 @@ static bool send(void) {
     quiet++;
     if (sedge_ground_read(&ground, &reading) != SEDGE_NODE_OK) return false;
     if (reading.state == SEDGE_FOP_S6) return true;
-    for (uint8_t k = (uint8_t)(done + reading.submitted); k < COMMANDS; k++) {
+    for (uint8_t k = (uint8_t)(done + reading.submitted); is_open && k < COMMANDS; k++) {
         write_packet(packet, 0x10, k, 0);
         if (sedge_ground_submit(&ground, MAP, packet, sizeof packet) != SEDGE_NODE_OK) return false;
     }
@@ -140,8 +166,7 @@ int main(void) {
     bool is_well;
     sedge_config_default(&config);
     config.frame_length = 32;
-    is_well = sedge_ground_open(&config, &ground) == SEDGE_NODE_OK &&
-              sedge_spacecraft_open(&config, &spacecraft) == SEDGE_NODE_OK;
+    is_well = sedge_ground_open(&config, &ground) == SEDGE_NODE_OK && restart();
     for (int number = 0; is_well && number < TURNS; number++) is_well = turn(number);
     sedge_ground_close(&ground);
     sedge_spacecraft_close(&spacecraft);

@@ -33,14 +33,17 @@ class Station:
         self.first = 0  # the command that is submission 0 of this session
         self.silence = 0  # the ticks since a frame was pulled
         self.stopped = True  # nothing is pulled until a session begins
-        self.is_open = False  # whether no restart was seen since its command arrived: nothing is submitted before
+        self.is_set = False  # whether the spacecraft has said, with its command on board, that V(R) is V(S)
+        self.is_open = False  # whether no restart was seen since either: nothing is submitted before
         self.is_known = False  # whether the session that ended says what is on board
         self.word = None  # a report that was made when nothing was on its way up
+        self.has_disagreed = False  # whether telemetry did not agree with what such a report says is on board
         self.boots, self.executed = None, 0
         self.alerts, self.done = set(), asyncio.Event()
 
     def stops(self, is_known):
         self.stopped, self.is_known, self.word, self.silence = True, self.is_known and is_known, None, 0
+        self.is_set = self.is_open = False
 
     def gives_up(self, alert):
         if alert:
@@ -50,21 +53,25 @@ class Station:
     def hears_word(self, octets):
         heard = self.ground.clcw(octets)
         self.gives_up(heard.alert)
-        if self.stopped and heard.report == sc.Report.USED:
-            if heard.word.wait:
-                self.silence = 0  # the reports before the wait flag is gone say otherwise
-            elif self.silence > ROUND_TRIP:
-                self.word, self.is_known = heard.word, self.is_known and not heard.word.lockout
+        if heard.report != sc.Report.USED or self.silence <= ROUND_TRIP:
+            return
+        word = heard.word
+        if not self.stopped:
+            self.is_set = word.value == self.ground.vs and not (word.lockout or word.wait or word.retransmit)
+        elif word.wait:
+            self.silence = 0  # the reports before the wait flag is gone say otherwise
+        else:
+            self.word, self.is_known = word, self.is_known and not word.lockout
 
     def hears_housekeeping(self, boots, executed):
-        if self.boots not in (None, boots):  # it has restarted
+        if self.boots != boots:  # it has restarted, or nothing was heard of it before
             if self.ground.state != sc.State.S6:
                 self.ground.terminate()
             self.stops(False)
         self.boots, self.executed = boots, executed
         if self.word:  # it came before, and no restart was between
             self.begins(self.word.value)
-        elif self.silence > ROUND_TRIP:  # so too since the command of the session arrived or was lost
+        elif self.is_set:  # so too since the command of the session arrived
             self.is_open = True
         if executed == len(self.commands):
             self.done.set()
@@ -72,14 +79,21 @@ class Station:
     def begins(self, value):
         """The next session. Where the last one does not say what is on board, the spacecraft's telemetry does; where it
         does, both agree, since the spacecraft has executed all that was ready."""
-        known = self.ground.known_on_board(value)
-        if self.is_known and known is not None and self.first + known == self.executed:
-            self.first += self.ground.resume(value)
-        else:
+        known = self.ground.known_on_board(value) if self.is_known else None
+        if self.ground.vs == self.ground.nn != value:
+            known = None  # nothing was unacknowledged, and V(R) is another number
+        if known is None:
             self.first = self.executed
             self.ground.set_vs(value)
             self.ground.init_unlock()
-        self.stopped, self.is_open, self.is_known, self.word = False, False, True, None
+        elif self.first + known == self.executed:
+            self.first += self.ground.resume(value)
+        elif self.has_disagreed:
+            raise SystemExit("telemetry does not agree: a person decides")
+        else:
+            self.has_disagreed = True
+            return self.stops(True)
+        self.stopped, self.is_known, self.word, self.has_disagreed = False, True, None, False
 
     async def sends(self):
         if not self.stopped:

@@ -58,12 +58,16 @@ struct Station {
     silence: u32,
     /// Nothing is sent until a session begins.
     is_stopped: bool,
-    /// Whether no restart was seen since its command arrived: nothing is submitted before.
+    /// Whether the spacecraft has said, with its command on board, that V(R) is V(S).
+    is_set: bool,
+    /// Whether no restart was seen since either: nothing is submitted before.
     is_open: bool,
     /// Whether the session that ended says what is on board.
     is_known: bool,
     /// A report that was made when nothing was on its way up.
     word: Option<Clcw>,
+    /// Whether telemetry did not agree with what such a report says is on board.
+    has_disagreed: bool,
     boots: Option<u32>,
     executed: usize,
     alerts: Vec<Alert>,
@@ -94,7 +98,7 @@ impl Station {
 
     fn stop(&mut self, is_known: bool) {
         (self.is_stopped, self.is_known, self.word) = (true, self.is_known && is_known, None);
-        self.silence = 0;
+        (self.is_set, self.is_open, self.silence) = (false, false, 0);
     }
 
     fn give_up(&mut self, alert: Option<Alert>) {
@@ -107,13 +111,16 @@ impl Station {
     fn hear_word(&mut self, octets: &[u8; 4]) -> Outcome<()> {
         let heard = self.ground.clcw(octets);
         self.give_up(heard.alert);
-        if !self.is_stopped || heard.report != HeardReport::Used {
+        if heard.report != HeardReport::Used || self.silence <= ROUND_TRIP {
             return Ok(());
         }
         let word = Clcw::decode(octets)?;
-        if word.wait {
+        if !self.is_stopped {
+            let has_flag = word.lockout || word.wait || word.retransmit;
+            self.is_set = word.value == self.ground.vs() && !has_flag;
+        } else if word.wait {
             self.silence = 0; // the reports before the wait flag is gone say otherwise
-        } else if self.silence > ROUND_TRIP {
+        } else {
             self.is_known &= !word.lockout;
             self.word = Some(word);
         }
@@ -121,8 +128,8 @@ impl Station {
     }
 
     fn hear_housekeeping(&mut self, boots: u32, executed: usize) -> Outcome<()> {
-        if self.boots.is_some_and(|it| it != boots) {
-            // It has restarted.
+        if self.boots != Some(boots) {
+            // It has restarted, or nothing was heard of it before.
             if self.ground.state() != FopState::S6 {
                 self.ground.terminate()?;
             }
@@ -133,23 +140,34 @@ impl Station {
             // It came before this, and no restart was between.
             return self.begin(word.value);
         }
-        // So too since the command of the session arrived or was lost.
-        self.is_open |= self.silence > ROUND_TRIP;
+        // So too since the command of the session arrived.
+        self.is_open |= self.is_set;
         Ok(())
     }
 
     /// The next session. Where the last one does not say what is on board, the spacecraft's telemetry does; where it
     /// does, both agree, since the spacecraft has executed all that was ready.
     fn begin(&mut self, value: u8) -> Outcome<()> {
-        let known = self.ground.known_on_board(value).map(|it| self.first + it as usize);
-        if self.is_known && known == Some(self.executed) {
-            self.first += self.ground.resume(value)? as usize;
-        } else {
-            self.first = self.executed;
-            self.ground.set_vs(value)?;
-            self.ground.init_unlock()?;
+        let (vs, nn) = (self.ground.vs(), self.ground.nn());
+        // (Where V(S) = NN(R) nothing was unacknowledged, and V(R) is no other number.)
+        let is_known = self.is_known && (vs != nn || value == vs);
+        match self.ground.known_on_board(value).filter(|_| is_known) {
+            None => {
+                self.first = self.executed;
+                self.ground.set_vs(value)?;
+                self.ground.init_unlock()?;
+            }
+            Some(known) if self.first + known as usize == self.executed => {
+                self.first += self.ground.resume(value)? as usize;
+            }
+            Some(_) if self.has_disagreed => return Err("telemetry does not agree: a person decides".into()),
+            Some(_) => {
+                self.has_disagreed = true;
+                self.stop(true);
+                return Ok(());
+            }
         }
-        (self.is_stopped, self.is_open, self.is_known) = (false, false, true);
+        (self.is_stopped, self.is_known, self.has_disagreed) = (false, true, false);
         Ok(())
     }
 
@@ -322,7 +340,8 @@ fn main() -> Outcome<()> {
     thread::spawn(move || listen(down, &events));
     thread::spawn(move || submit(&submitting));
     let (commands, first, silence, alerts) = (Vec::new(), 0, 0, Vec::new());
-    let (is_stopped, is_open, is_known, word, boots, executed) = (true, false, false, None, None, 0);
+    let (is_stopped, is_set, is_open, is_known, has_disagreed) = (true, false, false, false, false);
+    let (word, boots, executed) = (None, None, 0);
     let ground = Ground::new(&config())?;
     let mut station = Station {
         ground,
@@ -331,9 +350,11 @@ fn main() -> Outcome<()> {
         first,
         silence,
         is_stopped,
+        is_set,
         is_open,
         is_known,
         word,
+        has_disagreed,
         boots,
         executed,
         alerts,
