@@ -2,7 +2,6 @@
 //! and 4.3).
 
 use crate::ffi;
-use crate::map::{packets, Packets};
 use crate::memory::Memory;
 use crate::tm::{Pointer, TmFault, TmFrame};
 use core::iter::FusedIterator;
@@ -146,14 +145,15 @@ impl<'m> TmExtractor<'m> {
         Ok(Extracted { packets: TmPackets { joined, data: frame.data, last: extracted.packets }, lost })
     }
 
-    /// Takes the frames of `length` octets that stand one after another, by one call of the library: each as
-    /// [`TmFrame::decode`] and then [`take`](Self::take) take it, before this returns. What comes of them is written to
-    /// the other two: 19 octets of each frame, and the octets of all packets.
+    /// Takes the frames of `length` octets that stand one after another, each as [`TmFrame::decode`] and then
+    /// [`take`](Self::take) take it, before this returns, in about the time of both. So the packets of all of them may
+    /// be used together: those that lie within a frame are lent from the octets. The other two hold the rest of what comes:
+    /// 19 octets of each frame, and the packets that began in an earlier frame.
     ///
     /// It stops where one of these has no room left, and where no whole frame is left: `packets` has to have as much left
     /// for a frame as the memory and the frame have. [`len`](ExactSizeIterator::len) says how many frames were taken, and
     /// [`rest`](TakenFrames::rest) is what stands after these: go on with it until none are taken. What is left then is
-    /// no whole frame.
+    /// no whole frame. It is fastest where these places stay in the processor's cache, with some 100 frames a call.
     ///
     /// # Errors
     ///
@@ -190,19 +190,86 @@ impl<'m> TmExtractor<'m> {
         if !(16..=TmFrame::LONGEST).contains(&length) {
             return Err(TmFault::Length);
         }
-        let (kept, memory, mut total) = (&mut self.kept, &mut self.memory, 0);
-        if records.len() < RECORD || packets.len() < memory.len() + length {
+        if records.len() < RECORD || packets.len() < self.memory.len() + length {
             return Err(TmFault::Room);
         }
-        let count = ffi::tm_extractor_frames(kept, octets, length, memory, records, packets, &mut total);
-        let (octets, rest) = octets.split_at(count * length);
-        Ok(TakenFrames {
-            octets,
-            rest,
-            length,
-            records: &records[..RECORD * count],
-            packets: &packets[..total],
-        })
+        let (mut rest, mut count, mut end) = (octets, 0, 0);
+        for record in records.chunks_exact_mut(RECORD) {
+            if rest.len() < length || packets.len() - end < self.memory.len() + length {
+                break;
+            }
+            let (whole, later) = rest.split_at(length);
+            end += self.take_whole(whole, record, &mut packets[end..]);
+            (rest, count) = (later, count + 1);
+        }
+        let octets = &octets[..count * length];
+        Ok(TakenFrames { octets, rest, length, records: &records[..RECORD * count], joined: &packets[..end] })
+    }
+
+    /// Takes the frame that the octets are, if they are one: writes its record, and the packet that it ends of those
+    /// that were begun before it. Returns how many octets this packet has.
+    fn take_whole(&mut self, octets: &[u8], record: &mut [u8], out: &mut [u8]) -> usize {
+        let (mut frame, mut data) = (ffi::TmFrame::default(), ffi::Part::default());
+        let (mut taken, mut dropped) = (ffi::TmExtracted::default(), false);
+        let mut fault = ffi::tm_decode(octets, octets.len(), &mut frame, &mut data);
+        if fault == ffi::SEDGE_OK {
+            let (begun, data) = (Begun::of(self.part()), data.of(octets));
+            fault = ffi::tm_extractor_frame(&mut self.kept, &frame, data, &mut self.memory, &mut taken);
+            dropped = fault == ffi::SEDGE_OK && begun.is_dropped(&frame, data, &taken, self.kept.count);
+        }
+        if taken.joined > 0 {
+            out[..taken.joined].copy_from_slice(&self.memory[..taken.joined]);
+        }
+        record.copy_from_slice(&record_of(&frame, fault, &taken, dropped));
+        taken.joined
+    }
+}
+
+/// The record of a frame: how many octets the packet has that it ends, of three octets, the lowest one first; where the
+/// packets in its data begin, of two; its fault, how many frames are missing before it, and whether it is the first, and
+/// a packet is dropped; and its fields.
+fn record_of(frame: &ffi::TmFrame, fault: u8, taken: &ffi::TmExtracted, dropped: bool) -> [u8; RECORD] {
+    let [c0, c1, c2, _] = (taken.joined as u32).to_le_bytes();
+    let [f0, f1] = (taken.packets.from as u16).to_le_bytes();
+    let [s0, s1] = frame.scid.to_le_bytes();
+    let [p0, p1] = frame.pointer.to_le_bytes();
+    let [o0, o1, o2, o3] = frame.ocf;
+    let how = taken.first | u8::from(dropped) << 1;
+    let (vcid, mc_count, vc_count) = (frame.vcid, frame.mc_count, frame.vc_count);
+    [c0, c1, c2, f0, f1, fault, taken.lost, how, s0, s1, p0, p1, vcid, mc_count, vc_count, o0, o1, o2, o3]
+}
+
+/// The first octets of the packet whose end is to come, at most two.
+struct Begun {
+    octets: [u8; 2],
+    count: usize,
+}
+
+impl Begun {
+    fn of(part: &[u8]) -> Self {
+        match *part {
+            [] => Self { octets: [0; 2], count: 0 },
+            [one] => Self { octets: [one, 0], count: 1 },
+            [one, two, ..] => Self { octets: [one, two], count: 2 },
+        }
+    }
+
+    /// Whether a frame that was taken drops it, and it is not idle (docs/PROFILE.md, "Extraction", 1 to 4). After the
+    /// frame so many octets are left of a packet whose end is to come.
+    fn is_dropped(&self, frame: &ffi::TmFrame, data: &[u8], taken: &ffi::TmExtracted, left: usize) -> bool {
+        let goes_on = frame.pointer == ffi::SEDGE_POINTER_NO_START && left > 0;
+        if self.count == 0 || taken.joined > 0 || goes_on {
+            return false;
+        }
+        let front = match frame.pointer {
+            _ if taken.lost != 0 => &[],
+            ffi::SEDGE_POINTER_ONLY_IDLE => &[],
+            ffi::SEDGE_POINTER_NO_START => data,
+            place => &data[..usize::from(place)],
+        };
+        let second = if self.count == 2 { Some(&self.octets[1]) } else { front.first() };
+        let is_idle = second.is_some_and(|it| self.octets[0] & 7 == 7 && *it == 255);
+        !is_idle
     }
 }
 
@@ -260,7 +327,8 @@ pub struct TakenFrames<'o, 't> {
     rest: &'o [u8],
     length: usize,
     records: &'t [u8],
-    packets: &'t [u8],
+    /// The packets that these frames end of those that were begun before them, one after another.
+    joined: &'t [u8],
 }
 
 impl<'o> TakenFrames<'o, '_> {
@@ -278,7 +346,7 @@ pub struct TakenFrame<'t> {
     /// The frame.
     pub frame: TmFrame<'t>,
     /// The packets whose last octets it has, but for idle ones.
-    pub packets: Packets<'t>,
+    pub packets: TmPackets<'t>,
     /// The number of frames that are missing before it, modulo 256; none is known before the first (4.1.2.6).
     pub lost: Option<u8>,
     /// Whether a packet that was begun is dropped, which is not idle.
@@ -286,10 +354,11 @@ pub struct TakenFrame<'t> {
 }
 
 impl<'t> TakenFrame<'t> {
-    /// What a record says of a frame of these octets, whose packets these are.
-    fn of(record: &[u8], octets: &'t [u8], found: &'t [u8]) -> Result<Self, TmFault> {
-        TmFault::judge(record[4])?;
+    /// What a record says of a frame of these octets, with the packet that it ends, or no octets.
+    fn of(record: &[u8], octets: &'t [u8], joined: &'t [u8]) -> Result<Self, TmFault> {
+        TmFault::judge(record[5])?;
         let two = |at| u16::from_le_bytes([record[at], record[at + 1]]);
+        let data = &octets[6..octets.len() - 6];
         let frame = TmFrame {
             scid: two(8),
             vcid: record[12],
@@ -297,10 +366,12 @@ impl<'t> TakenFrame<'t> {
             vc_count: record[14],
             pointer: Pointer::from_raw(two(10)),
             ocf: [record[15], record[16], record[17], record[18]],
-            data: &octets[6..octets.len() - 6],
+            data,
         };
-        let lost = (record[5] == 0).then_some(record[6]);
-        Ok(Self { frame, packets: packets(found), lost, dropped: record[7] == 1 })
+        let joined = (!joined.is_empty()).then_some(joined);
+        let last = ffi::Part { from: usize::from(two(3)), count: 0 };
+        let lost = (record[7] & 1 == 0).then_some(record[6]);
+        Ok(Self { frame, packets: TmPackets { joined, data, last }, lost, dropped: record[7] & 2 != 0 })
     }
 }
 
@@ -313,10 +384,10 @@ impl<'o: 't, 't> Iterator for TakenFrames<'o, 't> {
         }
         let (record, records) = self.records.split_at(RECORD);
         let (whole, octets) = self.octets.split_at(self.length);
-        let count = u32::from_le_bytes([record[0], record[1], record[2], record[3]]);
-        let (found, packets) = self.packets.split_at(count as usize);
-        (self.records, self.octets, self.packets) = (records, octets, packets);
-        Some(TakenFrame::of(record, whole, found).map_err(|fault| (fault, whole)))
+        let count = u32::from_le_bytes([record[0], record[1], record[2], 0]);
+        let (own, joined) = self.joined.split_at(count as usize);
+        (self.records, self.octets, self.joined) = (records, octets, joined);
+        Some(TakenFrame::of(record, whole, own).map_err(|fault| (fault, whole)))
     }
 
     fn size_hint(&self) -> (usize, Option<usize>) {
@@ -328,3 +399,63 @@ impl<'o: 't, 't> Iterator for TakenFrames<'o, 't> {
 impl<'o: 't, 't> ExactSizeIterator for TakenFrames<'o, 't> {}
 
 impl<'o: 't, 't> FusedIterator for TakenFrames<'o, 't> {}
+
+#[cfg(test)]
+mod tests {
+    use super::*;
+
+    const FRAMES: usize = 2000;
+    const ROOM: usize = 24 * FRAMES + 200;
+
+    /// Frames of packets, idle ones, and octets that are none, wherever these may begin; some are lost or damaged.
+    fn any_frames() -> [u8; 24 * FRAMES] {
+        let (mut octets, mut state, mut vc_count) = ([0; 24 * FRAMES], 1_u32, 0_u8);
+        let mut any = |below: u32| {
+            state = state.wrapping_mul(1_664_525).wrapping_add(1_013_904_223);
+            ((state >> 8) % below) as u8
+        };
+        for room in octets.chunks_exact_mut(24) {
+            let mut data = [0; 12];
+            data.fill_with(|| [0, 0, 0, 0, 0, 7, 255, 16][usize::from(any(8))]);
+            let pointer = match any(8) {
+                0 => Pointer::OnlyIdle,
+                1..=3 => Pointer::NoStart,
+                _ => Pointer::At(any(12).into()),
+            };
+            vc_count = vc_count.wrapping_add(if any(8) == 0 { any(3) } else { 1 });
+            let ocf = [data[0]; 4];
+            let frame = TmFrame { scid: 1, vcid: 0, mc_count: 0, vc_count, pointer, ocf, data: &data };
+            frame.encode(room).unwrap();
+            room[23] ^= u8::from(any(20) == 0);
+        }
+        octets
+    }
+
+    /// What `take_all` says of each frame is what the library's call for many frames says of it.
+    #[test]
+    fn frames_are_taken_as_by_the_call_for_many() {
+        let octets = any_frames();
+        let (mut records, mut packets, mut total) = ([0; RECORD * FRAMES], [0; ROOM], 0);
+        let (mut kept, mut memory) = (ffi::TmExtractor::default(), [0; 100]);
+        let (kept, memory, total_of) = (&mut kept, &mut memory, &mut total);
+        let frames =
+            ffi::tm_extractor_frames(kept, &octets, 24, memory, &mut records, &mut packets, total_of);
+        assert_eq!(frames, FRAMES);
+        let (mut own_records, mut own_packets, mut memory) = ([0; RECORD * FRAMES], [0; ROOM], [0; 100]);
+        let mut extractor = TmExtractor::new(&mut memory);
+        let found = extractor.take_all(&octets, 24, &mut own_records, &mut own_packets).unwrap();
+        let (mut rest, mut dropped) = (&packets[..total], 0);
+        for (frame, record) in found.zip(records.chunks_exact(RECORD)) {
+            match frame {
+                Err((fault, _)) => assert_eq!(fault.number(), record[4]),
+                Ok(frame) => {
+                    let (first, lost) = (u8::from(frame.lost.is_none()), frame.lost.unwrap_or(0));
+                    assert_eq!([0, first, lost, u8::from(frame.dropped)], record[4..8]);
+                    dropped += usize::from(frame.dropped);
+                    frame.packets.for_each(|it| rest = rest.strip_prefix(it).unwrap());
+                }
+            }
+        }
+        assert!(rest.is_empty() && total > 1000 && dropped > 100, "{total} {dropped}");
+    }
+}
