@@ -5,7 +5,7 @@ from __future__ import annotations
 import ctypes
 from ctypes import POINTER, c_bool, c_char, c_char_p, c_size_t, c_uint8, c_uint16, c_uint32
 from enum import IntEnum
-from itertools import chain
+from itertools import chain, compress
 from struct import Struct
 from sys import byteorder
 from threading import RLock
@@ -533,12 +533,15 @@ class TcFrame(_Struct):
         return frame, part.of(octets)
 
     @classmethod
-    def decode_all(cls, octets: bytes, checked: bool = True) -> Iterator[Tuple[Union[TcFrame, TcFault], bytes]]:
+    def decode_all(cls, octets: bytes, checked: bool = True, *, scid: Optional[int] = None,
+                   vcid: Optional[int] = None) -> Iterator[Tuple[Union[TcFrame, TcFault], bytes]]:
         """Reads the frames that stand one after another in the octets, each as long as it declares: for each the frame
-        and its data, as `decode` gives them, or in place of these its TcFault and its octets. Where octets are left
-        after the last whole frame, these come at the end, with TcFault 1 for fewer than 5, or 5; no frame before has
-        either."""
-        return chain.from_iterable(_frames_in(cls, _octets_of("octets", octets), checked))
+        and its data, as `decode` gives them, or in place of these its TcFault and its octets. With `scid` or `vcid`
+        those alone whose header names this spacecraft or virtual channel, refused ones too; an OverflowError for a
+        number that no header has. Where octets are left after the last whole frame, these come at the end, with TcFault
+        1 for fewer than 5, or 5; no frame before has either."""
+        return chain.from_iterable(_frames_in(cls, _octets_of("octets", octets), checked, [
+            *_wanted("scid", scid, 0x3FF, ((0, 255, 0), (1, 3, 8))), *_wanted("vcid", vcid, 0x3F, ((2, 63, 0),))]))
 
     def encode(self, data: bytes = b"", checked: bool = True) -> bytes:
         """The octets of the frame with these data, at most 1,024 with its FECF, which it lacks where `checked` is False;
@@ -592,9 +595,33 @@ def _structs_of(many: Any, records: bytes, size: int, begun: int) -> Any:
     return many.from_buffer(room)[:len(records) // size]
 
 
-def _frames_in(cls: Type[TcFrame], octets: bytes,
-               checked: bool) -> Iterator[Iterable[Tuple[Union[TcFrame, TcFault], bytes]]]:
-    """The frames in octets, those of a piece together, and what is left of these."""
+_Wanted = Tuple[int, bytes]  # a place in a record, and a table with 1 for each octet that may stand there, or 0
+
+
+def _wanted(name: str, number: Optional[int], most: int, parts: Iterable[Tuple[int, int, int]]) -> Iterator[_Wanted]:
+    """What octets are that have this number, unless it is None. Each part is a place, the bits of its octet that have
+    bits of the number, and how far up these stand in the number, or where that is below 0, down."""
+    if number is None:
+        return
+    if not 0 <= _number_of(name, number) <= most:
+        raise OverflowError(f"{name}: {number} is not in 0 to {most}")
+    for place, bits, up in parts:
+        value = (number >> up if up >= 0 else number << -up) & bits
+        yield place, bytes(it & bits == value for it in range(256))
+
+
+def _chosen(records: bytes, size: int, count: int, wanted: Iterable[_Wanted]) -> bytearray:
+    """1 for each of so many records of this size that have the octets wanted, or 0."""
+    chosen = int.from_bytes(b"\1" * count, "little")
+    for place, table in wanted:
+        chosen &= int.from_bytes(records[place:count * size:size].translate(table), "little")
+    return bytearray(chosen.to_bytes(count, "little"))
+
+
+def _frames_in(cls: Type[TcFrame], octets: bytes, checked: bool,
+               channel: Sequence[_Wanted]) -> Iterator[Iterable[Tuple[Union[TcFrame, TcFault], bytes]]]:
+    """The frames in octets, those of a piece together, and what is left of these. The channel is what the fields are of
+    those that are wanted, the lower octet of the scid, its higher one and the vcid."""
     total, begun, many = c_size_t(), 0, cls * _MOST
     out: Any = ctypes.create_string_buffer(_MOST * _FOUND)  # its slices are bytes, which Debian's mypy 1.0.1 does not know
     check, control, number = 2 if checked else 0, Kind.BC.value, _places_of([c_uint16], 0)
@@ -604,15 +631,18 @@ def _frames_in(cls: Type[TcFrame], octets: bytes,
             _columns(records, _FOUND, number, bytearray(found * 2), 2)).cast("H")
         faults, kinds = records[_FAULT::_FOUND], records[_KIND::_FOUND]
         data = [piece[end + 6:(end := end + count) - check] for count in counts]
+        chosen = _chosen(records[_FIELDS:], _FOUND, found, channel)
         if any(faults) or control in kinds:
             end = 0
             for k, count in enumerate(counts):
                 start, end = end, end + count
                 if faults[k]:
                     frames[k], data[k] = TcFault(faults[k]), piece[start:end]
+                    named = piece[start + 1], piece[start] & 3, piece[start + 2] >> 2
+                    chosen[k] = all(table[named[place]] for place, table in channel)
                 elif kinds[k] == control:
                     data[k] = b""
-        yield zip(frames, data)
+        yield compress(zip(frames, data), chosen) if channel else zip(frames, data)
         begun += total.value
     if begun < len(octets):
         yield [(TcFault(1 if len(octets) - begun < 5 else 5), octets[begun:])]
@@ -853,12 +883,18 @@ class TmExtractor(Single):
         TmFault._look_at(fault)
         return Extracted(packets, None if extracted.first else extracted.lost)
 
-    def take_all(self, octets: bytes, length: int) -> List[TakenFrame]:
+    def take_all(self, octets: bytes, length: int, *, scid: Optional[int] = None,
+                 vcid: Optional[int] = None) -> List[TakenFrame]:
         """Takes the frames of `length` octets that stand one after another: of each a TakenFrame with the `frame`, as
         `TmFrame.decode` gives it, and its `packets` and the number of frames missing before it, `lost`, as `take` gives
-        them; or in place of the frame its TmFault, with no packets. Where octets are left at the end, the last one has
-        TmFault 1. A ValueError for a length that is not in 16 to 2,048."""
+        them; or in place of the frame its TmFault, with no packets. With `scid` or `vcid` those alone whose header
+        names this spacecraft or virtual channel, refused ones too; an OverflowError for a number that no header has.
+        Where octets are left at the end, the last one has TmFault 1. A ValueError for a length that is not in 16 to
+        2,048."""
         octets, length = _octets_of("octets", octets), _frame_length_of(length)
+        channel = [*_wanted("scid", scid, 0x3FF, ((0, 63, 4), (1, 240, -4))), *_wanted("vcid", vcid, 7, ((1, 14, -1),))]
+        if channel:
+            octets = _frames_with(octets, length, channel)
         answers: List[TakenFrame] = []
         most = min(_PIECE, len(octets)) // length + 1
         out: Any = ctypes.create_string_buffer(most * _TAKEN.size)
@@ -896,6 +932,13 @@ class TmExtractor(Single):
         """The first octets of the packet whose end is to come, two at most; none where there is none."""
         start = self._extractor.start
         return bytes(self._memory[start:start + min(self._extractor.count, 2)])
+
+
+def _frames_with(octets: bytes, length: int, wanted: Sequence[_Wanted]) -> bytes:
+    """Those of the frames of this length that have the octets wanted, and what is left after all of them."""
+    whole, view = len(octets) // length, memoryview(octets)
+    chosen = compress(range(0, whole * length, length), _chosen(octets, length, whole, wanted))
+    return b"".join([*(view[begun:begun + length] for begun in chosen), view[whole * length:]])
 
 
 # What `_tm_extractor_frames` writes of a frame: the number of octets of its packets, its fault, whether it is the first

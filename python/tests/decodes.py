@@ -5,7 +5,7 @@ import sys
 import threading
 
 from each import between
-from wanted import refuses, says
+from wanted import does_not_fit, refuses, says
 
 COMMAND, OTHER = bytes.fromhex("1005c0000000aa"), bytes.fromhex("1005c0010001abac")
 
@@ -85,6 +85,50 @@ def frames_one_after_another(it):
         for wanted, one in zip(frames, found):
             assert one == decoded(it.TcFrame, it.TcFault, wanted, checked)
         assert next(found, None) is None
+
+
+def frames_of_one_channel(it):
+    """With a spacecraft or a virtual channel those alone come whose header names it, refused ones too, and the rest."""
+    chance, fault, own = random.Random(3), it.TcFault(6), it.TcFrame(scid=1, vcid=2, kind=it.Kind.BC)
+    unlock, bad, other = (bytes.fromhex(one) for one in ("3001080700008b9e", "3001080700008b9f", "30020c0700000000"))
+    for octets, rest in ((other + unlock + bad + other, []), (unlock + other + bad + b"30", [(it.TcFault(1), b"30")])):
+        for names in ({"scid": 1, "vcid": 2}, {"scid": 1}, {"vcid": 2}):
+            assert [*it.TcFrame.decode_all(octets, **names)] == [(own, b""), (fault, bad), *rest], names
+    for checked in (True, False):
+        octets = b"".join(any_command(it, chance, checked) for _ in range(10_000))
+        found, at = [*it.TcFrame.decode_all(octets, checked)], 0
+        headers = [octets[at:(at := at + it.TcFrame.declared(octets[at:], checked))][:3] for _ in found]
+        for names in ({}, {"scid": 700}, {"vcid": 9}, {"scid": 3, "vcid": 63}, {"scid": 0, "vcid": 0}):
+            named = [one for one, (high, low, third) in zip(found, headers)
+                     if names.items() <= {"scid": (high & 3) << 8 | low, "vcid": third >> 2}.items()]
+            assert [*it.TcFrame.decode_all(octets, checked, **names)] == named
+    for call in (it.TcFrame.decode_all, lambda octets, **names: it.TmExtractor().take_all(octets, 16, **names)):
+        for name, number in (("scid", 1024), ("scid", -1), ("vcid", 64), ("vcid", -1)):
+            does_not_fit(call, b"", **{name: number})
+        says(TypeError, "vcid: '2' is not a number", call, b"", vcid="2")
+
+
+def telemetry_of_one_channel(it):
+    """Of frames of several channels an extractor takes those of one, as if they stood alone."""
+    chance, channels = random.Random(4), [(1, 0), (1, 5), (1008, 0), (17, 5)]
+    builders = {one: it.TmBuilder(*one, 32) for one in channels}
+    frames = []
+    for k in range(1000):
+        channel = chance.choice(channels)
+        if builders[channel].waiting < 32:
+            builders[channel].queue(it.Packet(apid=k, count=k).encode(bytes(chance.randrange(1, 60))))
+        frame = bytearray(builders[channel].build(bytes(4)))
+        frame[chance.randrange(4, 32)] ^= chance.randrange(10) == 0
+        frames.append((channel, bytes(frame)))
+    octets = b"".join(frame for _, frame in frames) + b"rest"
+    for scid, vcid in channels:
+        alone = b"".join(frame for channel, frame in frames if channel == (scid, vcid)) + b"rest"
+        wanted = it.TmExtractor().take_all(alone, 32)
+        assert it.TmExtractor().take_all(octets, 32, scid=scid, vcid=vcid) == wanted and len(wanted) > 200
+    for names in ({"scid": 1}, {"vcid": 5}):
+        place, number = ("scid", "vcid").index([*names][0]), [*names.values()][0]
+        alone = b"".join(frame for channel, frame in frames if channel[place] == number)
+        assert it.TmExtractor().take_all(octets[:-4], 32, **names) == it.TmExtractor().take_all(alone, 32)
 
 
 def frames_that_are_changed(it):
@@ -249,6 +293,7 @@ def threads_that_take_turns(it):
     assert not wrong, wrong
 
 
-TESTS = (each_fault_of_each_decode, decodes_of_own_kinds, frames_one_after_another, frames_that_are_changed,
+TESTS = (each_fault_of_each_decode, decodes_of_own_kinds, frames_one_after_another, frames_of_one_channel,
+         telemetry_of_one_channel, frames_that_are_changed,
          numbers_of_either_order, telemetry_one_after_another,
          results_that_stay, frames_and_packets_that_stay, calls_at_once, threads_that_take_turns)

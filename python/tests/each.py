@@ -460,13 +460,14 @@ def each_wrong_argument(it):
     tried = 0
     for name, call in callables(it):
         parameters = {own: one for own, one in inspect.signature(call).parameters.items() if own != "fields"}
-        given = {own: right[one.annotation] for own, one in parameters.items()}
+        given = {own: 16 if own == "length" else right[one.annotation] for own, one in parameters.items()}
         for own, kind in ((own, one.annotation) for own, one in parameters.items() if one.annotation in wrong):
             for value in wrong[kind]:
                 says(TypeError, f"{own}: ", call, **{**given, own: value})
             tried += 1
             for value in (-1, 2**64) if "int" in kind else ():
-                is_own = name in ("TmExtractor", "TmExtractor.take_all", "Ground.telemetry_all", "read_frames")
+                is_own = f"{name} {own}" in ("TmExtractor longest", "TmExtractor.take_all length",
+                                             "Ground.telemetry_all length", "read_frames length")
                 says(ValueError if is_own else OverflowError,
                      f"{own}: {value} is not in ", call, **{**given, own: value})
     assert tried > 100, tried

@@ -168,6 +168,8 @@ NONE = {"TmFrame.__init__", "TmFrame.ocf", "TmBuilder.waiting", "TmExtractor.__i
 READS = ("_read", "_read_ground", "_read_spacecraft")
 # What a method keeps for itself, wherever it does.
 KEPT = {"room", "longest", "blocking", "kept"}
+# What methods for many frames keep: the channel whose frames they look at.
+CHANNEL = {f"{name} {one}" for name in ("TcFrame.decode_all", "TmExtractor.take_all") for one in ("scid", "vcid")}
 
 
 def functions(module):
@@ -252,7 +254,7 @@ def methods_and_their_arguments(it):
                      else rf"(?<=[(, ]){one}(?=[,)])(?! *=)|self\.{one} = {one}|bool\({one}\)")
             found = [match.start() for match in re.finditer(given, text)]
             assert found, f"{name} does not give {one}: {text}"
-            places += [found[-1]] if one not in KEPT else []
+            places += [found[-1]] if one not in KEPT and f"{name} {one}" not in CHANNEL else []
         assert places == sorted(places), f"{name} gives {parameters} in another order: {text}"
         if own == "__init__" and hasattr(getattr(it, owner, None), "_fields_") and owner not in ("Farm", "Fop"):
             fields = [field.lstrip("_") for field, _ in getattr(it, owner)._fields_]
