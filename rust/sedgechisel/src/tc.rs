@@ -144,7 +144,7 @@ impl<'a> TcFrame<'a> {
     /// ```
     #[must_use]
     pub fn decode_all(octets: &'a [u8], fecf: Fecf) -> TcFrames<'a> {
-        TcFrames { rest: octets, fecf }
+        TcFrames { rest: octets, fecf, channel: None }
     }
 
     /// Writes the frame to the beginning of `out`, with or without its FECF, and returns its octets, 6 to 1,024.
@@ -200,25 +200,50 @@ impl Fecf {
 pub struct TcFrames<'a> {
     rest: &'a [u8],
     fecf: Fecf,
+    channel: Option<(u16, u8)>,
+}
+
+impl TcFrames<'_> {
+    /// Those alone whose header names this spacecraft and virtual channel, refused ones too, and what is left at the
+    /// end. It does not look into the others, so it takes no time for their FECF.
+    ///
+    /// ```
+    /// use sedgechisel::{Fecf, TcFault, TcFrame};
+    ///
+    /// let octets = [0x30, 0x01, 0x08, 0x07, 0x00, 0x00, 0x06, 0xef, 0x30, 0x01];
+    /// let mut frames = TcFrame::decode_all(&octets, Fecf::Present).of_channel(1, 3);
+    /// assert_eq!(frames.next(), Some(Err((TcFault::Short, &octets[8..]))));
+    /// ```
+    #[must_use]
+    pub fn of_channel(self, scid: u16, vcid: u8) -> Self {
+        Self { channel: Some((scid, vcid)), ..self }
+    }
+
+    /// Whether the header of a frame names the channel, if there is one.
+    fn has(&self, frame: &[u8]) -> bool {
+        let named = (u16::from_be_bytes([frame[0], frame[1]]) & 0x3ff, frame[2] >> 2);
+        self.channel.is_none_or(|it| it == named)
+    }
 }
 
 impl<'a> Iterator for TcFrames<'a> {
     type Item = Result<TcFrame<'a>, (TcFault, &'a [u8])>;
 
     fn next(&mut self) -> Option<Self::Item> {
-        if self.rest.is_empty() {
-            return None;
-        }
-        let all = core::mem::take(&mut self.rest);
-        match TcFrame::declared(all, self.fecf) {
-            Ok(total) if total <= all.len() => {
-                let (whole, rest) = all.split_at(total);
-                self.rest = rest;
-                Some(TcFrame::decode(whole, self.fecf).map_err(|fault| (fault, whole)))
+        while !self.rest.is_empty() {
+            let all = core::mem::take(&mut self.rest);
+            let total = match TcFrame::declared(all, self.fecf) {
+                Ok(total) if total <= all.len() => total,
+                Ok(_) => return Some(Err((TcFault::Length, all))),
+                Err(fault) => return Some(Err((fault, all))),
+            };
+            let (whole, rest) = all.split_at(total);
+            self.rest = rest;
+            if self.has(whole) {
+                return Some(TcFrame::decode(whole, self.fecf).map_err(|fault| (fault, whole)));
             }
-            Ok(_) => Some(Err((TcFault::Length, all))),
-            Err(fault) => Some(Err((fault, all))),
         }
+        None
     }
 }
 

@@ -93,7 +93,7 @@ impl<'a> TmFrame<'a> {
     /// ```
     #[must_use]
     pub fn decode_all(octets: &'a [u8], length: usize) -> TmFrames<'a> {
-        TmFrames { rest: octets, length }
+        TmFrames { rest: octets, length, channel: None }
     }
 
     /// Writes the frame and its FECF to the beginning of `out`, and returns its octets, 12 more than its data.
@@ -126,15 +126,51 @@ impl<'a> TmFrame<'a> {
 pub struct TmFrames<'a> {
     rest: &'a [u8],
     length: usize,
+    channel: Option<(u16, u8)>,
+}
+
+impl TmFrames<'_> {
+    /// Those alone whose header names this spacecraft and virtual channel, refused ones too, and what is left at the
+    /// end: the frames for one [`TmExtractor`](crate::TmExtractor). It does not look into the others, so it takes no
+    /// time for their FECF.
+    ///
+    /// ```
+    /// use sedgechisel::{TmFault, TmFrame};
+    ///
+    /// let mut octets = [0; 40];
+    /// octets[21] = 0x15; // spacecraft 1, virtual channel 2
+    /// let mut frames = TmFrame::decode_all(&octets, 20).of_channel(1, 2);
+    /// assert_eq!(frames.next(), Some(Err((TmFault::Check, &octets[20..]))));
+    /// assert_eq!(frames.next(), None);
+    /// ```
+    #[must_use]
+    pub fn of_channel(self, scid: u16, vcid: u8) -> Self {
+        Self { channel: Some((scid, vcid)), ..self }
+    }
+
+    /// Whether the header of a frame names the channel, if there is one; or it is what is left.
+    fn has(&self, frame: &[u8]) -> bool {
+        match (self.channel, frame) {
+            (Some(channel), &[high, low, ..]) if frame.len() == self.length => {
+                channel == (u16::from_be_bytes([high, low]) >> 4 & 0x3ff, low >> 1 & 7)
+            }
+            _ => true,
+        }
+    }
 }
 
 impl<'a> Iterator for TmFrames<'a> {
     type Item = Result<TmFrame<'a>, (TmFault, &'a [u8])>;
 
     fn next(&mut self) -> Option<Self::Item> {
-        let (whole, rest) = self.rest.split_at(self.length.max(1).min(self.rest.len()));
-        self.rest = rest;
-        (!whole.is_empty()).then(|| TmFrame::decode(whole, self.length).map_err(|fault| (fault, whole)))
+        while !self.rest.is_empty() {
+            let (whole, rest) = self.rest.split_at(self.length.max(1).min(self.rest.len()));
+            self.rest = rest;
+            if self.has(whole) {
+                return Some(TmFrame::decode(whole, self.length).map_err(|fault| (fault, whole)));
+            }
+        }
+        None
     }
 }
 

@@ -385,6 +385,42 @@ fn frames_one_after_another() {
     assert_eq!((refused.next(), refused.next()), (Some(Err((TcFault::Length, &short[..]))), None));
 }
 
+/// Frames of three channels, of which one is damaged: those of a channel are those whose header names it.
+#[test]
+fn frames_of_one_channel() {
+    let spelled = ["3002080700000000", "3001080700008b9e", "3001080700008b9f", "30010c0700000000"];
+    let octets: Vec<u8> = spelled.iter().flat_map(|it| octets_of(it)).chain([0x30]).collect();
+    let found: Vec<_> = TcFrame::decode_all(&octets, Fecf::Present).collect();
+    let of = |scid, vcid| -> Vec<_> {
+        TcFrame::decode_all(&octets, Fecf::Present).of_channel(scid, vcid).collect()
+    };
+    assert_eq!(found[1].map(|it| (it.scid, it.vcid)), Ok((1, 2)));
+    assert_eq!(found[4], Err((TcFault::Short, &octets[32..])));
+    assert_eq!(of(1, 2), [found[1], found[2], found[4]]);
+    assert_eq!((of(2, 2), of(1, 3)), (vec![found[0], found[4]], vec![found[3], found[4]]));
+    assert_eq!((of(1, 4), of(1025, 2)), (vec![found[4]], vec![found[4]]));
+}
+
+#[test]
+fn telemetry_frames_of_one_channel() {
+    let channels = [(1, 0), (1, 5), (1008, 0), (1, 0), (17, 5)];
+    let mut octets = [0; 83];
+    for (room, (scid, vcid)) in octets.chunks_mut(16).zip(channels) {
+        TmFrame { scid, vcid, ..IDLE }.encode(room).unwrap();
+    }
+    octets[50] ^= 1;
+    let found: Vec<_> = TmFrame::decode_all(&octets, 16).collect();
+    for (scid, vcid) in channels.into_iter().chain([(0, 0), (1025, 0), (1, 8)]) {
+        let wanted: Vec<_> =
+            found.iter().zip(channels).filter(|(_, it)| *it == (scid, vcid)).map(|it| *it.0).collect();
+        let of: Vec<_> = TmFrame::decode_all(&octets, 16).of_channel(scid, vcid).collect();
+        assert_eq!(of, [&wanted[..], &[Err((TmFault::Length, &octets[80..]))]].concat());
+    }
+    assert_eq!(found[3], Err((TmFault::Check, &octets[48..64])));
+    assert_eq!(TmFrame::decode_all(&octets[..3], 0).of_channel(1, 0).count(), 3);
+    assert_eq!(TmFrame::decode_all(&octets[..3], 1).of_channel(1, 0).count(), 3);
+}
+
 #[test]
 fn telemetry_frames_one_after_another() {
     let mut octets = [0; 54];
