@@ -11,9 +11,10 @@
   `clcw`), `Ground.report_in` (now `clcw_in`), `Spacecraft.report` (now `telemetry_frame`), `Report.NONE` and
   `Report.OTHER` (now `REFUSED` and `OTHER_CHANNEL`).
 
-Octets are `bytes`. What the library refuses is a `Fault` with its number and its name, those of the headers for C, and
-its meaning. The fields of structs are those of the headers too; a number that does not fit its field is an
-OverflowError. The books are
+Octets are `bytes`. What the library refuses is a `Fault` of the class of its kind, with its number and its name, those of
+the headers for C, and its meaning. The number is a member of an enumeration: `fault.number is TcFault.Number.CHECK`. What
+`take` and `take_all` give are named tuples. The fields of structs are those of the headers too; a number that does not
+fit its field is an OverflowError. The books are
 CCSDS 133.0-B-2 (space packets), 132.0-B-3 (telemetry), 232.0-B-4 (telecommand) and 232.1-B-2 (COP-1)."""
 from ._calls import (
     NO_START, ONLY_IDLE, Alert, Assembled, Clcw, Command, Control, Extracted, Farm, Flags, Fop, GapCheck, Kind, Map, Mode,

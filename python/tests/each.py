@@ -560,6 +560,7 @@ def names_before_0_3(it):
     for old, new in ((it.Farm.report, "control_word"), (it.Fop.report, "clcw"), (it.Ground.report_in, "clcw_in"),
                      (it.Spacecraft.report, "telemetry_frame")):
         assert old.__doc__ == f"The old name of `{new}`; it goes after 0.3."
+        assert f"`{old.__qualname__.partition('.')[0]}.{old.__name__}` (now `{new}`)" in " ".join(it.__doc__.split())
     assert not hasattr(it.Report, "ABSENT") and [*it.Report.__members__] == ["USED", "REFUSED", "OTHER_CHANNEL"]
 
 
