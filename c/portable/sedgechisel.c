@@ -168,19 +168,21 @@ static const unsigned char constant_1[81] = {
 };
 
 /* Of sedge_alert_advice_at. */
-static const unsigned char constant_2[85] = {
-    102, 114, 97, 109, 101, 115, 32, 111, 114, 32, 114, 101, 112, 111, 114, 116, 115, 32, 119, 101, 114, 101, 32, 108,
-    111, 115, 116, 58, 32, 97, 102, 116, 101, 114, 32, 111, 110, 101, 32, 114, 111, 117, 110, 100, 32, 116, 114, 105,
-    112, 32, 111, 102, 32, 115, 105, 108, 101, 110, 99, 101, 44, 32, 114, 101, 115, 117, 109, 101, 32, 98, 121, 32,
-    116, 104, 101, 32, 110, 101, 120, 116, 32, 67, 76, 67, 87
+static const unsigned char constant_2[107] = {
+    102, 114, 97, 109, 101, 115, 32, 111, 114, 32, 67, 76, 67, 87, 115, 32, 119, 101, 114, 101, 32, 108, 111, 115,
+    116, 58, 32, 97, 102, 116, 101, 114, 32, 97, 32, 115, 105, 108, 101, 110, 116, 32, 114, 111, 117, 110, 100, 32,
+    116, 114, 105, 112, 44, 32, 114, 101, 115, 117, 109, 101, 32, 98, 121, 32, 97, 32, 110, 101, 119, 101, 114, 32,
+    67, 76, 67, 87, 44, 32, 105, 102, 32, 116, 104, 101, 32, 98, 111, 111, 116, 32, 99, 111, 117, 110, 116, 32, 105,
+    115, 32, 116, 104, 101, 32, 115, 97, 109, 101
 };
 
 /* Of sedge_alert_advice_at. */
-static const unsigned char constant_3[84] = {
+static const unsigned char constant_3[108] = {
     116, 104, 101, 32, 115, 101, 115, 115, 105, 111, 110, 32, 119, 97, 115, 32, 116, 101, 114, 109, 105, 110, 97, 116,
-    101, 100, 58, 32, 97, 102, 116, 101, 114, 32, 111, 110, 101, 32, 114, 111, 117, 110, 100, 32, 116, 114, 105, 112,
-    32, 111, 102, 32, 115, 105, 108, 101, 110, 99, 101, 44, 32, 114, 101, 115, 117, 109, 101, 32, 98, 121, 32, 116,
-    104, 101, 32, 110, 101, 120, 116, 32, 67, 76, 67, 87
+    101, 100, 58, 32, 97, 102, 116, 101, 114, 32, 97, 32, 115, 105, 108, 101, 110, 116, 32, 114, 111, 117, 110, 100,
+    32, 116, 114, 105, 112, 44, 32, 114, 101, 115, 117, 109, 101, 32, 98, 121, 32, 97, 32, 110, 101, 119, 101, 114,
+    32, 67, 76, 67, 87, 44, 32, 105, 102, 32, 116, 104, 101, 32, 98, 111, 111, 116, 32, 99, 111, 117, 110, 116, 32,
+    105, 115, 32, 116, 104, 101, 32, 115, 97, 109, 101
 };
 
 /* Of sedge_alert_name_at. */
@@ -1306,8 +1308,8 @@ static void sedge_alert_advice_at(uint64_t result, uint32_t alert)
     unsigned char frame_octets[320 + 15];
     uint64_t v2 = 0, v3 = 0, v4 = 0, v5 = 0, v6 = 0;
     v2 = aligned(frame_octets);
-    v3 = 84;
-    v4 = v2 + 160 + 84;
+    v3 = 108;
+    v4 = v2 + 160 + 108;
     v5 = address(constant_3);
     switch ((alert & 255) - 1) {
     case 0:
@@ -1320,9 +1322,9 @@ static void sedge_alert_advice_at(uint64_t result, uint32_t alert)
         break;
     case 4:
     case 5:
-        v4 = v2 + 245;
+        v4 = v2 + 267;
         v5 = address(constant_2);
-        v3 = 85;
+        v3 = 107;
         break;
     case 6:
         break;
@@ -4548,7 +4550,7 @@ static uint64_t sedge_tc_frames_at(uint64_t octets, uint64_t count, uint32_t che
     return out;
 }
 
-/* sedge_accepted_beyond, crates/sedgechisel/src/sender/accepted.rt:34 */
+/* sedge_accepted_beyond, crates/sedgechisel/src/sender/accepted.rt:35 */
 static uint32_t sedge_accepted_beyond_at(uint32_t nn, uint32_t vs, uint32_t value, uint64_t accepted)
 {
     uint32_t v4 = 0;
@@ -4561,7 +4563,7 @@ static uint32_t sedge_accepted_beyond_at(uint32_t nn, uint32_t vs, uint32_t valu
     return 0;
 }
 
-/* sedge_fop_accepted_beyond, crates/sedgechisel/src/sender/accepted.rt:19 */
+/* sedge_fop_accepted_beyond, crates/sedgechisel/src/sender/accepted.rt:20 */
 static uint32_t sedge_fop_accepted_beyond_at(uint64_t fop, uint32_t value, uint64_t accepted)
 {
     uint32_t v3 = 0, v4 = 0, v5 = 0, v6 = 0, v7 = 0, v8 = 0, v9 = 0, v10 = 0, v11 = 0, v12 = 0, v13 = 0, v14 = 0;

@@ -1942,7 +1942,7 @@ static void nodes_ground_node_Ground_advance(uint64_t p0)
     return;
 }
 
-/* nodes::ground_node::Ground::refill, crates/nodes/src/ground_node.rt:260 */
+/* nodes::ground_node::Ground::refill, crates/nodes/src/ground_node.rt:261 */
 static void nodes_ground_node_Ground_refill(uint64_t p0)
 {
     uint64_t v1 = 0, v2 = 0, v3 = 0, v4 = 0, v5 = 0, v6 = 0;
@@ -2863,7 +2863,7 @@ static void cop1_fop_trim_trim_09dedc624c4eb86b(uint64_t p0, uint64_t p1, uint64
     return;
 }
 
-/* nodes::ground_node::Ground::directive, crates/nodes/src/ground_node.rt:201 */
+/* nodes::ground_node::Ground::directive, crates/nodes/src/ground_node.rt:202 */
 static void nodes_ground_node_Ground_directive(uint64_t p0, uint64_t p1, uint64_t p2)
 {
     uint32_t v4 = 0, v5 = 0, v6 = 0;
@@ -4953,7 +4953,7 @@ static uint32_t octets_frame_check_check(uint64_t p0, uint64_t p1)
     return v2;
 }
 
-/* nodes::ground_node::Ground::tick, crates/nodes/src/ground_node.rt:220 */
+/* nodes::ground_node::Ground::tick, crates/nodes/src/ground_node.rt:221 */
 static void nodes_ground_node_Ground_tick(uint64_t p0, uint64_t p1)
 {
     uint32_t v2 = 0, v3 = 0, v5 = 0;
@@ -12834,7 +12834,7 @@ l3:;
     return 0;
 }
 
-/* sedge_ground_accepted_beyond, crates/sedgechisel_nodes/src/readings.rt:161 */
+/* sedge_ground_accepted_beyond, crates/sedgechisel_nodes/src/readings.rt:162 */
 static uint32_t sedge_ground_accepted_beyond_at(uint64_t ground, uint32_t value, uint64_t accepted)
 {
     uint32_t v4 = 0, v5 = 0, v6 = 0;
@@ -12897,7 +12897,7 @@ l3:;
     return v6;
 }
 
-/* sedge_ground_known_on_board, crates/sedgechisel_nodes/src/readings.rt:184 */
+/* sedge_ground_known_on_board, crates/sedgechisel_nodes/src/readings.rt:185 */
 static uint32_t sedge_ground_known_on_board_at(uint64_t ground, uint32_t value, uint64_t whole)
 {
     uint32_t v7 = 0, v8 = 0;
