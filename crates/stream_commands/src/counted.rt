@@ -8,6 +8,7 @@ ghost use Rattle.listings.specs.Streams.{Reads, WritesText};
 ghost use Rattle.stream_commands.specs.Listed.{is_listed, listed_outcome, shown_lines, StopsAt};
 
 use crate::listed::list_lines;
+use crate::noted::Note;
 use crate::outcome::Outcome;
 use command_line::Task;
 use listings::{ListingFault, Sink, Source, Summary, Totals, WriteFailed, write_all};
@@ -21,7 +22,7 @@ use std::alloc::Global;
 /// a record declares a length that none can have, its line is the last and nothing more is read. The
 /// fault is `Read` or `Write` where that device failed, `Memory` where none was left, and `TooLong`
 /// past `MOST_OCTETS` octets; what is written by then is a beginning of the lines or of the totals. A call
-/// that failed is the last of its device.
+/// that failed is the last of its device. What is noted of the records is for `Note::tell`.
 /// Faults: `Read`, `Write`, `Memory`, `TooLong`. Memory: yes. Cost: the octets read and written.
 pub fn list<R: Source, W: Sink>(
     alloc: Global,
@@ -29,6 +30,7 @@ pub fn list<R: Source, W: Sink>(
     writer: &mut W,
     task: Task,
     count: bool,
+    note: &Note,
 ) -> Result<Outcome, ListingFault>
     requires range { IsInRange task }
     requires listed { is_listed task ≡ true }
@@ -41,9 +43,9 @@ pub fn list<R: Source, W: Sink>(
         ⊎ StopsAt task (gained (R.given reader.old) (R.given reader.new))) }
 {
     if count {
-        return write_totals(alloc, reader, writer, task);
+        return write_totals(alloc, reader, writer, task, note);
     }
-    match list_lines(alloc, reader, writer, task) {
+    match list_lines(alloc, reader, writer, task, note) {
         Ok(listed) => Ok(Outcome::of(listed.all_good)),
         Err(fault) => Err(fault),
     }
@@ -55,6 +57,7 @@ fn write_totals<R: Source, W: Sink>(
     reader: &mut R,
     writer: &mut W,
     task: Task,
+    note: &Note,
 ) -> Result<Outcome, ListingFault>
     requires range { IsInRange task }
     requires listed { is_listed task ≡ true }
@@ -67,7 +70,7 @@ fn write_totals<R: Source, W: Sink>(
         ⊎ StopsAt task (gained (R.given reader.old) (R.given reader.new))) }
 {
     let mut totals = Totals::new(alloc);
-    let listed = match list_lines(alloc, reader, &mut totals, task) {
+    let listed = match list_lines(alloc, reader, &mut totals, task, note) {
         Ok(listed) => listed,
         Err(ListingFault::Write) => return Err(ListingFault::Memory),
         Err(fault) => return Err(fault),

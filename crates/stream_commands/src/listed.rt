@@ -13,6 +13,7 @@ ghost use Rattle.listings.specs.Filters.{only};
 ghost use Rattle.stream_commands.specs.Listed.{frames_work, is_listed, listed_lines, task_summary, StopsAt};
 ghost use Rattle.stream_commands.specs.Listed.{work_lines, work_summary, WorkStops};
 
+use crate::noted::{Note, Noted};
 use crate::searched::list_searched;
 use command_line::{Channel, MapPart, Part, Task};
 use cop1::Farm;
@@ -34,6 +35,7 @@ pub(crate) fn list_lines<R: Source, W: Sink>(
     reader: &mut R,
     writer: &mut W,
     task: Task,
+    note: &Note,
 ) -> Result<Summary, ListingFault>
     requires range { IsInRange task }
     requires listed { is_listed task ≡ true }
@@ -51,54 +53,62 @@ pub(crate) fn list_lines<R: Source, W: Sink>(
             width,
             vr,
             part,
-        } => list_farm::<true, R, W>(alloc, reader, writer, task, width, vr, part),
+        } => list_farm::<true, R, W>(alloc, reader, writer, task, note, width, vr, part),
         Task::Farm {
             check: false,
             width,
             vr,
             part,
-        } => list_farm::<false, R, W>(alloc, reader, writer, task, width, vr, part),
+        } => list_farm::<false, R, W>(alloc, reader, writer, task, note, width, vr, part),
         Task::Map {
             check: true,
             width,
             vr,
             blocking,
             part,
-        } => list_maps::<true, R, W>(alloc, reader, writer, task, width, vr, blocking, part),
+        } => list_maps::<true, R, W>(alloc, reader, writer, task, note, width, vr, blocking, part),
         Task::Map {
             check: false,
             width,
             vr,
             blocking,
             part,
-        } => list_maps::<false, R, W>(alloc, reader, writer, task, width, vr, blocking, part),
+        } => list_maps::<false, R, W>(alloc, reader, writer, task, note, width, vr, blocking, part),
         Task::Tc {
             check: true,
             channel,
-        } => list_on::<true, _, R, W>(alloc, reader, writer, task, FrameListing, channel),
+        } => list_on::<true, _, R, W>(alloc, reader, writer, task, note, FrameListing, channel),
         Task::Tc {
             check: false,
             channel,
-        } => list_on::<false, _, R, W>(alloc, reader, writer, task, FrameListing, channel),
+        } => list_on::<false, _, R, W>(alloc, reader, writer, task, note, FrameListing, channel),
         Task::Tm {
             length,
             report,
             channel,
-        } => list_telemetry::<Brand, R, W>(alloc, reader, writer, task, length, report, channel),
+        } => list_telemetry::<Brand, R, W>(
+            alloc, reader, writer, task, note, length, report, channel,
+        ),
         Task::Clcw => {
             let cutter = Splitter::<ControlWords>::new(alloc);
-            list_records(alloc, reader, writer, task, cutter, ReportListing)
+            list_records(alloc, reader, writer, task, note, cutter, ReportListing)
         }
         Task::Check { channel } => {
-            list_on::<true, _, R, W>(alloc, reader, writer, task, RefusalListing, channel)
+            list_on::<true, _, R, W>(alloc, reader, writer, task, note, RefusalListing, channel)
         }
         Task::Resync { listed, scid, vcid } => {
             list_searched(alloc, reader, writer, task, listed, scid, vcid)
         }
-        Task::Packets { apid } => list_packets(alloc, reader, writer, task, apid),
+        Task::Packets { apid } => list_packets(alloc, reader, writer, task, note, apid),
         Task::Encode { .. } | Task::Sim | Task::Ground | Task::Spacecraft => unreachable!(),
     }
 }
+
+// The telecommand frames of every channel.
+const EVERY_FRAME: FramesOf = FramesOf {
+    scid: None,
+    vcid: None,
+};
 
 // The telecommand frames of a channel.
 fn frames_of(channel: Channel) -> FramesOf
@@ -116,6 +126,7 @@ fn list_farm<const CHECKED: bool, R: Source, W: Sink>(
     reader: &mut R,
     writer: &mut W,
     task: Task,
+    note: &Note,
     width: u8,
     vr: u8,
     part: Option<Part>,
@@ -133,11 +144,17 @@ fn list_farm<const CHECKED: bool, R: Source, W: Sink>(
     let cutter = Splitter::<FrameLayout<CHECKED>>::new(alloc);
     let farm = Farm::new(width, vr).unwrap();
     match part {
-        None => list_records(alloc, reader, writer, task, cutter, farm),
+        None => {
+            note.receives(EVERY_FRAME);
+            list_records(alloc, reader, writer, task, note, cutter, farm)
+        }
         Some(part) => {
             let farm = FromFirst::new(farm, part.from_first);
             let frames = frames_of(part.channel);
-            list_only::<Brand, _, _, _, R, W>(alloc, reader, writer, task, cutter, farm, frames)
+            note.receives(frames);
+            list_only::<Brand, _, _, _, R, W>(
+                alloc, reader, writer, task, note, cutter, farm, frames,
+            )
         }
     }
 }
@@ -148,6 +165,7 @@ fn list_maps<const CHECKED: bool, R: Source, W: Sink>(
     reader: &mut R,
     writer: &mut W,
     task: Task,
+    note: &Note,
     width: u8,
     vr: u8,
     blocking: bool,
@@ -166,11 +184,17 @@ fn list_maps<const CHECKED: bool, R: Source, W: Sink>(
     let cutter = Splitter::<FrameLayout<CHECKED>>::new(alloc);
     let packets = MapListing::new(alloc, width, vr, blocking);
     match part {
-        None => list_records(alloc, reader, writer, task, cutter, packets),
+        None => {
+            note.receives(EVERY_FRAME);
+            list_records(alloc, reader, writer, task, note, cutter, packets)
+        }
         Some(MapPart { part, map }) => {
             let packets = FromFirst::new(OneMap::new(packets, map), part.from_first);
             let frames = frames_of(part.channel);
-            list_only::<Brand, _, _, _, R, W>(alloc, reader, writer, task, cutter, packets, frames)
+            note.receives(frames);
+            list_only::<Brand, _, _, _, R, W>(
+                alloc, reader, writer, task, note, cutter, packets, frames,
+            )
         }
     }
 }
@@ -181,6 +205,7 @@ fn list_telemetry<K: FrameLength, R: Source, W: Sink>(
     reader: &mut R,
     writer: &mut W,
     task: Task,
+    note: &Note,
     size: u16,
     report: bool,
     channel: Option<Channel>,
@@ -200,10 +225,12 @@ fn list_telemetry<K: FrameLength, R: Source, W: Sink>(
     };
     let cutter = FrameCutter::<K>::new(alloc, usize::from(size));
     match channel {
-        None => list_records(alloc, reader, writer, task, cutter, frames),
+        None => list_records(alloc, reader, writer, task, note, cutter, frames),
         Some(Channel { scid, vcid }) => {
             let kept = TelemetryOf { scid, vcid };
-            list_only::<Brand, _, _, _, R, W>(alloc, reader, writer, task, cutter, frames, kept)
+            list_only::<Brand, _, _, _, R, W>(
+                alloc, reader, writer, task, note, cutter, frames, kept,
+            )
         }
     }
 }
@@ -214,6 +241,7 @@ fn list_packets<R: Source, W: Sink>(
     reader: &mut R,
     writer: &mut W,
     task: Task,
+    note: &Note,
     apid: Option<u16>,
 ) -> Result<Summary, ListingFault>
     requires task { task ≡ Task.Packets apid }
@@ -228,10 +256,12 @@ fn list_packets<R: Source, W: Sink>(
     let cutter = Splitter::<Packets>::new(alloc);
     let packets = PacketListing::new();
     match apid {
-        None => list_records(alloc, reader, writer, task, cutter, packets),
+        None => list_records(alloc, reader, writer, task, note, cutter, packets),
         Some(apid) => {
             let kept = PacketsOf { apid };
-            list_only::<Brand, _, _, _, R, W>(alloc, reader, writer, task, cutter, packets, kept)
+            list_only::<Brand, _, _, _, R, W>(
+                alloc, reader, writer, task, note, cutter, packets, kept,
+            )
         }
     }
 }
@@ -242,6 +272,7 @@ fn list_on<const CHECKED: bool, C, R: Source, W: Sink>(
     reader: &mut R,
     writer: &mut W,
     task: Task,
+    note: &Note,
     listing: C,
     channel: Option<Channel>,
 ) -> Result<Summary, ListingFault>
@@ -263,10 +294,12 @@ where
 {
     let cutter = Splitter::<FrameLayout<CHECKED>>::new(alloc);
     match channel {
-        None => list_records(alloc, reader, writer, task, cutter, listing),
+        None => list_records(alloc, reader, writer, task, note, cutter, listing),
         Some(Channel { scid, vcid }) => {
             let frames = FramesOf { scid, vcid };
-            list_only::<Brand, _, _, _, R, W>(alloc, reader, writer, task, cutter, listing, frames)
+            list_only::<Brand, _, _, _, R, W>(
+                alloc, reader, writer, task, note, cutter, listing, frames,
+            )
         }
     }
 }
@@ -277,6 +310,7 @@ fn list_only<K: Kept, S: Cutter + Drop, C: Listing<S> + Drop, F: Filter + Drop, 
     reader: &mut R,
     writer: &mut W,
     task: Task,
+    note: &Note,
     cutter: S,
     listing: C,
     filter: F,
@@ -298,7 +332,7 @@ fn list_only<K: Kept, S: Cutter + Drop, C: Listing<S> + Drop, F: Filter + Drop, 
         ⊎ StopsAt task (gained (R.given reader.old) (R.given reader.new))) }
 {
     let listing = Only::<C, F, K>::new(listing, filter);
-    list_records(alloc, reader, writer, task, cutter, listing)
+    list_records(alloc, reader, writer, task, note, cutter, listing)
 }
 
 // Lists the records of a stream as this task asks for it, and says how it ends.
@@ -307,6 +341,7 @@ fn list_records<S: Cutter + Drop, C: Listing<S> + Drop, R: Source, W: Sink>(
     reader: &mut R,
     writer: &mut W,
     task: Task,
+    note: &Note,
     cutter: S,
     listing: C,
 ) -> Result<Summary, ListingFault>
@@ -325,5 +360,5 @@ fn list_records<S: Cutter + Drop, C: Listing<S> + Drop, R: Source, W: Sink>(
     ensures end { OnOk result (HasEnded (R.has_ended reader.new) (R.remaining reader.new)
         ⊎ StopsAt task (gained (R.given reader.old) (R.given reader.new))) }
 {
-    list_stream(alloc, reader, writer, cutter, listing)
+    list_stream(alloc, reader, writer, cutter, Noted::new(listing, note))
 }

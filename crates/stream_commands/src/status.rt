@@ -72,8 +72,9 @@ fn line_of(fault: ListingFault) -> &'static str
     }
 }
 
-// Writes a line of three parts.
-fn write_parts<W: Sink>(
+/// Writes a line of three parts.
+/// Faults: WriteFailed.
+pub fn write_parts<W: Sink>(
     errors: &mut W,
     start: &str,
     word: &str,

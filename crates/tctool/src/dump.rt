@@ -16,7 +16,7 @@ use command_line::{Options, Task};
 use listings::{ListingFault, Sink, Source};
 use nodes::{Ground, Spacecraft};
 use std::alloc::Global;
-use stream_commands::{Outcome, list};
+use stream_commands::{Note, Outcome, list};
 
 /// Reads the input to its end, in pieces, and writes the lines that the words ask for: of each piece
 /// before the next is read, but of a script once all of it is read. A node answers each line of a piece. For
@@ -29,13 +29,15 @@ use stream_commands::{Outcome, list};
 /// unreadable one on. The
 /// fault is `Read` or `Write` where that device failed, `Memory` where none was left, and `TooLong`
 /// past `MOST_OCTETS` octets; what is written by then is a beginning of the lines. A call that failed
-/// is the last of its device. Of a line of a script that is unreadable the cause is left.
+/// is the last of its device. Of a line of a script that is unreadable the cause is left, and
+/// of the records of a file what is noted.
 pub fn dump<R: Source, W: Sink>(
     alloc: Global,
     reader: &mut R,
     writer: &mut W,
     options: &Options,
     cause: &mut &'static str,
+    note: &Note,
 ) -> Result<Outcome, ListingFault>
     requires { IsInRange options.now.task }
     ensures reads { Reads R.given R.remaining R.failures result reader.old reader.new }
@@ -53,6 +55,6 @@ pub fn dump<R: Source, W: Sink>(
         Task::Sim => simulate(alloc, reader, writer, cause),
         Task::Ground => play_node::<Ground, R, W>(alloc, reader, writer),
         Task::Spacecraft => play_node::<Spacecraft, R, W>(alloc, reader, writer),
-        task => list(alloc, reader, writer, task, options.count),
+        task => list(alloc, reader, writer, task, options.count, note),
     }
 }

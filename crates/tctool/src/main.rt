@@ -22,7 +22,7 @@ use std::fs::File;
 use std::io;
 use std::io::Read;
 use std::process::ExitCode;
-use stream_commands::ending;
+use stream_commands::{Note, ending};
 
 fn main(rt: HostRuntime) -> ExitCode {
     ExitCode::from(match GivenWords::read(&rt, rt.alloc()) {
@@ -96,12 +96,23 @@ fn tell<R: Read + Drop>(rt: &HostRuntime, input: R, options: &Options) -> u8
     let mut reader = Noting::new(Reader::new(input));
     let mut writer = Writer::new(io::writer(rt));
     let mut cause = "";
-    let dumped = dump::dump(rt.alloc(), &mut reader, &mut writer, options, &mut cause);
-    let status = ending(&dumped, &mut Writer::new(rt.stderr()));
+    let note = Note::new();
+    let dumped = dump::dump(
+        rt.alloc(),
+        &mut reader,
+        &mut writer,
+        options,
+        &mut cause,
+        &note,
+    );
+    let mut errors = Writer::new(rt.stderr());
+    let status = ending(&dumped, &mut errors);
     if let Some(kind) = reader.failed() {
         explain(rt, options.file, reason(kind));
     } else if !cause.is_empty() {
         let _ = eprintln!(rt; "tctool: {cause}");
+    } else if dumped.is_ok() {
+        let _ = note.tell(!reader.has_ended(), &mut errors);
     }
     status
 }

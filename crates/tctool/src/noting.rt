@@ -1,4 +1,4 @@
-// A source that notes why a read of it failed.
+// A source that notes whether it has ended, and why a read of it failed.
 
 ghost use Rattle.std.specs.Prelude.{◌≡◌, None};
 
@@ -6,10 +6,11 @@ use listings::Source;
 use std::io;
 use std::io::ErrorKind;
 
-/// A source, and of its last read that failed why it did.
+/// A source, whether a read found its end, and of its last read that failed why it did.
 #[derive(Drop)]
 pub struct Noting<S> {
     source: S,
+    ended: bool,
     failed: Option<ErrorKind>,
 }
 
@@ -21,8 +22,16 @@ impl<S> Noting<S> {
     {
         Noting {
             source,
+            ended: false,
             failed: None,
         }
+    }
+
+    /// Whether a read found the end.
+    pub fn has_ended(&self) -> bool
+        ensures { result ≡ self.now.ended }
+    {
+        self.ended
     }
 
     /// Why the last read failed that did.
@@ -44,7 +53,10 @@ impl<S: Source> Source for Noting<S> {
 
     fn read(&mut self, piece: &mut [u8]) -> io::Result<usize> {
         match self.source.read(piece) {
-            Ok(count) => Ok(count),
+            Ok(count) => {
+                self.ended = count == 0;
+                Ok(count)
+            }
             Err(error) => {
                 self.failed = Some(error.kind());
                 Err(error)
