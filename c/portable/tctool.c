@@ -2,7 +2,7 @@
  * 32 to 64 bits. It is made by tools/portable_c of the program's object for wasm64, and not edited: change the program,
  * and make this anew.
  *
- * tools/sources_sum of the code that it was made of: 405530523-1176310
+ * tools/sources_sum of the code that it was made of: 1681942521-1176636
  *
  * What is proved is the code as the prover has it, for 64 bits: the program writes what the contracts of its crates say
  * (docs/PROMISES.md). LLVM, which compiles that for wasm64, tools/program_module and tools/portable_c, which write this

@@ -57,7 +57,11 @@ impl Named {
 }
 
 // The arguments of `farm`.
-fn farm_arguments<'a>(alloc: Global, help: &'a str, by_word: bool) -> Result<Vec<Arg<'a>>, AllocError>
+fn farm_arguments<'a>(
+    alloc: Global,
+    help: &'a str,
+    by_word: bool,
+) -> Result<Vec<Arg<'a>>, AllocError>
     ensures { IfOk result (λ arguments. AreArguments arguments.items (wanted_of commands.Farm)) }
 {
     let resync = needs_check(resync_flag(alloc)?)?;
@@ -74,7 +78,11 @@ fn farm_arguments<'a>(alloc: Global, help: &'a str, by_word: bool) -> Result<Vec
 }
 
 // The arguments of `map`.
-fn map_arguments<'a>(alloc: Global, help: &'a str, by_word: bool) -> Result<Vec<Arg<'a>>, AllocError>
+fn map_arguments<'a>(
+    alloc: Global,
+    help: &'a str,
+    by_word: bool,
+) -> Result<Vec<Arg<'a>>, AllocError>
     ensures { IfOk result (λ arguments. AreArguments arguments.items (wanted_of commands.Map)) }
 {
     let resync = needs_check(resync_flag(alloc)?)?;
