@@ -1,10 +1,10 @@
 -- What one more segment adds to what a list of segments of one MAP gives.
 use Rattle.std.proofs.Common.{◌≡◌, ℕ, List, [], ◌∷◌, ◌++◌, Option, Some, None, refl, sym, ap, ◌∙◌}
 use Rattle.std.proofs.Common.{append_assoc, arith, Bool, true, false, eqb, ◌≢◌, ◌≤◌, length, not}
-use Rattle.std.proofs.Common.{cond, ◌&&◌, set, length-append, inl, inr, ◌<◌, suc, get_or, map}
+use Rattle.std.proofs.Common.{cond, ◌&&◌, set, length-append, inl, inr, get_or}
 use Rattle.std.proofs.Common.{replicate}
 use Rattle.std.proofs.lemmas.List.{append-nil, get_or-set_same, get_or-set_other, get_or_past}
-use Rattle.std.proofs.lemmas.List.{length-set, map-set, get_or-map, get_or-replicate}
+use Rattle.std.proofs.lemmas.List.{length-set, get_or-replicate, set-get_or}
 use Rattle.std.proofs.lemmas.List.{length-replicate}
 use Rattle.tc_frame.specs.declared.frame.SegmentFlags.{SegmentFlags}
 use Rattle.tc_frame.specs.declared.frame.SegmentFlags.TheVariants.{First, Continuing, Last, Alone}
@@ -22,14 +22,11 @@ use Rattle.map_service.specs.declared.dropped.Dropped.TheVariants.{NotAPacket, T
 use Rattle.map_service.specs.Packets.{packets_in, are_packets, is_packet, is_some_over}
 use Rattle.map_service.specs.AssemblerTable.{TakeOutcome, one_fault, several_fault, alone_fault}
 use Rattle.map_service.specs.AssemblerTable.{alone_packets, drop_outcome, packets_outcome}
-use Rattle.map_service.specs.AssemblerTable.{part_outcome, cell, take_step}
+use Rattle.map_service.specs.AssemblerTable.{part_outcome, cell, take_step, lone_packet_cell}
 use Rattle.map_service.specs.Exactness.{AssemblerState, part_on_map, step_at, after_step}
 use Rattle.map_service.specs.Exactness.{HasPartsOf, IsTakenExactly}
-use Rattle.std.specs.List.{AllByRecursion}
-use Rattle.std.specs.declared.vec.Vec.{Vec}
 use Rattle.map_service.specs.declared.assembler.Change.{Change}
 use Rattle.map_service.specs.Prepared.{part_after}
-use Rattle.map_service.specs.Views.{part_view}
 
 -- ---- segments that are all continuing end no block, give no packet and begin no part
 
@@ -412,14 +409,6 @@ taken_exactly a segments s count has = record {
   kept = parts_kept a segments s count has;
 }
 
--- One part among those of all MAPs, as the assembler holds them.
-
-pub all_by_places : {X : Type 0} (P : X → Type 0) (xs : List X) (d : X)
-    → ((i : ℕ) → i < length xs → P (get_or xs i d)) → AllByRecursion P xs
-all_by_places P [] d at = tt
-all_by_places P (y ∷ ys) d at =
-    (at 0 (omega arith), all_by_places P ys d (λ i lt. at (suc i) (omega arith)))
-
 -- ---- one part among those of all MAPs, as the assembler holds them
 
 nothing_open : (b : Bool) → (let part : Option (List ℕ) = cond b None None in part) ≡ None
@@ -436,35 +425,49 @@ no_parts limits m =
           ∙ sym (nothing_open (is_open limits m))
     ]
 
-module _ {Z : Type 0} (limits : Limits) (parts : List (Option (Vec ℕ Z))) (s : SegmentView) (place : ℕ)
-    (part old : Option (Vec ℕ Z)) where
-  abbrev pub state_with : List (Option (Vec ℕ Z)) → AssemblerState
-  state_with ps = record { limits = limits; parts = map part_view ps }
+lone_cell : (limits : Limits) (flags : SegmentFlags) (part : Option (List ℕ)) (octets packet : List ℕ)
+    → lone_packet_cell limits flags part octets ≡ Some packet → (cell limits flags part octets).part ≡ part
+lone_cell limits Alone None octets packet e =
+    packets_outcome-part None (alone_packets limits octets) (alone_fault limits octets)
+lone_cell limits Alone (Some part) octets packet e = absurd cc
+lone_cell limits First part octets packet e = absurd cc
+lone_cell limits Continuing part octets packet e = absurd cc
+lone_cell limits Last part octets packet e = absurd cc
 
-  is_map : is_open limits s.header.map ≡ true → s.header.map < 64
-  is_map opened =
-      elim (cases_lt s.header.map 64) [
-        | inl lt ↦ lt
-        | inr ge ↦ absurd
-            (let closed = no_such_map limits s.header.map ge in cc)
-      ]
+-- a segment that is one packet, with no part open, changes nothing
+pub lone_stays : (a : AssemblerState) (s : SegmentView) (packet : List ℕ)
+    → lone_packet_cell a.limits s.header.flags (part_on_map a s.header.map) s.payload ≡ Some packet
+    → after_step a s ≡ a
+lone_stays a s packet lone =
+    let part : Option (List ℕ) = part_on_map a s.header.map in
+    let same : (step_at a s).part ≡ part =
+    cond_both (is_open a.limits s.header.map) (cell a.limits s.header.flags part s.payload) _ (λ o. o.part ≡ part)
+    (λ t. lone_cell a.limits s.header.flags part s.payload packet lone) (λ t. refl) in
+    ap (λ (ps : List (Option (List ℕ))). let b : AssemblerState = record { limits = a.limits; parts = ps } in b)
+    (ap (set a.parts s.header.map) same ∙ set-get_or a.parts s.header.map None)
 
-  viewed_at : place ≡ s.header.map → length parts ≡ 64 → is_open limits s.header.map ≡ true
-      → get_or (map part_view parts) s.header.map None ≡ part_view (get_or parts place old)
-  viewed_at at count opened =
-      let lt = is_map opened in
-      ap (λ (m : ℕ). get_or (map part_view parts) m None) (sym at)
-      ∙ get_or-map part_view parts place old None (omega arith)
+-- the part of the segment's MAP is that of the step, where the change that was put on an open one gives it
+put_by : (limits : Limits) (before after : List (Option (List ℕ))) (s : SegmentView) (opened : Bool)
+    → is_open limits s.header.map ≡ opened
+    → (let a : AssemblerState = record { limits = limits; parts = before } in
+    (opened ≡ true → after ≡ set before s.header.map (step_at a s).part) → (opened ≡ false → after ≡ before)
+    → (let b : AssemblerState = record { limits = limits; parts = after } in b) ≡ after_step a s)
+put_by limits before after s true e put other =
+    ap (λ (ps : List (Option (List ℕ))).
+    let b : AssemblerState = record { limits = limits; parts = ps } in b) (put refl)
+put_by limits before after s false e put other =
+    let a : AssemblerState = record { limits = limits; parts = before } in
+    let same : (step_at a s).part ≡ get_or before s.header.map None = rw e refl in
+    ap (λ (ps : List (Option (List ℕ))). let b : AssemblerState = record { limits = limits; parts = ps } in b)
+    (other refl ∙ sym (ap (set before s.header.map) same ∙ set-get_or before s.header.map None))
 
-  -- the part of the segment's MAP is that of the step, where the change that was put gives it
-  pub put_part : place ≡ s.header.map → length parts ≡ 64 → is_open limits s.header.map ≡ true → (change : Change)
-      → part_view part ≡ part_after change (part_view (get_or parts place old)) s.payload
-      → part_after change (part_on_map (state_with parts) s.header.map) s.payload
-      ≡ (step_at (state_with parts) s).part
-      → state_with (set parts place part) ≡ after_step (state_with parts) s
-  put_part at count opened change put prepared =
-      let new : part_view part ≡ (step_at (state_with parts) s).part =
-      put ∙ ap (λ (p : Option (List ℕ)). part_after change p s.payload) (sym (viewed_at at count opened)) ∙ prepared in
-      ap (λ (ps : List (Option (List ℕ))). let a : AssemblerState = record { limits = limits; parts = ps } in a)
-      (map-set part_view parts place part ∙ ap (λ (m : ℕ). set (map part_view parts) m (part_view part)) at
-      ∙ ap (set (map part_view parts) s.header.map) new)
+pub put_part : (limits : Limits) (before after : List (Option (List ℕ))) (s : SegmentView) (change : Change)
+    → (is_open limits s.header.map ≡ true
+    → after ≡ set before s.header.map (part_after change (get_or before s.header.map None) s.payload))
+    → (is_open limits s.header.map ≡ false → after ≡ before)
+    → (let a : AssemblerState = record { limits = limits; parts = before } in
+    part_after change (get_or before s.header.map None) s.payload ≡ (step_at a s).part
+    → (let b : AssemblerState = record { limits = limits; parts = after } in b) ≡ after_step a s)
+put_part limits before after s change put other prepared =
+    put_by limits before after s (is_open limits s.header.map) refl
+    (λ e. put e ∙ ap (set before s.header.map) prepared) other

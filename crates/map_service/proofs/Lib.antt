@@ -5,3 +5,4 @@ pub mod AssemblerSteps
 pub mod Parts
 pub mod Passage
 pub mod Whole
+pub mod PartLists

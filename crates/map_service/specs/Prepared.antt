@@ -1,6 +1,6 @@
 -- What is found out of a segment before anything changes.
 use Rattle.std.specs.Prelude.{◌≡◌, ◌≤◌, ℕ, List, ◌++◌, length, Option, Some, None, option_map}
-use Rattle.std.specs.Prelude.{IfSome}
+use Rattle.std.specs.Prelude.{IfSome, Bool, true, false}
 use Rattle.std.specs.Vec.{vec_capacity}
 use Rattle.tc_frame.specs.Layout.{SegmentView}
 use Rattle.map_service.specs.declared.assembler.Change.{Change}
@@ -9,6 +9,7 @@ use Rattle.map_service.specs.declared.assembler.Prepared.{Prepared}
 use Rattle.map_service.specs.declared.limits.Limits.{Limits}
 use Rattle.map_service.specs.Exactness.{AssemblerState, part_on_map}
 use Rattle.map_service.specs.AssemblerTable.{TakeOutcome, take_step}
+use Rattle.map_service.specs.AssemblerFields.{HasPlaces, IsNewList}
 use Rattle.map_service.specs.Views.{ready_view}
 
 -- the part that is open then, where this one was and these are the segment's data
@@ -33,12 +34,30 @@ HasRoom most Closed part octets = Unit {0}
 HasRoom most (Opened new) part octets = most ≤ vec_capacity new
 HasRoom most Grown part octets = IfSome part (λ begun. length (begun ++ octets) ≤ most)
 
--- this was found out of this segment, where this part is open on its MAP
-pub record IsPreparedBy (limits : Limits) (part : Option (List ℕ)) (s : SegmentView) (p : Prepared)
-    : Type 0 where
+-- a part is opened
+abbrev pub is_opened : Change → Bool
+is_opened Same = false
+is_opened Closed = false
+is_opened (Opened new) = true
+is_opened Grown = false
+
+-- this was found out of this segment, where this part is open on its MAP; where a part is opened
+-- and there may be no list of the parts, it has one
+pub record IsFoundBy (limits : Limits) (part : Option (List ℕ)) (MayLack : Type 0) (s : SegmentView)
+    (p : Prepared) : Type 0 where
   pub outcome : outcome_of p part s.payload ≡ take_step limits part s
   pub room : HasRoom limits.max_packet p.change part s.payload
+  pub list : IsNewList limits p.list.items
+  pub brought : is_opened p.change ≡ true → MayLack → HasPlaces limits (length p.list.items)
+
+-- no part is open on any MAP
+abbrev pub AreClosed : (ℕ → Option (List ℕ)) → Type 0
+AreClosed parts = (m : ℕ) → parts m ≡ None
+
+-- the same, where these parts are open, each on its MAP: a list is there where one of them is
+abbrev pub IsPreparedBy : Limits → (ℕ → Option (List ℕ)) → SegmentView → Prepared → Type 0
+IsPreparedBy limits parts s p = IsFoundBy limits (parts s.header.map) (AreClosed parts) s p
 
 -- the same, at an assembler in this state
 abbrev pub IsPrepared : AssemblerState → SegmentView → Prepared → Type 0
-IsPrepared a s p = IsPreparedBy a.limits (part_on_map a s.header.map) s p
+IsPrepared a s p = IsPreparedBy a.limits (part_on_map a) s p

@@ -1,13 +1,13 @@
 // Joining segments to packets.
 
-ghost use Rattle.std.specs.Prelude.{◌≡◌, ◌≤◌, ◌++◌, [], ◌∷◌, List, length, false, Some, None, option_map};
+ghost use Rattle.std.specs.Prelude.{◌≡◌, ◌≤◌, ◌++◌, [], ◌∷◌, List, length, true, false, Some, None, IsSome, option_map, option_copied, get_or, set};
 ghost use Rattle.std.specs.Prelude.{IfSome, IsOk, IfOk, IfErr, OnOk, OnErr, if◌then◌else◌};
 ghost use Rattle.std.specs.Vec.{vec_capacity};
 ghost use Rattle.tc_frame.specs.Layout.{segment_view};
-ghost use Rattle.map_service.specs.Assembly.{is_too_long};
-ghost use Rattle.map_service.specs.AssemblerFields.{HasLongest};
-ghost use Rattle.map_service.specs.Prepared.{outcome_of, part_after, HasRoom};
-ghost use Rattle.map_service.specs.AssemblerTable.{packets_outcome, one_fault, cell_at, lone_packet_cell, IsSureAtOnce};
+ghost use Rattle.map_service.specs.Assembly.{is_open, is_too_long};
+ghost use Rattle.map_service.specs.AssemblerFields.{HasLongest, HasPlaces, IsPartList, IsNewList, parts_of};
+ghost use Rattle.map_service.specs.Prepared.{outcome_of, part_after, is_opened, HasRoom, AreClosed, IsFoundBy};
+ghost use Rattle.map_service.specs.AssemblerTable.{packets_outcome, one_fault, take_step, lone_packet_cell, IsSureAtOnce};
 ghost use Rattle.map_service.specs.Views.{part_view, packets_view, ready_view};
 
 use crate::decision::{Action, Decision, decide};
@@ -17,7 +17,6 @@ use crate::limits::Limits;
 use crate::packets::{copied_packets, fault_of_one};
 use smallvec::SmallVec;
 use std::alloc::{AllocError, Global};
-use std::array;
 use std::marker::Model;
 use tc_frame::{Segment, SegmentFlags};
 
@@ -63,6 +62,8 @@ pub struct Prepared {
     /// of its own.
     pub packets: SmallVec<Vec<u8>, 1>,
     change: Change,
+    // a list of the parts, where it has to be brought; it has no places otherwise
+    list: Vec<Option<Vec<u8>>>,
 }
 
 /// Joins the segments of each MAP to packets (CCSDS 232.0-B-4, 4.1.3.2.2). It keeps the part that
@@ -72,7 +73,8 @@ pub struct Prepared {
 pub struct Assembler {
     alloc: Global,
     limits: Limits,
-    parts: [Option<Vec<u8>>; 64],
+    // a place for each MAP up to the highest that is open, from the first part that is opened on
+    parts: Vec<Option<Vec<u8>>>,
     // the room of a part that was closed, for the next one that is opened
     spare: Option<Vec<u8>>,
 }
@@ -98,6 +100,7 @@ impl Assembler {
     ghost use Rattle.map_service.specs.AssemblerTable.{packet_outcome};
 
     /// An assembler with no part open. It takes no memory.
+    #[tactic(auto, using(crate::proofs::AssemblerSteps::no_parts))]
     pub fn new(alloc: Global, limits: Limits) -> Assembler
         ensures limits { result.limits ≡ limits }
         ensures parts { result.parts ≡ replicate 64 None }
@@ -108,7 +111,7 @@ impl Assembler {
         Assembler {
             alloc,
             limits,
-            parts: array::from_fn(|_| None),
+            parts: Vec::new(alloc),
             spare: None,
         }
     }
@@ -141,9 +144,10 @@ impl Assembler {
             dropped,
             packets,
             change,
+            list,
         } = self.prepare_with_spare(segment)?;
         let packets = listed(self.alloc, packets)?;
-        let closed = self.put(segment, change);
+        let closed = self.put(segment, change, list);
         self.keep(closed);
         Ok(Taken { dropped, packets })
     }
@@ -162,12 +166,21 @@ impl Assembler {
         ensures fault { IfErr result (λ e. e ≡ MapFault.Memory) }
         ensures none { IsSureAtOnce (step_at self.old (segment_view segment.now)) result }
     {
+        let is_listed = !self.parts.is_empty();
         let Prepared {
             dropped,
             packets,
             change,
-        } = self.prepare_with_spare(segment)?;
-        let closed = self.put(segment, change);
+            list,
+        } = found(
+            self.alloc,
+            &self.limits,
+            &self.parts,
+            is_listed,
+            &mut self.spare,
+            segment,
+        )?;
+        let closed = put_all(&self.limits, &mut self.parts, segment, change, list);
         self.keep(closed);
         Ok(TakenInline { dropped, packets })
     }
@@ -189,27 +202,15 @@ impl Assembler {
         ensures fault { IfErr result (λ e. e ≡ MapFault.Memory) }
         ensures none { IsSureAtOnce (step_at self.now (segment_view segment.now)) result }
     {
-        self.prepared(&mut None, segment)
-    }
-
-    // The same. A part is opened in the spare room, where there is any.
-    #[inline(always)]
-    fn prepared(&self, spare: &mut Option<Vec<u8>>, segment: &Segment) -> Result<Prepared, MapFault>
-        requires { HasLongest self.now.limits.max_packet spare.old }
-        ensures spare { HasLongest self.now.limits.max_packet spare.new }
-        ensures prepared { IfOk result (IsPrepared self.now (segment_view segment.now)) }
-        ensures fault { IfErr result (λ e. e ≡ MapFault.Memory) }
-        ensures none { IsSureAtOnce (step_at self.now (segment_view segment.now)) result }
-    {
-        let map = segment.header.map;
-        if !self.limits.is_open(map) {
-            return Ok(no_packets(self.alloc, Some(Dropped::ClosedMap), Change::Same));
-        }
-        let part = &self.parts[usize::from(map)];
-        match prepared_cell(self.alloc, &self.limits, part, spare, segment) {
-            Ok(prepared) => Ok(prepared),
-            Err(_) => Err(MapFault::Memory),
-        }
+        let is_listed = is_some_open(&self.parts);
+        found(
+            self.alloc,
+            &self.limits,
+            &self.parts,
+            is_listed,
+            &mut None,
+            segment,
+        )
     }
 
     // The same, with the room that is kept.
@@ -220,10 +221,15 @@ impl Assembler {
         ensures fault { IfErr result (λ e. e ≡ MapFault.Memory) }
         ensures none { IsSureAtOnce (step_at self.old (segment_view segment.now)) result }
     {
-        let mut spare = self.spare.take();
-        let prepared = self.prepared(&mut spare, segment);
-        self.spare = spare;
-        prepared
+        let is_listed = is_some_open(&self.parts);
+        found(
+            self.alloc,
+            &self.limits,
+            &self.parts,
+            is_listed,
+            &mut self.spare,
+            segment,
+        )
     }
 
     /// Takes the segment of which this was prepared, since when nothing has changed, and hands out the
@@ -240,7 +246,7 @@ impl Assembler {
             → IsTakenExactly
             self.new segments (segment_view segment.now) (ready_view result) }
     {
-        self.put(segment, prepared.change);
+        self.put(segment, prepared.change, prepared.list);
         prepared.packets
     }
 
@@ -260,8 +266,7 @@ impl Assembler {
         if self.limits.blocking || !self.limits.is_open(map) {
             return None;
         }
-        let part = &self.parts[usize::from(map)];
-        if !is_lone_packet(&self.limits, part, segment) {
+        if !is_lone_packet(&self.limits, part_on(&self.parts, map), segment) {
             return None;
         }
         Some(segment.payload)
@@ -281,23 +286,158 @@ impl Assembler {
     // Changes the part that is open on the segment's MAP, where this MAP is open, and hands out the
     // room of one that is closed.
     #[inline(always)]
-    fn put(&mut self, segment: &Segment, change: Change) -> Option<Vec<u8>>
+    fn put(
+        &mut self,
+        segment: &Segment,
+        change: Change,
+        list: Vec<Option<Vec<u8>>>,
+    ) -> Option<Vec<u8>>
         requires part { part_after
             change (part_on_map self.old segment.now.header.map) segment.now.payload.now
             ≡ (step_at self.old (segment_view segment.now)).part }
         requires room { HasRoom self.old.limits.max_packet
             change (part_on_map self.old segment.now.header.map) segment.now.payload.now }
+        requires brought { is_opened change ≡ true → AreClosed (part_on_map self.old)
+            → HasPlaces self.old.limits (length list.items) }
+        requires list { IsNewList self.old.limits list.items }
         ensures state { self.new ≡ after_step self.old (segment_view segment.now) }
         ensures maps { length self.old.parts ≡ 64 }
         ensures closed { HasLongest self.old.limits.max_packet result }
     {
-        let map = segment.header.map;
-        if !self.limits.is_open(map) {
-            return None;
-        }
-        let part = &mut self.parts[usize::from(map)];
-        put(&self.limits, part, change, segment.payload)
+        put_all(&self.limits, &mut self.parts, segment, change, list)
     }
+}
+
+// The part that is open on a MAP.
+#[inline(always)]
+fn part_on<'a>(parts: &'a [Option<Vec<u8>>], map: u8) -> Option<&'a [u8]>
+    ensures { option_copied result ≡ get_or (parts_of parts.now) map None }
+{
+    match parts.get(usize::from(map)) {
+        Some(Some(part)) => Some(part),
+        _ => None,
+    }
+}
+
+// Whether a part is open on some MAP.
+fn is_some_open(parts: &[Option<Vec<u8>>]) -> bool
+    ensures { AreClosed (λ m. get_or (parts_of parts.now) m None) → result ≡ false }
+{
+    for place in 0..parts.len() {
+        if parts[place].is_some() {
+            return true;
+        }
+    }
+    false
+}
+
+// How many MAPs there are up to the highest that is open.
+fn places(limits: &Limits) -> usize
+    ensures most { result ≤ 64 }
+    ensures places { HasPlaces limits.now result }
+{
+    64 - limits.maps.leading_zeros() as usize
+}
+
+// A list of the parts of all MAPs, of which none is open.
+fn new_list(alloc: Global, limits: &Limits) -> Result<Vec<Option<Vec<u8>>>, AllocError>
+    ensures list { IfOk result (λ parts. IsNewList limits.now parts.items) }
+    ensures places { IfOk result (λ parts. HasPlaces limits.now (length parts.items)) }
+{
+    let places = places(limits);
+    let mut parts = Vec::with_capacity(alloc, places)?;
+    parts.resize_with(places, || None)?;
+    Ok(parts)
+}
+
+// The list of the parts, where there is none.
+#[inline(always)]
+fn list_for(
+    alloc: Global,
+    limits: &Limits,
+    is_listed: bool,
+) -> Result<Vec<Option<Vec<u8>>>, AllocError>
+    ensures brought { IfOk result
+        (λ list. is_listed ≡ false → HasPlaces limits.now (length list.items)) }
+    ensures list { IfOk result (λ list. IsNewList limits.now list.items) }
+{
+    if is_listed {
+        return Ok(Vec::new(alloc));
+    }
+    new_list(alloc, limits)
+}
+
+// Keeps the list of the parts that was brought, where there is none.
+#[inline(always)]
+fn lay(limits: &Limits, parts: &mut Vec<Option<Vec<u8>>>, list: Vec<Option<Vec<u8>>>)
+    requires kept { IsPartList limits.now parts.old.items }
+    requires list { IsNewList limits.now list.items }
+    ensures kept { IsPartList limits.now parts.new.items }
+    ensures same { parts_of parts.new.items ≡ parts_of parts.old.items }
+    ensures laid { length parts.old.items ≡ 0 → parts.new.items ≡ list.items }
+    ensures there { 1 ≤ length parts.old.items → parts.new.items ≡ parts.old.items }
+{
+    if parts.is_empty() {
+        *parts = list;
+    }
+}
+
+// Changes the part that is open on the segment's MAP, where this MAP is open, and hands out the room
+// of one that is closed.
+#[inline(always)]
+fn put_all(
+    limits: &Limits,
+    parts: &mut Vec<Option<Vec<u8>>>,
+    segment: &Segment,
+    change: Change,
+    list: Vec<Option<Vec<u8>>>,
+) -> Option<Vec<u8>>
+    requires kept { IsPartList limits.now parts.old.items }
+    requires room { HasRoom limits.now.max_packet change
+        (get_or (parts_of parts.old.items) segment.now.header.map None) segment.now.payload.now }
+    requires brought { is_opened change ≡ true → length parts.old.items ≡ 0
+        → HasPlaces limits.now (length list.items) }
+    requires list { IsNewList limits.now list.items }
+    ensures kept { IsPartList limits.now parts.new.items }
+    ensures parts { is_open limits.now segment.now.header.map ≡ true → parts_of parts.new.items
+        ≡ set (parts_of parts.old.items) segment.now.header.map (part_after change
+        (get_or (parts_of parts.old.items) segment.now.header.map None) segment.now.payload.now) }
+    ensures other { is_open limits.now segment.now.header.map ≡ false
+        → parts.new.items ≡ parts.old.items }
+    ensures closed { HasLongest limits.now.max_packet result }
+{
+    let map = segment.header.map;
+    if !limits.is_open(map) {
+        return None;
+    }
+    lay(limits, parts, list);
+    put_on(limits, parts, map, change, segment.payload)
+}
+
+// Changes the part that is open on a MAP, and hands out the room of one that is closed.
+#[inline(always)]
+fn put_on(
+    limits: &Limits,
+    parts: &mut Vec<Option<Vec<u8>>>,
+    map: u8,
+    change: Change,
+    octets: &[u8],
+) -> Option<Vec<u8>>
+    requires open { is_open limits.now map ≡ true }
+    requires kept { IsPartList limits.now parts.old.items }
+    requires room { HasRoom limits.now.max_packet
+        change (get_or (parts_of parts.old.items) map None) octets.now }
+    requires listed { is_opened change ≡ true → 1 ≤ length parts.old.items }
+    ensures kept { IsPartList limits.now parts.new.items }
+    ensures parts { parts_of parts.new.items ≡ set (parts_of parts.old.items) map (part_after
+        change (get_or (parts_of parts.old.items) map None) octets.now) }
+    ensures closed { HasLongest limits.now.max_packet result }
+{
+    let place = usize::from(map);
+    if place >= parts.len() {
+        return None;
+    }
+    put(limits, &mut parts[place], change, octets)
 }
 
 // Changes the part, and hands out the room of one that is closed.
@@ -348,11 +488,13 @@ fn no_packets(alloc: Global, dropped: Option<Dropped>, change: Change) -> Prepar
     ensures dropped { result.dropped ≡ dropped }
     ensures packets { ready_view result.packets ≡ [] }
     ensures change { result.change ≡ change }
+    ensures list { result.list.items ≡ [] }
 {
     Prepared {
         dropped,
         packets: SmallVec::new(alloc),
         change,
+        list: Vec::new(alloc),
     }
 }
 
@@ -395,15 +537,19 @@ fn begun(
 
 // A part that a last segment ends, judged as a whole.
 #[inline(always)]
-fn ended(alloc: Global, limits: &Limits, part: &[u8], octets: &[u8]) -> Result<Prepared, AllocError>
+fn ended(alloc: Global, limits: &Limits, part: &[u8], octets: &[u8]) -> Result<Prepared, MapFault>
     ensures outcome { IfOk result (λ p. outcome_of p (Some part.now) octets.now
         ≡ packets_outcome None ((part.now ++ octets.now) ∷ [])
         (one_fault limits.now (part.now ++ octets.now))) }
     ensures change { IfOk result (λ p. p.change ≡ Change.Closed) }
+    ensures list { IfOk result (λ p. p.list.items ≡ []) }
+    ensures fault { IfErr result (λ e. e ≡ MapFault.Memory) }
 {
-    let mut joined = Vec::with_capacity(alloc, part.len() + octets.len())?;
-    joined.extend_from_slice(part)?;
-    joined.extend_from_slice(octets)?;
+    let Ok(mut joined) = Vec::with_capacity(alloc, part.len() + octets.len()) else {
+        return Err(MapFault::Memory);
+    };
+    let _ = joined.extend_from_slice(part);
+    let _ = joined.extend_from_slice(octets);
     let dropped = fault_of_one(limits, &joined);
     let mut packets = SmallVec::new(alloc);
     if dropped.is_none() {
@@ -413,7 +559,41 @@ fn ended(alloc: Global, limits: &Limits, part: &[u8], octets: &[u8]) -> Result<P
         dropped,
         packets,
         change: Change::Closed,
+        list: Vec::new(alloc),
     })
+}
+
+// What comes of a segment. A part is opened in the spare room, where there is any, and comes with a list of the parts,
+// unless there is one.
+#[inline(always)]
+fn found(
+    alloc: Global,
+    limits: &Limits,
+    parts: &[Option<Vec<u8>>],
+    is_listed: bool,
+    spare: &mut Option<Vec<u8>>,
+    segment: &Segment,
+) -> Result<Prepared, MapFault>
+    requires { HasLongest limits.now.max_packet spare.old }
+    ensures spare { HasLongest limits.now.max_packet spare.new }
+    ensures found { IfOk result (IsFoundBy limits.now
+        (get_or (parts_of parts.now) segment.now.header.map None) (is_listed ≡ false) (segment_view segment.now)) }
+    ensures fault { IfErr result (λ e. e ≡ MapFault.Memory) }
+    ensures none { IsSureAtOnce (take_step limits.now
+        (get_or (parts_of parts.now) segment.now.header.map None) (segment_view segment.now)) result }
+{
+    let map = segment.header.map;
+    if !limits.is_open(map) {
+        return Ok(no_packets(alloc, Some(Dropped::ClosedMap), Change::Same));
+    }
+    prepared_cell(
+        alloc,
+        limits,
+        part_on(parts, map),
+        is_listed,
+        spare,
+        segment,
+    )
 }
 
 // A segment comes on an open MAP.
@@ -421,36 +601,49 @@ fn ended(alloc: Global, limits: &Limits, part: &[u8], octets: &[u8]) -> Result<P
 fn prepared_cell(
     alloc: Global,
     limits: &Limits,
-    part: &Option<Vec<u8>>,
+    part: Option<&[u8]>,
+    is_listed: bool,
     spare: &mut Option<Vec<u8>>,
     segment: &Segment,
-) -> Result<Prepared, AllocError>
-    requires { HasLongest limits.now.max_packet spare.old }
+) -> Result<Prepared, MapFault>
+    requires open { is_open limits.now segment.now.header.map ≡ true }
+    requires spare { HasLongest limits.now.max_packet spare.old }
     ensures spare { HasLongest limits.now.max_packet spare.new }
-    ensures outcome { IfOk result (λ p. outcome_of p (part_view part.now) segment.now.payload.now
-        ≡ cell_at limits.now (part_view part.now) (segment_view segment.now)) }
-    ensures room { IfOk result (λ p. HasRoom
-        limits.now.max_packet p.change (part_view part.now) segment.now.payload.now) }
+    ensures found { IfOk result
+        (IsFoundBy limits.now
+        (option_copied part.entry) (is_listed ≡ false) (segment_view segment.now)) }
+    ensures fault { IfErr result (λ e. e ≡ MapFault.Memory) }
     ensures none { IsSureAtOnce
-        (cell_at limits.now (part_view part.now) (segment_view segment.now)) result }
+        (take_step limits.now (option_copied part.entry) (segment_view segment.now)) result }
 {
     let octets = segment.payload;
-    let Decision { action, dropped } = decide(
-        limits,
-        segment.header.flags,
-        part.as_deref(),
-        octets,
-    );
+    let Decision { action, dropped } = decide(limits, segment.header.flags, part, octets);
     match action {
         Action::Close => Ok(no_packets(alloc, dropped, Change::Closed)),
-        Action::HandOut => Ok(Prepared {
-            dropped,
-            packets: copied_packets(alloc, limits, octets)?,
-            change: Change::Closed,
-        }),
+        Action::HandOut => {
+            let Ok(packets) = copied_packets(alloc, limits, octets) else {
+                return Err(MapFault::Memory);
+            };
+            Ok(Prepared {
+                dropped,
+                packets,
+                change: Change::Closed,
+                list: Vec::new(alloc),
+            })
+        }
         Action::Begin => {
-            let part = begun(alloc, limits, spare, octets)?;
-            Ok(no_packets(alloc, dropped, Change::Opened(part)))
+            let Ok(list) = list_for(alloc, limits, is_listed) else {
+                return Err(MapFault::Memory);
+            };
+            let Ok(part) = begun(alloc, limits, spare, octets) else {
+                return Err(MapFault::Memory);
+            };
+            Ok(Prepared {
+                dropped,
+                packets: SmallVec::new(alloc),
+                change: Change::Opened(part),
+                list,
+            })
         }
         Action::Add => Ok(no_packets(alloc, dropped, Change::Grown)),
         Action::End => {
@@ -461,9 +654,9 @@ fn prepared_cell(
 }
 
 // Whether a segment of an open MAP is one packet, with no part open.
-fn is_lone_packet(limits: &Limits, part: &Option<Vec<u8>>, segment: &Segment) -> bool
+fn is_lone_packet(limits: &Limits, part: Option<&[u8]>, segment: &Segment) -> bool
     ensures { lone_packet_cell
-        limits.now segment.now.header.flags (part_view part.now) segment.now.payload.now
+        limits.now segment.now.header.flags (option_copied part.entry) segment.now.payload.now
         ≡ if result then Some segment.now.payload.now else None }
 {
     match (segment.header.flags, part) {

@@ -1,6 +1,6 @@
 // Octets as whole packets, one after another: whether they are taken, and the packets that they are.
 
-ghost use Rattle.std.specs.Prelude.{◌≡◌, Some, None, IfOk, if◌then◌else◌};
+ghost use Rattle.std.specs.Prelude.{◌≡◌, Some, None, length, IfOk, if◌then◌else◌};
 ghost use Rattle.map_service.specs.Cutting.{cut_fault};
 ghost use Rattle.map_service.specs.Packets.{packets_in, are_packets, are_taken, is_some_over};
 ghost use Rattle.map_service.specs.AssemblerTable.{one_fault, alone_fault, alone_packets};
@@ -103,11 +103,25 @@ pub(crate) fn copied_packets(
     Ok(packets)
 }
 
-// The packets that octets are, one after another, as far as they are whole, each copied.
+// How many packets octets are, one after another, as far as they are whole.
+fn number_of_packets(octets: &[u8]) -> usize
+    ensures { result ≡ length (packets_in octets.now) }
+{
+    let mut rest = octets;
+    let mut number = 0;
+    'packets: while let Some(len) = packet_len(rest) {
+        number += 1;
+        rest = rest.split_at(len).1;
+    }
+    number
+}
+
+// The packets that octets are, one after another, as far as they are whole, each copied. Their list is made once, for
+// all of them.
 fn each_copied(alloc: Global, octets: &[u8]) -> Result<SmallVec<Vec<u8>, 1>, AllocError>
     ensures { IfOk result (λ v. ready_view v ≡ packets_in octets.now) }
 {
-    let mut packets = SmallVec::new(alloc);
+    let mut packets = SmallVec::with_capacity(alloc, number_of_packets(octets))?;
     let mut rest = octets;
     'packets: while let Some(len) = packet_len(rest) {
         let (packet, behind) = rest.split_at(len);

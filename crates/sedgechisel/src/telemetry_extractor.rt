@@ -324,8 +324,19 @@ fn join(part: Part, octets: &[u8], memory: &mut [u8]) -> usize
     ensures joined { take result memory.new ≡ octets_at part memory.old ++ octets.now }
     ensures room { length memory.new ≡ length memory.old }
 {
-    memory.copy_within(part.from..part.from + part.count, 0);
+    move_front(part, memory);
     add(part.count, octets, memory)
+}
+
+// Puts the part at the beginning of the memory, where most frames find it.
+fn move_front(part: Part, memory: &mut [u8])
+    requires { part.from + part.count ≤ length memory.old }
+    ensures part { take part.count memory.new ≡ octets_at part memory.old }
+    ensures room { length memory.new ≡ length memory.old }
+{
+    if part.from > 0 {
+        memory.copy_within(part.from..part.from + part.count, 0);
+    }
 }
 
 // The part that begins after whole packets.

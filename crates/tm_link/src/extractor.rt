@@ -1,6 +1,6 @@
 // Extracting packets from frames.
 
-ghost use Rattle.std.specs.Prelude.{◌≡◌, ◌++◌, [], length, Some, IsTrue, IsOk, IfOk, IfErr, OnOk, OnErr};
+ghost use Rattle.std.specs.Prelude.{◌≡◌, ◌≤◌, ◌++◌, [], length, Some, IsTrue, IsOk, IfOk, IfErr, OnOk, OnErr};
 ghost use Rattle.tm_link.specs.Arrivals.{HasGained};
 ghost use Rattle.tm_link.specs.Extractor.{new_extractor, part_after, part_over_gap, extract_step, octets_of, GrowsBy};
 ghost use Rattle.tm_link.specs.Layout.{frame_view, pointer_fits};
@@ -84,6 +84,9 @@ impl Extractor {
         ensures kept { OnErr result (packets.new.items ≡ packets.old.items) }
         ensures err { OnErr result (self.new ≡ self.old) }
         ensures fault { IfErr result (λ e. e ≡ TmFault.Memory) }
+
+        // The part of a packet that it holds has fewer octets than the longest packet.
+        ensures short { length self.new.part ≤ 65541 }
     {
         let gap = gap_before(self.last, frame.vc_count);
         let mut found = Vec::new(self.alloc);
@@ -107,6 +110,7 @@ impl Extractor {
         ensures last { self.new.last ≡ Some frame.now.vc_count }
         ensures part { self.new.part
             ≡ part_after (part_over_gap gap self.old.part) frame.now.pointer frame.now.payload.now }
+        ensures short { length self.new.part ≤ 65541 }
     {
         if is_lost(gap) {
             self.part.clear();
