@@ -3,6 +3,7 @@ pub mod Alerts
 pub mod FarmFields
 pub mod Faults
 pub mod FopFields
+pub mod FopKept
 pub mod FopNew
 pub mod FopPull
 pub mod FopReport

@@ -1,6 +1,7 @@
 // The sender, FOP-1: its state.
 
 mod directive;
+mod kept;
 mod peek;
 mod pull;
 mod report;
@@ -102,6 +103,7 @@ impl<U: Drop> Fop<U> {
     pub fn sent(&self) -> usize
         ensures count { result ≡ length self.now.sent }
         ensures most { result ≤ 127 }
+        ensures within { result ≤ self.now.room }
     {
         self.sent.len()
     }

@@ -1,8 +1,11 @@
 pub mod Arrivals
 pub mod CommandPackets
 pub mod Delivery
+pub mod Failover
+pub mod GroundBounds
 pub mod InRange
+pub mod Kept
 pub mod Owed
 pub mod Resuming
+pub mod SpacecraftBounds
 pub mod Submissions
-pub mod Waiting

@@ -3,7 +3,8 @@ use Rattle.std.proofs.Common.{◌≡◌, true, false, not, Option, None, refl, �
 use Rattle.std.proofs.Common.{◌∷◌, ◌++◌, length, ap, ◌∙◌, arith, ◌≢◌, drop, Some, sym, length-append, length-drop}
 use Rattle.std.specs.Prelude.{◌==◌, ◌&&◌, map, option_to_list, Result, Bool}
 use Rattle.std.proofs.lemmas.Bool.{cond_both, eqb-true, not-true, not-false, and_parts}
-use Rattle.std.proofs.lemmas.List.{length-map}
+use Rattle.std.proofs.Common.{get_or}
+use Rattle.std.proofs.lemmas.List.{drop_more, length-map}
 use Rattle.tc_frame.specs.Layout.{SegmentView}
 use Rattle.clcw.specs.declared.word.Clcw.{Clcw}
 use Rattle.cop1.specs.declared.vocabulary.Alert.{Alert}
@@ -140,6 +141,10 @@ none_with (suc k) n (suc m) (x ∷ xs) sum none one =
     ap (left_after m) (with_one x xs (n ∷ [])) ∙ none_with k n m (without_one (x ∷ xs)) (omega (arith, sum)) none one
 
 -- ---- submissions are counted
+
+-- the submissions from this place on are the one that is looked at, and those after it
+pub from_here : (ns : List ℕ) (k n : ℕ) → k < length ns → n ≡ get_or ns k n → drop k ns ≡ n ∷ drop (k + 1) ns
+from_here ns k n lt at = drop_more ns k n lt ∙ ap (λ (m : ℕ). m ∷ drop (k + 1) ns) (sym at)
 
 -- the first needs so many segments
 abbrev pub Needs : ℕ → ℕ → Type 0

@@ -142,7 +142,7 @@ is_accepted s m octets h =
     }
 
 -- octets that are one segment have at most a part
-not_over : (over : Bool) (s : SegmentView) → not (is_some (if over then None else Some s)) ≡ false → over ≡ false
+pub not_over : (over : Bool) (s : SegmentView) → not (is_some (if over then None else Some s)) ≡ false → over ≡ false
 not_over true s one = absurd (cc one)
 not_over false s one = refl
 

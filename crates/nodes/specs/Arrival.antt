@@ -69,7 +69,7 @@ after_arrival s a =
 pub record IsAcceptable (s : SpacecraftState) (segment : SegmentView) (p : Prepared) : Type 0 where
   pub prepared :
       IsPreparedBy (limits_of s.config)
-      (open_part (limits_of s.config) segment.header.map s.accepted)
+      (λ m. open_part (limits_of s.config) m s.accepted)
       segment p
   pub free : is_free s ≡ true
   pub short : length segment.payload ≤ 1016
@@ -82,6 +82,7 @@ pub record IsArrivalOf (s : SpacecraftState) (o : SpacecraftOutcome Received)
   pub accepted : segment_accepted a ≡ segment
   pub acceptable : IfSome a.accepted (λ p. IsAcceptable s (segment_view p.0) p.1)
   pub within : IfSome a.kept (λ p. length p.octets ≤ s.config.max_packet)
+  pub short : IfSome a.kept (λ p. length p.octets ≤ 1016)
 
 -- this comes of its octets, at a spacecraft in this state
 abbrev pub IsArrivalAt : SpacecraftState → Arrival → Type 0

@@ -1,5 +1,6 @@
 -- How a ground's fields stand for its state.
-use Rattle.std.specs.Prelude.{◌≡◌, ◌≢◌, ◌≤◌, ◌+◌, [], ◌++◌, length, true}
+use Rattle.std.specs.Prelude.{◌≡◌, ◌≢◌, ◌≤◌, ◌+◌, ◌/◌, [], ◌++◌, length, true}
+use Rattle.std.specs.Prelude.{option_to_list}
 use Rattle.std.specs.List.{AllByRecursion}
 use Rattle.std.specs.VecDeque.{deque_capacity}
 use Rattle.tm_link.specs.Extractor.{octets_of}
@@ -9,6 +10,7 @@ use Rattle.nodes.specs.declared.ground_node.Ground.TheInside.{Inside}
 use Rattle.nodes.specs.Parameters.{IsConfig}
 use Rattle.nodes.specs.Fates.{left_after, fates_of}
 use Rattle.nodes.specs.Ground.{GroundState, outstanding}
+use Rattle.nodes.specs.GroundBounds.{AreShort, IsSenderOf}
 
 abbrev pub state_of : Inside → GroundState
 state_of s = record {
@@ -32,3 +34,9 @@ pub record IsSound (s : Inside) : Type 0 where
   -- once all that is sent and waits is acknowledged every submission is whole, and all have room
   pub owed : s.fop.state ≢ S6 → left_after (length (outstanding (state_of s))) s.left.items ≡ []
   pub places : s.config.queue_slots + 127 ≤ deque_capacity s.left
+  -- no more of each is held than the configuration lets
+  pub sender : IsSenderOf s.config s.fop
+  pub unsent : length (option_to_list s.fop.waiting) + length s.pending.items ≤ s.config.queue_slots
+  pub parts : AreShort s.config.part s.pending.items
+  pub begun : length s.extractor.part ≤ 65541
+  pub submissions : length s.left.items ≤ s.config.width / 2 + s.config.queue_slots

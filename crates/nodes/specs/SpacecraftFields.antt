@@ -1,13 +1,13 @@
 -- How a spacecraft's fields stand for its state.
-use Rattle.std.specs.Prelude.{◌≡◌, ◌<◌, ◌≤◌, ◌+◌, length}
+use Rattle.std.specs.Prelude.{◌≡◌, ◌<◌, ◌≤◌, ◌+◌}
 use Rattle.std.specs.VecDeque.{deque_capacity}
 use Rattle.map_service.specs.Exactness.{HasPartsOf}
 use Rattle.tm_link.specs.Builder.{BuilderState}
 use Rattle.nodes.specs.declared.config.Config.{Config}
 use Rattle.nodes.specs.declared.spacecraft.Spacecraft.TheInside.{Inside}
-use Rattle.nodes.specs.Packets.{AreWithin}
 use Rattle.nodes.specs.Parameters.{limits_of}
 use Rattle.nodes.specs.Spacecraft.{SpacecraftState}
+use Rattle.nodes.specs.SpacecraftBounds.{IsReadyWithin, IsPastWithin}
 
 abbrev pub state_of : Inside → SpacecraftState
 state_of s = record {
@@ -33,11 +33,8 @@ pub record IsSound (s : Inside) : Type 0 where
   pub parts : HasPartsOf s.assembler s.accepted.segments
   pub slots : s.bypass.capacity ≡ s.config.bypass_slots
   -- one more frame's packets have room where the buffer is free
-  pub room : s.config.ready_slots + 170 ≤ deque_capacity s.ready
+  pub room : s.config.ready_slots + 145 ≤ deque_capacity s.ready
   pub frames : IsBuilderOf s.config s.builder
-  -- so many packets wait at most
-  pub waiting : length s.ready.items ≤ s.config.ready_slots + 169
-  pub past : length s.bypass.items ≤ s.config.bypass_slots
-  -- none of them is too long
-  pub within : AreWithin s.config.max_packet s.ready.items
-  pub past_within : AreWithin s.config.max_packet s.bypass.items
+  -- no more packets wait than the configuration lets
+  pub waiting : IsReadyWithin s.config s.ready.items
+  pub past : IsPastWithin s.config s.bypass.items

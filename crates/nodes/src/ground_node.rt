@@ -1,6 +1,7 @@
 // The node on the ground.
 
 mod fates;
+mod kept;
 mod pull;
 mod submission;
 mod submit;
@@ -12,6 +13,7 @@ use crate::owned_segment::OwnedSegment;
 use crate::valid_config::ValidConfig;
 use cop1::{Alert, CopFault, Directive, Fop, FopMode};
 use fates::count_anew;
+pub use kept::KeptGround;
 use std::alloc::Global;
 use std::collections::VecDeque;
 use std::marker::Model;
@@ -53,11 +55,13 @@ impl Model for Ground {
 
 impl Ground {
     ghost use Rattle.std.specs.Prelude.{◌≡◌, true, length, option_map, option_copied, IfOk, IfSome, OnErr, IsOkUnless};
+    ghost use Rattle.std.specs.Prelude.{◌≤◌, ◌+◌, ◌/◌};
     ghost use Rattle.map_service.specs.Packets.{is_packet};
     ghost use Rattle.cop1.specs.Accepted.{accepted_beyond};
     ghost use Rattle.cop1.specs.Units.{IsFop, due_units};
     ghost use Rattle.nodes.specs.Ground.{new_ground, ground_step, Direct, Tick, TakeTelemetry, refill_step, outstanding, unsent_segments};
     ghost use Rattle.nodes.specs.Ground.{is_closed};
+    ghost use Rattle.nodes.specs.GroundBounds.{IsBounded};
     ghost use Rattle.nodes.specs.Parameters.{IsConfig};
 
     /// A ground that has sent nothing, its sender in S6. Each field has to be in its range: of a
@@ -154,15 +158,21 @@ impl Ground {
     }
 
     /// How many segments were submitted and are not acknowledged; 0 after an alert.
+    #[tactic(auto, using(crate::proofs::GroundBounds::bounded))]
     pub fn outstanding(&self) -> usize
-        ensures { result ≡ length (outstanding self.now) }
+        ensures count { result ≡ length (outstanding self.now) }
+        ensures most { result ≤ self.now.config.width / 2 + self.now.config.queue_slots }
+
+        // What a ground holds at most, by its configuration.
+        ensures bounds { IsBounded self.now }
     {
         self.fop.sent() + usize::from(self.fop.waiting()) + self.pending.len()
     }
 
     /// How many segments wait to be sent for the first time.
     pub fn unsent(&self) -> usize
-        ensures { result ≡ length (unsent_segments self.now) }
+        ensures count { result ≡ length (unsent_segments self.now) }
+        ensures most { result ≤ self.now.config.queue_slots }
     {
         usize::from(self.fop.waiting()) + self.pending.len()
     }
@@ -176,7 +186,8 @@ impl Ground {
 
     /// How many bypass packets wait to be sent.
     pub fn bypassed(&self) -> usize
-        ensures { result ≡ length self.now.fop.bypass }
+        ensures count { result ≡ length self.now.fop.bypass }
+        ensures most { result ≤ self.now.config.queue_slots }
     {
         self.fop.bypassed()
     }

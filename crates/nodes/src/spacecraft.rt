@@ -22,8 +22,8 @@ use std::collections::VecDeque;
 use std::marker::Model;
 use tm_link::{TmBuilder, TmFault};
 
-// More packets than one frame may make ready: its segment has at most 1,016 octets of data, and a packet more than 6.
-const MOST_PACKETS: usize = 170;
+// The packets that one frame may make ready at most: its segment has at most 1,016 octets of data, a packet at least 7.
+const MOST_PACKETS: usize = 145;
 
 /// The numbers with which a spacecraft that is restarted on purpose goes on, which the program keeps
 /// meanwhile: those of its receiver (CCSDS 232.1-B-2, 6.1) and of its telemetry frames (CCSDS
@@ -77,6 +77,7 @@ impl Spacecraft {
     ghost use Rattle.nodes.specs.PacketFields.{IsPacketOn};
     ghost use Rattle.nodes.specs.Packets.{packet_view, lent_packet};
     ghost use Rattle.nodes.specs.Parameters.{IsConfig};
+    ghost use Rattle.nodes.specs.SpacecraftBounds.{IsBounded};
 
     /// A spacecraft that has received nothing. Each field has to be in its range: of a configuration
     /// that is known only when the program runs, use `Config::valid` and `of`.
@@ -246,11 +247,16 @@ impl Spacecraft {
     }
 
     /// How many packets of sequence-controlled frames wait to be taken.
+    #[tactic(auto, using(crate::proofs::SpacecraftBounds::bounded))]
     pub fn ready(&self) -> usize
         ensures count { result ≡ length self.now.ready }
 
-        // Those of one frame, at most 170, came while fewer waited than there are slots.
-        ensures most { result ≤ self.now.config.ready_slots + 169 }
+        // Those of one frame, at most 145, came while fewer waited than there are slots.
+        ensures most { result ≤ self.now.config.ready_slots + 144 }
+        ensures unblocked { self.now.config.blocking ≡ 0 → result ≤ self.now.config.ready_slots }
+
+        // What a spacecraft holds at most, by its configuration.
+        ensures bounds { IsBounded self.now }
     {
         self.ready.len()
     }

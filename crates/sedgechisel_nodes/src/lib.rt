@@ -27,6 +27,7 @@ macro_rules! read {
 mod answers;
 mod ground;
 mod ground_directive;
+mod ground_kept;
 mod ground_resume;
 mod ground_take;
 mod ground_telemetry;

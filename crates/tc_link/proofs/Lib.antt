@@ -14,6 +14,7 @@ pub mod Invariant
 pub mod Taken
 pub mod OctetsRead
 pub mod Outage
+pub mod OwnLoop
 pub mod ProgressNumbers
 pub mod ProgressSender
 pub mod ProgressNext

@@ -5,7 +5,7 @@ use Rattle.tc_link.proofs.Common.{take-append-drop, AllByRecursion, Opening, len
 use Rattle.tc_link.proofs.Common.{InitUnlock, is_closed, Config, GroundState, PacketOn, Event, World, world_step}
 use Rattle.tc_link.proofs.Common.{IsIdle, IsEvent, session_begun_by}
 use Rattle.tc_link.proofs.Common.{delivered, accepted, GroundOutcome}
-use Rattle.std.specs.Prelude.{◌^◌, ◌==◌, ◌&&◌, is_some, None, Option}
+use Rattle.std.specs.Prelude.{◌^◌, ◌/◌, ◌==◌, ◌&&◌, is_some, None, Option}
 use Rattle.std.specs.List.{flat_map, filter, list_all}
 use Rattle.std.proofs.lemmas.Bool.{cond_both}
 use Rattle.std.proofs.Math.Seq.{take-add}
@@ -16,6 +16,8 @@ use Rattle.octets.specs.Beginning.{IsBeginning}
 use Rattle.map_service.specs.Packets.{packets_in}
 use Rattle.nodes.specs.Ground.{ground_step, Resume, can_resume, known_on_board, known_at_end, resumed_from}
 use Rattle.nodes.specs.Ground.{ground_resume}
+use Rattle.nodes.specs.Failover.{failed_over}
+use Rattle.nodes.proofs.Failover.{each_goes_on}
 use Rattle.nodes.proofs.Resuming.{known_kept}
 use Rattle.nodes.specs.declared.fault.LinkFault.{LinkFault}
 use Rattle.nodes.specs.declared.event.Event.TheVariants as events
@@ -29,11 +31,12 @@ use Rattle.tc_link.proofs.Fates.{knows_fates, since_begun, knows_at}
 use Rattle.tc_link.proofs.InOrder.{has_plain_history}
 use Rattle.tc_link.proofs.Invariant.{Holding, step_holds, began_at, begun_session, can_off}
 use Rattle.tc_link.proofs.Sound.{all_push}
-use Rattle.tc_link.specs.AnyPast.{HasAnyPast, LinkStep, Happens, IsLinkStep, link_run, link_step}
+use Rattle.tc_link.specs.AnyPast.{HasAnyPast, LinkStep, Happens, NewGround, IsLinkStep, link_run, link_step}
 use Rattle.tc_link.specs.Beside.{LeavesSession, SessionLasts, LeavesNumbers, SetsNone}
 use Rattle.tc_link.specs.Fates.{KnowsOnBoard, whole_first}
 use Rattle.tc_link.specs.Resumed.{EachAnswersResuming}
-use Rattle.tc_link.specs.Resumed.{packets_on_map, Sessions, first, goes_on, resumes, begins_anew, ResumesInOrder}
+use Rattle.tc_link.specs.Resumed.{packets_on_map, Sessions, first, goes_on, resumes, fails_over}
+use Rattle.tc_link.specs.Resumed.{begins_anew, ResumesInOrder, with_another, EachFailsOver, EachHasRoom}
 use Rattle.tc_link.specs.Resumed.{ResumesSo}
 use Rattle.tc_link.specs.Taken.{BeginsSession}
 use Rattle.tc_link.specs.Whole.{on_board, IsOneGroup, AreSingle, DeliversWhole}
@@ -216,15 +219,25 @@ module _ (c : Config) (wanted : List PacketOn) (w : World) (done : ℕ) (l : Lea
       omega (arith, length-map {A = PacketOn} {B = ℕ})
 
   -- as many more as are on board
-  pub more_is : (value more : ℕ) → value ≡ w.spacecraft.farm.vr
-      → (ground_step w.ground_node (Resume value)).answer ≡ Ok more → more ≡ on_board w
-  more_is value more is answered =
-      let known = answer_is w.ground_node value more answered in
+  more_known : (value more : ℕ) → value ≡ w.spacecraft.farm.vr → known_on_board w.ground_node value ≡ Some more
+      → more ≡ on_board w
+  more_known value more is known =
       let said = knows_now c w l.began (known_kept w.ground_node value more known) in
       let same : Some more ≡ Some (on_board w % 2 ^ 64) =
       sym known ∙ ap (known_on_board w.ground_node) is ∙ said in
       let counted : more ≡ on_board w % 2 ^ 64 = cc same in
       omega (arith, counted, few, board_most)
+
+  pub more_is : (value more : ℕ) → value ≡ w.spacecraft.farm.vr
+      → (ground_step w.ground_node (Resume value)).answer ≡ Ok more → more ≡ on_board w
+  more_is value more is answered = more_known value more is (answer_is w.ground_node value more answered)
+
+  -- another ground answers the same
+  more_over : (value more : ℕ) → value ≡ w.spacecraft.farm.vr
+      → (ground_step (failed_over w.ground_node) (Resume value)).answer ≡ Ok more → more ≡ on_board w
+  more_over value more is answered =
+      more_known value more is
+      (sym ((each_goes_on w.ground_node).known value) ∙ answer_is (failed_over w.ground_node) value more answered)
 
   module _ (single : AllByRecursion (IsOneGroup c.part) wanted) (whole : DeliversWhole w) where
     single_now : AreSingle w
@@ -304,6 +317,33 @@ module _ (c : Config) (wanted : List PacketOn) (w : World) (done : ℕ) (l : Lea
         );
       }
 
+-- ---- the ground is lost, and another resumes: it is a new one whose V(S) is set, and that begins by Unlock
+
+module _ (c : Config) (wanted : List PacketOn) (w : World) (done : ℕ) (l : Leads c wanted w done) (value more : ℕ)
+    (quiet : is_idle w ≡ true) (octet_is : value < 256)
+    (answered : (ground_step (failed_over w.ground_node) (Resume value)).answer ≡ Ok more) where
+  abbrev taken_over : List LinkStep
+  taken_over = NewGround ∷ Happens (events.Directive (SetVs value)) ∷ []
+
+  abbrev at_value : World
+  at_value = link_run w taken_over
+
+  abbrev by_unlock : World
+  by_unlock = (world_step at_value (events.Directive InitUnlock)).after
+
+  is_begun : (world_step (with_another w) (events.Resume value)).after ≡ by_unlock
+  is_begun = (resumes_so (with_another w) value more answered).after
+
+  leads_over : Leads c wanted (world_step (with_another w) (events.Resume value)).after (done + more)
+  leads_over =
+      let p = past_now c w l.began in
+      let q = past_run c w p.0 p.1 taken_over (tt, (octet_is, tt)) in
+      let idle : IsIdle by_unlock = ap Some quiet in
+      subst (λ (x : World). Leads c wanted x (done + more)) (sym is_begun) (record {
+        began = began_first c at_value q.0 q.1 (events.Directive InitUnlock) (refl, refl) tt idle;
+        submits = (drop (done + more) wanted, refl);
+      })
+
 -- ---- another session, where nothing of this one was sent
 
 module _ (c : Config) (w : World) (h : Holding c w) (idle : IsIdle w) (none : w.session.sent ≡ []) (m : ℕ) where
@@ -359,6 +399,7 @@ abbrev config_of : {wanted : List PacketOn} {w : World} {done : ℕ} {before : �
 config_of (first initiation past begins fits idle) = past.config
 config_of (goes_on step s goes quiet fits submits) = config_of s
 config_of (resumes value more s quiet small_value is answered) = config_of s
+config_of (fails_over value more s quiet small_value is answered) = config_of s
 config_of (begins_anew since initiation s lasts numbers none begins fits idle) = config_of s
 
 leads : {wanted : List PacketOn} {w : World} {done : ℕ} {before : ℕ → List (List ℕ)}
@@ -374,6 +415,9 @@ leads {wanted} (goes_on {w} {done} step s goes quiet fits submits) =
 leads {wanted} (resumes {w} {done} value more s quiet small_value is answered) =
     leads_resumed (config_of s) wanted w done (leads s) value more quiet small_value
     (answered_by w value more (ground_step w.ground_node (Resume value)).answer answered)
+leads {wanted} (fails_over {w} {done} value more s quiet small_value is answered) =
+    leads_over (config_of s) wanted w done (leads s) value more quiet small_value
+    (answered_by (with_another w) value more (ground_step (failed_over w.ground_node) (Resume value)).answer answered)
 leads {wanted} (begins_anew {w} {done} since initiation s lasts numbers none begins fits idle) =
     leads_anew (config_of s) wanted w done (leads s) since numbers initiation begins fits idle
 
@@ -392,6 +436,13 @@ module _ (wanted : List PacketOn) (small : length wanted < 2 ^ 64) (m : ℕ) whe
       let c : Config = config_of s in
       let count = more_is c wanted w done (leads s) small value more is
       (answered_by w value more (ground_step w.ground_node (Resume value)).answer answered) in
+      given_on c wanted w done (leads s) small single (whole_now s) before m (given s single)
+      ∙ ap (λ (k : ℕ). packets_on_map (take (done + k) wanted) m) (sym count)
+  given (fails_over {w} {done} {before} value more s quiet small_value is answered) single =
+      let c : Config = config_of s in
+      let count = more_over c wanted w done (leads s) small value more is
+      (answered_by (with_another w) value more (ground_step (failed_over w.ground_node) (Resume value)).answer answered)
+      in
       given_on c wanted w done (leads s) small single (whole_now s) before m (given s single)
       ∙ ap (λ (k : ℕ). packets_on_map (take (done + k) wanted) m) (sym count)
   given (begins_anew {w} {done} {before} since initiation s lasts numbers none begins fits idle) single =
@@ -426,3 +477,17 @@ each_answers_resuming w e since r b lasts quiet none fits numbers idle off =
     let now : World = link_run (world_step w e).after since in
     resuming_answer now now.spacecraft.farm.vr (whole_first now (length (accepted now))) off
     ((knows_fates w e since r b lasts quiet fits numbers idle).1 none)
+
+-- ---- and whether another ground does, that is opened at what was kept
+
+pub each_fails_over : EachFailsOver
+each_fails_over w e since r b lasts quiet none fits numbers idle =
+    let now : World = link_run (world_step w e).after since in
+    let value : ℕ = now.spacecraft.farm.vr in
+    resuming_answer (with_another now) value (whole_first now (length (accepted now))) refl
+    ((each_goes_on now.ground_node).known value ∙ (knows_fates w e since r b lasts quiet fits numbers idle).1 none)
+
+pub each_has_room : EachHasRoom
+each_has_room w p =
+    let s = (past_holds w p).sound.ground_node in
+    s.fop.room ∙ ap (λ (c : Config). c.width / 2) (sym s.config)

@@ -15,6 +15,7 @@ pub mod Known
 pub mod Needed
 pub mod OneLink
 pub mod Outage
+pub mod OwnLoop
 pub mod PlainLink
 pub mod Progress
 pub mod Promises

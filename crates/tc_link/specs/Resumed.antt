@@ -1,6 +1,6 @@
 -- A program that goes on by `Ground::resume` after each alert: session after session it submits
 -- what it wants delivered, from where the session before has got to.
-use Rattle.std.specs.Prelude.{◌≡◌, ◌≢◌, ◌⊎◌, ◌<◌, ℕ, ◌+◌, ◌^◌, List, [], ◌++◌, length, drop}
+use Rattle.std.specs.Prelude.{◌≡◌, ◌≢◌, ◌⊎◌, ◌<◌, ℕ, ◌+◌, ◌^◌, ◌/◌, List, [], ◌++◌, length, drop}
 use Rattle.std.specs.Prelude.{flat_map}
 use Rattle.std.specs.Prelude.{filter}
 use Rattle.std.specs.Prelude.{◌==◌, true, Ok, Some}
@@ -8,6 +8,7 @@ use Rattle.std.specs.List.{AllByRecursion}
 use Rattle.octets.specs.Beginning.{IsBeginning}
 use Rattle.map_service.specs.Packets.{packets_in}
 use Rattle.cop1.specs.declared.vocabulary.Directive.TheVariants.{InitWithCheck}
+use Rattle.nodes.specs.Failover.{failed_over}
 use Rattle.nodes.specs.Ground.{ground_step, Resume, is_closed}
 use Rattle.nodes.specs.Packets.{PacketOn}
 use Rattle.nodes.specs.declared.event.Event.{Event}
@@ -30,6 +31,10 @@ packets_on_map submissions m =
     flat_map (λ (p : PacketOn). packets_in p.octets)
     (filter (λ (p : PacketOn). p.on_map == m) submissions)
 
+-- the ground is lost, and another is opened at what was kept of it last
+abbrev pub with_another : World → World
+with_another w = record w { ground_node = failed_over w.ground_node }
+
 -- The sessions of a program that wants these submissions delivered, in this order: the link now,
 -- how many of the submissions the sessions before this one have brought on board, and what these
 -- have delivered on each MAP.
@@ -51,6 +56,13 @@ pub data Sessions (wanted : List PacketOn) : World → ℕ → (ℕ → List (Li
       → value ≡ w.spacecraft.farm.vr
       → (world_step w (events.Resume value)).answer ≡ Ok (Resumed more)
       → Sessions wanted (world_step w (events.Resume value)).after (done + more)
+      (λ m. before m ++ delivered w m)
+  -- so it does where the ground was lost: another is opened at what was kept of it, and resumes
+  fails_over : {w : World} {done : ℕ} {before : ℕ → List (List ℕ)} (value more : ℕ)
+      → Sessions wanted w done before → is_idle w ≡ true → value < 256
+      → value ≡ w.spacecraft.farm.vr
+      → (world_step (with_another w) (events.Resume value)).answer ≡ Ok (Resumed more)
+      → Sessions wanted (world_step (with_another w) (events.Resume value)).after (done + more)
       (λ m. before m ++ delivered w m)
   -- nothing of the session was sent: another begins by an idle start, and goes on from the same
   -- submission; meanwhile V(S) may be set, and any alert may come
@@ -102,6 +114,22 @@ EachAnswersResuming =
     → AllByRecursion IsLinkStep since → IsIdle (world_step w initiation).after
     → let now : World = link_run (world_step w initiation).after since in
     is_closed now.ground_node.fop.state ≡ true → AnswersResuming now
+
+-- In each state, the same is so of another ground that is opened at what was kept of this one.
+abbrev pub EachFailsOver : Type 0
+EachFailsOver =
+    (w : World) (initiation : Event) (since : List LinkStep) → HasAnyPast w
+    → BeginsSession w initiation → SessionLasts (world_step w initiation).after since
+    → SetsNone (world_step w initiation).after since
+    → ShowsNone (world_step w initiation).after since → IsEvent initiation
+    → AllByRecursion IsLinkStep since → IsIdle (world_step w initiation).after
+    → AnswersResuming (with_another (link_run (world_step w initiation).after since))
+
+-- After any past a ground is one to a receiver of the width that is configured, so what is kept of
+-- it is a record that its configuration takes.
+abbrev pub EachHasRoom : Type 0
+EachHasRoom =
+    (w : World) → HasAnyPast w → w.ground_node.fop.room ≡ w.ground_node.config.width / 2
 
 -- While the link keeps its conditions no alert shows that one is broken: after any past, in a
 -- session with an idle start that began by Unlock or Set V(R), or began by check and is confirmed.

@@ -7,12 +7,15 @@ ghost use Rattle.tc_link.specs.CountsOn.{KeepsWhatIsKnown};
 ghost use Rattle.tc_link.specs.Fates.{KnowsFates};
 ghost use Rattle.tc_link.specs.FramesAgain.{EachComesAgain, EachGoesOnAgain, EachGoesOnUnchanged, EachIsAnswered};
 ghost use Rattle.tc_link.specs.OneLink.{EachGoesOnAsOne, EachHasOneLink};
+ghost use Rattle.tc_link.specs.OwnLoop.{EachAnswersAsALink, EachLoopIsALink, EachLoopIsSeen};
+ghost use Rattle.tc_link.specs.OwnLoop.{EachLoopSeesTelemetry};
 ghost use Rattle.tc_link.specs.Progress.{EachAcknowledges, EachBegins, EachEnds, EachIsDelivered};
 ghost use Rattle.tc_link.specs.Progress.{EachMakesProgress};
 ghost use Rattle.tc_link.specs.Promises.{HoldsOfAllRuns};
 ghost use Rattle.tc_link.specs.Repeated.{RepeatsNothing, RepeatsNothingOfFrames};
 ghost use Rattle.tc_link.specs.Resumable.{EachKnowsExactly};
-ghost use Rattle.tc_link.specs.Resumed.{EachAnswersResuming, ResumesInOrder, ResumesSo, ShowsNoneByItself};
+ghost use Rattle.tc_link.specs.Resumed.{EachAnswersResuming, EachFailsOver, EachHasRoom};
+ghost use Rattle.tc_link.specs.Resumed.{ResumesInOrder, ResumesSo, ShowsNoneByItself};
 ghost use Rattle.tc_link.specs.Seen.{EachIsSeen};
 ghost use Rattle.tc_link.specs.Silence.{SilenceIsIdle};
 ghost use Rattle.tc_link.specs.Silent.{GivesUpAloud, HoldsWhatIsNotAcknowledged};
@@ -168,6 +171,13 @@ pub fn law_of_submissions()
 /// the ground once V(S) is set to the value and Unlock begins a session, and so it is with the event Resume
 /// of the link and its records (`ground`).
 ///
+/// Where the ground is lost, and another is opened at what was kept of it last (`Ground::kept`,
+/// `Ground::open_at`), that one may resume in its place, whatever its state was (`in_order`). Since a session
+/// with an idle start began, whether it was confirmed or not, it answers how many submissions are on board
+/// whole, until a directive sets V(S), or an alert shows that a condition is broken (`fails_over`). After any
+/// past the ground's sender is one to a receiver of the width that is configured, so its configuration takes
+/// what is kept of it (`room`).
+///
 /// In S6, since a session with an idle start began, whether it was confirmed or not, `resume` by the value
 /// of a report that is made now is accepted, and answers how many submissions are on board whole: until a
 /// directive sets V(S), or an alert shows that a condition is broken (`answers`). Such an alert does not
@@ -181,6 +191,8 @@ pub fn law_of_resuming()
     ensures in_order { ResumesInOrder }
     ensures ground { ResumesSo }
     ensures answers { EachAnswersResuming }
+    ensures fails_over { EachFailsOver }
+    ensures room { EachHasRoom }
     ensures quiet { ShowsNoneByItself }
     ensures exactly { EachKnowsExactly }
 {}
@@ -204,4 +216,20 @@ pub fn law_of_loss()
 /// too.
 pub fn law_of_seen()
     ensures { EachIsSeen }
+{}
+
+/// A loop of one's own has all that is promised. A program calls the ground on one machine and the spacecraft
+/// on another, and octets go between them; there is no simulated link, and nothing of a session is recorded.
+/// It begins with two new nodes, and with nothing on its way. Each way keeps its order. What is first on it
+/// arrives, is lost, or comes as other octets, which the receiver's decoder refuses. Octets may also come
+/// from outside to a node, and a new node may take the place of one. Wherever such steps lead, the nodes and
+/// what is on its way are those of the link to which the same steps lead, so what is promised of these after
+/// any past is so (`nodes`). Each event is answered by the calls of the nodes as on that link (`answers`). So
+/// what `law_of_seen` says holds of what the program's own calls answer (`seen`), and so does what
+/// `law_of_telemetry` says of what is seen (`telemetry`).
+pub fn law_of_own_loops()
+    ensures nodes { EachLoopIsALink }
+    ensures answers { EachAnswersAsALink }
+    ensures seen { EachLoopIsSeen }
+    ensures telemetry { EachLoopSeesTelemetry }
 {}

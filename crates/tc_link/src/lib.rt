@@ -14,12 +14,13 @@ mod telemetry_law;
 
 pub use laws::{
     law_of_any_past, law_of_bypass, law_of_configurations, law_of_frames_again, law_of_loss,
-    law_of_numbers, law_of_plain_links, law_of_progress, law_of_repetition, law_of_resuming,
-    law_of_seen, law_of_sessions, law_of_silence, law_of_submissions, law_of_taking,
+    law_of_numbers, law_of_own_loops, law_of_plain_links, law_of_progress, law_of_repetition,
+    law_of_resuming, law_of_seen, law_of_sessions, law_of_silence, law_of_submissions,
+    law_of_taking,
 };
 pub use nodes::{
-    Config, Event, Ground, Heard, HeardClcw, HeardReport, KeptNumbers, LinkFault, Received,
-    Spacecraft, law_of_delivery,
+    Config, Event, Ground, Heard, HeardClcw, HeardReport, KeptGround, KeptNumbers, LinkFault,
+    Received, Spacecraft, law_of_delivery, law_of_failover,
 };
 pub use outage_law::law_of_outage;
 pub use premises::law_of_premises;

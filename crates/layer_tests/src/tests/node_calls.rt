@@ -2,6 +2,7 @@
 // is refused, and makes one more at its end. No function here says what it does: so the proof of a test has nothing of
 // the node's state in it, and the run compares the answers.
 
+mod failover;
 mod fates;
 mod ground;
 mod resume;

@@ -218,12 +218,12 @@ fn lists_nowhere(rt: &impl Abort, alloc: Global) {
 #[test]
 fn totals_of_two_writes(rt: HostRuntime) {
     let mut totals = Totals::new(rt.alloc());
-    let first = write_all(&mut totals, b"1 AD scid=1 n=0 vci");
+    let first = write_all(&mut totals, b"1 AD scid=1 vci");
     equal(&rt, &first, &Ok(()));
-    let second = write_all(&mut totals, b"d=2\n2 AD scid=1 n=1 vcid=3\n");
+    let second = write_all(&mut totals, b"d=2 n=0\n2 AD scid=1 vcid=3 n=1\n");
     equal(&rt, &second, &Ok(()));
     let text = totals.lines(2, 26).expect(&rt, "totals");
-    let lines = "records 2\noctets 26\nAD 2\nscid=1 2\nvcid=2 1\nvcid=3 1\n";
+    let lines = "records 2\noctets 26\nAD 2\nchannel=1/2 1\nchannel=1/3 1\n";
     equal(&rt, &text.as_bytes(), &lines.as_bytes());
 }
 

@@ -143,7 +143,7 @@ fn whole_within(left: &VecDeque<usize>, segments: u8) -> usize
 }
 
 // How many segments a submission needs that lacks so many: at least one.
-fn needed(segments: usize) -> usize
+pub(super) fn needed(segments: usize) -> usize
     ensures least { 1 ≤ result }
     ensures covers { segments ≤ result }
     ensures most { 1 ≤ segments → result ≤ segments }

@@ -94,9 +94,10 @@ impl Spacecraft {
     }
 
     // Keeps a packet, where there is one; the oldest goes where as many wait as there are slots.
-    #[tactic(auto, using(crate::proofs::Waiting::kept_few, crate::proofs::Waiting::kept_within))]
+    #[tactic(auto, using(crate::proofs::SpacecraftBounds::past_with))]
     fn keep(&mut self, kept: Option<MapPacket>)
-        requires { IfSome kept (λ p. length p.octets ≤ self.old.config.max_packet) }
+        requires within { IfSome kept (λ p. length p.octets ≤ self.old.config.max_packet) }
+        requires short { IfSome kept (λ p. length p.octets ≤ 1016) }
         ensures { self.new ≡ after_keeping self.old kept }
     {
         if let Some(packet) = kept {
@@ -185,12 +186,13 @@ impl Spacecraft {
         })
     }
 
-    #[tactic(auto, using(crate::proofs::Waiting::kept_short))]
+    #[tactic(auto, using(crate::proofs::SpacecraftBounds::kept_short))]
     fn prepare_bypass<'a>(
         &self,
         octets: &'a [u8],
         segment: Segment<'a>,
     ) -> Result<Arrival<'a>, LinkFault>
+        requires { length segment.payload.now ≤ 1016 }
         ensures octets { IfOk result (λ a. a.octets.now ≡ octets.now) }
         ensures arrival { IfOk result (IsArrivalOf
             self.now (body_outcome self.now (Bd (segment_view segment.entry))) None) }

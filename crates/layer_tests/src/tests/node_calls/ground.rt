@@ -5,7 +5,7 @@ use crate::tests::common::{answer_of, equal, says_refused, with_parts, with_valu
 use crate::tests::frames::*;
 use clcw::ClcwFault;
 use cop1::{Alert, CopFault, Directive, FopMode};
-use nodes::{Parameter, ValidConfig};
+use nodes::{KeptGround, Parameter, ValidConfig};
 use std::alloc::Global;
 use std::process::Abort;
 use tc_frame::{Check, encode};
@@ -32,6 +32,8 @@ pub enum Ask<'a> {
     // What a report of this value says is on board whole.
     KnownOnBoard(u8, Option<u64>),
     Resume(u8, Result<u64, LinkFault>),
+    // What is kept of it.
+    Kept(&'a KeptGround),
     // How many segments wait for their first time and how many again, how many bypass packets wait, the ticks
     // that are left, and the transmission count.
     Waits([usize; 3], Option<u16>, u8),
@@ -74,6 +76,7 @@ fn answers(rt: &(impl Abort + Eprint), ground: &mut Ground, ask: &Ask<'_>) {
         Ask::Counts(want) => equal(rt, &counts(ground), want),
         Ask::KnownOnBoard(value, want) => equal(rt, &ground.known_on_board(*value), want),
         Ask::Resume(value, want) => resumes(rt, ground, *value, *want),
+        Ask::Kept(want) => keeps(rt, &ground.kept(), want),
         Ask::Waits(waiting, ticks, count) => waits(rt, ground, *waiting, *ticks, *count),
     }
 }
@@ -101,6 +104,12 @@ fn resumes(rt: &impl Abort, ground: &mut Ground, value: u8, want: Result<u64, Li
     equal(rt, &ground.resume(value), &want);
     let after = (seen(ground), counts(ground), ground.known_on_board(value));
     assert!(rt; want.is_ok() || after == before);
+}
+
+fn keeps(rt: &(impl Abort + Eprint), kept: &KeptGround, want: &KeptGround) {
+    let numbers = |it: &KeptGround| (it.acknowledged, it.vs, it.nn, it.known, it.whole);
+    equal(rt, &numbers(kept), &numbers(want));
+    assert!(rt; kept.segments.as_slice() == want.segments.as_slice());
 }
 
 fn obeys(

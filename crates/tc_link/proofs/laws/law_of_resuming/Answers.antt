@@ -1,4 +1,4 @@
-use Rattle.tc_link.proofs.Resumed.{resumes_in_order, resumes_so, each_answers_resuming}
+use Rattle.tc_link.proofs.Resumed.{resumes_in_order, resumes_so, each_answers_resuming, each_fails_over, each_has_room}
 use Rattle.tc_link.proofs.Resumable.{each_knows_exactly}
 use Rattle.tc_link.proofs.Shown.{shows_none_by_itself}
 use Rattle.tc_link.proofs.laws.law_of_resuming.Goals as goal
@@ -17,3 +17,9 @@ returns-clause-quiet c = shows_none_by_itself
 
 pub returns-clause-exactly : goal.returns-clause-exactly
 returns-clause-exactly c = each_knows_exactly
+
+pub returns-clause-fails_over : goal.returns-clause-fails_over
+returns-clause-fails_over c = each_fails_over
+
+pub returns-clause-room : goal.returns-clause-room
+returns-clause-room c = each_has_room

@@ -1,17 +1,20 @@
-use Rattle.std.proofs.Common.{◌≡◌, ◌≢◌, ◌≤◌, ◌+◌, ◌++◌, ℕ, List, [], ◌∷◌, length, Bool, true, if◌then◌else◌, is_ok, sym}
-use Rattle.std.proofs.Common.{ap, ◌∙◌, arith, length-append}
+use Rattle.std.proofs.Common.{◌≡◌, ◌≢◌, ◌≤◌, ◌+◌, ◌/◌, ◌++◌, ℕ, List, [], ◌∷◌, length, Bool, true, if◌then◌else◌, is_ok}
+use Rattle.std.proofs.Common.{sym, ap, ◌∙◌, arith, length-append}
 use Rattle.std.specs.Prelude.{option_to_list}
 use Rattle.std.proofs.lemmas.List.{length-map}
 use Rattle.tc_frame.specs.Layout.{SegmentView}
+use Rattle.map_service.proofs.Parts.{all-append}
 use Rattle.cop1.specs.declared.vocabulary.FopMode.TheVariants.{S6}
 use Rattle.nodes.specs.declared.ground_node.Ground.TheInside.{Inside}
 use Rattle.nodes.specs.declared.ground_node.submission.Segments.TheVariants.{One}
 use Rattle.nodes.specs.declared.ground_node.submission.Submission.{Submission}
 use Rattle.nodes.specs.Ground.{GroundState, segments_on, after_submission, outstanding, refill_step, submit_fault}
 use Rattle.nodes.specs.Ground.{unless_refused, unsent_segments}
+use Rattle.nodes.specs.GroundBounds.{AreShort}
 use Rattle.nodes.specs.GroundFields.{state_of, IsSound}
 use Rattle.nodes.specs.Parameters.{IsConfig, limits_of}
 use Rattle.nodes.specs.Submissions.{segments_held, IsSubmissionAt}
+use Rattle.nodes.proofs.GroundBounds.{segments_short}
 use Rattle.nodes.proofs.Owed.{most_left, AreOwed, owed_with}
 use Rattle.nodes.proofs.Submissions.{IsAccepted, is_accepted, some_segments}
 use Rattle.nodes.proofs.ground_node.Ground.commit.Goals.{in-One, in-Several}
@@ -44,11 +47,17 @@ module _ (s t : GroundState) (b : Submission) (prepared : IsSubmissionAt s b) (s
       omega (arith, ap length held_is, some_segments (limits_of t.config) b.map b.octets.now c.part.0 accepted.commands)
 
   -- the submissions have a segment each, and there are no more than may be outstanding
-  room : AreOwed t.fop t.pending t.fates.left → length t.fop.sent ≤ 127 → IsConfig t.config
-      → 1 + length t.fates.left ≤ t.config.queue_slots + 127
-  room owed sent c =
-      let most = most_left (length (outstanding t)) t.fates.left (owed on) in
+  room : (most : ℕ) → AreOwed t.fop t.pending t.fates.left → length t.fop.sent ≤ most → IsConfig t.config
+      → 1 + length t.fates.left ≤ most + t.config.queue_slots
+  room most owed sent c =
+      let none = most_left (length (outstanding t)) t.fates.left (owed on) in
       omega (arith, length-append {A = SegmentView}, length-map t.fop.sent (λ u. u.unit), places, some c)
+
+  unsent_places : length (option_to_list t.fop.waiting) + (length t.pending + length held) ≤ t.config.queue_slots
+  unsent_places = omega (arith, places, length-append (option_to_list t.fop.waiting) t.pending)
+
+  held_short : IsConfig t.config → AreShort t.config.part held
+  held_short c = rw held_is (segments_short t.config.part b.map b.octets.now c.part.0)
 
   queued : (x : GroundState) (pending : List SegmentView) (left : List ℕ)
       → x ≡ record t { pending = pending; fates = record t.fates { left = left } }
@@ -67,7 +76,7 @@ module _ (s t : GroundState) (b : Submission) (prepared : IsSubmissionAt s b) (s
 
 pub push_back_reserved-requires : goal.push_back_reserved-requires
 push_back_reserved-requires c =
-    let fits = room c.args.self.now (state_of c.self.inside) c.args.submission c.requires c.self.view_is
+    let fits = room c.args.self.now (state_of c.self.inside) c.args.submission c.requires c.self.view_is 127
     c.self.invariant.owed (omega (arith, c.sent.ensures.count, c.sent.ensures.most)) c.self.invariant.config in
     omega (arith, fits, c.self.invariant.places, c.self.inside.left.ok.0)
 
@@ -87,6 +96,30 @@ module _ (s : GroundState) (i : Inside) (b : Submission) (prepared : IsSubmissio
   fits : length i.pending.items + length (segments_held b.segments) ≤ i.config.queue_slots
   fits = pending_places s (state_of i) b prepared same
 
+  unsent : (pending : List SegmentView) → pending ≡ i.pending.items ++ segments_held b.segments
+      → length (option_to_list i.fop.waiting) + length pending ≤ i.config.queue_slots
+  unsent pending joined =
+      omega (
+        arith,
+        ap length joined,
+        length-append i.pending.items (segments_held b.segments),
+        unsent_places s (state_of i) b prepared same,
+      )
+
+  short : (pending : List SegmentView) → pending ≡ i.pending.items ++ segments_held b.segments
+      → AreShort i.config.part pending
+  short pending joined =
+      rw joined
+      (all-append (λ (u : SegmentView). length u.payload ≤ i.config.part) i.pending.items (segments_held b.segments)
+      sound.parts (held_short s (state_of i) b prepared same sound.config))
+
+  submissions : (left : List ℕ) (n : ℕ) → left ≡ i.left.items ++ n ∷ [] → length i.fop.sent ≤ i.fop.room
+      → length left ≤ i.config.width / 2 + i.config.queue_slots
+  submissions left n counted sent =
+      let most = room s (state_of i) b prepared same (i.config.width / 2) sound.owed
+      (omega (arith, sent, sound.sender.room)) sound.config in
+      omega (arith, ap length counted, length-append i.left.items (n ∷ []), most)
+
 one_held : (b : Submission) (segment : SegmentView) → b.segments ≡ One segment
     → segment ∷ [] ≡ segments_held b.segments
 one_held b segment is = sym (ap segments_held is)
@@ -98,19 +131,30 @@ push_back_reserved-requires-in-One c =
     omega (arith, c.self.invariant.room, c.self.inside.pending.ok.0)
 
 pub invariant_of-self : goal.invariant_of-self
-invariant_of-self c = record {
-  config = c.self.invariant.config;
-  room = omega (arith, c.self.invariant.room, c.push_back_reserved-in-One.ensures.capacity);
-  packets = c.self.invariant.packets;
-  owed =
-      owed c.args.self.now c.self.inside c.args.submission c.requires c.self.view_is c.self.invariant
-      c.push_back_reserved-in-One.new.self.items c.push_back_reserved.new.self.items c.count.result c.count.ensures
-      (c.push_back_reserved-in-One.ensures.items
-      ∙ ap (λ (ss : List SegmentView). c.self.inside.pending.items ++ ss)
-      (one_held c.args.submission c.in-One.segment c.in-One.is))
-      c.push_back_reserved.ensures.items;
-  places = omega (arith, c.self.invariant.places, c.push_back_reserved.ensures.capacity);
-}
+invariant_of-self c =
+    let s : GroundState = c.args.self.now in
+    let i : Inside = c.self.inside in
+    let b : Submission = c.args.submission in
+    let pending : List SegmentView = c.push_back_reserved-in-One.new.self.items in
+    let left : List ℕ = c.push_back_reserved.new.self.items in
+    let joined : pending ≡ i.pending.items ++ segments_held b.segments =
+    c.push_back_reserved-in-One.ensures.items
+    ∙ ap (λ (ss : List SegmentView). i.pending.items ++ ss) (one_held b c.in-One.segment c.in-One.is) in
+    let counted : left ≡ i.left.items ++ c.count.result ∷ [] = c.push_back_reserved.ensures.items in
+    record {
+      config = c.self.invariant.config;
+      room = omega (arith, c.self.invariant.room, c.push_back_reserved-in-One.ensures.capacity);
+      packets = c.self.invariant.packets;
+      owed = owed s i b c.requires c.self.view_is c.self.invariant pending left c.count.result c.count.ensures joined
+          counted;
+      places = omega (arith, c.self.invariant.places, c.push_back_reserved.ensures.capacity);
+      sender = c.self.invariant.sender;
+      unsent = unsent s i b c.requires c.self.view_is c.self.invariant pending joined;
+      parts = short s i b c.requires c.self.view_is c.self.invariant pending joined;
+      begun = c.self.invariant.begun;
+      submissions = submissions s i b c.requires c.self.view_is c.self.invariant left c.count.result counted
+          (omega (arith, c.sent.ensures.count, c.sent.ensures.within));
+    }
 
 several_held : (i : Inside) (b : Submission) (segments : List SegmentView)
     → segments ≡ segments_held b.segments → (pending : List SegmentView) (joined : Bool)
@@ -146,6 +190,18 @@ invariant_of-self-in-Several c = record {
       c.append.new.self.items c.push_back_reserved.new.self.items c.count.result c.count.ensures (joined_are c)
       c.push_back_reserved.ensures.items;
   places = omega (arith, c.self.invariant.places, c.push_back_reserved.ensures.capacity);
+  sender = c.self.invariant.sender;
+  unsent =
+      unsent c.args.self.now c.self.inside c.args.submission c.requires c.self.view_is c.self.invariant
+      c.append.new.self.items (joined_are c);
+  parts =
+      short c.args.self.now c.self.inside c.args.submission c.requires c.self.view_is c.self.invariant
+      c.append.new.self.items (joined_are c);
+  begun = c.self.invariant.begun;
+  submissions =
+      submissions c.args.self.now c.self.inside c.args.submission c.requires c.self.view_is c.self.invariant
+      c.push_back_reserved.new.self.items c.count.result c.push_back_reserved.ensures.items
+      (omega (arith, c.sent.ensures.count, c.sent.ensures.within));
 }
 
 pub returns : goal.returns

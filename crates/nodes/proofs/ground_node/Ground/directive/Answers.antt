@@ -1,7 +1,7 @@
 use Rattle.tc_frame.specs.Layout.{SegmentView}
 use Rattle.cop1.specs.Units.{FopState, FopOutcome}
 use Rattle.nodes.specs.GroundFields.{state_of}
-use Rattle.std.proofs.Common.{◌≡◌, Result, Ok, Err, IsErrAnd, OnErr, ap, Option, IfErr, refl, sym, ◌∙◌, arith}
+use Rattle.std.proofs.Common.{◌≡◌, Result, Ok, Err, IsErrAnd, OnErr, ap, Option, IfErr, refl, sym, ◌∙◌, arith, length}
 use Rattle.cop1.specs.declared.fault.CopFault.{CopFault}
 use Rattle.cop1.specs.declared.vocabulary.Alert.{Alert}
 use Rattle.cop1.specs.declared.vocabulary.Directive.{Directive}
@@ -10,6 +10,7 @@ use Rattle.cop1.proofs.Cases.{obeyed}
 use Rattle.std.proofs.lemmas.Result.{IfErr-at_err}
 use Rattle.nodes.specs.Fates.{Fates}
 use Rattle.nodes.specs.Ground.{GroundState, ground_step, Direct, after_directive, with_fop}
+use Rattle.nodes.proofs.GroundBounds.{KeepsBounds, directed_bounded, fewer_obeying}
 use Rattle.nodes.proofs.Owed.{still_owed_then}
 use Rattle.nodes.proofs.ground_node.Ground.directive.Goals as goal
 
@@ -58,14 +59,22 @@ returns-clause-after c =
 pub invariant_of-self-2 : goal.invariant_of-self-2
 invariant_of-self-2 c =
     let t : GroundState = state_of c.self.inside in
-    let owed = still_owed_then t.fop c.args.directive t.pending t.fates c.self.invariant.owed in
+    let d : Directive = c.args.directive in
+    let after : FopState SegmentView = c.directive.new.self in
+    let owed = still_owed_then t.fop d t.pending t.fates c.self.invariant.owed in
     let left = ap (λ (fates : Fates). fates.left) c.count_anew.ensures.counted in
+    let keeps : KeepsBounds t.config t.fop after = rw c.directive.ensures.after (directed_bounded t.config t.fop d) in
     record {
       config = c.self.invariant.config;
       room = c.self.invariant.room;
       packets = c.self.invariant.packets;
       owed = rw (c.directive.ensures.after, left) owed;
       places = omega (arith, c.self.invariant.places, c.count_anew.ensures.capacity);
+      sender = keeps.sender c.self.invariant.sender;
+      unsent = omega (arith, keeps.fewer, c.self.invariant.unsent);
+      parts = c.self.invariant.parts;
+      begun = c.self.invariant.begun;
+      submissions = omega (arith, ap length left, fewer_obeying t.fates d, c.self.invariant.submissions);
     }
 
 -- where the sender refuses
@@ -95,6 +104,11 @@ invariant_of-self c = record {
   packets = c.self.invariant.packets;
   owed = rw (same_fop c) c.self.invariant.owed;
   places = c.self.invariant.places;
+  sender = rw (same_fop c) c.self.invariant.sender;
+  unsent = rw (same_fop c) c.self.invariant.unsent;
+  parts = c.self.invariant.parts;
+  begun = c.self.invariant.begun;
+  submissions = c.self.invariant.submissions;
 }
 
 pub returns-in_err-alert-clause-answer : goal.returns-in_err-alert-clause-answer

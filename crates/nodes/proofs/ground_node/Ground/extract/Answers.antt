@@ -1,4 +1,4 @@
-use Rattle.std.proofs.Common.{◌≡◌, ◌+◌, ◌++◌, ℕ, List, length, ap, sym, subst, ◌∙◌, arith, length-append}
+use Rattle.std.proofs.Common.{◌≡◌, ◌≤◌, ◌+◌, ◌++◌, ℕ, List, length, ap, sym, subst, ◌∙◌, arith, length-append}
 use Rattle.std.proofs.lemmas.List.{length-map, append_assoc}
 use Rattle.map_service.proofs.Handed.{AreWhole}
 use Rattle.tm_link.specs.Extractor.{octets_of, extract_step}
@@ -35,4 +35,5 @@ invariant_of-self-2 c =
     let whole = subst AreWhole
     (append_assoc waiting old packets ∙ ap (λ (ps : List (List ℕ)). waiting ++ ps) (sym c.in-Ok.ensures.packets))
     all in
-    assumption (whole, c.self.invariant)
+    let begun : length c.frame.new.self.part ≤ 65541 = c.frame.ensures.short in
+    assumption (whole, begun, c.self.invariant)

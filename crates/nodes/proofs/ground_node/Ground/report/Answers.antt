@@ -1,4 +1,4 @@
-use Rattle.std.proofs.Common.{◌≡◌, ◌<◌, ℕ, ◌+◌, ◌%◌, List, Result, Ok, ap, refl, sym, ◌∙◌, arith}
+use Rattle.std.proofs.Common.{◌≡◌, ◌<◌, ℕ, ◌+◌, ◌%◌, List, length, Result, Ok, ap, refl, sym, ◌∙◌, arith}
 use Rattle.std.proofs.lemmas.Bool.{eq-eqb}
 use Rattle.std.specs.Prelude.{◌^◌, ◌&&◌, not, Bool, Option}
 use Rattle.clcw.specs.declared.word.Clcw.{Clcw}
@@ -11,7 +11,8 @@ use Rattle.cop1.specs.declared.vocabulary.Alert.{Alert}
 use Rattle.nodes.specs.Fates.{left_after, whole_within, shows_one}
 use Rattle.nodes.specs.Ground.{GroundState, moved_by, report_outcome, after_report, refill_step}
 use Rattle.nodes.specs.GroundFields.{state_of}
-use Rattle.nodes.proofs.Owed.{moved_is, reported_holds, still_owed}
+use Rattle.nodes.proofs.GroundBounds.{KeepsBounds, reported_bounded}
+use Rattle.nodes.proofs.Owed.{moved_is, reported_holds, still_owed, fewer_left}
 use Rattle.nodes.proofs.ground_node.Ground.report.Goals as goal
 
 -- a report that is used
@@ -75,12 +76,20 @@ invariant_of-self c =
     let s = c.self.inside in
     let owed = still_owed s.fop (next c) s.pending.items s.left.items (gone c)
     (reported_holds s.fop (octet c) c.in-Ok.word) c.self.invariant.owed in
+    let keeps : KeepsBounds s.config s.fop c.clcw-alert.new.self =
+    rw c.clcw-alert.ensures.after (reported_bounded s.config s.fop c.in-Ok.word) in
+    let fewer = (fewer_left (gone c) s.left.items).0 in
     record {
       config = c.self.invariant.config;
       room = c.self.invariant.room;
       packets = c.self.invariant.packets;
       owed = rw (c.clcw-alert.ensures.after, left_is c) owed;
       places = omega (arith, c.self.invariant.places, c.take_segments-whole.ensures.capacity);
+      sender = keeps.sender c.self.invariant.sender;
+      unsent = omega (arith, keeps.fewer, c.self.invariant.unsent);
+      parts = c.self.invariant.parts;
+      begun = c.self.invariant.begun;
+      submissions = omega (arith, ap length (left_is c), fewer, c.self.invariant.submissions);
     }
 
 pub returns-clause-after : goal.returns-clause-after

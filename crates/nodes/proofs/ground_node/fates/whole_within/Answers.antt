@@ -1,12 +1,7 @@
-use Rattle.std.proofs.Common.{◌≡◌, ◌<◌, ◌+◌, ℕ, List, ◌∷◌, length, drop, refl, sym, ap, ◌∙◌, arith, slice_index_or}
-use Rattle.std.proofs.lemmas.List.{drop_more}
+use Rattle.std.proofs.Common.{◌≡◌, ◌<◌, ◌+◌, ℕ, List, ◌∷◌, length, drop, refl, ap, arith}
 use Rattle.nodes.specs.Fates.{whole_within}
-use Rattle.nodes.proofs.Owed.{Needs, none_whole, one_whole}
+use Rattle.nodes.proofs.Owed.{Needs, from_here, none_whole, one_whole}
 use Rattle.nodes.proofs.ground_node.fates.whole_within.Goals as goal
-
--- the submissions from this place on are the one that is looked at, and those after it
-from_here : (ns : List ℕ) (k n : ℕ) → k < length ns → n ≡ slice_index_or ns k n → drop k ns ≡ n ∷ drop (k + 1) ns
-from_here ns k n lt at = drop_more ns k n lt ∙ ap (λ (m : ℕ). m ∷ drop (k + 1) ns) (sym at)
 
 pub returns-then-more-needed : goal.returns-then-more-needed
 returns-then-more-needed c =
