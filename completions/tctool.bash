@@ -13,7 +13,7 @@ _tctool() {
             map) words='--width --vr --scid --vcid --map --check --resync --blocking --count --help -h' ;;
             tc) words='--scid --vcid --check --resync --count --help -h' ;;
             tm) words='--length --scid --vcid --report --count --help -h' ;;
-            clcw) words='--count --help -h' ;;
+            clcw) words='--vcid --count --help -h' ;;
             check) words='--scid --vcid --resync --count --help -h' ;;
             packets) words='--apid --count --help -h' ;;
             encode) words='--check --skip-invalid --help -h' ;;

@@ -26,6 +26,7 @@ complete -c tctool -n "__fish_seen_subcommand_from map" -l blocking -d 'A segmen
 complete -c tctool -n "__fish_seen_subcommand_from tm" -l length -x -d 'Octets of a frame, 16 to 2048'
 complete -c tctool -n "__fish_seen_subcommand_from tm" -l vcid -x -d 'Lists the frames of this virtual channel alone, 0 to 7'
 complete -c tctool -n "__fish_seen_subcommand_from tm" -l report -d 'Writes what the control word of each frame reports'
+complete -c tctool -n "__fish_seen_subcommand_from clcw" -l vcid -x -d 'Lists the control words of this virtual channel alone, 0 to 63'
 complete -c tctool -n "__fish_seen_subcommand_from packets" -l apid -x -d 'Lists the packets of this application process alone, 0 to 2047'
 complete -c tctool -n "__fish_seen_subcommand_from encode" -l skip-invalid -d 'Skips lines that are to have no octets, as those of refused records'
 complete -c tctool -s h -l help -d 'Help'

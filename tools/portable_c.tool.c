@@ -200,3 +200,11 @@ static uint64_t write_at(uint32_t file, uint64_t at, uint64_t count)
 {
     return (uint64_t)tctool_write((int)file, OCTETS(at), count);
 }
+
+/* (only the end of a file is gone to) */
+static uint64_t lseek_at(uint32_t file, uint64_t offset, uint32_t whence)
+{
+    (void)offset;
+    (void)whence;
+    return (uint64_t)tctool_end((int)file);
+}

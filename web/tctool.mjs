@@ -1,7 +1,8 @@
 // Runs the command tctool by the module that web/build_tctool makes, run(module, ['farm', 'capture.bin'], system), and
 // returns its status. Words are texts or octets. The system opens, reads and writes as POSIX has it: `open(name)`
 // returns a number from 3 on, `read(file, room)` and `write(file, octets)` a number of octets, and each, where it fails,
-// less the error as Linux numbers it, or -1.
+// less the error as Linux numbers it, or -1. `end(file)`, where there is one, returns how many octets a file has, or -1 where
+// that is not known.
 // Files 0, 1 and 2 are open. What the system throws ends the command.
 export function run(module, words, system) {
     const text = new TextEncoder();
@@ -20,6 +21,7 @@ export function run(module, words, system) {
         },
         read: (file, to, count) => system.read(file, octets(to, count)),
         write: (file, from, count) => system.write(file, octets(from, count)),
+        end: (file) => system.end?.(file) ?? -1,
     };
     const instance = new WebAssembly.Instance(module, { host });
     return instance.exports.tctool_program();

@@ -1,7 +1,7 @@
 #!/usr/bin/env node
 // The command tctool in node, by its module: `web/tctool_node.mjs WORDS ..`. The module is tctool.wasm beside this
 // file, or what TCTOOL_MODULE names.
-import { existsSync, openSync, readFileSync, readSync, writeSync } from 'node:fs';
+import { existsSync, fstatSync, openSync, readFileSync, readSync, writeSync } from 'node:fs';
 import { run } from './tctool.mjs';
 
 // What a call of the system returns, less its error where it fails. Where a pipe is not ready it is made again.
@@ -32,4 +32,8 @@ process.exitCode = run(module, words(), {
     open: (name) => tried(() => openSync(Buffer.from(name), 'r')),
     read: (file, room) => tried(() => readSync(file, room, 0, room.length, null)),
     write: (file, octets) => tried(() => writeSync(file, octets)),
+    end: (file) => {
+        const found = fstatSync(file);
+        return found.isFile() ? found.size : -1;
+    },
 });

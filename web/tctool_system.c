@@ -1,4 +1,4 @@
-/* What tctool asks of its system (tctool_system.h), as WebAssembly: words and files come by four functions of the page,
+/* What tctool asks of its system (tctool_system.h), as WebAssembly: words and files come by five functions of the page,
  * or of another host, and memory is taken here. An instance of the module runs one command. Tested, not proved. */
 #include "tctool_system.h"
 
@@ -11,6 +11,7 @@ HOST("word") int32_t host_word(uint32_t place, unsigned char *to, uint32_t room)
 HOST("open") int32_t host_open(const char *name);
 HOST("read") int32_t host_read(int file, unsigned char *to, uint32_t count);
 HOST("write") int32_t host_write(int file, const unsigned char *from, uint32_t count);
+HOST("end") double host_end(int file);
 
 uint32_t tctool_error;
 
@@ -50,6 +51,12 @@ int64_t tctool_read(int file, unsigned char *to, uint64_t count)
 int64_t tctool_write(int file, const unsigned char *from, uint64_t count)
 {
     return said(host_write(file, from, at_most_32_bits(count)));
+}
+
+int64_t tctool_end(int file)
+{
+    const double octets = host_end(file);
+    return octets >= 0 ? (int64_t)octets : said(-1);
 }
 
 /* Memory is in blocks of 2^order octets, of which the first 16 say the order; free blocks of an order are in a list. */

@@ -113,6 +113,12 @@ int64_t tctool_write(int file, const unsigned char *from, uint64_t count)
     return got >= 0 ? got : failed(errno);
 }
 
+int64_t tctool_end(int file)
+{
+    const __int64 end = _lseeki64(file, 0, SEEK_END);
+    return end >= 0 ? end : failed(errno);
+}
+
 /* The words in UTF-8. What is no Unicode is the replacement character there, which is in no name of a file. */
 static char **in_utf8(wchar_t **wide, int count)
 {
@@ -156,6 +162,12 @@ int64_t tctool_write(int file, const unsigned char *from, uint64_t count)
 {
     const ssize_t got = write(file, from, count < SSIZE_MAX ? (size_t)count : SSIZE_MAX);
     return got >= 0 ? got : failed(errno);
+}
+
+int64_t tctool_end(int file)
+{
+    const off_t end = lseek(file, 0, SEEK_END);
+    return end >= 0 ? end : failed(errno);
 }
 
 int main(int count, char **given)

@@ -26,6 +26,9 @@ int32_t tctool_close(int file);
 int64_t tctool_read(int file, unsigned char *to, uint64_t count);
 int64_t tctool_write(int file, const unsigned char *from, uint64_t count);
 
+/* Goes to the end of a file, and returns the number of octets before it, or -1. */
+int64_t tctool_end(int file);
+
 /* The program; returns its status. */
 int tctool_program(void);
 

@@ -101,7 +101,7 @@ options_of commands.Map =
     width ∷ vr ∷ scid ∷ vcid ∷ map ∷ check ∷ resync ∷ blocking ∷ count ∷ []
 options_of commands.Tc = scid ∷ vcid ∷ check ∷ resync ∷ count ∷ []
 options_of commands.Tm = length ∷ scid ∷ telemetry_vcid ∷ report ∷ count ∷ []
-options_of commands.Clcw = count ∷ []
+options_of commands.Clcw = vcid ∷ count ∷ []
 options_of commands.Check = scid ∷ vcid ∷ resync ∷ count ∷ []
 options_of commands.Packets = apid ∷ count ∷ []
 options_of commands.Encode = check ∷ skip_invalid ∷ []
@@ -168,7 +168,7 @@ IsInRange (tasks.Map check width vr blocking part) =
 IsInRange (tasks.Tc check channel) = IfSome channel (AreIdentifiers 63)
 IsInRange (tasks.Tm length report channel) =
     (16 ≤ length) × (length ≤ 2048) × IfSome channel (AreIdentifiers 7)
-IsInRange tasks.Clcw = Unit {0}
+IsInRange (tasks.Clcw vcid) = IfSome vcid (λ n. n ≤ 63)
 IsInRange (tasks.Check channel) = IfSome channel (AreIdentifiers 63)
 IsInRange (tasks.Resync listed scid vcid) = IsSearched listed × (scid ≤ 1023) × (vcid ≤ 63)
 IsInRange (tasks.Packets apid) = IfSome apid (λ n. n ≤ 2047)

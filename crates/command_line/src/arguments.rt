@@ -26,33 +26,18 @@ impl Named {
     ) -> Result<Vec<Arg<'a>>, AllocError>
         ensures { IfOk result (λ arguments. AreArguments arguments.items (wanted_of self)) }
     {
-        Ok(match self {
-            Named::Farm => farm_arguments(alloc, help, by_word)?,
-            Named::Map => map_arguments(alloc, help, by_word)?,
-            Named::Tc => tc_arguments(alloc, help)?,
-            Named::Tm => vec![in alloc;
-                length_option(alloc),
-                scid_option(alloc),
-                telemetry_vcid_option(alloc),
-                report_flag(alloc),
-                count_flag(alloc),
-                file_argument(alloc, help),
-            ]?,
-            Named::Check => check_arguments(alloc, help)?,
-            Named::Clcw => vec![in alloc; count_flag(alloc), file_argument(alloc, help)]?,
-            Named::Packets => vec![in alloc;
-                apid_option(alloc),
-                count_flag(alloc),
-                file_argument(alloc, help),
-            ]?,
-            Named::Encode => vec![in alloc;
-                check_flag(alloc),
-                skip_invalid_flag(alloc),
-                file_argument(alloc, help),
-            ]?,
-            Named::Sim => vec![in alloc; file_argument(alloc, help)]?,
-            Named::Ground | Named::Spacecraft => vec![in alloc; input_argument(alloc, help)]?,
-        })
+        match self {
+            Named::Farm => farm_arguments(alloc, help, by_word),
+            Named::Map => map_arguments(alloc, help, by_word),
+            Named::Tc => tc_arguments(alloc, help),
+            Named::Tm => tm_arguments(alloc, help),
+            Named::Check => check_arguments(alloc, help),
+            Named::Clcw => clcw_arguments(alloc, help),
+            Named::Packets => packets_arguments(alloc, help),
+            Named::Encode => encode_arguments(alloc, help),
+            Named::Sim => sim_arguments(alloc, help),
+            Named::Ground | Named::Spacecraft => node_arguments(alloc, help),
+        }
     }
 }
 
@@ -129,6 +114,67 @@ fn check_arguments<'a>(alloc: Global, help: &'a str) -> Result<Vec<Arg<'a>>, All
     ]?)
 }
 
+// The arguments of `tm`.
+fn tm_arguments<'a>(alloc: Global, help: &'a str) -> Result<Vec<Arg<'a>>, AllocError>
+    ensures { IfOk result (λ arguments. AreArguments arguments.items (wanted_of commands.Tm)) }
+{
+    Ok(vec![in alloc;
+        length_option(alloc),
+        scid_option(alloc),
+        telemetry_vcid_option(alloc),
+        report_flag(alloc),
+        count_flag(alloc),
+        file_argument(alloc, help),
+    ]?)
+}
+
+// The arguments of `clcw`.
+fn clcw_arguments<'a>(alloc: Global, help: &'a str) -> Result<Vec<Arg<'a>>, AllocError>
+    ensures { IfOk result (λ arguments. AreArguments arguments.items (wanted_of commands.Clcw)) }
+{
+    Ok(vec![in alloc;
+        word_vcid_option(alloc),
+        count_flag(alloc),
+        file_argument(alloc, help),
+    ]?)
+}
+
+// The arguments of `packets`.
+fn packets_arguments<'a>(alloc: Global, help: &'a str) -> Result<Vec<Arg<'a>>, AllocError>
+    ensures { IfOk result (λ arguments. AreArguments arguments.items (wanted_of commands.Packets)) }
+{
+    Ok(vec![in alloc;
+        apid_option(alloc),
+        count_flag(alloc),
+        file_argument(alloc, help),
+    ]?)
+}
+
+// The arguments of `encode`.
+fn encode_arguments<'a>(alloc: Global, help: &'a str) -> Result<Vec<Arg<'a>>, AllocError>
+    ensures { IfOk result (λ arguments. AreArguments arguments.items (wanted_of commands.Encode)) }
+{
+    Ok(vec![in alloc;
+        check_flag(alloc),
+        skip_invalid_flag(alloc),
+        file_argument(alloc, help),
+    ]?)
+}
+
+// The arguments of `sim`.
+fn sim_arguments<'a>(alloc: Global, help: &'a str) -> Result<Vec<Arg<'a>>, AllocError>
+    ensures { IfOk result (λ arguments. AreArguments arguments.items (wanted_of commands.Sim)) }
+{
+    Ok(vec![in alloc; file_argument(alloc, help)]?)
+}
+
+// The arguments of a node that is played.
+fn node_arguments<'a>(alloc: Global, help: &'a str) -> Result<Vec<Arg<'a>>, AllocError>
+    ensures { IfOk result (λ arguments. AreArguments arguments.items (wanted_of commands.Ground)) }
+{
+    Ok(vec![in alloc; input_argument(alloc, help)]?)
+}
+
 // `--width W`, the width of the window.
 fn width_option<'a>(alloc: Global) -> Arg<'a>
     ensures { IsArgument result width }
@@ -165,6 +211,14 @@ fn vcid_option<'a>(alloc: Global) -> Arg<'a>
     ensures { IsArgument result vcid }
 {
     let help = "Lists the frames of this virtual channel alone, 0 to 63";
+    option(alloc, "vcid", "V", help).value_parser(value_parser!(u8).range(0..=63))
+}
+
+// `--vcid V`, the virtual channel that control words report on.
+fn word_vcid_option<'a>(alloc: Global) -> Arg<'a>
+    ensures { IsArgument result vcid }
+{
+    let help = "Lists the control words of this virtual channel alone, 0 to 63";
     option(alloc, "vcid", "V", help).value_parser(value_parser!(u8).range(0..=63))
 }
 

@@ -46,7 +46,9 @@ impl Named {
                 report: given.get_flag("report"),
                 channel: some_channel(telemetry_channel_given(given)),
             },
-            Named::Clcw => Task::Clcw,
+            Named::Clcw => Task::Clcw {
+                vcid: vcid_given(given),
+            },
             Named::Check => Task::Check {
                 channel: some_channel(channel_given(given)),
             },

@@ -148,7 +148,7 @@ pub const COMMANDS: [Described<'static>; 11] = [
             "  3 Cop                the COP in effect is not 01, COP-1\n",
             "  4 Spare              a spare bit is not 0\n",
             "  6 Short              the file ends within the control word\n",
-            "\n"
+            "\nWithout --vcid the control words of all virtual channels are listed.\n\n"
         ),
     },
     Described {

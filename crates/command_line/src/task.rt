@@ -78,8 +78,10 @@ pub enum Task {
         report: bool,
         channel: Option<Channel>,
     },
-    /// Lists what each control word reports.
-    Clcw,
+    /// Lists what each control word reports, of those of this virtual channel.
+    Clcw {
+        vcid: Option<u8>,
+    },
     /// Lists the frames that are refused, of frames that end with their FECF.
     Check {
         channel: Option<Channel>,

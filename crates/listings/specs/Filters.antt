@@ -6,6 +6,8 @@ use Rattle.std.specs.Prelude.{if◌then◌else◌, Option, Some, None}
 use Rattle.octets.specs.Number.{number_of}
 use Rattle.tc_frame.specs.declared.frame.Check.{Check}
 use Rattle.tc_frame.specs.Layout.{FrameView, IsTcFrame}
+use Rattle.clcw.specs.Layout.{IsClcw}
+use Rattle.clcw.specs.declared.word.Clcw.{Clcw}
 use Rattle.tm_link.specs.Layout as tm
 use Rattle.tm_link.specs.Layout.{IsTmFrame}
 use Rattle.space_packet.specs.Layout.{PacketView, IsPacket}
@@ -42,6 +44,10 @@ telemetry_scid octets = number_of (take 2 octets) / 16 % 1024
 abbrev pub telemetry_vcid : List ℕ → ℕ
 telemetry_vcid octets = number_of (take 2 octets) / 2 % 8
 
+-- the virtual channel that a control word reports on (CCSDS 232.0-B-4, 4.2.1.6)
+abbrev pub word_vcid : List ℕ → ℕ
+word_vcid octets = number_of (take 2 octets) / 4 % 64
+
 -- the application process of a space packet (CCSDS 133.0-B-2, 4.1.3)
 abbrev pub packet_apid : List ℕ → ℕ
 packet_apid octets = number_of (take 2 octets) % 2048
@@ -62,11 +68,16 @@ keeps_telemetry scid vcid octets =
 abbrev pub keeps_packet : ℕ → List ℕ → Bool
 keeps_packet apid octets = packet_apid octets == apid
 
--- What spells a frame or a packet, by their layouts, names what the fields say.
+-- control words on this virtual channel
+abbrev pub keeps_word : ℕ → List ℕ → Bool
+keeps_word vcid octets = word_vcid octets == vcid
+
+-- What spells a frame, a control word or a packet, by their layouts, names what the fields say.
 pub record NamesItsFields : Type 0 where
   pub frame : (check : Check) (f : FrameView) (octets : List ℕ) → IsTcFrame check f octets
       → (frame_scid octets ≡ f.scid) × (frame_vcid octets ≡ f.vcid)
   pub telemetry : (size : ℕ) (f : tm.FrameView) (octets : List ℕ) → IsTmFrame size f octets
       → (telemetry_scid octets ≡ f.scid) × (telemetry_vcid octets ≡ f.vcid)
+  pub word : (w : Clcw) (octets : List ℕ) → IsClcw w octets → word_vcid octets ≡ w.vcid
   pub packet : (p : PacketView) (octets : List ℕ) → IsPacket p octets
       → packet_apid octets ≡ p.apid

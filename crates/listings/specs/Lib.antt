@@ -9,6 +9,7 @@ pub mod TelemetryLines
 pub mod Devices
 pub mod Text
 pub mod Totals
+pub mod Words
 pub mod RefusalLines
 pub mod Listing
 pub mod Layouts

@@ -1,6 +1,6 @@
 -- What is written in place of lines: how often each of their words stands in them.
 use Rattle.std.specs.Prelude.{ℕ, ◌+◌, ◌==◌, Bool, false, ◌&&◌, ◌||◌, not, if◌then◌else◌, List, []}
-use Rattle.std.specs.Prelude.{◌∷◌, ◌++◌, codes, decimal, map, nat_le, Vec}
+use Rattle.std.specs.Prelude.{◌∷◌, ◌++◌, codes, decimal, drop, map, nat_le, Vec}
 use Rattle.std.specs.Bool.{nat_eq}
 use Rattle.std.specs.Cmp.Lexicographic.{slice_cmp}
 use Rattle.std.specs.List.{fold, list_any, starts_with}
@@ -8,9 +8,26 @@ use Rattle.std.specs.Ordering.{match_ordering, nat_cmp}
 use Rattle.listings.specs.Text.{line_end}
 use Rattle.listings.specs.declared.totals.Tally.{Tally}
 
--- what parts words: a space or a line feed
-abbrev pub parts_words : ℕ → Bool
-parts_words octet = (octet == 32) || (octet == 10)
+-- a word that is a spacecraft alone, as `scid=1`
+abbrev pub is_spacecraft : List ℕ → Bool
+is_spacecraft word = starts_with nat_eq word (codes "scid=") && not (list_any (nat_eq 32) word)
+
+-- what parts words: a line feed, and a space, but not the one after a spacecraft: a spacecraft and
+-- the virtual channel after it are one word, as `scid=1 vcid=2`
+abbrev pub parts_words : List ℕ → ℕ → Bool
+parts_words word octet = (octet == 10) || ((octet == 32) && not (is_spacecraft word))
+
+-- what stands after `scid=`, with a slash in place of ` vcid=`
+abbrev pub with_slash : List ℕ → List ℕ
+with_slash [] = []
+with_slash (octet ∷ octets) =
+    if octet == 32 then 47 ∷ drop 5 octets else octet ∷ with_slash octets
+
+-- a word as it is written: a spacecraft and its virtual channel as their channel, `channel=1/2`
+abbrev pub shown : List ℕ → List ℕ
+shown word =
+    if starts_with nat_eq word (codes "scid=") then codes "channel=" ++ with_slash (drop 5 word)
+    else word
 
 abbrev pub is_digit : ℕ → Bool
 is_digit octet = nat_le 48 octet && nat_le octet 57
@@ -40,7 +57,7 @@ with_word (row ∷ rows) word =
 
 -- with a word more, where it is counted
 abbrev pub with_ended : List (List ℕ × ℕ) → List ℕ → List (List ℕ × ℕ)
-with_ended rows word = if is_counted word then with_word rows word else rows
+with_ended rows word = if is_counted word then with_word rows (shown word) else rows
 
 -- The table of the words that have ended, and the word that has begun.
 pub record Tallied : Type 0 where
@@ -53,10 +70,8 @@ none_tallied = record { rows = []; word = [] }
 -- with an octet more
 abbrev pub with_octet : Tallied → ℕ → Tallied
 with_octet t octet =
-    if parts_words octet then record { rows = with_ended t.rows t.word; word = [] } else record {
-      rows = t.rows;
-      word = t.word ++ octet ∷ [];
-    }
+    if parts_words t.word octet then record { rows = with_ended t.rows t.word; word = [] }
+    else record { rows = t.rows; word = t.word ++ octet ∷ [] }
 
 -- of a text, each line of which has ended
 abbrev pub tallied : List ℕ → Tallied

@@ -3,7 +3,7 @@
 ghost use Rattle.std.specs.Prelude.{◌≡◌, ℕ, Bool, List, take, drop};
 ghost use Rattle.octets.specs.Number.{number_of};
 ghost use Rattle.listings.specs.Filters.{is_asked, frame_scid, frame_vcid, telemetry_scid, telemetry_vcid};
-ghost use Rattle.listings.specs.Filters.{keeps_frame, keeps_telemetry, keeps_packet, NamesItsFields};
+ghost use Rattle.listings.specs.Filters.{keeps_frame, keeps_telemetry, keeps_packet, keeps_word, NamesItsFields};
 
 use octets::first_two;
 
@@ -36,8 +36,14 @@ pub struct PacketsOf {
     pub apid: u16,
 }
 
-/// What spells a frame or a packet names the spacecraft, the virtual channel and the application process
-/// that its fields say.
+/// The control words that report on this virtual channel.
+#[derive(Clone, Copy, Drop)]
+pub struct WordsOf {
+    pub vcid: u8,
+}
+
+/// What spells a frame, a control word or a packet names the spacecraft, the virtual channel and the
+/// application process that its fields say.
 pub fn law_of_named_channels()
     ensures { NamesItsFields }
 {}
@@ -130,5 +136,14 @@ impl Filter for PacketsOf {
     #[inline(always)]
     fn keeps(&self, octets: &[u8]) -> bool {
         first_number(octets) % 2048 == self.apid
+    }
+}
+
+impl Filter for WordsOf {
+    ghost keeps = { λ f octets. keeps_word f.vcid octets };
+
+    #[inline(always)]
+    fn keeps(&self, octets: &[u8]) -> bool {
+        first_number(octets) / 4 % 64 == u16::from(self.vcid)
     }
 }

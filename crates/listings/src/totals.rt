@@ -1,16 +1,16 @@
 // Counts the words of lines.
 
 ghost use Rattle.std.specs.Prelude.{◌≡◌, ◌≤◌, ◌+◌, ◌++◌, codes, decimal, false, length, map, take, true, [], None, OnOk, IfOk, Ok};
-ghost use Rattle.std.specs.Bool.{nat_eq};
 ghost use Rattle.std.specs.BTreeMap.{get_by};
 ghost use Rattle.std.specs.Cmp.Lexicographic.{slice_cmp};
-ghost use Rattle.std.specs.List.{fold, list_any, starts_with};
+ghost use Rattle.std.specs.List.{fold};
 ghost use Rattle.std.specs.Ordering.{nat_cmp};
 ghost use Rattle.listings.specs.Text.{line_end, written, Appends};
-ghost use Rattle.listings.specs.Totals.{fields_left_out, is_counted, row_of, tallied, tallied_in, total_line};
-ghost use Rattle.listings.specs.Totals.{totals_of, with_octet, with_word};
+ghost use Rattle.listings.specs.Totals.{row_of, shown, tallied, tallied_in, total_line};
+ghost use Rattle.listings.specs.Totals.{totals_of, with_ended, with_octet, with_word};
 
 use crate::device_log::{Call, DeviceLog};
+use crate::line_words::{end_of_word, has_channel, is_counted, parts_words, write_channel};
 use crate::parts::{put_number, put_word};
 use crate::sink::Sink;
 use crate::text::Text;
@@ -23,32 +23,8 @@ use std::io;
 pub struct Tally {
     table: BTreeMap<Vec<u8>, u64>,
     word: Vec<u8>,
-}
-
-// Whether a word is counted.
-fn is_counted(word: &[u8]) -> bool
-    ensures { result ≡ is_counted word.now }
-{
-    match word {
-        [] => false,
-        [b'0'..=b'9', ..] => false,
-        _ => !is_left_out(word),
-    }
-}
-
-// Whether a word is a field whose value differs from record to record.
-fn is_left_out(word: &[u8]) -> bool
-    ensures { result ≡ list_any (starts_with nat_eq word.now) fields_left_out }
-{
-    word.starts_with(b"n=")
-        || word.starts_with(b"vr=")
-        || word.starts_with(b"b=")
-        || word.starts_with(b"mc=")
-        || word.starts_with(b"vc=")
-        || word.starts_with(b"pointer=")
-        || word.starts_with(b"ocf=")
-        || word.starts_with(b"count=")
-        || word.starts_with(b"data=")
+    // Room for a word that is written otherwise.
+    written: Vec<u8>,
 }
 
 // Counts a word that has come before, and answers whether it has.
@@ -70,8 +46,8 @@ fn count_known(table: &mut BTreeMap<Vec<u8>, u64>, word: &[u8]) -> Result<bool, 
     }
 }
 
-// Counts a word.
-fn count_word(
+// Counts a word as it is written.
+fn count_written(
     alloc: Global,
     table: &mut BTreeMap<Vec<u8>, u64>,
     word: &[u8],
@@ -88,30 +64,91 @@ fn count_word(
     Ok(())
 }
 
+// Counts a word.
+fn count_word(
+    alloc: Global,
+    table: &mut BTreeMap<Vec<u8>, u64>,
+    written: &mut Vec<u8>,
+    word: &[u8],
+) -> Result<(), AllocError>
+    ensures { OnOk result (map row_of table.new.entries
+        ≡ with_word (map row_of table.old.entries) (shown word.now)) }
+{
+    if !has_channel(word) {
+        return count_written(alloc, table, word);
+    }
+    write_channel(written, word)?;
+    count_written(alloc, table, written.as_slice())
+}
+
+// Counts a word that has ended, where it is counted.
+fn count_ended(
+    alloc: Global,
+    table: &mut BTreeMap<Vec<u8>, u64>,
+    written: &mut Vec<u8>,
+    word: &[u8],
+) -> Result<(), AllocError>
+    ensures { OnOk result (map row_of table.new.entries
+        ≡ with_ended (map row_of table.old.entries) word.now) }
+{
+    if !is_counted(word) {
+        return Ok(());
+    }
+    count_word(alloc, table, written, word)
+}
+
 impl Tally {
     // Takes an octet.
     fn take(&mut self, alloc: Global, octet: u8) -> Result<(), AllocError>
         ensures { OnOk result (tallied_in self.new ≡ with_octet (tallied_in self.old) octet) }
     {
-        if octet != b' ' && octet != b'\n' {
+        if !parts_words(self.word.as_slice(), octet) {
             self.word.push(octet)?;
             return Ok(());
         }
-        if is_counted(self.word.as_slice()) {
-            count_word(alloc, &mut self.table, self.word.as_slice())?;
-        }
+        count_ended(
+            alloc,
+            &mut self.table,
+            &mut self.written,
+            self.word.as_slice(),
+        )?;
         self.word.clear();
         Ok(())
     }
 
     // Takes each octet of a text.
-    fn take_all(&mut self, alloc: Global, text: &[u8]) -> Result<(), AllocError>
+    fn take_each(&mut self, alloc: Global, text: &[u8]) -> Result<(), AllocError>
         ensures { OnOk result (tallied_in self.new ≡ fold with_octet (tallied_in self.old) text.now) }
     {
         for octet in text {
             self.take(alloc, *octet)?;
         }
         Ok(())
+    }
+
+    // Takes a text that begins with a word, word by word.
+    fn take_words(&mut self, alloc: Global, text: &[u8]) -> Result<(), AllocError>
+        requires { self.old.word.items ≡ [] }
+        ensures { OnOk result (tallied_in self.new ≡ fold with_octet (tallied_in self.old) text.now) }
+    {
+        let mut rest = text;
+        'words: while let Some(end) = end_of_word(rest) {
+            count_ended(alloc, &mut self.table, &mut self.written, &rest[..end])?;
+            rest = &rest[end + 1..];
+        }
+        self.word.extend_from_slice(rest)?;
+        Ok(())
+    }
+
+    // Takes a text.
+    fn take_all(&mut self, alloc: Global, text: &[u8]) -> Result<(), AllocError>
+        ensures { OnOk result (tallied_in self.new ≡ fold with_octet (tallied_in self.old) text.now) }
+    {
+        if self.word.is_empty() {
+            self.take_words(alloc, text)
+        } else {
+            self.take_each(alloc, text)
+        }
     }
 }
 
@@ -135,6 +172,7 @@ impl Totals {
             tally: Tally {
                 table: BTreeMap::new(alloc),
                 word: Vec::new(alloc),
+                written: Vec::new(alloc),
             },
             log: DeviceLog::new(),
         }

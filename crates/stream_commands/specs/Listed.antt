@@ -15,7 +15,7 @@ use Rattle.command_line.specs.declared.task.Task.{Task}
 use Rattle.command_line.specs.declared.task.Task.TheVariants as tasks
 use Rattle.found_frames.specs.Found.{found, found_summary}
 use Rattle.listings.specs.FarmLines.{farm_lines}
-use Rattle.listings.specs.Filters.{keeps_frame, keeps_packet, keeps_telemetry, only}
+use Rattle.listings.specs.Filters.{keeps_frame, keeps_packet, keeps_telemetry, keeps_word, only}
 use Rattle.listings.specs.FirstNumber.{farm_begun, from_first}
 use Rattle.listings.specs.FrameLines.{frame_lines}
 use Rattle.listings.specs.MapLines.{MapState, map_lines, map_opened}
@@ -76,6 +76,10 @@ telemetry_work size report (Some c) =
     Lists (telemetry_layout size) (only (telemetry_on c) (telemetry_lines size))
     (telemetry_opened report)
 
+abbrev pub word_work : Option ℕ → Work
+word_work None = Lists word_layout report_lines tt
+word_work (Some vcid) = Lists word_layout (only (keeps_word vcid) report_lines) tt
+
 abbrev pub packet_work : Option ℕ → Work
 packet_work None = Lists packet_layout packet_lines none_seen
 packet_work (Some apid) = Lists packet_layout (only (keeps_packet apid) packet_lines) none_seen
@@ -99,7 +103,7 @@ work_of (tasks.Map check width vr blocking part) =
 work_of (tasks.Tc check channel) =
     frames_work (check_if check) (frame_lines (check_if check)) tt channel
 work_of (tasks.Tm size report channel) = telemetry_work size report channel
-work_of tasks.Clcw = Lists word_layout report_lines tt
+work_of (tasks.Clcw vcid) = word_work vcid
 work_of (tasks.Check channel) = frames_work On refusal_lines tt channel
 work_of (tasks.Resync listed scid vcid) = searched_work scid vcid listed
 work_of (tasks.Packets apid) = packet_work apid

@@ -20,7 +20,7 @@ use cop1::Farm;
 use listings::{
     ControlWords, Cutter, Filter, FrameCutter, FrameLength, FrameListing, FramesOf, FromFirst,
     Kept, Listing, ListingFault, MapListing, OneMap, Only, PacketListing, PacketsOf,
-    RefusalListing, ReportListing, Sink, Source, Summary, TelemetryListing, TelemetryOf,
+    RefusalListing, ReportListing, Sink, Source, Summary, TelemetryListing, TelemetryOf, WordsOf,
     list_stream,
 };
 use octets::Splitter;
@@ -89,10 +89,7 @@ pub(crate) fn list_lines<R: Source, W: Sink>(
         } => list_telemetry::<Brand, R, W>(
             alloc, reader, writer, task, note, length, report, channel,
         ),
-        Task::Clcw => {
-            let cutter = Splitter::<ControlWords>::new(alloc);
-            list_records(alloc, reader, writer, task, note, cutter, ReportListing)
-        }
+        Task::Clcw { vcid } => list_words(alloc, reader, writer, task, note, vcid),
         Task::Check { channel } => {
             list_on::<true, _, R, W>(alloc, reader, writer, task, note, RefusalListing, channel)
         }
@@ -230,6 +227,43 @@ fn list_telemetry<K: FrameLength, R: Source, W: Sink>(
             let kept = TelemetryOf { scid, vcid };
             list_only::<Brand, _, _, _, R, W>(
                 alloc, reader, writer, task, note, cutter, frames, kept,
+            )
+        }
+    }
+}
+
+// Lists control words.
+fn list_words<R: Source, W: Sink>(
+    alloc: Global,
+    reader: &mut R,
+    writer: &mut W,
+    task: Task,
+    note: &Note,
+    vcid: Option<u8>,
+) -> Result<Summary, ListingFault>
+    requires task { task ≡ Task.Clcw vcid }
+    ensures reads { Reads R.given R.remaining R.failures result reader.old reader.new }
+    ensures writes { WritesText W.taken_octets W.failures result writer.old writer.new
+        (listed_lines task (gained (R.given reader.old) (R.given reader.new))) }
+    ensures listed { IfOk result (λ l. l
+        ≡ task_summary task (gained (R.given reader.old) (R.given reader.new))) }
+    ensures end { OnOk result (HasEnded (R.has_ended reader.new) (R.remaining reader.new)
+        ⊎ StopsAt task (gained (R.given reader.old) (R.given reader.new))) }
+{
+    let cutter = Splitter::<ControlWords>::new(alloc);
+    match vcid {
+        None => list_records(alloc, reader, writer, task, note, cutter, ReportListing),
+        Some(vcid) => {
+            let kept = WordsOf { vcid };
+            list_only::<Brand, _, _, _, R, W>(
+                alloc,
+                reader,
+                writer,
+                task,
+                note,
+                cutter,
+                ReportListing,
+                kept,
             )
         }
     }

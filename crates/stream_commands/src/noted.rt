@@ -69,21 +69,38 @@ impl Note {
         }
     }
 
-    /// Writes a line if reading stopped before the end, and one if a receiver took several channels' frames.
+    /// Writes a line if reading stopped before the end, where the octets of the file are said if they are
+    /// known, and one if a receiver took several channels' frames.
     /// Faults: WriteFailed.
-    pub fn tell<W: Sink>(&self, stopped: bool, errors: &mut W) -> Result<(), WriteFailed> {
+    pub fn tell<W: Sink>(
+        &self,
+        stopped: bool,
+        length: Option<u64>,
+        errors: &mut W,
+    ) -> Result<(), WriteFailed> {
         if stopped {
-            let (mut records, mut octets) = (Buffer::new(), Buffer::new());
-            let record = records.format(self.records.get().wrapping_add(1));
-            let octets = octets.format(self.octets.get());
-            write_parts(errors, "tctool: stopped at record ", record, ", after ")?;
-            write_parts(errors, "", octets, " octets: where it ends is not known\n")?;
+            self.tell_place(length, errors)?;
         }
         if self.has_others.get() {
             let line = "tctool: frames of several channels; --scid and --vcid take one\n";
             write_parts(errors, line, "", "")?;
         }
         Ok(())
+    }
+
+    // Writes where reading stopped. A device may say a length that is less than what was read of it.
+    fn tell_place<W: Sink>(&self, length: Option<u64>, errors: &mut W) -> Result<(), WriteFailed> {
+        let (mut records, mut octets, mut all) = (Buffer::new(), Buffer::new(), Buffer::new());
+        let record = records.format(self.records.get().wrapping_add(1));
+        let before = octets.format(self.octets.get());
+        write_parts(errors, "tctool: stopped at record ", record, ", after ")?;
+        match length {
+            Some(length) if self.octets.get() < length => {
+                write_parts(errors, before, " of ", all.format(length))?;
+            }
+            _ => write_parts(errors, before, "", "")?,
+        }
+        write_parts(errors, " octets: where it ends is not known\n", "", "")
     }
 }
 

@@ -20,7 +20,7 @@ use listings::{ListingFault, Reader, Writer};
 use noting::{Noting, reason};
 use std::fs::File;
 use std::io;
-use std::io::Read;
+use std::io::{Read, Seek, SeekFrom};
 use std::process::ExitCode;
 use stream_commands::{Note, ending};
 
@@ -82,15 +82,21 @@ fn run(rt: &HostRuntime, options: &Options) -> u8
     requires { IsInRange options.now.task }
 {
     if options.file == "-" {
-        return tell(rt, rt.stdin(), options);
+        return tell(rt, rt.stdin(), None, options);
     }
     match File::open(rt, options.file) {
-        Ok(file) => tell(rt, file, options),
+        Ok(file) => tell(rt, &file, Some(&file), options),
         Err(error) => cannot_open(rt, options.file, reason(error.kind())),
     }
 }
 
-fn tell<R: Read + Drop>(rt: &HostRuntime, input: R, options: &Options) -> u8
+// The octets of a file that has an end that can be looked for.
+fn length_of(file: Option<&File>) -> Option<u64> {
+    let mut file = file?;
+    file.seek(SeekFrom::End(0)).ok()
+}
+
+fn tell<R: Read + Drop>(rt: &HostRuntime, input: R, file: Option<&File>, options: &Options) -> u8
     requires { IsInRange options.now.task }
 {
     let mut reader = Noting::new(Reader::new(input));
@@ -112,7 +118,9 @@ fn tell<R: Read + Drop>(rt: &HostRuntime, input: R, options: &Options) -> u8
     } else if !cause.is_empty() {
         let _ = eprintln!(rt; "tctool: {cause}");
     } else if dumped.is_ok() {
-        let _ = note.tell(!reader.has_ended(), &mut errors);
+        let stopped = !reader.has_ended();
+        let length = if stopped { length_of(file) } else { None };
+        let _ = note.tell(stopped, length, &mut errors);
     }
     status
 }

@@ -1,4 +1,5 @@
-use Rattle.std.proofs.Common.{◌≡◌, ◌≤◌, ℕ, ◌+◌, ◌-◌, ◌*◌, ◌<◌, ◌/◌, ◌%◌, List, [], ◌∷◌, length, arith}
+use Rattle.std.proofs.Common.{◌≡◌, ◌≤◌, ◌∙◌, ℕ, ◌+◌, ◌-◌, ◌*◌, ◌<◌, ◌/◌, ◌%◌, List, [], ◌∷◌, length, take, ap, arith}
+use Rattle.octets.specs.Number.{number_of}
 use Rattle.tc_frame.specs.declared.frame.Check.{Check}
 use Rattle.tc_frame.specs.Layout.{FrameView, IsTcFrame, bypass_flag, control_flag}
 use Rattle.space_packet.specs.Layout.{secondary_bit, type_bit}
@@ -23,6 +24,10 @@ vcid_named : (check : Check) (f : FrameView) (octets : List ℕ) → IsTcFrame c
 vcid_named check f [] h = omega (arith, h.second)
 vcid_named check f (b ∷ bs) h = vcid_above _ f.vcid (length (b ∷ bs)) h.second (omega arith) h.total
 
+-- the octet of the virtual channel in a control word, below its version and status
+word_below : (status vcid : ℕ) → vcid < 64 → number_of ((4 * status + 1) ∷ 4 * vcid ∷ []) / 4 % 64 ≡ vcid
+word_below status vcid lt = omega arith
+
 pub returns : goal.returns
 returns c = record {
   frame = λ check f octets h. (
@@ -30,5 +35,7 @@ returns c = record {
     vcid_named check f octets h,
   );
   telemetry = λ size f octets h. (omega (arith, h.first, h.scid, h.vcid), omega (arith, h.first, h.scid, h.vcid));
+  word = λ w octets h.
+      ap (λ (l : List ℕ). number_of (take 2 l) / 4 % 64) h.spelled ∙ word_below w.status w.vcid h.vcid;
   packet = λ p octets h. apid_below _ (type_bit p.kind) (secondary_bit p.secondary) p.apid h.first h.apid;
 }

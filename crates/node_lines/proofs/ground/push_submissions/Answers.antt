@@ -6,5 +6,5 @@ returns c =
       ← c.submitted-submitted.ensures,
       ← c.sent_whole-sent.ensures,
       ← c.acknowledged_whole-acknowledged.ensures,
-      ← c.outstanding-outstanding.ensures,
+      ← c.outstanding-outstanding.ensures.count,
     ) c.write.ensures.bytes

@@ -10,4 +10,4 @@ returns c =
     (string_bytes c.push_count-2.new.text) (codes " acknowledged=") (codes " outstanding=")
     c.acknowledged.result c.outstanding.result w.session.acknowledged (length (outstanding w.ground_node))
     c.in_ok-push_count.ensures c.acknowledged.ensures
-    (c.outstanding.ensures ∙ ap (λ g. length (outstanding g)) c.ground_node.ensures) c.push_count-2.ensures
+    (c.outstanding.ensures.count ∙ ap (λ g. length (outstanding g)) c.ground_node.ensures) c.push_count-2.ensures

@@ -1,4 +1,4 @@
-use Rattle.std.proofs.Common.{◌≡◌, ◌∙◌, ap, sym}
+use Rattle.std.proofs.Common.{◌∙◌, ap, sym}
 use Rattle.std.proofs.lemmas.Result.{IfOk-weaker}
 use Rattle.command_line.specs.declared.task.Searched.{Searched}
 use Rattle.command_line.specs.declared.task.Task.{Task}
@@ -25,3 +25,11 @@ returns-in-Map-clause-listed g c =
     found_summary (from_first one_map_begun On (one_map_lines On)) c.args.scid c.args.vcid s octets) start
     ∙ ap (λ (t : Task). task_summary t octets) (sym asked)))
     c.list_found_frames-in-Map.ensures.listed
+
+pub returns-in-Map-clause-writes : goal.returns-in-Map-clause-writes
+returns-in-Map-clause-writes g c =
+    let asked = c.requires.task ∙ ap (λ (s : Searched). tasks.Resync s c.args.scid c.args.vcid) c.in-Map.is in
+    let start = c.new-packets-in-Map.ensures
+    ∙ ap (λ (x : OneMapState). record { awaits = c.in-Map.from_first; kept = x })
+    (c.new-in-Map.ensures ∙ ap (λ (x : MapState). record { map = c.in-Map.map; packets = x }) c.new-packets.ensures) in
+    rw (asked, sym start) c.list_found_frames-in-Map.ensures.writes

@@ -2,7 +2,7 @@ use Rattle.std.proofs.Common.{◌≡◌, ◌∙◌, ◌++◌, List, ℕ, Ok, Res
 use Rattle.std.specs.declared.alloc.AllocError.{AllocError}
 use Rattle.listings.specs.Totals.{row_of, with_word}
 use Rattle.listings.proofs.Words.{word_new}
-use Rattle.listings.proofs.totals.count_word.Goals as goal
+use Rattle.listings.proofs.totals.count_written.Goals as goal
 
 abbrev known : Bool → Result Bool AllocError
 known b = Ok b

@@ -1,7 +1,7 @@
 use Rattle.std.proofs.Common.{◌≡◌, drop}
 use Rattle.std.specs.List.{fold}
 use Rattle.listings.specs.Totals.{tallied_in, with_octet}
-use Rattle.listings.proofs.totals.Tally.take_all.Given as goal
+use Rattle.listings.proofs.totals.Tally.take_each.Given as goal
 
 -- what the octets that are left make of the tally is what all of them make of the first one
 abbrev pub invariant-loop-octet : goal.invariant-loop-octet

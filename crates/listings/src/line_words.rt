@@ -1,0 +1,144 @@
+// The words of lines: where each ends, whether it is counted, and how it is written.
+
+ghost use Rattle.std.specs.Prelude.{◌≡◌, ◌≤◌, ◌<◌, ◌++◌, take, length, [], codes, nat_le, slice_index, true, OnOk, IfSome};
+ghost use Rattle.std.specs.Bool.{nat_eq};
+ghost use Rattle.std.specs.List.{list_any, starts_with};
+ghost use Rattle.listings.specs.Totals.{fields_left_out, is_counted, is_spacecraft, parts_words, shown, with_slash};
+ghost use Rattle.listings.specs.Words.{word_end, word_end_after};
+
+use std::alloc::AllocError;
+
+/// Whether a word is counted.
+#[inline(always)]
+pub(crate) fn is_counted(word: &[u8]) -> bool
+    ensures { result ≡ is_counted word.now }
+{
+    match word {
+        [] => false,
+        [b'0'..=b'9', ..] => false,
+        _ => !is_left_out(word),
+    }
+}
+
+// Whether a word is a field whose value differs from record to record.
+#[inline(always)]
+fn is_left_out(word: &[u8]) -> bool
+    ensures { result ≡ list_any (starts_with nat_eq word.now) fields_left_out }
+{
+    word.starts_with(b"n=")
+        || word.starts_with(b"vr=")
+        || word.starts_with(b"b=")
+        || word.starts_with(b"mc=")
+        || word.starts_with(b"vc=")
+        || word.starts_with(b"pointer=")
+        || word.starts_with(b"ocf=")
+        || word.starts_with(b"count=")
+        || word.starts_with(b"data=")
+}
+
+/// Whether an octet parts words, after a word that has begun.
+pub(crate) fn parts_words(word: &[u8], octet: u8) -> bool
+    ensures { result ≡ parts_words word.now octet }
+{
+    match octet {
+        b'\n' => true,
+        b' ' => !is_spacecraft(word),
+        _ => false,
+    }
+}
+
+fn is_spacecraft(word: &[u8]) -> bool
+    ensures { result ≡ is_spacecraft word.now }
+{
+    word.starts_with(b"scid=") && !word.contains(&b' ')
+}
+
+/// Whether a word begins with a spacecraft, and so is written as its channel.
+pub(crate) fn has_channel(word: &[u8]) -> bool
+    ensures { result ≡ starts_with nat_eq word.now (codes "scid=") }
+{
+    word.starts_with(b"scid=")
+}
+
+/// Puts a word that begins with a spacecraft into this room, as it is written.
+pub(crate) fn write_channel(written: &mut Vec<u8>, word: &[u8]) -> Result<(), AllocError>
+    requires { starts_with nat_eq word.now (codes "scid=") ≡ true }
+    ensures { OnOk result (written.new.items ≡ shown word.now) }
+{
+    written.clear();
+    written.extend_from_slice(b"channel=")?;
+    push_channel(written, &word[5..])
+}
+
+// Appends a spacecraft and, after a slash, what stands after ` vcid=`.
+fn push_channel(written: &mut Vec<u8>, channel: &[u8]) -> Result<(), AllocError>
+    ensures { OnOk result (written.new.items ≡ written.old.items ++ with_slash channel.now) }
+{
+    let mut rest = channel;
+    'octets: while let [octet, more @ ..] = rest {
+        if *octet == b' ' {
+            written.push(b'/')?;
+            return written.extend_from_slice(&more[more.len().min(5)..]);
+        }
+        written.push(*octet)?;
+        rest = more;
+    }
+    Ok(())
+}
+
+/// The place of the octet that ends the first word.
+#[inline(always)]
+pub(crate) fn end_of_word(text: &[u8]) -> Option<usize>
+    ensures end { result ≡ word_end [] text.now }
+    ensures within { IfSome result (λ at. at < length text.now) }
+{
+    let mut at = 0;
+    'octets: while at < text.len() {
+        if is_end(text, at) {
+            return Some(at);
+        }
+        at += 1;
+        if at == 16 {
+            at = past_sixteens(text, at);
+        }
+    }
+    None
+}
+
+// Whether the octet at this place ends the word before it.
+#[inline(always)]
+fn is_end(text: &[u8], at: usize) -> bool
+    requires { at < length text.now }
+    ensures { result ≡ parts_words (take at text.now) (slice_index text.now at) }
+{
+    text[at] <= b' ' && parts_words(&text[..at], text[at])
+}
+
+// A place after this one up to which no octet may end a word.
+#[inline(never)]
+fn past_sixteens(text: &[u8], from: usize) -> usize
+    requires { from ≤ length text.now }
+    ensures within { (from ≤ result) × (result ≤ length text.now) }
+    ensures same { word_end_after text.now result ≡ word_end_after text.now from }
+{
+    let mut at = from;
+    'sixteens: while text.len() - at >= 16 {
+        if has_low(&text[at..at + 16]) {
+            break;
+        }
+        at += 16;
+    }
+    at
+}
+
+// Whether any of these octets may be a space or a line feed.
+#[inline(always)]
+fn has_low(octets: &[u8]) -> bool
+    ensures { result ≡ list_any (λ octet. nat_le octet 32) octets.now }
+{
+    let mut found = false;
+    for octet in octets {
+        found = found | (*octet <= b' ');
+    }
+    found
+}
