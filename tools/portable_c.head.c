@@ -8,11 +8,18 @@
 #define UNREACHABLE for (;;) {}
 #endif
 
-/* Where the machine's numbers are little-endian, as they are in memory here, they are read and written whole, and octet
- * by octet elsewhere. */
+/* Where the machine's numbers are little-endian, as they are in memory here, structs of numbers are used as they are. */
 #if defined __BYTE_ORDER__ && defined __ORDER_LITTLE_ENDIAN__ && !defined SEDGE_BY_OCTETS
 #if __BYTE_ORDER__ == __ORDER_LITTLE_ENDIAN__
 #define LITTLE
+#endif
+#endif
+
+/* On these processors a number may stand at any address. Elsewhere memcpy would be called for each, so it is read and
+ * written octet by octet. */
+#ifdef LITTLE
+#if defined __x86_64__ || defined __i386__ || defined __ARM_FEATURE_UNALIGNED || defined __powerpc__ || defined __wasm__
+#define WHOLE
 #endif
 #endif
 
@@ -44,14 +51,16 @@ static uint64_t some(uint64_t at)
     return at + (at == 0 ? 0x1000 : 0);
 }
 
-static uint32_t get8(uint64_t at)
+static uint32_t get8_at(uintptr_t at)
 {
     return *OCTETS(at);
 }
+/* (An address is made one of the machine before it is a sum: so one of 32 bits reckons with no more.) */
+#define get8(at) get8_at((uintptr_t)(at))
 
-static uint32_t get16(uint64_t at)
+static uint32_t get16_at(uintptr_t at)
 {
-#ifdef LITTLE
+#ifdef WHOLE
     uint16_t value;
     memcpy(&value, OCTETS(at), 2);
     return value;
@@ -60,10 +69,11 @@ static uint32_t get16(uint64_t at)
     return (uint32_t)o[0] | (uint32_t)o[1] << 8;
 #endif
 }
+#define get16(at) get16_at((uintptr_t)(at))
 
-static uint32_t get32(uint64_t at)
+static uint32_t get32_at(uintptr_t at)
 {
-#ifdef LITTLE
+#ifdef WHOLE
     uint32_t value;
     memcpy(&value, OCTETS(at), 4);
     return value;
@@ -72,10 +82,11 @@ static uint32_t get32(uint64_t at)
     return (uint32_t)o[0] | (uint32_t)o[1] << 8 | (uint32_t)o[2] << 16 | (uint32_t)o[3] << 24;
 #endif
 }
+#define get32(at) get32_at((uintptr_t)(at))
 
-static uint64_t get64(uint64_t at)
+static uint64_t get64_at(uintptr_t at)
 {
-#ifdef LITTLE
+#ifdef WHOLE
     uint64_t value;
     memcpy(&value, OCTETS(at), 8);
     return value;
@@ -83,17 +94,19 @@ static uint64_t get64(uint64_t at)
     return (uint64_t)get32(at) | (uint64_t)get32(at + 4) << 32;
 #endif
 }
+#define get64(at) get64_at((uintptr_t)(at))
 
 /* The lowest 8 bits of a number are written. */
-static void put8(uint64_t at, uint32_t value)
+static void put8_at(uintptr_t at, uint32_t value)
 {
     *OCTETS(at) = (unsigned char)(value & 255);
 }
+#define put8(at, value) put8_at((uintptr_t)(at), value)
 
 /* The lowest 16 bits. */
-static void put16(uint64_t at, uint32_t value)
+static void put16_at(uintptr_t at, uint32_t value)
 {
-#ifdef LITTLE
+#ifdef WHOLE
     const uint16_t lowest = (uint16_t)(value & 0xffff);
     memcpy(OCTETS(at), &lowest, 2);
 #else
@@ -102,10 +115,11 @@ static void put16(uint64_t at, uint32_t value)
     o[1] = (unsigned char)(value >> 8 & 255);
 #endif
 }
+#define put16(at, value) put16_at((uintptr_t)(at), value)
 
-static void put32(uint64_t at, uint32_t value)
+static void put32_at(uintptr_t at, uint32_t value)
 {
-#ifdef LITTLE
+#ifdef WHOLE
     memcpy(OCTETS(at), &value, 4);
 #else
     unsigned char *o = OCTETS(at);
@@ -115,27 +129,31 @@ static void put32(uint64_t at, uint32_t value)
     o[3] = (unsigned char)(value >> 24);
 #endif
 }
+#define put32(at, value) put32_at((uintptr_t)(at), value)
 
-static void put64(uint64_t at, uint64_t value)
+static void put64_at(uintptr_t at, uint64_t value)
 {
-#ifdef LITTLE
+#ifdef WHOLE
     memcpy(OCTETS(at), &value, 8);
 #else
     put32(at, (uint32_t)(value & 0xffffffffU));
     put32(at + 4, (uint32_t)(value >> 32));
 #endif
 }
+#define put64(at, value) put64_at((uintptr_t)(at), value)
 
 /* Moves octets, which may overlap. */
-static void copy(uint64_t to, uint64_t from, uint64_t count)
+static void copy_at(uintptr_t to, uintptr_t from, size_t count)
 {
     if (count > 0) memmove(OCTETS(to), OCTETS(from), (size_t)count);
 }
+#define copy(to, from, count) copy_at((uintptr_t)(to), (uintptr_t)(from), (size_t)(count))
 
-static void fill(uint64_t to, uint32_t value, uint64_t count)
+static void fill_at(uintptr_t to, uint32_t value, size_t count)
 {
     if (count > 0) memset(OCTETS(to), (int)(value & 255), (size_t)count);
 }
+#define fill(to, value, count) fill_at((uintptr_t)(to), value, (size_t)(count))
 
 static uint32_t rotl32(uint32_t x, uint32_t count)
 {

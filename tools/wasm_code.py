@@ -740,7 +740,8 @@ def without_kept(body):
     """A body in which the result of a call is not kept where nothing uses it, as before what is never reached."""
     counts = collections.Counter(re.findall(r"\bt\d+\b", "\n".join(body)))
     kept = re.compile(r"^( *)(t\d+) = (\w+\(.*\);)$")
-    return [kept.sub(lambda it: it[1] + it[3] if counts[it[2]] == 1 else it[0], line) for line in body]
+    counts.subtract(it[2] for it in map(kept.match, body) if it)
+    return [kept.sub(lambda it: it[0] if counts[it[2]] else it[1] + it[3], line) for line in body]
 
 
 ZEROS = re.compile(r"( *)(?:put(\d+)|fill)\((\w+)(?: \+ (\d\w*))?, 0(?:, (\d\w*))?\);")

@@ -248,12 +248,27 @@ static void asks(struct link *l, struct in *i) {
     (void)!sedge_ground_resume(&l->ground, value, &whole);
 }
 
+/* Another ground is opened at what was kept of this one, and the same is kept of it; or at a record with an octet changed,
+ * which is refused, or is what is kept of the ground that it opens. */
+static void fails_over(struct link *l, struct in *i, bool changed) {
+    struct sedge_ground_kept kept, again;
+    uint8_t answer;
+    WANT(sedge_ground_kept(&l->ground, &kept) == SEDGE_NODE_OK);
+    if (changed) ((uint8_t *)&kept)[in8(i) % offsetof(struct sedge_ground_kept, zeros)] ^= in8(i);
+    answer = sedge_ground_open_kept(&l->config, &kept, &l->ground);
+    WANT(answer == SEDGE_NODE_OK || (answer == SEDGE_NODE_MEMORY && refused) || changed);
+    if (answer != SEDGE_NODE_OK) return;
+    WANT(sedge_ground_kept(&l->ground, &again) == SEDGE_NODE_OK);
+    WANT(memcmp(&kept, &again, offsetof(struct sedge_ground_kept, zeros)) == 0);
+}
+
 /* A node is opened anew: where there is no memory for it, the old one stays. */
 static void reopens(struct link *l, struct in *i) {
     struct sedge_spacecraft_reading kept;
     uint8_t k = in8(i);
     WANT(sedge_spacecraft_read(&l->spacecraft, &kept) == SEDGE_NODE_OK);
     if (k & 1) (void)!sedge_spacecraft_open_kept(&l->config, &kept, &l->spacecraft);
+    else if (k & 2) fails_over(l, i, (k & 12) == 0);
     else (void)!sedge_ground_open(&l->config, &l->ground);
 }
 

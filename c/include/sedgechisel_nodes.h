@@ -314,6 +314,34 @@ SEDGE_CHECK uint8_t sedge_ground_known_on_board(struct sedge_ground *ground, uin
  * to V(S). */
 SEDGE_CHECK uint8_t sedge_ground_resume(struct sedge_ground *ground, uint8_t value, uint64_t *whole);
 
+/* What is kept of a ground: V(S) and NN(R) (232.1-B-2, 5.1), and the account of the submissions that were sent whole.
+ * It has no padding, so its octets may be stored as they are, and read on the same machine. */
+struct sedge_ground_kept {
+    uint64_t acknowledged; /* how many submissions are acknowledged whole, modulo 2^64 */
+    uint8_t vs;            /* V(S), the number of the next segment that is sent for the first time */
+    uint8_t nn;            /* NN(R), the number that the spacecraft was last known to expect */
+    uint8_t known;         /* 1 where these are a session's, and no alert has shown that a condition is broken; else
+                            * 0 */
+    uint8_t whole;         /* how many submissions more were sent whole, 0 to 127 */
+    uint8_t segments[127]; /* how many segments of each of these are not acknowledged, the oldest first; and then
+                            * zeros */
+    uint8_t zeros[5];      /* zeros, which are not looked at */
+};
+
+/* Writes what is kept of the ground, in one record of fixed size, and the ground stays as it was. A program stores the
+ * record after each call, and after a pull before the frame goes out; where the ground is lost, sedge_ground_open_kept
+ * opens another at it. Of submissions that were not sent whole nothing is kept, nor of bypass packets, of telemetry,
+ * and of what directives set. Returns 0. */
+uint8_t sedge_ground_kept(struct sedge_ground *ground, struct sedge_ground_kept *kept);
+
+/* Opens a ground that goes on where another was lost, in S6, at the record that sedge_ground_kept wrote: with its V(S),
+ * its NN(R) and its account of submissions. It is the other after Terminate, without what waited, and with the window,
+ * the limit and the timer of the configuration; so sedge_ground_resume begins the next session, as after an alert. It
+ * is opened as sedge_ground_open does. Returns 0, SEDGE_NODE_OUT_OF_RANGE (also for a record that no ground of this
+ * configuration writes) or SEDGE_NODE_MEMORY. */
+SEDGE_CHECK uint8_t sedge_ground_open_kept(const struct sedge_config *config, const struct sedge_ground_kept *kept,
+                                           struct sedge_ground *ground);
+
 /* ---- The spacecraft. ---- */
 
 struct sedge_spacecraft {

@@ -22,11 +22,18 @@
 #define UNREACHABLE for (;;) {}
 #endif
 
-/* Where the machine's numbers are little-endian, as they are in memory here, they are read and written whole, and octet
- * by octet elsewhere. */
+/* Where the machine's numbers are little-endian, as they are in memory here, structs of numbers are used as they are. */
 #if defined __BYTE_ORDER__ && defined __ORDER_LITTLE_ENDIAN__ && !defined SEDGE_BY_OCTETS
 #if __BYTE_ORDER__ == __ORDER_LITTLE_ENDIAN__
 #define LITTLE
+#endif
+#endif
+
+/* On these processors a number may stand at any address. Elsewhere memcpy would be called for each, so it is read and
+ * written octet by octet. */
+#ifdef LITTLE
+#if defined __x86_64__ || defined __i386__ || defined __ARM_FEATURE_UNALIGNED || defined __powerpc__ || defined __wasm__
+#define WHOLE
 #endif
 #endif
 
@@ -58,14 +65,16 @@ static uint64_t some(uint64_t at)
     return at + (at == 0 ? 0x1000 : 0);
 }
 
-static uint32_t get8(uint64_t at)
+static uint32_t get8_at(uintptr_t at)
 {
     return *OCTETS(at);
 }
+/* (An address is made one of the machine before it is a sum: so one of 32 bits reckons with no more.) */
+#define get8(at) get8_at((uintptr_t)(at))
 
-static uint32_t get16(uint64_t at)
+static uint32_t get16_at(uintptr_t at)
 {
-#ifdef LITTLE
+#ifdef WHOLE
     uint16_t value;
     memcpy(&value, OCTETS(at), 2);
     return value;
@@ -74,10 +83,11 @@ static uint32_t get16(uint64_t at)
     return (uint32_t)o[0] | (uint32_t)o[1] << 8;
 #endif
 }
+#define get16(at) get16_at((uintptr_t)(at))
 
-static uint32_t get32(uint64_t at)
+static uint32_t get32_at(uintptr_t at)
 {
-#ifdef LITTLE
+#ifdef WHOLE
     uint32_t value;
     memcpy(&value, OCTETS(at), 4);
     return value;
@@ -86,10 +96,11 @@ static uint32_t get32(uint64_t at)
     return (uint32_t)o[0] | (uint32_t)o[1] << 8 | (uint32_t)o[2] << 16 | (uint32_t)o[3] << 24;
 #endif
 }
+#define get32(at) get32_at((uintptr_t)(at))
 
-static uint64_t get64(uint64_t at)
+static uint64_t get64_at(uintptr_t at)
 {
-#ifdef LITTLE
+#ifdef WHOLE
     uint64_t value;
     memcpy(&value, OCTETS(at), 8);
     return value;
@@ -97,17 +108,19 @@ static uint64_t get64(uint64_t at)
     return (uint64_t)get32(at) | (uint64_t)get32(at + 4) << 32;
 #endif
 }
+#define get64(at) get64_at((uintptr_t)(at))
 
 /* The lowest 8 bits of a number are written. */
-static void put8(uint64_t at, uint32_t value)
+static void put8_at(uintptr_t at, uint32_t value)
 {
     *OCTETS(at) = (unsigned char)(value & 255);
 }
+#define put8(at, value) put8_at((uintptr_t)(at), value)
 
 /* The lowest 16 bits. */
-static void put16(uint64_t at, uint32_t value)
+static void put16_at(uintptr_t at, uint32_t value)
 {
-#ifdef LITTLE
+#ifdef WHOLE
     const uint16_t lowest = (uint16_t)(value & 0xffff);
     memcpy(OCTETS(at), &lowest, 2);
 #else
@@ -116,10 +129,11 @@ static void put16(uint64_t at, uint32_t value)
     o[1] = (unsigned char)(value >> 8 & 255);
 #endif
 }
+#define put16(at, value) put16_at((uintptr_t)(at), value)
 
-static void put32(uint64_t at, uint32_t value)
+static void put32_at(uintptr_t at, uint32_t value)
 {
-#ifdef LITTLE
+#ifdef WHOLE
     memcpy(OCTETS(at), &value, 4);
 #else
     unsigned char *o = OCTETS(at);
@@ -129,27 +143,31 @@ static void put32(uint64_t at, uint32_t value)
     o[3] = (unsigned char)(value >> 24);
 #endif
 }
+#define put32(at, value) put32_at((uintptr_t)(at), value)
 
-static void put64(uint64_t at, uint64_t value)
+static void put64_at(uintptr_t at, uint64_t value)
 {
-#ifdef LITTLE
+#ifdef WHOLE
     memcpy(OCTETS(at), &value, 8);
 #else
     put32(at, (uint32_t)(value & 0xffffffffU));
     put32(at + 4, (uint32_t)(value >> 32));
 #endif
 }
+#define put64(at, value) put64_at((uintptr_t)(at), value)
 
 /* Moves octets, which may overlap. */
-static void copy(uint64_t to, uint64_t from, uint64_t count)
+static void copy_at(uintptr_t to, uintptr_t from, size_t count)
 {
     if (count > 0) memmove(OCTETS(to), OCTETS(from), (size_t)count);
 }
+#define copy(to, from, count) copy_at((uintptr_t)(to), (uintptr_t)(from), (size_t)(count))
 
-static void fill(uint64_t to, uint32_t value, uint64_t count)
+static void fill_at(uintptr_t to, uint32_t value, size_t count)
 {
     if (count > 0) memset(OCTETS(to), (int)(value & 255), (size_t)count);
 }
+#define fill(to, value, count) fill_at((uintptr_t)(to), value, (size_t)(count))
 
 /* A number of fewer bits, the highest of them this, made longer with its sign. */
 static uint32_t extend32(uint32_t x, uint32_t highest)
@@ -1161,7 +1179,9 @@ l16:;
         put64(v7 + 16, 0);
         put64(v7 + 8, 0);
         v8 = 0;
-    } else {
+        goto l13;
+    }
+    if (v10 != 0) {
         v12 = v11 & 3;
         p5 = 0;
         if (v11 >= 4) {
@@ -1185,17 +1205,17 @@ l16:;
             p5 = p5 + 1;
             v12 = v12 - 1;
         } while (v12 != 0);
-    l23:;
-        v18 = p4 + v11;
-        if (p3 != 0) copy(v18, p2, p3);
-        put64(v7 + 56, 0);
-        put64(v7 + 48, 0);
-        put64(v7 + 64, v17);
-        put64(v7 + 16, 0);
-        put64(v7 + 24, 0);
-        put64(v7 + 32, v17);
-        v8 = 1;
     }
+l23:;
+    v18 = p4 + v11;
+    if (p3 != 0) copy(v18, p2, p3);
+    put64(v7 + 56, 0);
+    put64(v7 + 48, 0);
+    put64(v7 + 64, v17);
+    put64(v7 + 16, 0);
+    put64(v7 + 24, 0);
+    put64(v7 + 32, v17);
+    v8 = 1;
 l13:;
     if ((v8 & 255) != 1) {
         v8 = 7;
@@ -1264,10 +1284,10 @@ static void sedgechisel_telemetry_extractor_start(uint64_t p0, uint64_t p1, uint
         return;
     }
     if (v10 == 0) goto l11;
-    if (v11 == 0) {
+    if (p1 != 0 && v11 == 0) {
         v15 = p2 & 3;
         p8 = 0;
-        if (p2 >= 4) {
+        if ((p2 - 1) >= 3) {
             v12 = p7 + p1;
             v14 = p2 & ~3ULL;
             p8 = 0;

@@ -23,11 +23,18 @@
 #define UNREACHABLE for (;;) {}
 #endif
 
-/* Where the machine's numbers are little-endian, as they are in memory here, they are read and written whole, and octet
- * by octet elsewhere. */
+/* Where the machine's numbers are little-endian, as they are in memory here, structs of numbers are used as they are. */
 #if defined __BYTE_ORDER__ && defined __ORDER_LITTLE_ENDIAN__ && !defined SEDGE_BY_OCTETS
 #if __BYTE_ORDER__ == __ORDER_LITTLE_ENDIAN__
 #define LITTLE
+#endif
+#endif
+
+/* On these processors a number may stand at any address. Elsewhere memcpy would be called for each, so it is read and
+ * written octet by octet. */
+#ifdef LITTLE
+#if defined __x86_64__ || defined __i386__ || defined __ARM_FEATURE_UNALIGNED || defined __powerpc__ || defined __wasm__
+#define WHOLE
 #endif
 #endif
 
@@ -59,14 +66,16 @@ static uint64_t some(uint64_t at)
     return at + (at == 0 ? 0x1000 : 0);
 }
 
-static uint32_t get8(uint64_t at)
+static uint32_t get8_at(uintptr_t at)
 {
     return *OCTETS(at);
 }
+/* (An address is made one of the machine before it is a sum: so one of 32 bits reckons with no more.) */
+#define get8(at) get8_at((uintptr_t)(at))
 
-static uint32_t get16(uint64_t at)
+static uint32_t get16_at(uintptr_t at)
 {
-#ifdef LITTLE
+#ifdef WHOLE
     uint16_t value;
     memcpy(&value, OCTETS(at), 2);
     return value;
@@ -75,10 +84,11 @@ static uint32_t get16(uint64_t at)
     return (uint32_t)o[0] | (uint32_t)o[1] << 8;
 #endif
 }
+#define get16(at) get16_at((uintptr_t)(at))
 
-static uint32_t get32(uint64_t at)
+static uint32_t get32_at(uintptr_t at)
 {
-#ifdef LITTLE
+#ifdef WHOLE
     uint32_t value;
     memcpy(&value, OCTETS(at), 4);
     return value;
@@ -87,10 +97,11 @@ static uint32_t get32(uint64_t at)
     return (uint32_t)o[0] | (uint32_t)o[1] << 8 | (uint32_t)o[2] << 16 | (uint32_t)o[3] << 24;
 #endif
 }
+#define get32(at) get32_at((uintptr_t)(at))
 
-static uint64_t get64(uint64_t at)
+static uint64_t get64_at(uintptr_t at)
 {
-#ifdef LITTLE
+#ifdef WHOLE
     uint64_t value;
     memcpy(&value, OCTETS(at), 8);
     return value;
@@ -98,17 +109,19 @@ static uint64_t get64(uint64_t at)
     return (uint64_t)get32(at) | (uint64_t)get32(at + 4) << 32;
 #endif
 }
+#define get64(at) get64_at((uintptr_t)(at))
 
 /* The lowest 8 bits of a number are written. */
-static void put8(uint64_t at, uint32_t value)
+static void put8_at(uintptr_t at, uint32_t value)
 {
     *OCTETS(at) = (unsigned char)(value & 255);
 }
+#define put8(at, value) put8_at((uintptr_t)(at), value)
 
 /* The lowest 16 bits. */
-static void put16(uint64_t at, uint32_t value)
+static void put16_at(uintptr_t at, uint32_t value)
 {
-#ifdef LITTLE
+#ifdef WHOLE
     const uint16_t lowest = (uint16_t)(value & 0xffff);
     memcpy(OCTETS(at), &lowest, 2);
 #else
@@ -117,10 +130,11 @@ static void put16(uint64_t at, uint32_t value)
     o[1] = (unsigned char)(value >> 8 & 255);
 #endif
 }
+#define put16(at, value) put16_at((uintptr_t)(at), value)
 
-static void put32(uint64_t at, uint32_t value)
+static void put32_at(uintptr_t at, uint32_t value)
 {
-#ifdef LITTLE
+#ifdef WHOLE
     memcpy(OCTETS(at), &value, 4);
 #else
     unsigned char *o = OCTETS(at);
@@ -130,37 +144,36 @@ static void put32(uint64_t at, uint32_t value)
     o[3] = (unsigned char)(value >> 24);
 #endif
 }
+#define put32(at, value) put32_at((uintptr_t)(at), value)
 
-static void put64(uint64_t at, uint64_t value)
+static void put64_at(uintptr_t at, uint64_t value)
 {
-#ifdef LITTLE
+#ifdef WHOLE
     memcpy(OCTETS(at), &value, 8);
 #else
     put32(at, (uint32_t)(value & 0xffffffffU));
     put32(at + 4, (uint32_t)(value >> 32));
 #endif
 }
+#define put64(at, value) put64_at((uintptr_t)(at), value)
 
 /* Moves octets, which may overlap. */
-static void copy(uint64_t to, uint64_t from, uint64_t count)
+static void copy_at(uintptr_t to, uintptr_t from, size_t count)
 {
     if (count > 0) memmove(OCTETS(to), OCTETS(from), (size_t)count);
 }
+#define copy(to, from, count) copy_at((uintptr_t)(to), (uintptr_t)(from), (size_t)(count))
 
-static void fill(uint64_t to, uint32_t value, uint64_t count)
+static void fill_at(uintptr_t to, uint32_t value, size_t count)
 {
     if (count > 0) memset(OCTETS(to), (int)(value & 255), (size_t)count);
 }
+#define fill(to, value, count) fill_at((uintptr_t)(to), value, (size_t)(count))
 
 /* A number of fewer bits, the highest of them this, made longer with its sign. */
 static uint32_t extend32(uint32_t x, uint32_t highest)
 {
     return ((x & (2 * highest - 1)) ^ highest) - highest;
-}
-
-static uint64_t ordered64(uint64_t x)
-{
-    return x ^ 0x8000000000000000ULL;
 }
 
 static uint64_t clz64(uint64_t x)
@@ -279,23 +292,31 @@ static const unsigned char constant_15[8] = {
     98, 108, 111, 99, 107, 105, 110, 103
 };
 
+/* Of sedge_ground_open_kept_at. */
+static const unsigned char constant_16[127] = {
+    0, 0, 0, 0, 0, 0, 0, 0, 0, 0, 0, 0, 0, 0, 0, 0, 0, 0, 0, 0, 0, 0, 0, 0, 0, 0, 0, 0, 0, 0, 0, 0, 0, 0, 0, 0, 0, 0,
+    0, 0, 0, 0, 0, 0, 0, 0, 0, 0, 0, 0, 0, 0, 0, 0, 0, 0, 0, 0, 0, 0, 0, 0, 0, 0, 0, 0, 0, 0, 0, 0, 0, 0, 0, 0, 0, 0,
+    0, 0, 0, 0, 0, 0, 0, 0, 0, 0, 0, 0, 0, 0, 0, 0, 0, 0, 0, 0, 0, 0, 0, 0, 0, 0, 0, 0, 0, 0, 0, 0, 0, 0, 0, 0, 0, 0,
+    0, 0, 0, 0, 0, 0, 0, 0, 0, 0, 0, 0, 0
+};
+
 /* Of sedge_sim_fault_name_at. */
-static const unsigned char constant_22[6] = {
+static const unsigned char constant_25[6] = {
     77, 101, 109, 111, 114, 121
 };
 
 /* Of sedge_sim_fault_name_at. */
-static const unsigned char constant_24[16] = {
+static const unsigned char constant_27[16] = {
     78, 111, 116, 104, 105, 110, 103, 73, 110, 84, 114, 97, 110, 115, 105, 116
 };
 
 /* Of sedge_sim_fault_name_at. */
-static const unsigned char constant_25[13] = {
+static const unsigned char constant_28[13] = {
     78, 111, 116, 68, 101, 116, 101, 99, 116, 97, 98, 108, 101
 };
 
 /* Of octets_frame_check_check. */
-static const unsigned char constant_30[8192] = {
+static const unsigned char constant_33[8192] = {
     0, 0, 33, 16, 66, 32, 99, 48, 132, 64, 165, 80, 198, 96, 231, 112, 8, 129, 41, 145, 74, 161, 107, 177, 140, 193,
     173, 209, 206, 225, 239, 241, 49, 18, 16, 2, 115, 50, 82, 34, 181, 82, 148, 66, 247, 114, 214, 98, 57, 147, 24,
     131, 123, 179, 90, 163, 189, 211, 156, 195, 255, 243, 222, 227, 98, 36, 67, 52, 32, 4, 1, 20, 230, 100, 199, 116,
@@ -630,12 +651,12 @@ static const unsigned char constant_30[8192] = {
 };
 
 /* Of tm_link_turn_put_next. */
-static const unsigned char constant_33[7] = {
+static const unsigned char constant_36[7] = {
     7, 255, 192, 0, 0, 0, 85
 };
 
 /* Of nodes_config_Config_fault, sedge_config_fault_at. */
-static const unsigned char switch_table_sedge_config_fault_395[120] = {
+static const unsigned char switch_table_sedge_config_fault_416[120] = {
     4, 0, 0, 0, 0, 0, 0, 0, 4, 0, 0, 0, 0, 0, 0, 0, 7, 0, 0, 0, 0, 0, 0, 0, 5, 0, 0, 0, 0, 0, 0, 0, 6, 0, 0, 0, 0, 0,
     0, 0, 5, 0, 0, 0, 0, 0, 0, 0, 5, 0, 0, 0, 0, 0, 0, 0, 4, 0, 0, 0, 0, 0, 0, 0, 10, 0, 0, 0, 0, 0, 0, 0, 4, 0, 0, 0,
     0, 0, 0, 0, 11, 0, 0, 0, 0, 0, 0, 0, 12, 0, 0, 0, 0, 0, 0, 0, 11, 0, 0, 0, 0, 0, 0, 0, 12, 0, 0, 0, 0, 0, 0, 0, 8,
@@ -648,12 +669,12 @@ static const unsigned char switch_table_sedge_link_fault_name[10] = {
 };
 
 /* Of sedge_link_fault_name_at. */
-static const unsigned char switch_table_sedge_link_fault_name_396[10] = {
+static const unsigned char switch_table_sedge_link_fault_name_417[10] = {
     0, 0, 100, 0, 0, 0, 0, 0, 0, 0
 };
 
 /* Of sedge_link_fault_name_at. */
-static const unsigned char switch_table_sedge_link_fault_name_397[80] = {
+static const unsigned char switch_table_sedge_link_fault_name_418[80] = {
     78, 111, 116, 79, 112, 101, 110, 0, 67, 108, 111, 115, 101, 100, 77, 97, 78, 111, 116, 67, 111, 109, 109, 97, 84,
     111, 111, 76, 111, 110, 103, 0, 81, 117, 101, 117, 101, 70, 117, 108, 77, 101, 109, 111, 114, 121, 0, 0, 63, 0, 0,
     0, 0, 0, 0, 0, 63, 0, 0, 0, 0, 0, 0, 0, 63, 0, 0, 0, 0, 0, 0, 0, 78, 111, 116, 75, 110, 111, 119, 110
@@ -665,19 +686,19 @@ static const unsigned char switch_table_sedge_parameter_name[30] = {
 };
 
 /* Of sedge_parameter_name_at. */
-static const unsigned char switch_table_sedge_parameter_name_398[30] = {
+static const unsigned char switch_table_sedge_parameter_name_419[30] = {
     0, 0, 0, 0, 0, 0, 0, 0, 0, 0, 0, 0, 0, 0, 0, 0, 101, 116, 0, 0, 111, 116, 108, 111, 111, 116, 110, 103, 0, 0
 };
 
 /* Of sedge_parameter_name_at. */
-static const unsigned char switch_table_sedge_parameter_name_399[60] = {
+static const unsigned char switch_table_sedge_parameter_name_420[60] = {
     0, 0, 0, 0, 0, 0, 0, 0, 99, 105, 100, 0, 104, 0, 0, 0, 111, 119, 0, 0, 116, 0, 0, 0, 114, 0, 0, 0, 0, 0, 0, 0,
     112, 97, 99, 107, 0, 0, 0, 0, 121, 95, 115, 108, 115, 115, 95, 115, 101, 95, 115, 108, 101, 95, 108, 101, 107,
     105, 110, 103
 };
 
 /* Of sedge_parameter_name_at. */
-static const unsigned char switch_table_sedge_parameter_name_400[60] = {
+static const unsigned char switch_table_sedge_parameter_name_421[60] = {
     115, 99, 105, 100, 118, 99, 105, 100, 116, 109, 95, 118, 119, 105, 100, 116, 119, 105, 110, 100, 108, 105, 109,
     105, 116, 105, 109, 101, 112, 97, 114, 116, 109, 97, 120, 95, 109, 97, 112, 115, 114, 101, 97, 100, 98, 121, 112,
     97, 113, 117, 101, 117, 102, 114, 97, 109, 98, 108, 111, 99
@@ -695,6 +716,8 @@ static void nodes_config_Config_fault(uint64_t p0, uint64_t p1);
 static uint32_t core_cmp_slices_groups_equal_i8_31_core_cmp_numbers_U8PartialEq(uint64_t p0, uint64_t p1, uint64_t
     p2);
 static void nodes_ground_node_Ground_of(uint64_t p0, uint64_t p1);
+static void circular_buffer_heap_HeapCircularBuffer_drop_695a0d5c0a17370d(uint64_t p0);
+static void std_alloc_vec_deque_VecDeque_drop_695a0d5c0a17370d(uint64_t p0);
 static void sedgechisel_nodes_nodes_ground_node_Ground_Destruct_drop(uint64_t p0);
 static void nodes_spacecraft_Spacecraft_restarted(uint64_t p0, uint64_t p1, uint32_t p2);
 static void std_alloc_vec_Vec_drop_b0c2e3ac61d256b1(uint64_t p0);
@@ -737,11 +760,12 @@ static void simulated_link_world_World_begin(uint64_t p0, uint64_t p1, uint32_t 
 static void tc_frame_encoding_encode(uint64_t p0, uint64_t p1, uint64_t p2, uint64_t p3);
 static uint32_t std_alloc_vec_deque_VecDeque_grow_1598ebf9113514c4(uint64_t p0);
 static void nodes_spacecraft_Spacecraft_prepare(uint64_t p0, uint64_t p1, uint64_t p2, uint64_t p3);
+static uint32_t smallvec_small_vec_SmallVec_grow_444910b390f8755b(uint64_t p0, uint64_t p1);
 static uint32_t smallvec_small_vec_SmallVec_reserve_one_444910b390f8755b(uint64_t p0);
 static uint32_t std_alloc_vec_Vec_grow_amortized_a351ad16c7c032ee(uint64_t p0, uint64_t p1);
-static uint32_t std_alloc_vec_Vec_extend_from_slice_672334860c861157(uint64_t p0, uint64_t p1, uint64_t p2);
-static void map_service_packets_fault_of_one(uint64_t p0, uint32_t p1, uint64_t p2, uint64_t p3);
 static void smallvec_small_vec_SmallVec_push_reserved_ed127ccbaaf726c4(uint64_t p0, uint64_t p1);
+static uint32_t std_alloc_vec_Vec_extend_from_slice_672334860c861157(uint64_t p0, uint64_t p1, uint64_t p2);
+static void std_alloc_vec_Vec_drop_555ceec2fcbf3849(uint64_t p0);
 static void nodes_spacecraft_Spacecraft_commit(uint64_t p0, uint64_t p1, uint64_t p2);
 static void tm_link_turn_put_next(uint64_t p0, uint64_t p1, uint64_t p2, uint32_t p3, uint64_t p4, uint64_t p5);
 static void nodes_spacecraft_Spacecraft_telemetry(uint64_t p0, uint64_t p1, uint64_t p2, uint64_t p3);
@@ -752,6 +776,7 @@ static uint32_t sedgechisel_nodes_spacecraft_take_taken(uint64_t p0, uint32_t p1
 static void sedge_config_default_at(uint64_t config);
 static uint32_t sedge_config_fault_at(uint64_t config);
 static uint32_t sedge_ground_open_at(uint64_t config, uint64_t ground);
+static uint32_t sedge_ground_open_kept_at(uint64_t config, uint64_t kept, uint64_t ground);
 static uint64_t sedge_link_fault_name_at(uint64_t result, uint32_t number);
 static uint64_t sedge_parameter_name_at(uint64_t result, uint32_t number);
 static uint64_t sedge_sim_fault_name_at(uint64_t result, uint32_t number);
@@ -764,6 +789,7 @@ static uint32_t sedge_ground_clcw_at(uint64_t ground, uint64_t octets, uint64_t 
 static void sedge_ground_close_at(uint64_t ground);
 static uint32_t sedge_ground_directive_at(uint64_t ground, uint32_t directive, uint32_t value);
 static uint32_t sedge_ground_forget_telemetry_at(uint64_t ground);
+static uint32_t sedge_ground_kept_at(uint64_t ground, uint64_t kept);
 static uint32_t sedge_ground_next_at(uint64_t ground, uint64_t count);
 static uint32_t sedge_ground_next_telemetry_at(uint64_t ground, uint64_t count);
 static uint32_t sedge_ground_read_at(uint64_t ground, uint64_t read);
@@ -922,7 +948,7 @@ l1:;
     v18 = 0;
     if ((v19 & 1) != 0) {
         v13 = (uint64_t)get8(v16) << 3;
-        v18 = get64(v13 + address(switch_table_sedge_config_fault_395));
+        v18 = get64(v13 + address(switch_table_sedge_config_fault_416));
         v17 = address(switch_table_sedge_config_fault[v13 / 8]);
         v13 = 1;
     }
@@ -1215,7 +1241,7 @@ l8:;
     return ~v4 & 1;
 }
 
-/* nodes::ground_node::Ground::of, crates/nodes/src/ground_node.rt:76 */
+/* nodes::ground_node::Ground::of, crates/nodes/src/ground_node.rt:80 */
 static void nodes_ground_node_Ground_of(uint64_t p0, uint64_t p1)
 {
     unsigned char frame_octets[160 + 15];
@@ -1332,6 +1358,73 @@ static void nodes_ground_node_Ground_of(uint64_t p0, uint64_t p1)
 l2:;
     put16(p0, 0x501);
     fill(p0 + 8, 0, 400);
+    return;
+}
+
+static void circular_buffer_heap_HeapCircularBuffer_drop_695a0d5c0a17370d(uint64_t p0)
+{
+    uint64_t v1 = 0, v2 = 0, v3 = 0, v4 = 0, v5 = 0, v6 = 0, v7 = 0;
+    v1 = get64(p0);
+    v2 = get64(p0 + 16);
+    if (v2 != 0) {
+        v3 = get64(p0 + 8);
+        p0 = get64(p0 + 24);
+        v4 = (p0 < v3) ? 0ULL : v3;
+        v5 = p0 - v4;
+        v6 = v3 - v5;
+        v7 = (v6 < v2) ? v6 : v2;
+        if (v3 != v5) {
+            p0 = (v1 + ((p0 << 5) - (v4 << 5))) + 24;
+            v3 = v7;
+            do {
+                if (get64(p0) != 0) rattle_dealloc_at(get64(p0 - 16));
+                p0 = p0 + 32;
+                v3 = v3 - 1;
+            } while (v3 != 0);
+        }
+        if (v2 > v6) {
+            v3 = v2 - v7;
+            p0 = v1 + 24;
+            do {
+                if (get64(p0) != 0) rattle_dealloc_at(get64(p0 - 16));
+                p0 = p0 + 32;
+                v3 = v3 - 1;
+            } while (v3 != 0);
+        }
+    }
+    rattle_dealloc_at(v1);
+    return;
+}
+
+static void std_alloc_vec_deque_VecDeque_drop_695a0d5c0a17370d(uint64_t p0)
+{
+    uint64_t v1 = 0, v2 = 0, v3 = 0, v4 = 0, v5 = 0;
+    v1 = get64(p0 + 16);
+    v2 = get64(p0);
+    v3 = get64(p0 + 8);
+    if (v3 != 0) {
+        v4 = get64(p0 + 24);
+        v5 = get64(p0 + 32);
+        v3 = v3 - v5;
+        if (v4 < (v4 + v3)) {
+            p0 = ((v4 << 5) + v2) + 24;
+            do {
+                if (get64(p0) != 0) rattle_dealloc_at(get64(p0 - 16));
+                p0 = p0 + 32;
+                v3 = v3 - 1;
+            } while (v3 != 0);
+        }
+        if (v5 != 0) {
+            p0 = v2 + 24;
+            do {
+                if (get64(p0) != 0) rattle_dealloc_at(get64(p0 - 16));
+                p0 = p0 + 32;
+                v5 = v5 - 1;
+            } while (v5 != 0);
+        }
+    }
+    if (v1 == 0) return;
+    rattle_dealloc_at(v2);
     return;
 }
 
@@ -1467,14 +1560,14 @@ static void sedgechisel_nodes_nodes_ground_node_Ground_Destruct_drop(uint64_t p0
     return;
 }
 
-/* nodes::spacecraft::Spacecraft::restarted, crates/nodes/src/spacecraft.rt:111 */
+/* nodes::spacecraft::Spacecraft::restarted, crates/nodes/src/spacecraft.rt:112 */
 static void nodes_spacecraft_Spacecraft_restarted(uint64_t p0, uint64_t p1, uint32_t p2)
 {
     unsigned char frame_octets[128 + 15];
     uint32_t v4 = 0, v5 = 0, v6 = 0, v7 = 0, v8 = 0, v15 = 0;
     uint64_t v3 = 0, v9 = 0, v10 = 0, v11 = 0, v12 = 0, v13 = 0, v14 = 0, v16 = 0;
     v3 = aligned(frame_octets);
-    fill(v3 + 46, 0, 78);
+    fill(v3 + 42, 0, 78);
     v4 = get32(p1 + 12);
     if ((v4 & 255) == 0 || (v4 & 1) != 0) UNREACHABLE;
     v5 = p2 >> 8;
@@ -1485,11 +1578,11 @@ static void nodes_spacecraft_Spacecraft_restarted(uint64_t p0, uint64_t p1, uint
     if ((v7 & 255) > 7) UNREACHABLE;
     v8 = get32(p1 + 60);
     if ((v8 - 16) > 0x7f0) UNREACHABLE;
-    v9 = (uint64_t)get32(p1 + 48) + 170;
+    v9 = (uint64_t)get32(p1 + 48) + 145;
     rattle_alloc_at(v3 + 24, v9 << 5, 8);
     if (((uint32_t)get64(v3 + 24) & 1) == 0) {
         put16(p0, 0x501);
-        fill(p0 + 8, 0, 0x940);
+        fill(p0 + 8, 0, 344);
         return;
     }
     v10 = get64(v3 + 32);
@@ -1498,17 +1591,18 @@ static void nodes_spacecraft_Spacecraft_restarted(uint64_t p0, uint64_t p1, uint
     if (((uint32_t)get64(v3 + 8) & 1) == 0) {
         rattle_dealloc_at(v10);
         put16(p0, 0x501);
-        fill(p0 + 8, 0, 0x940);
+        fill(p0 + 8, 0, 344);
         return;
     }
     v12 = get64(v3 + 16);
     v13 = get64(p1 + 28);
     v14 = get64(p1 + 40);
     v15 = get32(p1 + 64);
-    v16 = v3 + 52;
+    v16 = v3 + 48;
     copy(v16, p1, 72);
     put16(p0, 0);
     copy(p0 + 8, v16, 72);
+    put32(p0 + 105, 0);
     put8(p0 + 104, v15 == 1);
     put64(p0 + 96, v14);
     put64(p0 + 88, v13);
@@ -1518,35 +1612,42 @@ static void nodes_spacecraft_Spacecraft_restarted(uint64_t p0, uint64_t p1, uint
     put16(p0 + 82, 0);
     put8(p0 + 81, p2);
     put8(p0 + 80, v4);
-    fill(p0 + 105, 0, 0x827);
-    put64(p0 + 0x8a8, 0);
-    put64(p0 + 0x8a0, v9);
-    put64(p0 + 0x898, 0);
-    put64(p0 + 0x890, v10);
-    put64(p0 + 0x8b0, 0);
-    put64(p0 + 0x8c8, 0);
-    put64(p0 + 0x8c0, v11);
-    put64(p0 + 0x8b8, v12);
-    put64(p0 + 0x8d0, 0);
-    put32(p0 + 0x8db, 0);
-    put8(p0 + 0x8da, v7);
-    put16(p0 + 0x8d8, v6);
-    put8(p0 + 0x8df, 0);
-    put64(p0 + 0x8ea, 0);
-    put8(p0 + 0x8e9, p2 >> 24);
-    put8(p0 + 0x8e8, p2 >> 16);
-    put64(p0 + 0x8e0, (uint64_t)v8);
-    put64(p0 + 0x8f0, 0);
-    put64(p0 + 0x8f8, v3 + 124);
-    put64(p0 + 0x918, 0);
-    put64(p0 + 0x910, 0);
-    put64(p0 + 0x908, 0);
-    put64(p0 + 0x900, 0);
-    put64(p0 + 0x928, 0);
-    put64(p0 + 0x930, 0);
-    put64(p0 + 0x938, 0);
-    put64(p0 + 0x940, 0);
-    put64(p0 + 0x920, v3 + 124);
+    put32(p0 + 108, 0);
+    put64(p0 + 120, 0);
+    put64(p0 + 128, 0);
+    put64(p0 + 136, 0);
+    put64(p0 + 144, 0);
+    put64(p0 + 152, 0);
+    put64(p0 + 160, 0);
+    put64(p0 + 112, v3 + 120);
+    put64(p0 + 184, v9);
+    put64(p0 + 176, 0);
+    put64(p0 + 168, v10);
+    put64(p0 + 200, 0);
+    put64(p0 + 192, 0);
+    put64(p0 + 216, v11);
+    put64(p0 + 208, v12);
+    put64(p0 + 232, 0);
+    put64(p0 + 224, 0);
+    put8(p0 + 242, v7);
+    put16(p0 + 240, v6);
+    put8(p0 + 247, 0);
+    put32(p0 + 243, 0);
+    put64(p0 + 248, (uint64_t)v8);
+    put8(p0 + 257, p2 >> 24);
+    put8(p0 + 256, p2 >> 16);
+    put64(p0 + 258, 0);
+    put64(p0 + 264, 0);
+    put64(p0 + 280, 0);
+    put64(p0 + 288, 0);
+    put64(p0 + 296, 0);
+    put64(p0 + 304, 0);
+    put64(p0 + 320, 0);
+    put64(p0 + 328, 0);
+    put64(p0 + 336, 0);
+    put64(p0 + 344, 0);
+    put64(p0 + 272, v3 + 120);
+    put64(p0 + 312, v3 + 120);
     return;
 }
 
@@ -1571,42 +1672,42 @@ static void std_alloc_vec_Vec_drop_b0c2e3ac61d256b1(uint64_t p0)
 
 static void sedgechisel_nodes_sedgechisel_nodes_sim_link_Link_Destruct_drop(uint64_t p0)
 {
-    unsigned char frame_octets[7776 + 15];
+    unsigned char frame_octets[5760 + 15];
     uint32_t v26 = 0;
     uint64_t v1 = 0, v2 = 0, v3 = 0, v4 = 0, v5 = 0, v6 = 0, v7 = 0, v8 = 0, v9 = 0, v10 = 0, v11 = 0, v12 = 0,
         v13 = 0, v14 = 0, v15 = 0, v16 = 0, v17 = 0, v18 = 0, v19 = 0, v20 = 0, v21 = 0, v22 = 0, v23 = 0, v24 = 0,
         v25 = 0;
     v1 = aligned(frame_octets);
-    v2 = get64(p0 + 6064);
-    v3 = get64(p0 + 6048);
-    v4 = get64(p0 + 6040);
-    v5 = get64(p0 + 6032);
-    v6 = get64(p0 + 6024);
-    v7 = get64(p0 + 6016);
-    v8 = get64(p0 + 6008);
-    v9 = get64(p0 + 6000);
-    v10 = get64(p0 + 5976);
-    v11 = get64(p0 + 5968);
-    v12 = get64(p0 + 5960);
-    v13 = get64(p0 + 2880);
-    v14 = get64(p0 + 2872);
-    v15 = get64(p0 + 2864);
-    v16 = get64(p0 + 2840);
-    v17 = get64(p0 + 2832);
-    v18 = get64(p0 + 2824);
-    v19 = get64(p0 + 2816);
-    v20 = get64(p0 + 2808);
-    v21 = get64(p0 + 2800);
-    v22 = get64(p0 + 2792);
-    v23 = get64(p0 + 2784);
-    v24 = get64(p0 + 2768);
-    v25 = get64(p0 + 2776);
-    copy(v1 + 0x790, p0 + 0xb48, 0x600);
-    copy(v1 + 400, p0 + 0x1148, 0x600);
-    copy(v1 + 0xd90, p0, 0xad0);
-    copy(v1, p0, 400);
-    sedgechisel_nodes_nodes_ground_node_Ground_Destruct_drop(v1);
-    sedgechisel_nodes_nodes_spacecraft_Spacecraft_Destruct_drop(v1 + 0xd90 + 400);
+    v2 = get64(p0 + 4040);
+    v3 = get64(p0 + 4024);
+    v4 = get64(p0 + 4016);
+    v5 = get64(p0 + 4008);
+    v6 = get64(p0 + 4000);
+    v7 = get64(p0 + 3992);
+    v8 = get64(p0 + 3984);
+    v9 = get64(p0 + 3976);
+    v10 = get64(p0 + 3952);
+    v11 = get64(p0 + 3944);
+    v12 = get64(p0 + 3936);
+    v13 = get64(p0 + 856);
+    v14 = get64(p0 + 848);
+    v15 = get64(p0 + 840);
+    v16 = get64(p0 + 816);
+    v17 = get64(p0 + 808);
+    v18 = get64(p0 + 800);
+    v19 = get64(p0 + 792);
+    v20 = get64(p0 + 784);
+    v21 = get64(p0 + 776);
+    v22 = get64(p0 + 768);
+    v23 = get64(p0 + 760);
+    v24 = get64(p0 + 744);
+    v25 = get64(p0 + 752);
+    copy(v1 + 0x798, p0 + 864, 0x600);
+    copy(v1 + 408, p0 + 0x960, 0x600);
+    copy(v1 + 0xd98, p0, 744);
+    copy(v1 + 8, p0, 400);
+    sedgechisel_nodes_nodes_ground_node_Ground_Destruct_drop(v1 + 8);
+    sedgechisel_nodes_nodes_spacecraft_Spacecraft_Destruct_drop(v1 + 0xd98 + 400);
     if (v25 != 0) {
         v25 = v25 - v21;
         if (v22 < (v25 + v22)) {
@@ -1647,7 +1748,7 @@ static void sedgechisel_nodes_sedgechisel_nodes_sim_link_Link_Destruct_drop(uint
         }
     }
     if (v18 != 0) rattle_dealloc_at(v20);
-    copy(v1 + 0x1860, v1 + 0x790, 0x600);
+    copy(v1 + 0x1080, v1 + 0x798, 0x600);
     if (v14 != 0) {
         p0 = v15 + 24;
         do {
@@ -1659,7 +1760,7 @@ static void sedgechisel_nodes_sedgechisel_nodes_sim_link_Link_Destruct_drop(uint
     if (v13 != 0) rattle_dealloc_at(v15);
     v16 = 0;
     do {
-        p0 = v1 + 0x1860 + (v16 * 24);
+        p0 = v1 + 0x1080 + (v16 * 24);
         v25 = get64(p0 + 16);
         v21 = get64(p0);
         v14 = get64(p0 + 8);
@@ -1676,7 +1777,7 @@ static void sedgechisel_nodes_sedgechisel_nodes_sim_link_Link_Destruct_drop(uint
     } while (v16 != 64);
     v16 = 0;
     do {
-        p0 = v1 + 400 + (v16 * 24);
+        p0 = v1 + 408 + (v16 * 24);
         v25 = get64(p0 + 16);
         v21 = get64(p0);
         v14 = get64(p0 + 8);
@@ -1738,83 +1839,86 @@ l37:;
 
 static void sedgechisel_nodes_nodes_spacecraft_Spacecraft_Destruct_drop(uint64_t p0)
 {
-    unsigned char frame_octets[2048 + 15];
-    uint32_t v17 = 0;
+    uint32_t v16 = 0;
     uint64_t v1 = 0, v2 = 0, v3 = 0, v4 = 0, v5 = 0, v6 = 0, v7 = 0, v8 = 0, v9 = 0, v10 = 0, v11 = 0, v12 = 0,
-        v13 = 0, v14 = 0, v15 = 0, v16 = 0, v18 = 0;
-    v1 = aligned(frame_octets);
-    v2 = get64(p0 + 2344);
-    v3 = get64(p0 + 2328);
-    v4 = get64(p0 + 2304);
-    v5 = get64(p0 + 2288);
-    v6 = get64(p0 + 2248);
-    v7 = get64(p0 + 2240);
-    v8 = get64(p0 + 2232);
-    v9 = get64(p0 + 2224);
-    v10 = get64(p0 + 2216);
-    v11 = get64(p0 + 2208);
-    v12 = get64(p0 + 2200);
-    v13 = get64(p0 + 2192);
-    v14 = get64(p0 + 2184);
-    v15 = get64(p0 + 2176);
-    v16 = get64(p0 + 2160);
-    v17 = get8(p0 + 2152);
-    copy(v1, p0 + 104, 0x800);
-    p0 = 0;
-    do {
-        v18 = v1 + p0;
-        if (get8(v18) != 0 && get64(v18 + 24) != 0) rattle_dealloc_at(get64(v18 + 8));
-        p0 = p0 + 32;
-    } while (p0 != 0x800);
-    if ((v17 & 255) != 0 && v15 != 0) rattle_dealloc_at(v16);
-    if (v13 != 0) {
-        v18 = v13 - v10;
-        if (v11 < (v18 + v11)) {
-            p0 = ((v11 << 5) + v14) + 24;
+        v13 = 0, v14 = 0, v15 = 0, v17 = 0, v18 = 0, v19 = 0;
+    v1 = get64(p0 + 320);
+    v2 = get64(p0 + 304);
+    v3 = get64(p0 + 280);
+    v4 = get64(p0 + 264);
+    v5 = get64(p0 + 224);
+    v6 = get64(p0 + 216);
+    v7 = get64(p0 + 208);
+    v8 = get64(p0 + 200);
+    v9 = get64(p0 + 192);
+    v10 = get64(p0 + 184);
+    v11 = get64(p0 + 176);
+    v12 = get64(p0 + 168);
+    v13 = get64(p0 + 160);
+    v14 = get64(p0 + 152);
+    v15 = get64(p0 + 136);
+    v16 = get8(p0 + 128);
+    v17 = get64(p0 + 120);
+    v18 = get64(p0 + 104);
+    v19 = get64(p0 + 112);
+    if (v19 != 0) {
+        p0 = v18;
+        do {
+            if (get8(p0) != 0 && get64(p0 + 24) != 0) rattle_dealloc_at(get64(p0 + 8));
+            p0 = p0 + 32;
+            v19 = v19 - 1;
+        } while (v19 != 0);
+    }
+    if (v17 != 0) rattle_dealloc_at(v18);
+    if ((v16 & 255) != 0 && v14 != 0) rattle_dealloc_at(v15);
+    if (v12 != 0) {
+        v19 = v12 - v9;
+        if (v10 < (v19 + v10)) {
+            p0 = ((v10 << 5) + v13) + 24;
             do {
                 if (get64(p0) != 0) rattle_dealloc_at(get64(p0 - 16));
                 p0 = p0 + 32;
-                v18 = v18 - 1;
-            } while (v18 != 0);
+                v19 = v19 - 1;
+            } while (v19 != 0);
         }
-        if (v10 != 0) {
-            p0 = v14 + 24;
+        if (v9 != 0) {
+            p0 = v13 + 24;
             do {
                 if (get64(p0) != 0) rattle_dealloc_at(get64(p0 - 16));
                 p0 = p0 + 32;
-                v10 = v10 - 1;
-            } while (v10 != 0);
+                v9 = v9 - 1;
+            } while (v9 != 0);
         }
     }
-    if (v12 != 0) rattle_dealloc_at(v14);
-    if (v7 != 0) {
-        v18 = (v6 < v8) ? 0ULL : v8;
-        p0 = v6 - v18;
-        v10 = v8 - p0;
-        v13 = (v10 < v7) ? v10 : v7;
-        if (v8 != p0) {
-            p0 = (v9 + ((v6 << 5) - (v18 << 5))) + 24;
-            v18 = v13;
+    if (v11 != 0) rattle_dealloc_at(v13);
+    if (v6 != 0) {
+        v19 = (v5 < v7) ? 0ULL : v7;
+        p0 = v5 - v19;
+        v9 = v7 - p0;
+        v12 = (v9 < v6) ? v9 : v6;
+        if (v7 != p0) {
+            p0 = (v8 + ((v5 << 5) - (v19 << 5))) + 24;
+            v19 = v12;
             do {
                 if (get64(p0) != 0) rattle_dealloc_at(get64(p0 - 16));
                 p0 = p0 + 32;
-                v18 = v18 - 1;
-            } while (v18 != 0);
+                v19 = v19 - 1;
+            } while (v19 != 0);
         }
-        if (v7 > v10) {
-            v18 = v7 - v13;
-            p0 = v9 + 24;
+        if (v6 > v9) {
+            v19 = v6 - v12;
+            p0 = v8 + 24;
             do {
                 if (get64(p0) != 0) rattle_dealloc_at(get64(p0 - 16));
                 p0 = p0 + 32;
-                v18 = v18 - 1;
-            } while (v18 != 0);
+                v19 = v19 - 1;
+            } while (v19 != 0);
         }
     }
-    rattle_dealloc_at(v9);
-    if (v4 != 0) rattle_dealloc_at(v5);
-    if (v2 == 0) return;
-    rattle_dealloc_at(v3);
+    rattle_dealloc_at(v8);
+    if (v3 != 0) rattle_dealloc_at(v4);
+    if (v1 == 0) return;
+    rattle_dealloc_at(v2);
     return;
 }
 
@@ -1942,7 +2046,7 @@ static void nodes_ground_node_Ground_advance(uint64_t p0)
     return;
 }
 
-/* nodes::ground_node::Ground::refill, crates/nodes/src/ground_node.rt:261 */
+/* nodes::ground_node::Ground::refill, crates/nodes/src/ground_node.rt:272 */
 static void nodes_ground_node_Ground_refill(uint64_t p0)
 {
     uint64_t v1 = 0, v2 = 0, v3 = 0, v4 = 0, v5 = 0, v6 = 0;
@@ -2863,7 +2967,7 @@ static void cop1_fop_trim_trim_09dedc624c4eb86b(uint64_t p0, uint64_t p1, uint64
     return;
 }
 
-/* nodes::ground_node::Ground::directive, crates/nodes/src/ground_node.rt:202 */
+/* nodes::ground_node::Ground::directive, crates/nodes/src/ground_node.rt:213 */
 static void nodes_ground_node_Ground_directive(uint64_t p0, uint64_t p1, uint64_t p2)
 {
     uint32_t v4 = 0, v5 = 0, v6 = 0;
@@ -4901,36 +5005,36 @@ static uint32_t octets_frame_check_check(uint64_t p0, uint64_t p1)
         v2 = 255;
         v3 = 255;
         do {
-            t1 = get16(((uint64_t)get8(p0 + 14) << 1) + address(constant_30 + 512)) ^ get16(((uint64_t)get8(p0 + 15)
-                << 1) + address(constant_30));
-            t2 = (t1 ^ get16(((uint64_t)get8(p0 + 13) << 1) + address(constant_30 + 1024))) ^ get16(((uint64_t)get8(p0
-                + 12) << 1) + address(constant_30 + 1536));
-            t3 = (t2 ^ get16(((uint64_t)get8(p0 + 11) << 1) + address(constant_30 + 2048))) ^ get16(((uint64_t)get8(p0
-                + 10) << 1) + address(constant_30 + 2560));
-            t4 = (t3 ^ get16(((uint64_t)get8(p0 + 9) << 1) + address(constant_30 + 3072))) ^ get16(((uint64_t)get8(p0
-                + 8) << 1) + address(constant_30 + 3584));
-            t5 = (t4 ^ get16(((uint64_t)get8(p0 + 7) << 1) + address(constant_30 + 4096))) ^ get16(((uint64_t)get8(p0
-                + 6) << 1) + address(constant_30 + 4608));
-            t6 = (t5 ^ get16(((uint64_t)get8(p0 + 5) << 1) + address(constant_30 + 5120))) ^ get16(((uint64_t)get8(p0
-                + 4) << 1) + address(constant_30 + 5632));
-            t7 = (t6 ^ get16(((uint64_t)get8(p0 + 3) << 1) + address(constant_30 + 6144))) ^ get16(((uint64_t)get8(p0
-                + 2) << 1) + address(constant_30 + 6656));
-            v2 = (t7 ^ get16((((uint64_t)(get8(p0 + 1) ^ v2) & 255) << 1) + address(constant_30 + 7168))) ^
-                get16((((uint64_t)(get8(p0) ^ v3) & 255) << 1) + address(constant_30 + 7680));
+            t1 = get16(((uint64_t)get8(p0 + 14) << 1) + address(constant_33 + 512)) ^ get16(((uint64_t)get8(p0 + 15)
+                << 1) + address(constant_33));
+            t2 = (t1 ^ get16(((uint64_t)get8(p0 + 13) << 1) + address(constant_33 + 1024))) ^ get16(((uint64_t)get8(p0
+                + 12) << 1) + address(constant_33 + 1536));
+            t3 = (t2 ^ get16(((uint64_t)get8(p0 + 11) << 1) + address(constant_33 + 2048))) ^ get16(((uint64_t)get8(p0
+                + 10) << 1) + address(constant_33 + 2560));
+            t4 = (t3 ^ get16(((uint64_t)get8(p0 + 9) << 1) + address(constant_33 + 3072))) ^ get16(((uint64_t)get8(p0
+                + 8) << 1) + address(constant_33 + 3584));
+            t5 = (t4 ^ get16(((uint64_t)get8(p0 + 7) << 1) + address(constant_33 + 4096))) ^ get16(((uint64_t)get8(p0
+                + 6) << 1) + address(constant_33 + 4608));
+            t6 = (t5 ^ get16(((uint64_t)get8(p0 + 5) << 1) + address(constant_33 + 5120))) ^ get16(((uint64_t)get8(p0
+                + 4) << 1) + address(constant_33 + 5632));
+            t7 = (t6 ^ get16(((uint64_t)get8(p0 + 3) << 1) + address(constant_33 + 6144))) ^ get16(((uint64_t)get8(p0
+                + 2) << 1) + address(constant_33 + 6656));
+            v2 = (t7 ^ get16((((uint64_t)(get8(p0 + 1) ^ v2) & 255) << 1) + address(constant_33 + 7168))) ^
+                get16((((uint64_t)(get8(p0) ^ v3) & 255) << 1) + address(constant_33 + 7680));
             v3 = (v2 & 0xff00) >> 8;
             p0 = p0 + 16;
             p1 = p1 - 16;
         } while (p1 >= 16);
     }
     if (p1 >= 8) {
-        t9 = get16(((uint64_t)get8(p0 + 6) << 1) + address(constant_30 + 512)) ^ get16(((uint64_t)get8(p0 + 7) << 1) +
-            address(constant_30));
-        t10 = (t9 ^ get16(((uint64_t)get8(p0 + 5) << 1) + address(constant_30 + 1024))) ^ get16(((uint64_t)get8(p0 +
-            4) << 1) + address(constant_30 + 1536));
-        t11 = (t10 ^ get16(((uint64_t)get8(p0 + 3) << 1) + address(constant_30 + 2048))) ^ get16(((uint64_t)get8(p0 +
-            2) << 1) + address(constant_30 + 2560));
-        v2 = (t11 ^ get16((((uint64_t)(get8(p0 + 1) ^ v2) & 255) << 1) + address(constant_30 + 3072))) ^
-            get16((((uint64_t)(get8(p0) ^ (v2 >> 8)) & 255) << 1) + address(constant_30 + 3584));
+        t9 = get16(((uint64_t)get8(p0 + 6) << 1) + address(constant_33 + 512)) ^ get16(((uint64_t)get8(p0 + 7) << 1) +
+            address(constant_33));
+        t10 = (t9 ^ get16(((uint64_t)get8(p0 + 5) << 1) + address(constant_33 + 1024))) ^ get16(((uint64_t)get8(p0 +
+            4) << 1) + address(constant_33 + 1536));
+        t11 = (t10 ^ get16(((uint64_t)get8(p0 + 3) << 1) + address(constant_33 + 2048))) ^ get16(((uint64_t)get8(p0 +
+            2) << 1) + address(constant_33 + 2560));
+        v2 = (t11 ^ get16((((uint64_t)(get8(p0 + 1) ^ v2) & 255) << 1) + address(constant_33 + 3072))) ^
+            get16((((uint64_t)(get8(p0) ^ (v2 >> 8)) & 255) << 1) + address(constant_33 + 3584));
         p0 = p0 + 8;
         p1 = p1 - 8;
     }
@@ -4942,18 +5046,18 @@ static uint32_t octets_frame_check_check(uint64_t p0, uint64_t p1)
         v4 = 0;
         do {
             p1 = p0 + v4;
-            v3 = get16((((uint64_t)(get8(p1) ^ (v2 >> 8)) & 255) << 1) + address(constant_30));
-            v2 = get16((((uint64_t)(get8(p1 + 1) ^ ((v3 ^ (v2 << 8)) >> 8)) & 255) << 1) + address(constant_30)) ^ (v3
+            v3 = get16((((uint64_t)(get8(p1) ^ (v2 >> 8)) & 255) << 1) + address(constant_33));
+            v2 = get16((((uint64_t)(get8(p1 + 1) ^ ((v3 ^ (v2 << 8)) >> 8)) & 255) << 1) + address(constant_33)) ^ (v3
                 << 8);
             v4 = v4 + 2;
         } while (v6 != v4);
         if (v5 == 0) return v2;
     }
-    v2 = get16((((uint64_t)(get8(p0 + v4) ^ (v2 >> 8)) & 255) << 1) + address(constant_30)) ^ (v2 << 8);
+    v2 = get16((((uint64_t)(get8(p0 + v4) ^ (v2 >> 8)) & 255) << 1) + address(constant_33)) ^ (v2 << 8);
     return v2;
 }
 
-/* nodes::ground_node::Ground::tick, crates/nodes/src/ground_node.rt:221 */
+/* nodes::ground_node::Ground::tick, crates/nodes/src/ground_node.rt:232 */
 static void nodes_ground_node_Ground_tick(uint64_t p0, uint64_t p1)
 {
     uint32_t v2 = 0, v3 = 0, v5 = 0;
@@ -5162,20 +5266,20 @@ static uint32_t simulated_link_world_World_is_idle(uint64_t p0)
     uint64_t v1 = 0, v5 = 0, v6 = 0, v7 = 0, v8 = 0, v9 = 0, v12 = 0;
     v1 = aligned(frame_octets);
     v2 = 0;
-    if (get64(p0 + 0xad8) != 0) return 0;
+    if (get64(p0 + 752) != 0) return 0;
     v3 = ((get8(p0 + 475) << 4) | (get8(p0 + 474) << 5)) | (get8(p0 + 476) << 3);
     v4 = get8(p0 + 473);
-    v5 = get64(p0 + 0xaf8);
+    v5 = get64(p0 + 784);
     v6 = p0 + 60;
-    v7 = get64(p0 + 0xb00);
-    v8 = get64(p0 + 0xb18);
+    v7 = get64(p0 + 792);
+    v8 = get64(p0 + 816);
     if (v7 == v8) {
         p0 = v5;
         v7 = v8;
         v8 = 0;
     } else {
         v7 = v7 - v8;
-        p0 = v5 + (get64(p0 + 0xb10) * 24);
+        p0 = v5 + (get64(p0 + 808) * 24);
     }
     v9 = (uint64_t)get32(v6);
     v10 = v4 & 255;
@@ -5226,27 +5330,27 @@ static void simulated_link_world_World_begin(uint64_t p0, uint64_t p1, uint32_t 
     v5 = get32(p1);
     fill(v4 + 0xc08, 0, 0x600);
     fill(v4 + 8, 0, 0x600);
-    put8(p0 + 0xb28, 0);
-    put8(p0 + 0xb27, p3);
-    put8(p0 + 0xb26, p2);
-    put32(p0 + 0xb22, v5);
-    put16(p0 + 0xb20, 1);
-    p1 = p0 + 0xb38;
+    put8(p0 + 832, 0);
+    put8(p0 + 831, p3);
+    put8(p0 + 830, p2);
+    put32(p0 + 826, v5);
+    put16(p0 + 824, 1);
+    p1 = p0 + 848;
     v6 = get64(p1);
     if (v6 != 0) {
         put64(p1, 0);
-        v7 = get64(p0 + 0xb40);
+        v7 = get64(p0 + 856);
         put64(p1 + 8, 0);
-        v8 = get64(p0 + 0xb30);
+        v8 = get64(p0 + 840);
         p1 = v8 + 24;
         do {
             if (get64(p1) != 0) rattle_dealloc_at(get64(p1 - 16));
             p1 = p1 + 32;
             v6 = v6 - 1;
         } while (v6 != 0);
-        put64(p0 + 0xb40, v7);
-        put64(p0 + 0xb38, 0);
-        put64(p0 + 0xb30, v8);
+        put64(p0 + 856, v7);
+        put64(p0 + 848, 0);
+        put64(p0 + 840, v8);
     }
     fill(v4 + 0x1808, 0, 0x600);
     v6 = 0;
@@ -5267,7 +5371,7 @@ static void simulated_link_world_World_begin(uint64_t p0, uint64_t p1, uint32_t 
         v6 = v6 + 96;
     } while (v6 != 0x600);
     copy(v4 + 0x1208, v4 + 0x1808, 0x600);
-    p1 = p0 + 0xb48;
+    p1 = p0 + 864;
     copy(v4 + 0x608, p1, 0x600);
     copy(p1, v4 + 0x1208, 0x600);
     v7 = 0;
@@ -5306,7 +5410,7 @@ static void simulated_link_world_World_begin(uint64_t p0, uint64_t p1, uint32_t 
         v6 = v6 + 96;
     } while (v6 != 0x600);
     copy(v4 + 0xc08, v4 + 0x1808, 0x600);
-    p1 = p0 + 0x1148;
+    p1 = p0 + 0x960;
     copy(v4 + 8, p1, 0x600);
     copy(p1, v4 + 0xc08, 0x600);
     v7 = 0;
@@ -5326,25 +5430,25 @@ static void simulated_link_world_World_begin(uint64_t p0, uint64_t p1, uint32_t 
         if (v9 != 0) rattle_dealloc_at(v8);
         v7 = v7 + 1;
     } while (v7 != 64);
-    p1 = p0 + 0x1750;
+    p1 = p0 + 0xf68;
     v6 = get64(p1);
     if (v6 != 0) {
         put64(p1, 0);
-        v7 = get64(p0 + 0x1758);
+        v7 = get64(p0 + 0xf70);
         put64(p1 + 8, 0);
-        v8 = get64(p0 + 0x1748);
+        v8 = get64(p0 + 0xf60);
         p1 = v8;
         do {
             if (get64(p1 + 16) != 0) rattle_dealloc_at(get64(p1));
             p1 = p1 + 24;
             v6 = v6 - 1;
         } while (v6 != 0);
-        put64(p0 + 0x1758, v7);
-        put64(p0 + 0x1750, 0);
-        put64(p0 + 0x1748, v8);
+        put64(p0 + 0xf70, v7);
+        put64(p0 + 0xf68, 0);
+        put64(p0 + 0xf60, v8);
     }
-    put64(p0 + 0x1760, 0);
-    put64(p0 + 0x1768, get64(p0 + 0x1778));
+    put64(p0 + 0xf78, 0);
+    put64(p0 + 0xf80, get64(p0 + 0xf90));
     return;
 }
 
@@ -5712,20 +5816,23 @@ l3:;
 /* nodes::spacecraft::Spacecraft::prepare, crates/nodes/src/spacecraft/receive.rt:39 */
 static void nodes_spacecraft_Spacecraft_prepare(uint64_t p0, uint64_t p1, uint64_t p2, uint64_t p3)
 {
-    unsigned char frame_octets[288 + 15];
-    uint32_t v5 = 0, v6 = 0, v7 = 0, v8 = 0, v10 = 0, v11 = 0, v12 = 0, v14 = 0, v15 = 0, v16 = 0, v17 = 0, v18 = 0,
-        v19 = 0, v21 = 0, v33 = 0, t1, t2, t3, t4, t5;
-    uint64_t v4 = 0, v9 = 0, v13 = 0, v20 = 0, v22 = 0, v23 = 0, v24 = 0, v25 = 0, v26 = 0, v27 = 0, v28 = 0, v29 = 0,
+    unsigned char frame_octets[528 + 15];
+    uint32_t v5 = 0, v6 = 0, v7 = 0, v8 = 0, v10 = 0, v11 = 0, v12 = 0, v14 = 0, v15 = 0, v17 = 0, v18 = 0, v19 = 0,
+        v20 = 0, v21 = 0, v33 = 0, t1, t3, t6;
+    uint64_t v4 = 0, v9 = 0, v13 = 0, v16 = 0, v22 = 0, v23 = 0, v24 = 0, v25 = 0, v26 = 0, v27 = 0, v28 = 0, v29 = 0,
         v30 = 0, v31 = 0, v32 = 0, v34 = 0, v35 = 0;
     v4 = aligned(frame_octets);
-    put16(v4 + 124, 0);
+    put16(v4 + 148, 0);
+    put32(v4 + 144, 0);
+    put32(v4 + 136, 0);
+    put8(v4 + 140, 0);
+    put32(v4 + 128, 0);
+    put16(v4 + 132, 0);
     put32(v4 + 120, 0);
-    put32(v4 + 112, 0);
-    put8(v4 + 116, 0);
-    put32(v4 + 104, 0);
-    put16(v4 + 108, 0);
-    put32(v4 + 96, 0);
-    put16(v4 + 100, 0);
+    put16(v4 + 124, 0);
+    put64(v4 + 96, 0);
+    put64(v4 + 104, 0);
+    put64(v4 + 112, 0);
     v5 = 0;
     if (p3 < 5) goto l2;
     v6 = get8(p2);
@@ -5764,10 +5871,10 @@ static void nodes_spacecraft_Spacecraft_prepare(uint64_t p0, uint64_t p1, uint64
             goto l2;
         }
         v11 = 0;
-        put32(v4 + 240, 0);
-        put16(v4 + 244, 0);
-        put32(v4 + 176, 0);
-        put16(v4 + 180, 0);
+        put32(v4 + 480, 0);
+        put16(v4 + 484, 0);
+        put32(v4 + 440, 0);
+        put16(v4 + 444, 0);
         v10 = (v6 < 32) ? v5 : 0U;
         v12 = v6 > 31;
         v9 = p3 - 8;
@@ -5801,8 +5908,8 @@ static void nodes_spacecraft_Spacecraft_prepare(uint64_t p0, uint64_t p1, uint64
             goto l2;
         }
         v5 = 0;
-        put16(v4 + 180, 0);
-        put32(v4 + 176, 0);
+        put16(v4 + 444, 0);
+        put32(v4 + 440, 0);
         v12 = 2;
         v13 = 0;
         v9 = 0;
@@ -5813,8 +5920,8 @@ l10:;
     v5 = 8;
     goto l2;
 l8:;
-    put32(v4 + 120, get32(v4 + 176));
-    put16(v4 + 124, get16(v4 + 180));
+    put32(v4 + 144, get32(v4 + 440));
+    put16(v4 + 148, get16(v4 + 444));
     if (get32(p1) != (((v6 << 8) & 768) | v8) || get32(p1 + 4) != ((v7 & 252) >> 2)) {
         v5 = get32(p1 + 72);
         v6 = get16(p1 + 76);
@@ -5827,88 +5934,88 @@ l8:;
         put64(p0 + 40, 0);
         put16(p0 + 52, v6);
         put32(p0 + 48, v5);
-        fill(p0 + 54, 0, 154);
+        fill(p0 + 54, 0, 178);
         return;
     }
     switch (v12) {
     case 1:
         v8 = get8(p1 + 77);
         v21 = 3;
-        v17 = get8(p1 + 76);
-        v18 = get8(p1 + 75);
+        v18 = get8(p1 + 76);
+        v19 = get8(p1 + 75);
         v12 = get8(p1 + 74);
         v7 = get8(p1 + 73);
-        v19 = get8(p1 + 72);
-        v26 = 0;
+        v20 = get8(p1 + 72);
+        v23 = 0;
         v15 = 0;
         if (v14 != 3 || ((uint32_t)(get64(p1 + 40) >> ((uint64_t)v5 & 63)) & 1) == 0 || v9 > (uint64_t)get32(p1 + 32))
-            goto l38;
+            goto l36;
         v10 = 0;
         v6 = 0;
-        v23 = 0;
+        v24 = 0;
         p1 = 0;
-        if (v9 < 6) goto l37;
+        if (v9 < 6) goto l35;
         v6 = get8(v13);
         if (v6 > 31 || (((v6 & 8) != 0 && (((v6 << 8) & 0x700) | get8(v13 + 1)) == 0x7ff) || ((((uint64_t)get8(v13 +
             4) << 8) | (uint64_t)get8(v13 + 5)) + 7) != v9)) {
-            v26 = 0;
-            goto l38;
+            v23 = 0;
+            goto l36;
         }
         rattle_alloc_at(v4 + 80, v9, 1);
         if (((uint32_t)get64(v4 + 80) & 1) == 0) {
             v10 = 0;
-            v26 = 0;
+            v23 = 0;
             v33 = 5;
             v15 = 1;
             p2 = 0;
             p3 = 0;
             v21 = 0;
-            v19 = 0;
+            v20 = 0;
             v7 = 0;
             v12 = 0;
+            v19 = 0;
             v18 = 0;
             v17 = 0;
-            v16 = 0;
             v34 = 0;
-            v23 = 0;
+            v24 = 0;
             p1 = 0;
-            goto l36;
+            goto l34;
         }
-        v23 = get64(v4 + 88);
-        if ((v23 - v13) < v9) {
-            v22 = v9 & 3;
+        v24 = get64(v4 + 88);
+        if ((v24 - v13) < v9) {
+            v16 = v9 & 3;
             p1 = 0;
             if ((v9 - 1) >= 3) {
-                v27 = v9 & ~3ULL;
+                v30 = v9 & ~3ULL;
                 p1 = 0;
                 do {
-                    v26 = v23 + p1;
-                    v24 = v13 + p1;
-                    put8(v26, get8(v24));
-                    put8(v26 + 1, get8(v24 + 1));
-                    put8(v26 + 2, get8(v24 + 2));
-                    put8(v26 + 3, get8(v24 + 3));
+                    v23 = v24 + p1;
+                    v22 = v13 + p1;
+                    put8(v23, get8(v22));
+                    put8(v23 + 1, get8(v22 + 1));
+                    put8(v23 + 2, get8(v22 + 2));
+                    put8(v23 + 3, get8(v22 + 3));
                     p1 = p1 + 4;
-                } while (v27 != p1);
-                if (v22 == 0) goto l88;
+                } while (v30 != p1);
+                if (v16 == 0) goto l98;
             }
             do {
-                put8(v23 + p1, get8(v13 + p1));
-                v26 = 1;
+                put8(v24 + p1, get8(v13 + p1));
+                v23 = 1;
                 p1 = p1 + 1;
                 v10 = 1;
-                v22 = v22 - 1;
-            } while (v22 != 0);
-            goto l87;
+                v16 = v16 - 1;
+            } while (v16 != 0);
+            goto l97;
         }
-        if (v9 != 0) copy(v23, v13, v9);
-    l88:;
-        v26 = 1;
+        if (v9 != 0) copy(v24, v13, v9);
+    l98:;
+        v23 = 1;
         v10 = 1;
-    l87:;
+    l97:;
         v6 = v5;
         p1 = v9;
-        goto l37;
+        goto l35;
     case 2:
         v5 = get8(p1 + 77);
         v7 = get8(p1 + 73);
@@ -5917,387 +6024,625 @@ l8:;
         if ((v10 & 255) != 0) {
             v12 = 1;
             if ((get8(p1 + 74) & 1) != 0) {
-                v18 = get8(p1 + 75);
-                v17 = get8(p1 + 76);
-                goto l93;
+                v19 = get8(p1 + 75);
+                v18 = get8(p1 + 76);
+                goto l103;
             }
             v7 = v11;
         }
         v12 = 0;
+        v19 = 0;
         v18 = 0;
-        v17 = 0;
-    l93:;
-        v19 = get8(v9);
-        put8(v4 + 116, 0);
-        put32(v4 + 112, 0);
-        put32(v4 + 104, 0);
-        put16(v4 + 108, 0);
-        put32(v4 + 96, 0);
-        put16(v4 + 100, 0);
-        v16 = (v5 + 1) & 3;
-        v20 = 0;
+    l103:;
+        v20 = get8(v9);
+        put8(v4 + 140, 0);
+        put32(v4 + 136, 0);
+        put32(v4 + 128, 0);
+        put16(v4 + 132, 0);
+        put32(v4 + 120, 0);
+        put16(v4 + 124, 0);
+        v16 = 0;
+        put64(v4 + 96, 0);
+        put64(v4 + 104, 0);
+        put64(v4 + 112, 0);
+        v17 = (v5 + 1) & 3;
         v21 = 4;
-        goto l40;
+        goto l38;
     default:
         break;
     }
     v15 = 0;
-    put32(v4 + 168, 0);
-    put8(v4 + 172, 0);
+    put32(v4 + 264, 0);
+    put8(v4 + 268, 0);
+    put32(v4 + 256, 0);
+    put16(v4 + 260, 0);
+    put32(v4 + 248, 0);
+    put16(v4 + 252, 0);
+    v16 = 0;
+    put64(v4 + 224, 0);
+    put64(v4 + 232, 0);
+    put64(v4 + 240, 0);
+    put64(v4 + 192, 0);
+    put64(v4 + 200, 0);
+    put64(v4 + 208, 0);
+    put64(v4 + 168, 0);
+    put64(v4 + 176, 0);
+    put64(v4 + 184, 0);
+    put8(v4 + 164, 0);
     put32(v4 + 160, 0);
-    put16(v4 + 164, 0);
-    put32(v4 + 152, 0);
     put16(v4 + 156, 0);
-    put32(v4 + 144, get32(v4 + 120));
-    put16(v4 + 148, get16(v4 + 124));
-    put32(v4 + 136, 0);
-    put8(v4 + 140, 0);
-    put32(v4 + 128, 0);
-    put16(v4 + 132, 0);
+    put32(v4 + 152, 0);
+    put16(v4 + 220, get16(v4 + 148));
+    put32(v4 + 216, get32(v4 + 144));
     v12 = 1;
-    v16 = get8(p1 + 77);
-    v17 = get8(p1 + 76);
-    v18 = get8(p1 + 75);
+    v17 = get8(p1 + 77);
+    v18 = get8(p1 + 76);
+    v19 = get8(p1 + 75);
     v7 = get8(p1 + 73);
-    v19 = get8(p1 + 72);
+    v20 = get8(p1 + 72);
     v11 = 5;
     if ((get8(p1 + 74) & 1) == 0) {
         if ((v10 & 255) == (v7 & 255)) {
             v12 = 0;
-            if ((v18 & 1) != 0) {
-                v18 = 1;
-                goto l45;
+            if ((v19 & 1) != 0) {
+                v19 = 1;
+                goto l43;
             }
-            if (get64(p1 + 0x890) < (uint64_t)get32(p1 + 48)) {
-                v22 = v4 + 287;
-                v15 = 0;
-                v23 = (uint64_t)v5;
-                if (((uint32_t)(get64(p1 + 88) >> (v23 & 63)) & 1) == 0) {
-                    v24 = 0;
+            if (get64(p1 + 168) < (uint64_t)get32(p1 + 48)) {
+                put64(v4 + 288, 0);
+                put64(v4 + 280, 0);
+                put64(v4 + 272, 0);
+                v16 = get64(p1 + 104);
+                v22 = get64(p1 + 112);
+                if (v22 == 0) {
+                    v8 = 0;
+                } else {
+                    v23 = v22 - 1;
+                    v24 = v16;
+                    do {
+                        v8 = get8(v24) == 1;
+                        if (v8 != 0) break;
+                        v24 = v24 + 32;
+                        v6 = v23 != 0;
+                        v23 = v23 - 1;
+                    } while (v6 != 0);
+                }
+                put64(v4 + 312, 0);
+                put64(v4 + 304, 0);
+                put64(v4 + 296, 0);
+                v23 = get64(p1 + 88);
+                v24 = (uint64_t)v5;
+                if (((uint32_t)(v23 >> (v24 & 63)) & 1) == 0) {
                     v25 = 0;
+                    put64(v4 + 192, 0);
+                    put64(v4 + 200, 0);
+                    put64(v4 + 208, 0);
                     v8 = 0;
                     v6 = 1;
-                    goto l22;
+                    v26 = 0;
+                    v27 = 0;
+                    v22 = 0;
+                    v28 = 0;
+                    v29 = v4 + 520;
+                    v30 = v29;
+                    v31 = 0;
+                    v32 = 0;
+                    v16 = 0;
+                    goto l20;
                 }
-                v26 = 0;
-                v23 = (p1 + (v23 << 5)) + 104;
-                v7 = get8(v23);
-                if (v7 == 1) v26 = get64(v23 + 16);
+                v11 = 0;
+                if (v22 <= v24) {
+                    v7 = 1;
+                    v30 = 0;
+                    v22 = 0;
+                } else {
+                    v7 = 1;
+                    v30 = 0;
+                    v22 = 0;
+                    v24 = v16 + (v24 << 5);
+                    if (get8(v24) == 1) {
+                        v22 = get64(v24 + 16);
+                        v30 = get64(v24 + 8);
+                        v11 = 1;
+                        v7 = 0;
+                    }
+                }
+                put64(v4 + 352, 0);
+                put64(v4 + 360, 0);
+                put64(v4 + 368, 0);
+                put64(v4 + 320, 0);
+                put64(v4 + 328, 0);
+                put64(v4 + 336, 0);
+                put64(v4 + 343, 0);
                 switch (v14) {
                 case 1:
-                    v25 = 0;
                     v6 = get32(p1 + 84);
-                    v30 = (uint64_t)v6;
-                    if (v9 > v30) {
+                    v24 = (uint64_t)v6;
+                    if (v9 > v24) {
+                        v30 = v4 + 520;
                         v6 = 1;
                         v8 = 4;
-                        v24 = 1;
+                        v31 = 0;
+                        v32 = 1;
+                        goto l23;
+                    }
+                    v22 = 0;
+                    v16 = v4 + 520;
+                    if (v8 != 0) {
+                        v30 = v16;
+                        v28 = 0;
+                    } else {
+                        v31 = clz64(v23);
+                        v28 = 64 - v31;
+                        if (v23 == 0) {
+                            v30 = v16;
+                        } else {
+                            rattle_alloc_at(v4 + 48, v28 << 5, 8);
+                            if (((uint32_t)get64(v4 + 48) & 1) == 0) goto l29;
+                            v30 = get64(v4 + 56);
+                            v24 = 0x800 - (v31 << 5);
+                            if (v24 != 0) fill(v30, 0, v24);
+                            v6 = get32(p1 + 84);
+                            v24 = (uint64_t)v6;
+                            v22 = v28;
+                        }
+                    }
+                    if (v6 != 0) {
+                        rattle_alloc_at(v4 + 32, v24, 1);
+                        if (((uint32_t)get64(v4 + 32) & 1) == 0) goto l142;
+                        v16 = get64(v4 + 40);
+                    }
+                    put64(v4 + 496, v24);
+                    v31 = 0;
+                    put64(v4 + 488, 0);
+                    put64(v4 + 480, v16);
+                    t6 = std_alloc_vec_Vec_extend_from_slice_672334860c861157(v4 + 480, v13, v9);
+                    if ((t6 & 255) == 0) {
+                        p1 = get64(v4 + 496);
+                        put64(v4 + 343, p1);
+                        v24 = get64(v4 + 488);
+                        put64(v4 + 335, v24);
+                        v23 = get64(v4 + 480);
+                        put64(v4 + 327, v23);
+                        put64(v4 + 352, v23);
+                        put64(v4 + 360, v24);
+                        put64(v4 + 368, p1);
+                        v29 = v4 + 520;
+                        v32 = 2;
+                        v8 = v11;
+                        v6 = v11;
                         goto l22;
                     }
-                    if (v6 == 0) {
-                        v32 = v4 + 287;
-                    } else {
-                        rattle_alloc_at(v4 + 40, v30, 1);
-                        if (((uint32_t)get64(v4 + 40) & 1) == 0) goto l25;
-                        v32 = get64(v4 + 48);
-                    }
-                    if (v9 != 0) copy(v32, v13, v9);
-                    v22 = v4 + 287;
-                    v24 = 2;
-                    v8 = v7;
-                    v6 = v7;
-                    v28 = 0;
-                    v29 = 0;
-                    v27 = 0;
-                    v31 = v9;
-                    goto l21;
-                case 2:
-                    v6 = 1;
-                    v25 = 0;
-                    v24 = 1;
-                    if (v7 == 0) goto l32;
-                    if ((v26 + v9) > (uint64_t)get32(p1 + 84)) goto l23;
-                    if (v7 != 1) UNREACHABLE;
-                    v27 = get64(v23 + 8);
-                    v23 = get64(v23 + 16);
-                    v28 = 0;
-                    put64(v4 + 272, 0);
-                    put64(v4 + 264, 0);
-                    put64(v4 + 256, 0);
-                    put64(v4 + 248, 0);
-                    put64(v4 + 240, 0);
-                    v25 = v23 + v9;
-                    if (v25 == 0) {
-                        v20 = v4 + 287;
-                    } else {
-                        if (v25 > 0x7fffffffffffffffULL) goto l25;
-                        rattle_alloc_at(v4 + 64, v25, 1);
-                        if (((uint32_t)get64(v4 + 64) & 1) == 0) goto l25;
-                        v20 = get64(v4 + 72);
-                    }
-                    put64(v4 + 184, 0);
-                    put64(v4 + 176, v20);
-                    put64(v4 + 192, v25);
-                    if (v23 > v25) {
-                        t3 = std_alloc_vec_Vec_grow_amortized_a351ad16c7c032ee(v4 + 176, v23);
-                        if (t3 == 0) {
-                            if (get64(v4 + 192) == 0) goto l25;
-                            goto l97;
-                        }
-                        v20 = get64(v4 + 176);
-                        v25 = get64(v4 + 192);
-                        v28 = get64(v4 + 184);
-                    }
-                    v29 = v28 + v23;
-                    v32 = v20 + v28;
-                    if ((v32 - v27) < v23) {
-                        v22 = v23 & 3;
-                        v26 = 0;
-                        if (v23 >= 4) {
-                            v30 = v23 & ~3ULL;
-                            v26 = 0;
-                            do {
-                                v23 = v32 + v26;
-                                v24 = v27 + v26;
-                                put8(v23, get8(v24));
-                                put8(v23 + 1, get8(v24 + 1));
-                                put8(v23 + 2, get8(v24 + 2));
-                                put8(v23 + 3, get8(v24 + 3));
-                                v26 = v26 + 4;
-                            } while (v30 != v26);
-                            if (v22 == 0) goto l104;
-                        }
-                        v23 = v27 + v26;
-                        v26 = v20 + (v28 + v26);
+                    if (get64(v4 + 496) != 0) rattle_dealloc_at(get64(v4 + 480));
+                l142:;
+                    if (v22 != 0) {
+                        p3 = v30;
                         do {
-                            put8(v26, get8(v23));
-                            v26 = v26 + 1;
-                            v23 = v23 + 1;
+                            if (get8(p3) != 0 && get64(p3 + 24) != 0) rattle_dealloc_at(get64(p3 + 8));
+                            p3 = p3 + 32;
                             v22 = v22 - 1;
                         } while (v22 != 0);
-                    } else if (v23 != 0) copy(v32, v27, v23);
-                l104:;
-                    put64(v4 + 192, v25);
-                    put64(v4 + 184, v29);
-                    t4 = std_alloc_vec_Vec_extend_from_slice_672334860c861157(v4 + 176, v13, v9);
-                    if ((t4 & 255) == 0) {
-                        t5 = get32(p1 + 84);
-                        p1 = get64(v4 + 176);
-                        map_service_packets_fault_of_one(v4 + 56, t5, p1, get64(v4 + 184));
-                        v28 = 0;
-                        put64(v4 + 256, 0);
-                        put64(v4 + 240, 0);
-                        put64(v4 + 264, 0);
-                        put64(v4 + 272, 0);
-                        v7 = get8(v4 + 56);
-                        put64(v4 + 248, v4 + 287);
-                        v8 = get8(v4 + 57);
-                        if (v7 != 1) {
-                            smallvec_small_vec_SmallVec_push_reserved_ed127ccbaaf726c4(v4 + 240, v4 + 176);
-                            v28 = get64(v4 + 272);
-                            v29 = get64(v4 + 264);
-                            v27 = get64(v4 + 256);
-                            v25 = (uint64_t)get8(v4 + 240);
-                            v22 = get64(v4 + 248);
-                            goto l27;
-                        }
-                        v22 = v4 + 287;
-                        if (get64(v4 + 192) == 0) goto l96;
-                        rattle_dealloc_at(p1);
-                        goto l96;
                     }
-                    if (get64(v4 + 192) == 0) goto l25;
-                l97:;
-                    rattle_dealloc_at(get64(v4 + 176));
-                    goto l25;
-                l96:;
+                    if (v28 != 0) rattle_dealloc_at(v30);
+                    goto l29;
+                case 2:
+                    v6 = 1;
+                    v31 = 0;
+                    v32 = 1;
+                    if (v7 != 0) {
+                        v30 = v4 + 520;
+                        v8 = 2;
+                        goto l23;
+                    }
+                    v25 = v22 + v9;
+                    if (v25 > (uint64_t)get32(p1 + 84)) {
+                        v30 = v4 + 520;
+                        v8 = 4;
+                        goto l23;
+                    }
                     v29 = 0;
-                    v27 = 0;
-                    v25 = 0;
-                    goto l27;
+                    put64(v4 + 480, 0);
+                    put64(v4 + 488, 0);
+                    put64(v4 + 496, 0);
+                    put64(v4 + 504, 0);
+                    put64(v4 + 512, 0);
+                    put64(v4 + 376, 0);
+                    put64(v4 + 384, 0);
+                    put64(v4 + 392, 0);
+                    if (v25 == 0) {
+                        v26 = v4 + 520;
+                    } else {
+                        rattle_alloc_at(v4 + 64, v25, 1);
+                        if (((uint32_t)get64(v4 + 64) & 1) == 0) goto l29;
+                        v26 = get64(v4 + 72);
+                    }
+                    put64(v4 + 448, 0);
+                    put64(v4 + 440, v26);
+                    put64(v4 + 456, v25);
+                    if (v22 > v25) {
+                        v6 = std_alloc_vec_Vec_grow_amortized_a351ad16c7c032ee(v4 + 440, v22);
+                        v29 = get64(v4 + 448);
+                        v25 = get64(v4 + 456);
+                        if (v6 == 0) {
+                            v28 = v29;
+                            goto l115;
+                        }
+                        v26 = get64(v4 + 440);
+                    }
+                    v28 = v29 + v22;
+                    v31 = v26 + v29;
+                    if ((v31 - v30) < v22) {
+                        v16 = v22 & 3;
+                        v23 = 0;
+                        if (v22 >= 4) {
+                            v27 = v22 & ~3ULL;
+                            v23 = 0;
+                            do {
+                                v24 = v31 + v23;
+                                v22 = v30 + v23;
+                                put8(v24, get8(v22));
+                                put8(v24 + 1, get8(v22 + 1));
+                                put8(v24 + 2, get8(v22 + 2));
+                                put8(v24 + 3, get8(v22 + 3));
+                                v23 = v23 + 4;
+                            } while (v27 != v23);
+                            if (v16 == 0) goto l118;
+                        }
+                        v24 = v30 + v23;
+                        v23 = v26 + (v29 + v23);
+                        do {
+                            put8(v23, get8(v24));
+                            v23 = v23 + 1;
+                            v24 = v24 + 1;
+                            v16 = v16 - 1;
+                        } while (v16 != 0);
+                    } else if (v22 != 0) copy(v31, v30, v22);
+                l118:;
+                    put64(v4 + 456, v25);
+                    put64(v4 + 448, v28);
+                l115:;
+                    if (v9 > (v25 - v28)) {
+                        v6 = std_alloc_vec_Vec_grow_amortized_a351ad16c7c032ee(v4 + 440, v9);
+                        v28 = get64(v4 + 448);
+                        if (v6 == 0) {
+                            v26 = get64(v4 + 440);
+                            v27 = v28;
+                            goto l123;
+                        }
+                        v25 = get64(v4 + 456);
+                    }
+                    v27 = v28 + v9;
+                    v26 = get64(v4 + 440);
+                    v30 = v26 + v28;
+                    if ((v30 - v13) < v9) {
+                        v16 = v9 & 3;
+                        v23 = 0;
+                        if (v9 >= 4) {
+                            v31 = v9 & ~3ULL;
+                            v23 = 0;
+                            do {
+                                v24 = v30 + v23;
+                                v22 = v13 + v23;
+                                put8(v24, get8(v22));
+                                put8(v24 + 1, get8(v22 + 1));
+                                put8(v24 + 2, get8(v22 + 2));
+                                put8(v24 + 3, get8(v22 + 3));
+                                v23 = v23 + 4;
+                            } while (v31 != v23);
+                            if (v16 == 0) goto l126;
+                        }
+                        v24 = v13 + v23;
+                        v23 = v26 + (v28 + v23);
+                        do {
+                            put8(v23, get8(v24));
+                            v23 = v23 + 1;
+                            v24 = v24 + 1;
+                            v16 = v16 - 1;
+                        } while (v16 != 0);
+                    } else if (v9 != 0) copy(v30, v13, v9);
+                l126:;
+                    put64(v4 + 456, v25);
+                    put64(v4 + 448, v27);
+                l123:;
+                    v8 = 4;
+                    if (v27 <= (uint64_t)get32(p1 + 84)) {
+                        v8 = 3;
+                        if (v27 >= 6) {
+                            v6 = get8(v26);
+                            if (v6 <= 31 && ((v6 & 8) == 0 || (((v6 << 8) & 0x700) | get8(v26 + 1)) != 0x7ff)) {
+                                put64(v4 + 496, 0);
+                                put64(v4 + 480, 0);
+                                put64(v4 + 504, 0);
+                                put64(v4 + 512, 0);
+                                v24 = (uint64_t)get8(v26 + 4);
+                                v23 = (uint64_t)get8(v26 + 5);
+                                put64(v4 + 488, v4 + 520);
+                                p1 = v4 + 496;
+                                v8 = 3;
+                                if (((v23 | (v24 << 8)) + 7) != v27) goto l132;
+                                smallvec_small_vec_SmallVec_push_reserved_ed127ccbaaf726c4(v4 + 480, v4 + 440);
+                                v8 = 0;
+                                v31 = (uint64_t)get8(v4 + 480);
+                                v29 = get64(v4 + 488);
+                                v6 = 0;
+                                goto l131;
+                            }
+                        }
+                    }
+                    put64(v4 + 496, 0);
+                    put64(v4 + 480, 0);
+                    put64(v4 + 504, 0);
+                    put64(v4 + 512, 0);
+                    put64(v4 + 488, v4 + 520);
+                    p1 = v4 + 496;
+                l132:;
+                    v6 = 1;
+                    v29 = v4 + 520;
+                    v31 = 0;
+                    if (get64(v4 + 456) != 0) rattle_dealloc_at(v26);
+                l131:;
+                    put64(v4 + 352, get64(v4 + 376));
+                    v26 = get64(p1 + 8);
+                    put64(v4 + 360, get64(v4 + 384));
+                    v25 = get64(p1 + 16);
+                    put64(v4 + 368, get64(v4 + 392));
+                    v27 = get64(v4 + 496);
+                    v28 = 0;
+                    v30 = v4 + 520;
+                    goto l24;
                 case 3:
                     break;
                 default:
                     v6 = 1;
-                    v25 = 0;
-                    v24 = 1;
-                    if (v7 == 0) goto l32;
-                    if ((v26 + v9) > (uint64_t)get32(p1 + 84)) goto l23;
+                    v31 = 0;
+                    v32 = 1;
+                    if (v7 != 0) {
+                        v30 = v4 + 520;
+                        v8 = 2;
+                        goto l23;
+                    }
+                    if ((v22 + v9) > (uint64_t)get32(p1 + 84)) {
+                        v30 = v4 + 520;
+                        v8 = 4;
+                        goto l23;
+                    }
+                    v30 = v4 + 520;
                     v8 = 0;
-                    v24 = 3;
+                    v32 = 3;
                     v6 = 0;
-                    goto l22;
+                    goto l23;
                 }
-                v27 = (uint64_t)get32(p1 + 84);
+                v22 = (uint64_t)get32(p1 + 84);
                 if (get8(p1 + 96) == 0) {
                     v6 = 1;
-                    v25 = 0;
-                    v24 = 1;
-                    if (v9 > v27) goto l23;
-                    v8 = 3;
-                    if (v9 < 6) goto l22;
-                    v11 = get8(v13);
-                    if (v11 > 31) goto l22;
-                    v24 = 1;
-                    if ((v11 & 8) != 0 && (((v11 << 8) & 0x700) | get8(v13 + 1)) == 0x7ff) goto l22;
-                    v28 = 0;
-                    v29 = 0;
-                    v27 = 0;
-                    v30 = 0;
                     v31 = 0;
-                    v32 = 0;
-                    v20 = 0;
-                    if (((((uint64_t)get8(v13 + 4) << 8) | (uint64_t)get8(v13 + 5)) + 7) != v9) goto l20;
-                    rattle_alloc_at(v4 + 24, v9, 1);
-                    if (((uint32_t)get64(v4 + 24) & 1) == 0) goto l25;
-                    v22 = get64(v4 + 32);
-                    if ((v22 - v13) < v9) {
-                        v24 = v9 & 3;
-                        v23 = 0;
-                        if ((v9 - 1) >= 3) {
-                            v27 = v9 & ~3ULL;
-                            v23 = 0;
-                            do {
-                                p1 = v22 + v23;
-                                v26 = v13 + v23;
-                                put8(p1, get8(v26));
-                                put8(p1 + 1, get8(v26 + 1));
-                                put8(p1 + 2, get8(v26 + 2));
-                                put8(p1 + 3, get8(v26 + 3));
-                                v23 = v23 + 4;
-                            } while (v27 != v23);
-                            if (v24 == 0) goto l80;
-                        }
-                        p1 = v22 + v23;
-                        v23 = v13 + v23;
-                        do {
-                            put8(p1, get8(v23));
-                            p1 = p1 + 1;
-                            v23 = v23 + 1;
-                            v24 = v24 - 1;
-                        } while (v24 != 0);
-                    } else if (v9 != 0) copy(v22, v13, v9);
-                l80:;
-                    p1 = v4 + 192;
-                    put64(v4 + 208, 1);
-                    put64(v4 + 200, v9);
-                    put64(v4 + 192, v9);
+                    v32 = 1;
+                    if (v9 > v22) {
+                        v30 = v4 + 520;
+                        v8 = 4;
+                        goto l23;
+                    }
+                    v30 = v4 + 520;
+                    v8 = 3;
+                    if (v9 < 6) goto l23;
+                    v30 = v4 + 520;
+                    v7 = get8(v13);
+                    if (v7 > 31) goto l23;
+                    v32 = 1;
+                    if ((v7 & 8) != 0) {
+                        v30 = v4 + 520;
+                        if ((((v7 << 8) & 0x700) | get8(v13 + 1)) == 0x7ff) goto l23;
+                    }
+                    v30 = v4 + 520;
+                    v29 = v30;
+                    v28 = 0;
+                    v22 = 0;
+                    v27 = 0;
+                    v26 = 0;
                     v25 = 0;
-                    v27 = v9;
-                    goto l28;
+                    if (((((uint64_t)get8(v13 + 4) << 8) | (uint64_t)get8(v13 + 5)) + 7) != v9) goto l21;
+                    rattle_alloc_at(v4 + 16, v9, 1);
+                    if (((uint32_t)get64(v4 + 16) & 1) == 0) goto l29;
+                    v29 = get64(v4 + 24);
+                    if ((v29 - v13) >= v9) {
+                        if (v9 != 0) copy(v29, v13, v9);
+                        goto l56;
+                    }
+                    v22 = v9 & 3;
+                    v24 = 0;
+                    if ((v9 - 1) >= 3) {
+                        v16 = v9 & ~3ULL;
+                        v24 = 0;
+                        do {
+                            p1 = v29 + v24;
+                            v23 = v13 + v24;
+                            put8(p1, get8(v23));
+                            put8(p1 + 1, get8(v23 + 1));
+                            put8(p1 + 2, get8(v23 + 2));
+                            put8(p1 + 3, get8(v23 + 3));
+                            v24 = v24 + 4;
+                        } while (v16 != v24);
+                        if (v22 == 0) goto l56;
+                    }
+                    p1 = v29 + v24;
+                    v24 = v13 + v24;
+                    do {
+                        put8(p1, get8(v24));
+                        p1 = p1 + 1;
+                        v24 = v24 + 1;
+                        v22 = v22 - 1;
+                    } while (v22 != 0);
+                    goto l56;
                 }
+                v30 = v4 + 520;
                 v6 = 1;
                 v8 = 3;
-                v25 = 0;
-                if (v9 < 6) goto l26;
+                v31 = 0;
+                v32 = 1;
+                if (v9 < 6) goto l23;
                 v12 = 0;
                 p1 = v13;
-                v26 = v9;
+                v23 = v9;
                 do {
-                    v11 = get8(p1);
-                    if (v11 > 31) goto l26;
-                    v24 = 1;
-                    if ((v11 & 8) != 0 && (((v11 << 8) & 0x700) | get8(p1 + 1)) == 0x7ff) goto l22;
-                    v23 = (((uint64_t)get8(p1 + 4) << 8) | (uint64_t)get8(p1 + 5)) + 7;
-                    if (v26 < v23) goto l22;
-                    p1 = p1 + v23;
-                    v12 = v12 | (uint32_t)(v23 > v27);
-                    v26 = v26 - v23;
-                } while (v26 > 5);
-                v8 = v26 == 0;
-                v11 = v8 & v12;
-                v8 = (v8 != 0) ? ((v11 != 0) ? 4U : 0U) : 3U;
-                if (v11 != 0) goto l22;
+                    v7 = get8(p1);
+                    if (v7 > 31) {
+                        v30 = v4 + 520;
+                        v32 = 1;
+                        goto l23;
+                    }
+                    v32 = 1;
+                    if ((v7 & 8) != 0 && (((v7 << 8) & 0x700) | get8(p1 + 1)) == 0x7ff) {
+                        v30 = v4 + 520;
+                        goto l23;
+                    }
+                    v24 = (((uint64_t)get8(p1 + 4) << 8) | (uint64_t)get8(p1 + 5)) + 7;
+                    if (v23 < v24) {
+                        v30 = v4 + 520;
+                        goto l23;
+                    }
+                    p1 = p1 + v24;
+                    v12 = v12 | (uint32_t)(v24 > v22);
+                    v23 = v23 - v24;
+                } while (v23 > 5);
+                v8 = v23 == 0;
+                v7 = v8 & v12;
+                v8 = (v8 != 0) ? ((v7 != 0) ? 4U : 0U) : 3U;
+                v30 = v4 + 520;
+                if (v7 != 0) goto l23;
+                v16 = 0;
+                v29 = v30;
                 v28 = 0;
-                v29 = 0;
+                v22 = 0;
                 v27 = 0;
-                v30 = 0;
-                v31 = 0;
-                v32 = 0;
-                v20 = 0;
-                if (v26 != 0) goto l20;
-                put64(v4 + 256, 0);
-                put64(v4 + 240, 0);
-                put64(v4 + 264, 0);
-                put64(v4 + 272, 0);
-                put64(v4 + 248, v4 + 287);
-                v28 = v4 + 256;
-                v29 = v4 + 240 + 8;
-                v20 = v4 + 272;
-                v25 = v9;
-                v22 = v13;
-                for (;;) {
-                    v6 = get8(v22);
-                    if (v6 > 31 || ((v6 & 8) != 0 && (((v6 << 8) & 0x700) | get8(v22 + 1)) == 0x7ff)) goto l29;
-                    p1 = (uint64_t)get8(v22 + 4) << 8;
-                    v26 = (uint64_t)get8(v22 + 5);
-                    v32 = (p1 | v26) + 7;
-                    if (v25 < v32) goto l29;
-                    rattle_alloc_at(v4 + 8, v32, 1);
-                    if (((uint32_t)get64(v4 + 8) & 1) == 0) break;
-                    v27 = get64(v4 + 16);
-                    if ((v27 - v22) < v32) {
-                        v24 = v32 & 3;
-                        v23 = 0;
-                        if ((v26 + p1 + 6) >= 3) {
-                            v30 = v32 & 0x1fffc;
-                            v23 = 0;
-                            do {
-                                p1 = v27 + v23;
-                                v26 = v22 + v23;
-                                put8(p1, get8(v26));
-                                put8(p1 + 1, get8(v26 + 1));
-                                put8(p1 + 2, get8(v26 + 2));
-                                put8(p1 + 3, get8(v26 + 3));
-                                v23 = v23 + 4;
-                            } while (v30 != v23);
-                            if (v24 == 0) goto l63;
+                v26 = 0;
+                v25 = 0;
+                if (v23 != 0) goto l21;
+                v24 = v9;
+                p1 = v13;
+                do {
+                    v6 = get8(p1);
+                    if (v6 > 31 || ((v6 & 8) != 0 && (((v6 << 8) & 0x700) | get8(p1 + 1)) == 0x7ff)) break;
+                    v23 = (((uint64_t)get8(p1 + 4) << 8) | (uint64_t)get8(p1 + 5)) + 7;
+                    if (v24 < v23) break;
+                    p1 = p1 + v23;
+                    v16 = v16 + 1;
+                    v24 = v24 - v23;
+                } while (v24 > 5);
+                put64(v4 + 496, 0);
+                put64(v4 + 480, 0);
+                put64(v4 + 504, 0);
+                put64(v4 + 512, 0);
+                put64(v4 + 488, v4 + 520);
+                v24 = 0;
+                if (v16 >= 2) {
+                    v6 = smallvec_small_vec_SmallVec_grow_444910b390f8755b(v4 + 480, v16);
+                    v8 = get8(v4 + 480);
+                    if ((v6 & 255) != 0) {
+                        v9 = get64(v4 + 504);
+                        p2 = get64(v4 + 488);
+                        if ((v8 & 255) == 0) {
+                            if (v9 != 0) goto l106;
+                            goto l29;
                         }
-                        p1 = v27 + v23;
-                        v23 = v22 + v23;
+                        p1 = get64(v4 + 496);
+                        if (p1 != 0) {
+                            p3 = p2;
+                            do {
+                                if (get64(p3 + 16) != 0) rattle_dealloc_at(get64(p3));
+                                p3 = p3 + 24;
+                                p1 = p1 - 1;
+                            } while (p1 != 0);
+                        }
+                        if (v9 == 0) goto l29;
+                    l106:;
+                        rattle_dealloc_at(p2);
+                        goto l29;
+                    }
+                    v24 = (uint64_t)v8 & 255;
+                }
+                p1 = v4 + 480 + 8;
+                put64(v4 + 472, get64(p1 + 24));
+                put64(v4 + 464, get64(p1 + 16));
+                put64(v4 + 456, get64(p1 + 8));
+                put64(v4 + 448, get64(p1));
+                put64(v4 + 440, v24);
+                v32 = v4 + 456;
+                v29 = v4 + 440 + 8;
+                v28 = v4 + 472;
+                v27 = v9;
+                v16 = v13;
+                for (;;) {
+                    v6 = get8(v16);
+                    if (v6 > 31 || ((v6 & 8) != 0 && (((v6 << 8) & 0x700) | get8(v16 + 1)) == 0x7ff)) goto l26;
+                    p1 = (uint64_t)get8(v16 + 4) << 8;
+                    v23 = (uint64_t)get8(v16 + 5);
+                    v31 = (p1 | v23) + 7;
+                    if (v27 < v31) goto l26;
+                    rattle_alloc_at(v4, v31, 1);
+                    if (((uint32_t)get64(v4) & 1) == 0) break;
+                    v30 = get64(v4 + 8);
+                    if ((v30 - v16) < v31) {
+                        v22 = v31 & 3;
+                        v24 = 0;
+                        if ((v23 + p1 + 6) >= 3) {
+                            v25 = v31 & 0x1fffc;
+                            v24 = 0;
+                            do {
+                                p1 = v30 + v24;
+                                v23 = v16 + v24;
+                                put8(p1, get8(v23));
+                                put8(p1 + 1, get8(v23 + 1));
+                                put8(p1 + 2, get8(v23 + 2));
+                                put8(p1 + 3, get8(v23 + 3));
+                                v24 = v24 + 4;
+                            } while (v25 != v24);
+                            if (v22 == 0) goto l76;
+                        }
+                        p1 = v30 + v24;
+                        v24 = v16 + v24;
                         do {
-                            put8(p1, get8(v23));
+                            put8(p1, get8(v24));
                             p1 = p1 + 1;
-                            v23 = v23 + 1;
-                            v24 = v24 - 1;
-                        } while (v24 != 0);
-                    } else if (v32 != 0) copy(v27, v22, v32);
-                l63:;
-                    v6 = get8(v4 + 240);
-                    if (get64((v6 != 0) ? v28 : v20) == ((v6 != 0) ? get64(v4 + 264) : 1ULL)) {
-                        t2 = smallvec_small_vec_SmallVec_reserve_one_444910b390f8755b(v4 + 240);
-                        if ((t2 & 255) != 0) goto l59;
-                        v6 = get8(v4 + 240);
+                            v24 = v24 + 1;
+                            v22 = v22 - 1;
+                        } while (v22 != 0);
+                    } else if (v31 != 0) copy(v30, v16, v31);
+                l76:;
+                    v6 = get8(v4 + 440);
+                    if (get64((v6 != 0) ? v32 : v28) == ((v6 != 0) ? get64(v4 + 464) : 1ULL)) {
+                        t3 = smallvec_small_vec_SmallVec_reserve_one_444910b390f8755b(v4 + 440);
+                        if ((t3 & 255) != 0) goto l72;
+                        v6 = get8(v4 + 440);
                     }
-                    v25 = v25 - v32;
+                    v27 = v27 - v31;
                     if ((v6 & 255) == 0) {
-                        v23 = get64(v4 + 272);
-                        p1 = v29 + (v23 * 24);
-                        put64(p1 + 8, v32);
-                        v26 = get64(p1 + 16);
-                        put64(p1 + 16, v32);
-                        v24 = get64(p1);
-                        put64(p1, v27);
-                        if (v26 != 0) rattle_dealloc_at(v24);
-                        put64(v4 + 272, v23 + 1);
+                        v24 = get64(v4 + 472);
+                        p1 = v29 + (v24 * 24);
+                        put64(p1 + 8, v31);
+                        v23 = get64(p1 + 16);
+                        put64(p1 + 16, v31);
+                        v22 = get64(p1);
+                        put64(p1, v30);
+                        if (v23 != 0) rattle_dealloc_at(v22);
+                        put64(v4 + 472, v24 + 1);
                     } else {
-                        v23 = get64(v4 + 256);
-                        p1 = get64(v4 + 248) + (v23 * 24);
-                        put64(p1 + 16, v32);
-                        put64(p1 + 8, v32);
-                        put64(p1, v27);
-                        put64(v4 + 256, v23 + 1);
+                        v24 = get64(v4 + 456);
+                        p1 = get64(v4 + 448) + (v24 * 24);
+                        put64(p1 + 16, v31);
+                        put64(p1 + 8, v31);
+                        put64(p1, v30);
+                        put64(v4 + 456, v24 + 1);
                     }
-                    v22 = v22 + v32;
-                    if (v25 < 6) goto l29;
+                    v16 = v16 + v31;
+                    if (v27 < 6) goto l26;
                 }
-                v9 = get64(v4 + 264);
-                p2 = get64(v4 + 248);
-                if (get8(v4 + 240) == 0) {
-                    if (v9 == 0) goto l25;
-                    goto l35;
+                v9 = get64(v4 + 464);
+                p2 = get64(v4 + 448);
+                if (get8(v4 + 440) == 0) {
+                    if (v9 != 0) goto l85;
+                    goto l29;
                 }
-                p1 = get64(v4 + 256);
+                p1 = get64(v4 + 456);
                 if (p1 != 0) {
                     p3 = p2;
                     do {
@@ -6306,17 +6651,19 @@ l8:;
                         p1 = p1 - 1;
                     } while (p1 != 0);
                 }
-                if (v9 == 0) goto l25;
-                goto l35;
-            l59:;
-                rattle_dealloc_at(v27);
-                v9 = get64(v4 + 264);
-                p2 = get64(v4 + 248);
-                if (get8(v4 + 240) == 0) {
-                    if (v9 == 0) goto l25;
-                    goto l35;
+                if (v9 == 0) goto l29;
+            l85:;
+                rattle_dealloc_at(p2);
+                goto l29;
+            l72:;
+                rattle_dealloc_at(v30);
+                v9 = get64(v4 + 464);
+                p2 = get64(v4 + 448);
+                if (get8(v4 + 440) == 0) {
+                    if (v9 != 0) goto l90;
+                    goto l29;
                 }
-                p1 = get64(v4 + 256);
+                p1 = get64(v4 + 456);
                 if (p1 != 0) {
                     p3 = p2;
                     do {
@@ -6325,66 +6672,81 @@ l8:;
                         p1 = p1 - 1;
                     } while (p1 != 0);
                 }
-                if (v9 == 0) goto l25;
-                goto l35;
+                if (v9 == 0) goto l29;
+            l90:;
+                rattle_dealloc_at(p2);
+                goto l29;
+            l56:;
+                p1 = v4 + 392;
+                put64(v4 + 408, 1);
+                put64(v4 + 400, v9);
+                put64(v4 + 392, v9);
+                v31 = 0;
+                v27 = v9;
+                goto l25;
             }
             v11 = 2;
+            v19 = 1;
             v18 = 1;
-            v17 = 1;
         } else {
             v12 = 1;
             v5 = v10 - v7;
-            v6 = (v19 >> 1) & 127;
+            v6 = (v20 >> 1) & 127;
             if ((v5 & 255) >= v6) {
                 if ((v5 & 255) > (~v6 & 255)) {
-                    v11 = ((v18 & 1) != 0) ? 5U : 3U;
+                    v11 = ((v19 & 1) != 0) ? 5U : 3U;
                     v12 = 0;
                 } else {
                     v11 = 4;
                 }
-            } else if ((v18 & 1) != 0) {
+            } else if ((v19 & 1) != 0) {
                 v12 = 0;
-                v18 = 1;
+                v19 = 1;
             } else {
-                v17 = 1;
+                v18 = 1;
                 v12 = 0;
-                v18 = 0;
+                v19 = 0;
                 v11 = 1;
             }
         }
     }
-l45:;
-    put8(v4 + 116, 0);
-    put32(v4 + 112, 0);
-    put32(v4 + 104, 0);
-    put16(v4 + 108, 0);
-    put32(v4 + 96, 0);
-    put16(v4 + 100, 0);
-    v20 = 0;
+l43:;
+    put8(v4 + 140, 0);
+    put32(v4 + 136, 0);
+    put32(v4 + 128, 0);
+    put16(v4 + 132, 0);
+    put32(v4 + 120, 0);
+    put16(v4 + 124, 0);
+    put64(v4 + 96, 0);
+    put64(v4 + 104, 0);
+    put64(v4 + 112, 0);
     v21 = 2;
-l40:;
+l38:;
     v33 = 0;
     v6 = 0;
     v8 = 0;
-    goto l24;
-l38:;
+    goto l28;
+l36:;
     v10 = 0;
     v6 = 0;
-    v23 = 0;
+    v24 = 0;
     p1 = 0;
-l37:;
-    v16 = (v8 + 1) & 3;
+l35:;
+    v17 = (v8 + 1) & 3;
     v34 = (uint64_t)v6;
     v33 = 0;
-l36:;
+l34:;
     v11 = 0;
-    put8(v4 + 116, 0);
-    put32(v4 + 112, 0);
-    put32(v4 + 104, 0);
-    put16(v4 + 108, 0);
-    put32(v4 + 96, 0);
-    put16(v4 + 100, 0);
-    v20 = 0;
+    put8(v4 + 140, 0);
+    put32(v4 + 136, 0);
+    put32(v4 + 128, 0);
+    put16(v4 + 132, 0);
+    put32(v4 + 120, 0);
+    put16(v4 + 124, 0);
+    v16 = 0;
+    put64(v4 + 96, 0);
+    put64(v4 + 104, 0);
+    put64(v4 + 112, 0);
     v6 = 0;
     v8 = 0;
     v35 = 0;
@@ -6392,52 +6754,26 @@ l36:;
     v5 = 0;
     v13 = 0;
     v9 = 0;
-    v25 = 0;
-    v22 = 0;
-    v27 = 0;
+    v31 = 0;
     v29 = 0;
+    v27 = 0;
+    v26 = 0;
+    v25 = 0;
+    v32 = 0;
+    v30 = 0;
+    v22 = 0;
     v28 = 0;
-    v24 = 0;
-    v32 = 0;
-    v31 = 0;
-    v30 = 0;
     goto l18;
-l35:;
-    rattle_dealloc_at(p2);
-    goto l25;
-l32:;
-    v8 = 2;
-    goto l22;
 l29:;
-    v27 = get64(v28);
-    put64(v4 + 216, v27);
-    put64(v4 + 224, get64(v28 + 8));
-    put64(v4 + 232, get64(v28 + 16));
-    v22 = get64(v4 + 248);
-    v25 = (uint64_t)get8(v4 + 240);
-    p1 = v4 + 216;
-l28:;
-    v28 = get64(p1 + 16);
-    v29 = get64(p1 + 8);
-    v8 = v7;
-l27:;
-    v20 = (v25 == 0) ? v28 : v27;
-    v30 = 0;
-    v24 = 1;
-    v6 = v7;
-    v31 = 0;
-    v32 = 0;
-    goto l20;
-l26:;
-    v24 = 1;
-    goto l22;
-l25:;
-    put8(v4 + 116, get8(v4 + 172));
-    put32(v4 + 112, get32(v4 + 168));
-    put32(v4 + 104, get32(v4 + 160));
-    put16(v4 + 108, get16(v4 + 164));
-    put32(v4 + 96, get32(v4 + 152));
-    put16(v4 + 100, get16(v4 + 156));
+    put32(v4 + 136, get32(v4 + 264));
+    put8(v4 + 140, get8(v4 + 268));
+    put32(v4 + 128, get32(v4 + 256));
+    put16(v4 + 132, get16(v4 + 260));
+    put32(v4 + 120, get32(v4 + 248));
+    put16(v4 + 124, get16(v4 + 252));
+    put64(v4 + 112, get64(v4 + 240));
+    put64(v4 + 104, get64(v4 + 232));
+    put64(v4 + 96, get64(v4 + 224));
     v21 = 0;
     p2 = 0;
     v33 = 5;
@@ -6445,61 +6781,95 @@ l25:;
     p3 = 0;
     v10 = 0;
     v11 = 0;
-    v20 = 0;
+    v16 = 0;
     v6 = 0;
     v8 = 0;
-    v19 = 0;
+    v20 = 0;
     v7 = 0;
     v12 = 0;
+    v19 = 0;
     v18 = 0;
     v17 = 0;
-    v16 = 0;
-l24:;
+l28:;
     v35 = 0;
     v14 = 0;
     v5 = 0;
     v13 = 0;
     v9 = 0;
+    v31 = 0;
+    v29 = 0;
+    v27 = 0;
+    v26 = 0;
     v25 = 0;
+    v32 = 0;
+    v30 = 0;
     v22 = 0;
-    v27 = 0;
-    v29 = 0;
     v28 = 0;
-    v24 = 0;
-    v32 = 0;
-    v31 = 0;
-    v30 = 0;
     goto l19;
-l23:;
-    v8 = 4;
-l22:;
+l26:;
+    v27 = get64(v32);
+    put64(v4 + 416, v27);
+    put64(v4 + 424, get64(v32 + 8));
+    put64(v4 + 432, get64(v32 + 16));
+    v29 = get64(v4 + 448);
+    v31 = (uint64_t)get8(v4 + 440);
+    p1 = v4 + 416;
+l25:;
     v28 = 0;
-    v29 = 0;
+    put64(v4 + 352, 0);
+    put64(v4 + 360, 0);
+    put64(v4 + 368, 0);
+    v25 = get64(p1 + 16);
+    v26 = get64(p1 + 8);
+    v30 = v4 + 520;
+    v32 = 1;
+    v8 = v11;
+    v6 = v11;
+l24:;
+    v22 = 0;
+    goto l21;
+l23:;
+    v29 = v30;
+    v28 = 0;
+    v22 = 0;
+l22:;
     v27 = 0;
-    v30 = 0;
-    v31 = 0;
-    v32 = 0;
+    v26 = 0;
+    v25 = 0;
 l21:;
-    v20 = 0;
+    p1 = get64(v4 + 352);
+    put64(v4 + 168, p1);
+    v24 = get64(v4 + 360);
+    put64(v4 + 176, v24);
+    v23 = get64(v4 + 368);
+    put64(v4 + 184, v23);
+    put64(v4 + 192, p1);
+    put64(v4 + 200, v24);
+    put64(v4 + 208, v23);
+    v16 = (v31 == 0) ? v25 : v27;
 l20:;
     v7 = v10 + 1;
-    put8(v4 + 116, get8(v4 + 140));
-    put32(v4 + 112, get32(v4 + 136));
-    put32(v4 + 104, get32(v4 + 128));
-    put16(v4 + 108, get16(v4 + 132));
-    put32(v4 + 96, get32(v4 + 144));
-    put16(v4 + 100, get16(v4 + 148));
+    put8(v4 + 140, get8(v4 + 164));
+    put32(v4 + 136, get32(v4 + 160));
+    put32(v4 + 128, get32(v4 + 152));
+    put16(v4 + 132, get16(v4 + 156));
+    put32(v4 + 120, get32(v4 + 216));
+    put16(v4 + 124, get16(v4 + 220));
+    put64(v4 + 96, get64(v4 + 192));
+    put64(v4 + 104, get64(v4 + 200));
+    put64(v4 + 112, get64(v4 + 208));
     v35 = 1;
     v21 = 2;
+    v15 = 0;
     v33 = 0;
     v11 = 0;
     v12 = 0;
+    v19 = 0;
     v18 = 0;
-    v17 = 0;
 l19:;
-    v26 = 0;
-    v34 = 0;
     v23 = 0;
+    v34 = 0;
+    v24 = 0;
     p1 = 0;
 l18:;
     put8(p0, v15);
@@ -6509,45 +6879,48 @@ l18:;
     put64(p0 + 16, p3);
     put64(p0 + 8, p2);
     put8(p0 + 1, v33);
-    put32(p0 + 27, get32(v4 + 112));
-    put8(p0 + 31, get8(v4 + 116));
+    put32(p0 + 27, get32(v4 + 136));
+    put8(p0 + 31, get8(v4 + 140));
     put8(p0 + 41, v8);
     put8(p0 + 40, v6);
-    put64(p0 + 32, v20);
-    put32(p0 + 42, get32(v4 + 104));
-    put16(p0 + 46, get16(v4 + 108));
+    put64(p0 + 32, v16);
+    put32(p0 + 42, get32(v4 + 128));
+    put16(p0 + 46, get16(v4 + 132));
     put16(p0 + 94, 0);
     put32(p0 + 90, 0);
     put8(p0 + 65, v5);
     put8(p0 + 64, v14);
     put64(p0 + 56, v35);
     put16(p0 + 54, 0);
-    put8(p0 + 53, v16);
-    put8(p0 + 52, v17);
-    put8(p0 + 51, v18);
+    put8(p0 + 53, v17);
+    put8(p0 + 52, v18);
+    put8(p0 + 51, v19);
     put8(p0 + 50, v12);
     put8(p0 + 49, v7);
-    put8(p0 + 48, v19);
+    put8(p0 + 48, v20);
     put64(p0 + 72, v13);
     put64(p0 + 80, v9);
-    put64(p0 + 96, v25);
-    put64(p0 + 104, v22);
+    put64(p0 + 96, v31);
+    put64(p0 + 104, v29);
     put64(p0 + 112, v27);
-    put64(p0 + 120, v29);
-    put64(p0 + 128, v28);
-    put64(p0 + 136, v24);
-    put64(p0 + 144, v32);
-    put64(p0 + 152, v31);
-    put64(p0 + 160, v30);
-    put64(p0 + 168, v26);
-    put64(p0 + 176, v34);
-    put64(p0 + 184, v23);
-    put64(p0 + 192, p1);
-    put64(p0 + 200, p1);
+    put64(p0 + 120, v26);
+    put64(p0 + 128, v25);
+    put64(p0 + 136, v32);
     put8(p0 + 89, v8);
     put8(p0 + 88, v6);
-    put32(p0 + 66, get32(v4 + 96));
-    put16(p0 + 70, get16(v4 + 100));
+    put32(p0 + 66, get32(v4 + 120));
+    put16(p0 + 70, get16(v4 + 124));
+    put64(p0 + 224, p1);
+    put64(p0 + 216, p1);
+    put64(p0 + 208, v24);
+    put64(p0 + 200, v34);
+    put64(p0 + 192, v23);
+    put64(p0 + 184, v28);
+    put64(p0 + 176, v22);
+    put64(p0 + 168, v30);
+    put64(p0 + 160, get64(v4 + 112));
+    put64(p0 + 152, get64(v4 + 104));
+    put64(p0 + 144, get64(v4 + 96));
     return;
 l2:;
     v6 = get32(p1 + 72);
@@ -6562,244 +6935,247 @@ l2:;
     put64(p0 + 40, 0);
     put16(p0 + 52, v8);
     put32(p0 + 48, v6);
-    fill(p0 + 54, 0, 154);
+    fill(p0 + 54, 0, 178);
     return;
+}
+
+static uint32_t smallvec_small_vec_SmallVec_grow_444910b390f8755b(uint64_t p0, uint64_t p1)
+{
+    unsigned char frame_octets[128 + 15];
+    uint32_t v3 = 0, v4 = 0;
+    uint64_t v2 = 0, v5 = 0, v6 = 0, v7 = 0, v8 = 0, v9 = 0, v10 = 0, v11 = 0, v12 = 0, v13 = 0, v14 = 0, v15 = 0,
+        v16 = 0, v17 = 0;
+    v2 = aligned(frame_octets);
+    v3 = 0;
+    v4 = get8(p0);
+    v5 = get64(p0 + ((v4 != 0) ? 16ULL : 32ULL));
+    if (p1 < v5) return 0;
+    if (p1 <= 1) {
+        if (v4 != 1) return 0;
+        p1 = p0 + 16;
+        v6 = get64(p1);
+        v7 = 0;
+        put64(p1, 0);
+        p1 = p0 + 24;
+        v8 = get64(p1);
+        put64(p1, 0);
+        put64(v2 + 72, 0);
+        put64(v2 + 80, 0);
+        put64(v2 + 88, 0);
+        v9 = p0 + 8;
+        v10 = get64(v9);
+        put64(v9, v2 + 120);
+        put64(v2 + 64, v2 + 120);
+        if (v6 != 0) {
+            p1 = v2 + 64;
+            v5 = v10;
+            do {
+                v11 = get64(p1);
+                put64(p1, get64(v5));
+                put64(p1 + 8, get64(v5 + 8));
+                v12 = p1 + 16;
+                v13 = get64(v12);
+                put64(v12, get64(v5 + 16));
+                if (v13 != 0) rattle_dealloc_at(v11);
+                v7 = v7 + 1;
+                put64(v2 + 88, v7);
+                v5 = v5 + 24;
+                p1 = p1 + 24;
+            } while (v6 != v7);
+        }
+        if (v8 != 0) rattle_dealloc_at(v10);
+        v4 = get8(p0);
+        put64(p0, 0);
+        v7 = get64(p0 + 8);
+        put64(v9, get64(v2 + 64));
+        v5 = get64(p0 + 16);
+        put64(v9 + 8, get64(v2 + 72));
+        p0 = get64(p0 + 24);
+        put64(v9 + 16, get64(v2 + 80));
+        put64(v9 + 24, get64(v2 + 88));
+        if (v4 == 0) {
+            if (p0 != 0) goto l9;
+            return v3;
+        }
+        if (v5 != 0) {
+            p1 = v7;
+            do {
+                if (get64(p1 + 16) != 0) rattle_dealloc_at(get64(p1));
+                p1 = p1 + 24;
+                v5 = v5 - 1;
+            } while (v5 != 0);
+        }
+        if (p0 == 0) return v3;
+    l9:;
+        rattle_dealloc_at(v7);
+        v3 = 0;
+        return 0;
+    }
+    v10 = p0 + 8;
+    if (v4 != 0) {
+        v7 = get64(p0 + 24);
+        if (p1 < v7) {
+            v5 = get64(p0 + 16);
+            if (v5 >= v7) return 0;
+            p1 = (v5 > p1) ? v5 : p1;
+            rattle_realloc_at(v2 + 16, get64(v10), v5 * 24, p1 * 24, 8);
+            if (((uint32_t)get64(v2 + 16) & 1) == 0) return 0;
+            v5 = get64(v2 + 24);
+            put64(p0 + 24, p1);
+            put64(p0 + 8, v5);
+            return 0;
+        }
+        v5 = p1 - v5;
+        p1 = get64(p0 + 16);
+        if (v5 <= (v7 - p1)) return 0;
+        v3 = 1;
+        if (v5 > ~p1) return 1;
+        v5 = p1 + v5;
+        if (v5 > 0x555555555555555ULL) return 1;
+        if (v7 != 0) {
+            rattle_realloc_at(v2 + 48, get64(v10), p1 * 24, v5 * 24, 8);
+            v3 = 1;
+            if (((uint32_t)get64(v2 + 48) & 1) == 0) return 1;
+            p1 = get64(v2 + 56);
+        } else {
+            rattle_alloc_at(v2 + 32, v5 * 24, 8);
+            v3 = 1;
+            if (((uint32_t)get64(v2 + 32) & 1) == 0) return 1;
+            p1 = get64(v2 + 40);
+        }
+        put64(p0 + 24, v5);
+        put64(p0 + 8, p1);
+        v3 = 0;
+        return 0;
+    }
+    if (p1 > 0x555555555555555ULL) goto l2;
+    rattle_alloc_at(v2, p1 * 24, 8);
+    if (((uint32_t)get64(v2) & 1) == 0) goto l2;
+    v8 = get64(v2 + 8);
+    v14 = p0 + 32;
+    v15 = get64(v14);
+    if (v15 != 0) {
+        v13 = 0;
+        if (v15 != 1) {
+            v16 = v15 & 1;
+            v17 = v15 & ~1ULL;
+            v12 = 0;
+            v13 = 0;
+            do {
+                v5 = p0 + v12;
+                v7 = v5 + 16;
+                v11 = get64(v7);
+                put64(v7, 0);
+                v7 = v5 + 24;
+                v6 = get64(v7);
+                put64(v7, 0);
+                v7 = v5 + 8;
+                v9 = get64(v7);
+                put64(v7, v2 + 120);
+                v7 = v8 + v12;
+                put64(v7 + 16, v6);
+                put64(v7 + 8, v11);
+                put64(v7, v9);
+                v11 = v5 + 48;
+                v6 = get64(v11);
+                put64(v11, 0);
+                v11 = v5 + 40;
+                v9 = get64(v11);
+                put64(v11, 0);
+                v5 = v5 + 32;
+                v11 = get64(v5);
+                put64(v5, v2 + 120);
+                put64(v2 + 96, v11);
+                put64(v2 + 104, v9);
+                put64(v2 + 112, v6);
+                put64(v7 + 24, get64(v2 + 96));
+                put64(v7 + 32, get64(v2 + 104));
+                put64(v7 + 40, get64(v2 + 112));
+                v12 = v12 + 48;
+                v13 = v13 + 2;
+            } while (v17 != v13);
+            if (v16 == 0) goto l16;
+        }
+        v11 = v13 * 24;
+        v5 = v10 + v11;
+        v7 = get64(v5 + 8);
+        put64(v5 + 8, 0);
+        v12 = get64(v5 + 16);
+        put64(v5 + 16, 0);
+        v13 = get64(v5);
+        put64(v5, v2 + 120);
+        v5 = v8 + v11;
+        put64(v5 + 16, v12);
+        put64(v5 + 8, v7);
+        put64(v5, v13);
+        put64(v2 + 112, v12);
+        put64(v2 + 104, v7);
+        put64(v2 + 96, v13);
+    l16:;
+        v7 = get64(p0 + 32);
+        if (v7 != 0) {
+            v5 = p0 + 24;
+            do {
+                put64(v5 - 8, 0);
+                v12 = get64(v5);
+                put64(v5, 0);
+                v13 = v5 - 16;
+                v11 = get64(v13);
+                put64(v13, v2 + 120);
+                if (v12 != 0) rattle_dealloc_at(v11);
+                v5 = v5 + 24;
+                v7 = v7 - 1;
+            } while (v7 != 0);
+        }
+    }
+    put64(v14, 0);
+    v4 = get8(p0);
+    put64(p0, 1);
+    v5 = p0 + 24;
+    v12 = get64(v5);
+    put64(v5, p1);
+    p1 = p0 + 16;
+    v5 = get64(p1);
+    put64(p1, v15);
+    p1 = p0 + 8;
+    v7 = get64(p1);
+    put64(p1, v8);
+    if (v4 == 0) {
+        if (v12 == 0) return v3;
+        rattle_dealloc_at(v7);
+        return v3;
+    }
+    if (v5 != 0) {
+        p1 = v7;
+        do {
+            if (get64(p1 + 16) != 0) rattle_dealloc_at(get64(p1));
+            p1 = p1 + 24;
+            v5 = v5 - 1;
+        } while (v5 != 0);
+    }
+    if (v12 == 0) return v3;
+    rattle_dealloc_at(v7);
+    return v3;
+l2:;
+    v3 = 1;
+    return 1;
 }
 
 static uint32_t smallvec_small_vec_SmallVec_reserve_one_444910b390f8755b(uint64_t p0)
 {
-    unsigned char frame_octets[112 + 15];
-    uint32_t v2 = 0, v5 = 0;
-    uint64_t v1 = 0, v3 = 0, v4 = 0, v6 = 0, v7 = 0, v8 = 0, v9 = 0, v10 = 0, v11 = 0, v12 = 0, v13 = 0, v14 = 0,
-        v15 = 0, v16 = 0, v17 = 0, t1;
-    v1 = aligned(frame_octets);
-    v2 = get8(p0);
-    v3 = get64(p0 + ((v2 != 0) ? 16ULL : 32ULL));
-    if (v2 == 0) {
-        v4 = 1;
+    uint32_t v1 = 0, t1;
+    uint64_t v2 = 0, v3 = 0;
+    v1 = get8(p0);
+    v2 = get64(p0 + ((v1 != 0) ? 16ULL : 32ULL));
+    if (v1 == 0) {
+        v3 = 1;
     } else {
-        v4 = get64(p0 + 24);
+        v3 = get64(p0 + 24);
     }
-    v5 = 0;
-    if (v4 != v3) return 0;
-    v5 = 1;
-    if (v3 == ~0ULL || ordered64(v3) < 0x7fffffffffffffffULL) return 1;
-    v5 = 0;
-    v4 = 0 - clz64(v3);
-    v6 = 1ULL << (v4 & 63);
-    if (v6 < v3) return 0;
-    v4 = v4 & 63;
-    if (v4 == 0) {
-        if (v2 != 1) return 0;
-        v3 = p0 + 16;
-        v7 = get64(v3);
-        v6 = 0;
-        put64(v3, 0);
-        v3 = p0 + 24;
-        v8 = get64(v3);
-        put64(v3, 0);
-        put64(v1 + 80, 0);
-        put64(v1 + 88, 0);
-        put64(v1 + 96, 0);
-        v9 = p0 + 8;
-        v10 = get64(v9);
-        put64(v9, v1 + 104);
-        put64(v1 + 72, v1 + 104);
-        if (v7 != 0) {
-            v3 = v1 + 72;
-            v4 = v10;
-            do {
-                v11 = get64(v3);
-                put64(v3, get64(v4));
-                put64(v3 + 8, get64(v4 + 8));
-                v12 = v3 + 16;
-                v13 = get64(v12);
-                put64(v12, get64(v4 + 16));
-                if (v13 != 0) rattle_dealloc_at(v11);
-                v6 = v6 + 1;
-                put64(v1 + 96, v6);
-                v4 = v4 + 24;
-                v3 = v3 + 24;
-            } while (v7 != v6);
-        }
-        if (v8 != 0) rattle_dealloc_at(v10);
-        v2 = get8(p0);
-        put64(p0, 0);
-        v4 = get64(p0 + 8);
-        put64(v9, get64(v1 + 72));
-        v3 = get64(p0 + 16);
-        put64(v9 + 8, get64(v1 + 80));
-        v6 = get64(p0 + 24);
-        put64(v9 + 16, get64(v1 + 88));
-        put64(v9 + 24, get64(v1 + 96));
-        if (v2 == 0) {
-            if (v6 != 0) goto l11;
-            return v5;
-        }
-        if (v3 != 0) {
-            p0 = v4;
-            do {
-                if (get64(p0 + 16) != 0) rattle_dealloc_at(get64(p0));
-                p0 = p0 + 24;
-                v3 = v3 - 1;
-            } while (v3 != 0);
-        }
-        if (v6 == 0) return v5;
-    l11:;
-        rattle_dealloc_at(v4);
-        v5 = 0;
-        return 0;
-    }
-    v9 = p0 + 8;
-    if (v2 != 0) {
-        v4 = get64(p0 + 24);
-        if (v6 < v4) {
-            v3 = get64(p0 + 16);
-            if (v3 >= v4) return 0;
-            t1 = v3 * 24;
-            v3 = (v3 > v6) ? v3 : v6;
-            rattle_realloc_at(v1 + 24, get64(v9), t1, v3 * 24, 8);
-            if (((uint32_t)get64(v1 + 24) & 1) == 0) return 0;
-            v4 = get64(v1 + 32);
-            put64(p0 + 24, v3);
-            put64(p0 + 8, v4);
-            return 0;
-        }
-        v6 = v6 - v3;
-        v3 = get64(p0 + 16);
-        if (v6 <= (v4 - v3)) return 0;
-        v5 = 1;
-        if (v6 > ~v3) return 1;
-        v6 = v3 + v6;
-        if (v6 > 0x555555555555555ULL) return 1;
-        if (v4 != 0) {
-            rattle_realloc_at(v1 + 56, get64(v9), v3 * 24, v6 * 24, 8);
-            v5 = 1;
-            if (((uint32_t)get64(v1 + 56) & 1) == 0) return 1;
-            v3 = get64(v1 + 64);
-        } else {
-            rattle_alloc_at(v1 + 40, v6 * 24, 8);
-            v5 = 1;
-            if (((uint32_t)get64(v1 + 40) & 1) == 0) return 1;
-            v3 = get64(v1 + 48);
-        }
-        put64(p0 + 24, v6);
-        put64(p0 + 8, v3);
-        v5 = 0;
-        return 0;
-    }
-    if (v4 > 58) goto l4;
-    rattle_alloc_at(v1 + 8, 24ULL << (v4 & 63), 8);
-    if (((uint32_t)get64(v1 + 8) & 1) == 0) goto l4;
-    v14 = (ordered64(v3) > 0x7ffffffffffffffeULL) ? v6 : 0ULL;
-    v10 = get64(v1 + 16);
-    v15 = p0 + 32;
-    v16 = get64(v15);
-    if (v16 != 0) {
-        v12 = 0;
-        if (v16 != 1) {
-            v17 = v16 & 1;
-            v8 = v16 & ~1ULL;
-            v6 = 0;
-            v12 = 0;
-            do {
-                v3 = p0 + v6;
-                v4 = v3 + 16;
-                v13 = get64(v4);
-                put64(v4, 0);
-                v4 = v3 + 24;
-                v11 = get64(v4);
-                put64(v4, 0);
-                v4 = v3 + 8;
-                v7 = get64(v4);
-                put64(v4, v1 + 104);
-                v4 = v10 + v6;
-                put64(v4 + 16, v11);
-                put64(v4 + 8, v13);
-                put64(v4, v7);
-                v13 = v3 + 48;
-                v11 = get64(v13);
-                put64(v13, 0);
-                v13 = v3 + 40;
-                v7 = get64(v13);
-                put64(v13, 0);
-                v3 = v3 + 32;
-                v13 = get64(v3);
-                put64(v3, v1 + 104);
-                put64(v1 + 72, v13);
-                put64(v1 + 80, v7);
-                put64(v1 + 88, v11);
-                put64(v4 + 24, get64(v1 + 72));
-                put64(v4 + 32, get64(v1 + 80));
-                put64(v4 + 40, get64(v1 + 88));
-                v6 = v6 + 48;
-                v12 = v12 + 2;
-            } while (v8 != v12);
-            if (v17 == 0) goto l18;
-        }
-        v13 = v12 * 24;
-        v3 = v9 + v13;
-        v4 = get64(v3 + 8);
-        put64(v3 + 8, 0);
-        v6 = get64(v3 + 16);
-        put64(v3 + 16, 0);
-        v12 = get64(v3);
-        put64(v3, v1 + 104);
-        v3 = v10 + v13;
-        put64(v3 + 16, v6);
-        put64(v3 + 8, v4);
-        put64(v3, v12);
-        put64(v1 + 88, v6);
-        put64(v1 + 80, v4);
-        put64(v1 + 72, v12);
-    l18:;
-        v4 = get64(p0 + 32);
-        if (v4 != 0) {
-            v3 = p0 + 24;
-            do {
-                put64(v3 - 8, 0);
-                v6 = get64(v3);
-                put64(v3, 0);
-                v12 = v3 - 16;
-                v13 = get64(v12);
-                put64(v12, v1 + 104);
-                if (v6 != 0) rattle_dealloc_at(v13);
-                v3 = v3 + 24;
-                v4 = v4 - 1;
-            } while (v4 != 0);
-        }
-    }
-    put64(v15, 0);
-    v2 = get8(p0);
-    put64(p0, 1);
-    v3 = p0 + 24;
-    v6 = get64(v3);
-    put64(v3, v14);
-    v4 = p0 + 16;
-    v3 = get64(v4);
-    put64(v4, v16);
-    p0 = p0 + 8;
-    v4 = get64(p0);
-    put64(p0, v10);
-    if (v2 == 0) {
-        if (v6 == 0) return v5;
-        rattle_dealloc_at(v4);
-        return v5;
-    }
-    if (v3 != 0) {
-        p0 = v4;
-        do {
-            if (get64(p0 + 16) != 0) rattle_dealloc_at(get64(p0));
-            p0 = p0 + 24;
-            v3 = v3 - 1;
-        } while (v3 != 0);
-    }
-    if (v6 == 0) return v5;
-    rattle_dealloc_at(v4);
-    return v5;
-l4:;
-    v5 = 1;
-    return 1;
+    if (v3 != v2) return 0;
+    if (v2 > 0x7fffffffffffffffULL) return 1;
+    t1 = smallvec_small_vec_SmallVec_grow_444910b390f8755b(p0, 1ULL << ((0 - clz64(v2)) & 63));
+    return t1 & 255;
 }
 
 static uint32_t std_alloc_vec_Vec_grow_amortized_a351ad16c7c032ee(uint64_t p0, uint64_t p1)
@@ -6828,6 +7204,38 @@ static uint32_t std_alloc_vec_Vec_grow_amortized_a351ad16c7c032ee(uint64_t p0, u
     put64(p0 + 16, p1);
     put64(p0, v4);
     return 1;
+}
+
+static void smallvec_small_vec_SmallVec_push_reserved_ed127ccbaaf726c4(uint64_t p0, uint64_t p1)
+{
+    uint64_t v2 = 0, v3 = 0, v4 = 0, v5 = 0, v6 = 0, t1;
+    v2 = p0 + 8;
+    if (get8(p0) == 0) {
+        v3 = get64(p1 + 16);
+        v4 = get64(p1);
+        v5 = p0 + 32;
+        v6 = get64(v5);
+        p0 = v2 + (v6 * 24);
+        put64(p0 + 8, get64(p1 + 8));
+        v2 = get64(p0);
+        put64(p0, v4);
+        p1 = get64(p0 + 16);
+        put64(p0 + 16, v3);
+        if (p1 != 0) rattle_dealloc_at(v2);
+        put64(v5, v6 + 1);
+        return;
+    }
+    v3 = get64(p1);
+    v4 = get64(p1 + 8);
+    t1 = get64(v2);
+    v2 = p0 + 16;
+    v5 = get64(v2);
+    p0 = t1 + (v5 * 24);
+    put64(p0 + 16, get64(p1 + 16));
+    put64(p0 + 8, v4);
+    put64(p0, v3);
+    put64(v2, v5 + 1);
+    return;
 }
 
 static uint32_t std_alloc_vec_Vec_extend_from_slice_672334860c861157(uint64_t p0, uint64_t p1, uint64_t p2)
@@ -6881,91 +7289,40 @@ l3:;
     return 0;
 }
 
-/* map_service::packets::fault_of_one, crates/map_service/src/packets.rt:63 */
-static void map_service_packets_fault_of_one(uint64_t p0, uint32_t p1, uint64_t p2, uint64_t p3)
+static void std_alloc_vec_Vec_drop_555ceec2fcbf3849(uint64_t p0)
 {
-    uint32_t v4 = 0;
-    uint64_t v5 = 0;
-    if (p3 > (uint64_t)p1) {
-        p1 = 1;
-        v4 = 4;
-        put8(p0 + 1, v4);
-        put8(p0, p1);
-        return;
+    uint64_t v1 = 0, v2 = 0, v3 = 0;
+    v1 = get64(p0 + 16);
+    v2 = get64(p0);
+    v3 = get64(p0 + 8);
+    if (v3 != 0) {
+        p0 = v2;
+        do {
+            if (get8(p0) != 0 && get64(p0 + 24) != 0) rattle_dealloc_at(get64(p0 + 8));
+            p0 = p0 + 32;
+            v3 = v3 - 1;
+        } while (v3 != 0);
     }
-    v5 = 0;
-    if (p3 < 6) {
-        p1 = 0;
-    } else {
-        v4 = get8(p2);
-        if (v4 > 31) {
-            p1 = 0;
-        } else {
-            if ((v4 & 8) != 0) {
-                p1 = 0;
-                if ((((v4 << 8) & 0x700) | get8(p2 + 1)) == 0x7ff) goto l3;
-            }
-            p2 = (((uint64_t)get8(p2 + 4) << 8) | (uint64_t)get8(p2 + 5)) + 7;
-            p1 = p3 >= p2;
-            v5 = (p1 != 0) ? p2 : 0ULL;
-        }
-    }
-l3:;
-    p1 = p1 & (uint32_t)(v5 == p3);
-    v4 = (p1 != 0) ? 0U : 3U;
-    p1 = p1 ^ 1;
-    put8(p0 + 1, v4);
-    put8(p0, p1);
-    return;
-}
-
-static void smallvec_small_vec_SmallVec_push_reserved_ed127ccbaaf726c4(uint64_t p0, uint64_t p1)
-{
-    uint64_t v2 = 0, v3 = 0, v4 = 0, v5 = 0, v6 = 0, t1;
-    v2 = p0 + 8;
-    if (get8(p0) == 0) {
-        v3 = get64(p1 + 16);
-        v4 = get64(p1);
-        v5 = p0 + 32;
-        v6 = get64(v5);
-        p0 = v2 + (v6 * 24);
-        put64(p0 + 8, get64(p1 + 8));
-        v2 = get64(p0);
-        put64(p0, v4);
-        p1 = get64(p0 + 16);
-        put64(p0 + 16, v3);
-        if (p1 != 0) rattle_dealloc_at(v2);
-        put64(v5, v6 + 1);
-        return;
-    }
-    v3 = get64(p1);
-    v4 = get64(p1 + 8);
-    t1 = get64(v2);
-    v2 = p0 + 16;
-    v5 = get64(v2);
-    p0 = t1 + (v5 * 24);
-    put64(p0 + 16, get64(p1 + 16));
-    put64(p0 + 8, v4);
-    put64(p0, v3);
-    put64(v2, v5 + 1);
+    if (v1 == 0) return;
+    rattle_dealloc_at(v2);
     return;
 }
 
 /* nodes::spacecraft::Spacecraft::commit, crates/nodes/src/spacecraft/receive.rt:65 */
 static void nodes_spacecraft_Spacecraft_commit(uint64_t p0, uint64_t p1, uint64_t p2)
 {
-    unsigned char frame_octets[176 + 15];
-    uint32_t v8 = 0, v9 = 0, v10 = 0, v12 = 0, v13 = 0, v14 = 0, v15 = 0, v17 = 0, v21 = 0, t1;
-    uint64_t v3 = 0, v4 = 0, v5 = 0, v6 = 0, v7 = 0, v11 = 0, v16 = 0, v18 = 0, v19 = 0, v20 = 0, v22 = 0, v23 = 0,
-        v24 = 0, v25 = 0, v26 = 0, v27 = 0, v28 = 0, v29 = 0;
+    unsigned char frame_octets[192 + 15];
+    uint32_t v8 = 0, v9 = 0, v10 = 0, v12 = 0, v13 = 0, v14 = 0, v15 = 0, v17 = 0, v24 = 0, t1;
+    uint64_t v3 = 0, v4 = 0, v5 = 0, v6 = 0, v7 = 0, v11 = 0, v16 = 0, v18 = 0, v19 = 0, v20 = 0, v21 = 0, v22 = 0,
+        v23 = 0, v25 = 0, v26 = 0, v27 = 0, v28 = 0, v29 = 0;
     v3 = aligned(frame_octets);
     put64(v3 + 8, get64(p2 + 34));
     put32(v3 + 16, get32(p2 + 42));
-    v4 = get64(p2 + 192);
-    v5 = get64(p2 + 184);
-    v6 = get64(p2 + 176);
-    v7 = get64(p2 + 168);
-    v8 = get8(p2 + 160);
+    v4 = get64(p2 + 216);
+    v5 = get64(p2 + 208);
+    v6 = get64(p2 + 200);
+    v7 = get64(p2 + 192);
+    v8 = get8(p2 + 184);
     v9 = get8(p2 + 33);
     v10 = get8(p2 + 32);
     v11 = get64(p2 + 24);
@@ -6976,225 +7333,277 @@ static void nodes_spacecraft_Spacecraft_commit(uint64_t p0, uint64_t p1, uint64_
     v15 = get8(p2 + 88);
     v16 = (uint64_t)v15 & 255;
     v17 = get8(p2 + 57);
-    v18 = get64(p2 + 152);
-    v19 = get64(p2 + 144);
-    v20 = get64(p2 + 136);
-    v21 = get8(p2 + 128);
-    v22 = get64(p2 + 72);
-    v23 = get64(p2 + 64);
-    put64(v3 + 55, get64(p2 + 120));
-    put64(v3 + 48, get64(p2 + 113));
-    put64(v3 + 40, get64(p2 + 105));
-    put64(v3 + 32, get64(p2 + 97));
-    put64(v3 + 24, get64(p2 + 89));
+    v18 = get64(p2 + 176);
+    v19 = get64(p2 + 168);
+    v20 = get64(p2 + 160);
+    v21 = get64(p2 + 152);
+    v22 = get64(p2 + 144);
+    v23 = get64(p2 + 136);
+    v24 = get8(p2 + 128);
+    v25 = get64(p2 + 72);
+    v26 = get64(p2 + 64);
+    put64(v3 + 48, 0);
+    put64(v3 + 40, 0);
+    put64(v3 + 32, 0);
+    put64(v3 + 24, 0);
+    put64(v3 + 143, get64(p2 + 120));
+    put64(v3 + 136, get64(p2 + 113));
+    put64(v3 + 128, get64(p2 + 105));
+    put64(v3 + 120, get64(p2 + 97));
+    put64(v3 + 112, get64(p2 + 89));
     if ((v17 & 255) <= 63) {
-        p2 = (uint64_t)v17 & 255;
-        if (((uint32_t)(get64(p1 + 88) >> (p2 & 63)) & 1) != 0) {
-            v24 = (p1 + (p2 << 5)) + 104;
-            switch (v21) {
-            case 1:
-                put64(v24 + 16, 0);
-                v21 = get8(v24);
-                put64(v24, 0);
-                p2 = v24 + 8;
+        v27 = (uint64_t)v17 & 255;
+        if (((uint32_t)(get64(p1 + 88) >> (v27 & 63)) & 1) != 0) {
+            p2 = p1 + 112;
+            if (get64(p2) == 0) {
+                put64(p2, v19);
+                p2 = p1 + 120;
+                v19 = get64(p2);
+                put64(p2, v18);
+                p2 = p1 + 104;
                 v18 = get64(p2);
+                put64(p2, v20);
+                v20 = v18;
+                if (v19 != 0) goto l10;
+                goto l9;
+            }
+            if (v19 != 0) {
+                p2 = v20;
+                do {
+                    if (get8(p2) != 0 && get64(p2 + 24) != 0) rattle_dealloc_at(get64(p2 + 8));
+                    p2 = p2 + 32;
+                    v19 = v19 - 1;
+                } while (v19 != 0);
+            }
+            if (v18 == 0) goto l9;
+        l10:;
+            rattle_dealloc_at(v20);
+        l9:;
+            if (get64(p1 + 112) <= v27) {
+                if (v24 != 2 || v21 == 0) goto l2;
+                rattle_dealloc_at(v23);
+                goto l2;
+            }
+            v20 = get64(p1 + 104) + (v27 << 5);
+            switch (v24) {
+            case 1:
+                put64(v20 + 16, 0);
+                v24 = get8(v20);
+                put64(v20, 0);
+                p2 = v20 + 8;
+                v19 = get64(p2);
                 put64(p2, 0);
-                v20 = v24 + 24;
+                v20 = v20 + 24;
                 p2 = get64(v20);
                 put64(v20, 0);
                 break;
             case 2:
-                put64(v24 + 16, v19);
-                v21 = get8(v24);
-                put64(v24, 1);
-                v23 = v24 + 24;
-                p2 = get64(v23);
-                put64(v23, v18);
-                v23 = v24 + 8;
-                v18 = get64(v23);
-                put64(v23, v20);
+                put64(v20 + 16, v22);
+                v24 = get8(v20);
+                put64(v20, 1);
+                v19 = v20 + 24;
+                p2 = get64(v19);
+                put64(v19, v21);
+                v20 = v20 + 8;
+                v19 = get64(v20);
+                put64(v20, v23);
                 break;
             case 3:
-                if (get8(v24) != 1) goto l2;
-                v25 = get64(v24 + 24);
-                p2 = v24 + 16;
-                v26 = get64(p2);
-                if (v22 > (v25 - v26)) {
-                    t1 = std_alloc_vec_Vec_grow_amortized_a351ad16c7c032ee(v24 + 8, v22);
+                if (get8(v20) != 1) goto l2;
+                v28 = get64(v20 + 24);
+                p2 = v20 + 16;
+                v22 = get64(p2);
+                if (v25 > (v28 - v22)) {
+                    t1 = std_alloc_vec_Vec_grow_amortized_a351ad16c7c032ee(v20 + 8, v25);
                     if (t1 == 0) goto l2;
-                    v25 = get64(v24 + 24);
-                    v26 = get64(v24 + 16);
+                    v28 = get64(v20 + 24);
+                    v22 = get64(v20 + 16);
                 }
-                v18 = 0;
+                v19 = 0;
                 put64(p2, 0);
                 put64(p2 + 8, 0);
-                v27 = v26 + v22;
-                v28 = get64(v24 + 8);
-                v29 = v28 + v26;
-                if ((v29 - v23) < v22) {
-                    v19 = v22 & 3;
-                    if (v22 >= 4) {
-                        v22 = v22 & ~3ULL;
-                        v18 = 0;
+                v29 = v22 + v25;
+                v27 = get64(v20 + 8);
+                v23 = v27 + v22;
+                if ((v23 - v26) < v25) {
+                    v21 = v25 & 3;
+                    if (v25 >= 4) {
+                        v25 = v25 & ~3ULL;
+                        v19 = 0;
                         do {
-                            p2 = v29 + v18;
-                            v20 = v23 + v18;
-                            put8(p2, get8(v20));
-                            put8(p2 + 1, get8(v20 + 1));
-                            put8(p2 + 2, get8(v20 + 2));
-                            put8(p2 + 3, get8(v20 + 3));
-                            v18 = v18 + 4;
-                        } while (v22 != v18);
-                        if (v19 == 0) goto l10;
+                            p2 = v23 + v19;
+                            v18 = v26 + v19;
+                            put8(p2, get8(v18));
+                            put8(p2 + 1, get8(v18 + 1));
+                            put8(p2 + 2, get8(v18 + 2));
+                            put8(p2 + 3, get8(v18 + 3));
+                            v19 = v19 + 4;
+                        } while (v25 != v19);
+                        if (v21 == 0) goto l21;
                     }
-                    p2 = v23 + v18;
-                    v18 = v28 + (v26 + v18);
+                    p2 = v26 + v19;
+                    v19 = v27 + (v22 + v19);
                     do {
-                        put8(v18, get8(p2));
-                        v18 = v18 + 1;
+                        put8(v19, get8(p2));
+                        v19 = v19 + 1;
                         p2 = p2 + 1;
-                        v19 = v19 - 1;
-                    } while (v19 != 0);
-                } else if (v22 != 0) copy(v29, v23, v22);
-            l10:;
-                put64(v24 + 24, v25);
-                put64(v24 + 16, v27);
-                put64(v24 + 8, v28);
+                        v21 = v21 - 1;
+                    } while (v21 != 0);
+                } else if (v25 != 0) copy(v23, v26, v25);
+            l21:;
+                put64(v20 + 24, v28);
+                put64(v20 + 16, v29);
+                put64(v20 + 8, v27);
                 goto l2;
             default:
                 goto l2;
             }
-            if ((v21 & 255) == 1 && p2 != 0) rattle_dealloc_at(v18);
+            if ((v24 & 255) == 1 && p2 != 0) rattle_dealloc_at(v19);
             goto l2;
         }
     }
-    if (v21 == 2 && v18 != 0) rattle_dealloc_at(v20);
+    if (v19 != 0) {
+        p2 = v20;
+        do {
+            if (get8(p2) != 0 && get64(p2 + 24) != 0) rattle_dealloc_at(get64(p2 + 8));
+            p2 = p2 + 32;
+            v19 = v19 - 1;
+        } while (v19 != 0);
+    }
+    if (v18 != 0) rattle_dealloc_at(v20);
+    if (v24 == 2 && v21 != 0) rattle_dealloc_at(v23);
 l2:;
-    p2 = get64(v3 + 55);
-    put64(v3 + 160, p2);
-    put64(v3 + 152, get64(v3 + 47));
-    v18 = get64(v3 + 39);
-    put64(v3 + 144, v18);
-    put64(v3 + 136, get64(v3 + 31));
-    put64(v3 + 128, v16);
-    v21 = v15 & 255;
-    if (((v21 != 0) ? v18 : p2) != 0) {
-        v21 = v21 == 0;
-        v29 = v3 + 136;
-        v16 = v3 + 31;
-        v26 = p1 + 0x8a0;
-        v28 = p1 + 0x898;
-        v24 = p1 + 0x8a8;
-        v23 = p1 + 0x890;
-        v25 = p1 + 0x888;
+    p2 = get64(v3 + 143);
+    put64(v3 + 48, p2);
+    v19 = get64(v3 + 135);
+    put64(v3 + 40, v19);
+    v20 = get64(v3 + 127);
+    put64(v3 + 32, v20);
+    v18 = get64(v3 + 119);
+    put64(v3 + 24, v18);
+    put64(v3 + 128, v18);
+    put64(v3 + 136, v20);
+    put64(v3 + 144, v19);
+    put64(v3 + 152, p2);
+    put64(v3 + 120, v16);
+    v24 = v15 & 255;
+    if (((v24 != 0) ? v20 : p2) != 0) {
+        v24 = v24 == 0;
+        v25 = v3 + 128;
+        v19 = v3 + 167;
+        v22 = p1 + 184;
+        v27 = p1 + 176;
+        v23 = p1 + 192;
+        v18 = p1 + 168;
+        v28 = p1 + 160;
         p2 = 0;
         do {
-            put64(v3 + 120, p2 + 1);
-            p2 = (((v21 & 1) != 0) ? v29 : get64(v3 + 136)) + (p2 * 24);
-            v18 = get64(p2 + 16);
+            put64(v3 + 112, p2 + 1);
+            p2 = (((v24 & 1) != 0) ? v25 : get64(v3 + 128)) + (p2 * 24);
+            v20 = get64(p2 + 16);
             put64(p2 + 16, 0);
-            v20 = get64(p2 + 8);
+            v16 = get64(p2 + 8);
             put64(p2 + 8, 0);
-            v22 = get64(p2);
-            put64(v3 + 96, v22);
+            v21 = get64(p2);
+            put64(v3 + 88, v21);
+            put64(v3 + 96, v16);
             put64(v3 + 104, v20);
-            put64(v3 + 112, v18);
-            put64(p2, v3 + 175);
-            put64(v16 + 16, v18);
-            put64(v16 + 8, v20);
-            put64(v16, v22);
-            put32(v3 + 27, 0);
-            put32(v3 + 24, 0);
-            put64(v3 + 87, get64(v3 + 47));
-            put64(v3 + 80, get64(v3 + 40));
-            put64(v3 + 72, get64(v3 + 32));
-            put64(v3 + 64, get64(v3 + 24));
-            p2 = get64(v25);
-            v18 = get64(v23);
-            v20 = get64(v24);
-            v22 = v18 - v20;
-            v19 = get64(v26);
-            if (v22 < (get64(v28) - v19)) {
-                p2 = p2 + ((v19 + v22) << 5);
+            put64(p2, v3 + 191);
+            put64(v19 + 16, v20);
+            put64(v19 + 8, v16);
+            put64(v19, v21);
+            put32(v3 + 163, 0);
+            put32(v3 + 160, 0);
+            put64(v3 + 79, get64(v3 + 183));
+            put64(v3 + 72, get64(v3 + 176));
+            put64(v3 + 64, get64(v3 + 168));
+            put64(v3 + 56, get64(v3 + 160));
+            p2 = get64(v28);
+            v20 = get64(v18);
+            v16 = get64(v23);
+            v21 = v20 - v16;
+            v26 = get64(v22);
+            if (v21 < (get64(v27) - v26)) {
+                p2 = p2 + ((v26 + v21) << 5);
                 put8(p2, v17);
-                put64(p2 + 1, get64(v3 + 64));
-                put64(p2 + 9, get64(v3 + 72));
-                put64(p2 + 17, get64(v3 + 80));
-                put64(p2 + 24, get64(v3 + 87));
+                put64(p2 + 1, get64(v3 + 56));
+                put64(p2 + 9, get64(v3 + 64));
+                put64(p2 + 17, get64(v3 + 72));
+                put64(p2 + 24, get64(v3 + 79));
             } else {
-                p2 = p2 + (v20 << 5);
-                put64(p2 + 1, get64(v3 + 64));
+                p2 = p2 + (v16 << 5);
+                put64(p2 + 1, get64(v3 + 56));
                 put8(p2, v17);
-                put64(p2 + 9, get64(v3 + 72));
-                put64(p2 + 17, get64(v3 + 80));
-                put64(p2 + 24, get64(v3 + 87));
-                put64(v24, v20 + 1);
+                put64(p2 + 9, get64(v3 + 64));
+                put64(p2 + 17, get64(v3 + 72));
+                put64(p2 + 24, get64(v3 + 79));
+                put64(v23, v16 + 1);
             }
-            put64(v23, v18 + 1);
-            v15 = get8(v3 + 128);
-            v21 = v15 == 0;
-            p2 = get64(v3 + 120);
-            v18 = get64(v3 + 144);
-        } while (p2 != ((v15 != 0) ? v18 : get64(v3 + 160)));
+            put64(v18, v20 + 1);
+            v15 = get8(v3 + 120);
+            v24 = v15 == 0;
+            p2 = get64(v3 + 112);
+            v20 = get64(v3 + 136);
+        } while (p2 != ((v15 != 0) ? v20 : get64(v3 + 152)));
     }
-    v20 = get64(v3 + 152);
-    v16 = get64(v3 + 136);
+    v16 = get64(v3 + 144);
+    v19 = get64(v3 + 128);
     if ((v15 & 255) == 0) {
-        if (v20 != 0) goto l19;
+        if (v16 != 0) goto l30;
         goto l1;
     }
-    if (v18 != 0) {
-        p2 = v16;
+    if (v20 != 0) {
+        p2 = v19;
         do {
             if (get64(p2 + 16) != 0) rattle_dealloc_at(get64(p2));
             p2 = p2 + 24;
-            v18 = v18 - 1;
-        } while (v18 != 0);
+            v20 = v20 - 1;
+        } while (v20 != 0);
     }
-    if (v20 == 0) goto l1;
-l19:;
-    rattle_dealloc_at(v16);
+    if (v16 == 0) goto l1;
+l30:;
+    rattle_dealloc_at(v19);
 l1:;
     if ((v8 & 255) == 1) {
-        p2 = get64(p1 + 0x8b8);
+        p2 = get64(p1 + 208);
         if (p2 == 0) {
             p2 = v4;
-            v18 = v6;
+            v20 = v6;
         } else {
-            v23 = p1 + 0x8c8;
-            v18 = get64(v23);
-            v16 = p1 + 0x8c0;
-            v20 = get64(v16);
-            if (p2 > v20) {
-                v18 = v18 + v20;
-                p2 = get64(p1 + 0x8b0) + ((v18 - ((v18 < p2) ? 0ULL : p2)) << 5);
+            v18 = p1 + 224;
+            v20 = get64(v18);
+            v19 = p1 + 216;
+            v16 = get64(v19);
+            if (p2 > v16) {
+                v20 = v20 + v16;
+                p2 = get64(p1 + 200) + ((v20 - ((v20 < p2) ? 0ULL : p2)) << 5);
                 put64(p2 + 24, v4);
                 put64(p2 + 16, v5);
                 put64(p2 + 8, v6);
                 put64(p2, v7);
-                put64(v16, get64(v16) + 1);
-                goto l24;
+                put64(v19, get64(v19) + 1);
+                goto l35;
             }
-            v20 = v20 - 1;
-            put64(v16, v20);
-            v22 = v18 + 1;
-            v22 = v22 - ((v22 < p2) ? 0ULL : p2);
-            put64(v23, v22);
-            v23 = get64(p1 + 0x8b0);
-            v20 = v22 + v20;
-            v20 = v23 + ((v20 - ((v20 < p2) ? 0ULL : p2)) << 5);
-            put64(v20, v7);
-            p2 = v23 + (v18 << 5);
-            v18 = get64(p2 + 8);
-            put64(v20 + 8, v6);
-            put64(v20 + 16, v5);
+            v16 = v16 - 1;
+            put64(v19, v16);
+            v21 = v20 + 1;
+            v21 = v21 - ((v21 < p2) ? 0ULL : p2);
+            put64(v18, v21);
+            v18 = get64(p1 + 200);
+            v16 = v21 + v16;
+            v16 = v18 + ((v16 - ((v16 < p2) ? 0ULL : p2)) << 5);
+            put64(v16, v7);
+            p2 = v18 + (v20 << 5);
+            v20 = get64(p2 + 8);
+            put64(v16 + 8, v6);
+            put64(v16 + 16, v5);
             p2 = get64(p2 + 24);
-            put64(v20 + 24, v4);
-            put64(v16, get64(v16) + 1);
+            put64(v16 + 24, v4);
+            put64(v19, get64(v19) + 1);
         }
-        if (p2 != 0) rattle_dealloc_at(v18);
+        if (p2 != 0) rattle_dealloc_at(v20);
     }
-l24:;
+l35:;
     put16(p1 + 76, get16(v3 + 18));
     put32(p1 + 72, get32(v3 + 14));
     put8(p0 + 17, v9);
@@ -7227,12 +7636,12 @@ static void tm_link_turn_put_next(uint64_t p0, uint64_t p1, uint64_t p2, uint32_
     v13 = (v6 < v8) ? v6 : v8;
     v14 = v6 - v13;
     v15 = v7 + v13;
-    v11 = address(constant_33 + 7) - v8;
+    v11 = address(constant_36 + 7) - v8;
     if ((v7 - v11) < v13) {
         v16 = v13 & 3;
         v17 = 0;
         if (v13 >= 4) {
-            v11 = address(constant_33) - v8;
+            v11 = address(constant_36) - v8;
             v18 = v13 & ~3ULL;
             v17 = 0;
             do {
@@ -7242,7 +7651,7 @@ static void tm_link_turn_put_next(uint64_t p0, uint64_t p1, uint64_t p2, uint32_
             if (v16 == 0) goto l4;
         }
         v11 = v17 + p4 + 6;
-        v17 = v17 - v8 + address(constant_33 + 7);
+        v17 = v17 - v8 + address(constant_36 + 7);
         do {
             put8(v11, get8(v17));
             v11 = v11 + 1;
@@ -7283,9 +7692,9 @@ l4:;
 l9:;
     v11 = v15 + v19;
     if (v14 <= 6) {
-        if ((v11 - address(constant_33)) >= v14) {
+        if ((v11 - address(constant_36)) >= v14) {
             if (v14 == 0) goto l14;
-            copy(v11, address(constant_33), v14);
+            copy(v11, address(constant_36), v14);
             goto l14;
         }
         v18 = v14 & 3;
@@ -7296,7 +7705,7 @@ l9:;
             v16 = v14 & 4;
             v11 = 0;
             do {
-                put32(v17 + v11 + 6, get32(v11 + address(constant_33)));
+                put32(v17 + v11 + 6, get32(v11 + address(constant_36)));
                 v11 = v11 + 4;
             } while (v16 != v11);
             if (v18 == 0) goto l14;
@@ -7304,12 +7713,12 @@ l9:;
         v17 = 0 - v18;
         v16 = p4 + p1;
         do {
-            put8(v16 + v11 + 6, get8(v11 + address(constant_33)));
+            put8(v16 + v11 + 6, get8(v11 + address(constant_36)));
             v11 = v11 + 1;
             v17 = v17 + 1;
         } while (v17 != 0);
     } else {
-        if ((v11 - address(constant_33)) <= 3) {
+        if ((v11 - address(constant_36)) <= 3) {
             put32(v11, 0xc0ff07);
         } else {
             put32(v11, 0xc0ff07);
@@ -7351,7 +7760,7 @@ l1:;
     return;
 }
 
-/* nodes::spacecraft::Spacecraft::telemetry, crates/nodes/src/spacecraft.rt:237 */
+/* nodes::spacecraft::Spacecraft::telemetry, crates/nodes/src/spacecraft.rt:238 */
 static void nodes_spacecraft_Spacecraft_telemetry(uint64_t p0, uint64_t p1, uint64_t p2, uint64_t p3)
 {
     uint32_t v4 = 0, v5 = 0, v6 = 0, t1, t2, t3;
@@ -7376,13 +7785,13 @@ static void nodes_spacecraft_Spacecraft_telemetry(uint64_t p0, uint64_t p1, uint
         put8(p0, v4);
         return;
     }
-    v7 = p1 + 0x8f8;
+    v7 = p1 + 272;
     v8 = get64(v7);
-    v9 = get64(p1 + 0x908);
+    v9 = get64(p1 + 288);
     v10 = v8 - v9;
     if (v10 > v9) goto l3;
     if (v8 != v9) {
-        v11 = get64(p1 + 0x8f0);
+        v11 = get64(p1 + 264);
         v12 = v10 & 3;
         v13 = 0;
         if ((v9 - v8) <= ~3ULL) {
@@ -7413,10 +7822,10 @@ static void nodes_spacecraft_Spacecraft_telemetry(uint64_t p0, uint64_t p1, uint
         put64(v7, v10);
         v8 = v10;
     }
-    put64(p1 + 0x908, 0);
+    put64(p1 + 288, 0);
 l3:;
-    if (get64(p1 + 0x928) == get64(p1 + 0x920)) {
-        t1 = std_alloc_vec_deque_VecDeque_grow_ee377714b7165a56(p1 + 0x918);
+    if (get64(p1 + 320) == get64(p1 + 312)) {
+        t1 = std_alloc_vec_deque_VecDeque_grow_ee377714b7165a56(p1 + 304);
         if (t1 == 0) {
             v5 = 6;
             put8(p0 + 1, v5);
@@ -7425,23 +7834,23 @@ l3:;
         }
         v8 = get64(v7);
     }
-    v14 = get64(p1 + 0x900);
+    v14 = get64(p1 + 280);
     if (p3 > (v14 - v8)) {
-        t2 = std_alloc_vec_Vec_grow_amortized_5ff1a26cbddecd5f(p1 + 0x8f0, p3);
+        t2 = std_alloc_vec_Vec_grow_amortized_5ff1a26cbddecd5f(p1 + 264, p3);
         if (t2 == 0) {
             v5 = 6;
             put8(p0 + 1, v5);
             put8(p0, v4);
             return;
         }
-        v14 = get64(p1 + 0x900);
-        v8 = get64(p1 + 0x8f8);
+        v14 = get64(p1 + 280);
+        v8 = get64(p1 + 272);
     }
     v13 = 0;
     put64(v7, 0);
     put64(v7 + 8, 0);
     v15 = v8 + p3;
-    v7 = get64(p1 + 0x8f0);
+    v7 = get64(p1 + 264);
     v9 = v7 + v8;
     if ((v9 - p2) < p3) {
         v11 = p3 & ~3ULL;
@@ -7466,18 +7875,18 @@ l3:;
         } while (v12 != 0);
     } else if (p3 != 0) copy(v9, p2, p3);
 l14:;
-    put64(p1 + 0x900, v14);
-    put64(p1 + 0x8f8, v15);
-    put64(p1 + 0x8f0, v7);
+    put64(p1 + 280, v14);
+    put64(p1 + 272, v15);
+    put64(p1 + 264, v7);
     v5 = (uint32_t)p3;
-    p2 = get64(p1 + 0x920);
-    p3 = get64(p1 + 0x928);
+    p2 = get64(p1 + 312);
+    p3 = get64(p1 + 320);
     if (p2 < p3) {
-        v13 = get64(p1 + 0x918);
-        v16 = p1 + 0x938;
+        v13 = get64(p1 + 304);
+        v16 = p1 + 336;
         v8 = get64(v16);
         v12 = p2 - v8;
-        v9 = get64(p1 + 0x930);
+        v9 = get64(p1 + 328);
         if (v12 < (p3 - v9)) {
             put32(v13 + ((v12 + v9) << 2), v5);
             goto l19;
@@ -7485,16 +7894,16 @@ l14:;
         put32(v13 + (v8 << 2), v5);
         put64(v16, v8 + 1);
     } else {
-        p2 = p1 + 0x918;
+        p2 = p1 + 304;
         t3 = std_alloc_vec_deque_VecDeque_grow_ee377714b7165a56(p2);
         if (t3 == 0) goto l18;
         p3 = get64(p2);
-        p2 = get64(p1 + 0x920);
-        v8 = p1 + 0x938;
+        p2 = get64(p1 + 312);
+        v8 = p1 + 336;
         v13 = get64(v8);
         v16 = p2 - v13;
-        v12 = get64(p1 + 0x930);
-        if (v16 < (get64(p1 + 0x928) - v12)) {
+        v12 = get64(p1 + 328);
+        if (v16 < (get64(p1 + 320) - v12)) {
             put32(p3 + ((v12 + v16) << 2), v5);
         } else {
             put32(p3 + (v13 << 2), v5);
@@ -7502,7 +7911,7 @@ l14:;
         }
     }
 l19:;
-    put64(p1 + 0x920, p2 + 1);
+    put64(p1 + 312, p2 + 1);
 l18:;
     v5 = 0;
     v4 = 0;
@@ -7715,15 +8124,15 @@ static uint32_t sedgechisel_nodes_spacecraft_take_taken(uint64_t p0, uint32_t p1
     put64(p0, 0);
     if (v6 == 0) return 255;
     if (p1 != 0) {
-        if (get64(v6 + 0x8c0) == 0) goto l4;
-        v7 = get64(v6 + 0x8c8);
-        v8 = get64(v6 + 0x8b8);
-        v7 = get64(v6 + 0x8b0) + ((v7 - ((v7 < v8) ? 0ULL : v8)) << 5);
+        if (get64(v6 + 216) == 0) goto l4;
+        v7 = get64(v6 + 224);
+        v8 = get64(v6 + 208);
+        v7 = get64(v6 + 200) + ((v7 - ((v7 < v8) ? 0ULL : v8)) << 5);
     } else {
-        v8 = get64(v6 + 0x890);
+        v8 = get64(v6 + 168);
         if (v8 == 0) goto l4;
-        v7 = get64(v6 + 0x888);
-        if (v8 != get64(v6 + 0x8a8)) v7 = v7 + (get64(v6 + 0x8a0) << 5);
+        v7 = get64(v6 + 160);
+        if (v8 != get64(v6 + 192)) v7 = v7 + (get64(v6 + 184) << 5);
     }
     v9 = 252;
     v10 = get64(v7 + 16);
@@ -7768,20 +8177,20 @@ l4:;
 l3:;
     if (p1 != 0) {
         v9 = 0;
-        p4 = v6 + 0x8c0;
+        p4 = v6 + 216;
         v7 = get64(p4);
         if (v7 == 0) {
             put64(p0, v6);
             return 0;
         }
         put64(p4, v7 - 1);
-        p4 = v6 + 0x8c8;
+        p4 = v6 + 224;
         t1 = p4;
         p4 = get64(p4);
         v7 = p4 + 1;
-        v8 = get64(v6 + 0x8b8);
+        v8 = get64(v6 + 208);
         put64(t1, v7 - ((v7 < v8) ? 0ULL : v8));
-        p4 = get64(v6 + 0x8b0) + (p4 << 5);
+        p4 = get64(v6 + 200) + (p4 << 5);
         if (get64(p4 + 24) == 0) {
             put64(p0, v6);
             return 0;
@@ -7789,22 +8198,22 @@ l3:;
         p4 = get64(p4 + 8);
     } else {
         v9 = 0;
-        p4 = get64(v6 + 0x890);
+        p4 = get64(v6 + 168);
         if (p4 == 0) {
             put64(p0, v6);
             return 0;
         }
-        v8 = v6 + 0x8a8;
+        v8 = v6 + 192;
         if (get64(v8) != p4) {
-            v7 = get64(v6 + 0x8a0);
+            v7 = get64(v6 + 184);
         } else {
             v7 = 0;
             put64(v8, 0);
         }
         v8 = p4 - 1;
-        put64(v6 + 0x890, v8);
-        put64(v6 + 0x8a0, v7 + 1);
-        p4 = get64(v6 + 0x888) + (v7 << 5);
+        put64(v6 + 168, v8);
+        put64(v6 + 184, v7 + 1);
+        p4 = get64(v6 + 160) + (v7 << 5);
         v7 = get64(p4 + 24);
         p4 = get64(p4 + 8);
         if (v8 < (uint64_t)get32(v6 + 48)) put8(v6 + 75, 0);
@@ -7855,7 +8264,7 @@ static uint32_t sedge_config_fault_at(uint64_t config)
     do {
         v4 = get8(config + address(constant_0 + 15));
         v5 = ((uint64_t)v4 & 255) << 3;
-        if (v2 == get64(v5 + address(switch_table_sedge_config_fault_395))) {
+        if (v2 == get64(v5 + address(switch_table_sedge_config_fault_416))) {
             v5 = address(switch_table_sedge_config_fault[v5 / 8]);
             if (get8(v3) == get8(v5) && (get8(v3 + 1) & 255) == (get8(v5 + 1) & 255) && (get8(v3 + 2) & 255) ==
                 (get8(v5 + 2) & 255) && (get8(v3 + 3) & 255) == (get8(v5 + 3) & 255)) {
@@ -7911,6 +8320,311 @@ static uint32_t sedge_ground_open_at(uint64_t config, uint64_t ground)
     return 6;
 }
 
+/* sedge_ground_open_kept, crates/sedgechisel_nodes/src/ground_kept.rt:89 */
+static uint32_t sedge_ground_open_kept_at(uint64_t config, uint64_t kept, uint64_t ground)
+{
+    unsigned char frame_octets[800 + 15];
+    uint32_t v4 = 0, v5 = 0, v6 = 0, v7 = 0, v8 = 0, v9 = 0, v10 = 0, v12 = 0, v13 = 0, v14 = 0, v15 = 0, v17 = 0, t1;
+    uint64_t v3 = 0, v11 = 0, v16 = 0, v18 = 0, v19 = 0, v20 = 0, v21 = 0, v22 = 0, v23 = 0, v24 = 0, v25 = 0;
+    v3 = aligned(frame_octets);
+    put64(v3 + 408, 0);
+    put64(v3 + 400, 0);
+    put64(v3 + 392, 0);
+    nodes_config_Config_fault(v3 + 392, config);
+    if (get8(v3 + 392) != 0) {
+        v4 = 254;
+        return 254;
+    }
+    v5 = get32(config + 56);
+    v6 = get32(config + 24);
+    v7 = get32(config + 20);
+    v8 = get32(config + 16);
+    v9 = get32(config + 12);
+    v10 = get32(config + 8);
+    v11 = get64(config);
+    put64(v3 + 288, get64(config + 28));
+    put64(v3 + 296, get64(config + 36));
+    put64(v3 + 304, get64(config + 44));
+    put32(v3 + 312, get32(config + 52));
+    put64(v3 + 272, get64(config + 60));
+    put32(v3 + 280, get32(config + 68));
+    v4 = 254;
+    v12 = get8(kept + 10);
+    if (v12 > 1) return 254;
+    put8(v3 + 98, v12 == 1);
+    put64(v3 + 88, get64(kept));
+    v13 = extend32(get8(kept + 11), 0x80);
+    put8(v3 + 99, v13);
+    v14 = get8(kept + 9);
+    put8(v3 + 97, v14);
+    v15 = get8(kept + 8);
+    put8(v3 + 96, v15);
+    v16 = v3 + 88 + 12;
+    copy(v16, kept + 12, 127);
+    put8(v3 + 231, 0);
+    put32(v3 + 227, 0);
+    v17 = v15 - v14;
+    if ((v9 >> 1) < (v17 & 255) || v13 > 0x7fffffffU) return 254;
+    v18 = (uint64_t)v13 & 255;
+    if (v13 == 0) {
+        kept = v16 + v18;
+        v19 = 127;
+    } else {
+        config = (uint64_t)v17 & 255;
+        kept = v16;
+        v19 = v18;
+        do {
+            v12 = get8(kept);
+            v20 = (uint64_t)((v12 > 1) ? v12 : 1U);
+            if (config < v20) return v4;
+            kept = kept + 1;
+            config = config - v20;
+            v19 = v19 - 1;
+        } while (v19 != 0);
+        kept = v16 + v18;
+        v19 = v18 ^ 127;
+        if (v19 < 4) {
+            if (v13 != 127) {
+                config = 0;
+                while (get8(kept + config) == 0) {
+                    config = config + 1;
+                    if (v19 == config) goto l3;
+                }
+                if (config < v19) return v4;
+            }
+            goto l3;
+        }
+    }
+    config = v16 + v18;
+    if ((((get8(config + 1) | get8(kept)) | get8(config + 2)) | get8(config + 3)) != 0) return v4;
+    t1 = core_cmp_slices_groups_equal_i8_31_core_cmp_numbers_U8PartialEq(kept, v19, v18 + address(constant_16));
+    if (t1 == 0) return v4;
+l3:;
+    if ((v8 & 255) == 0 || (v9 & 255) == 0 || (v9 & 1) != 0) goto l10;
+    v12 = (v9 >> 1) & 127;
+    if (v12 < (v8 & 255) || (v7 & 255) == 0 || (v6 & 0xffff) == 0 || (v17 & 255) > v12) goto l10;
+    v21 = (uint64_t)v12;
+    rattle_alloc_at(v3 + 72, v21 << 5, 8);
+    if (((uint32_t)get64(v3 + 72) & 1) == 0) goto l10;
+    v22 = get64(v3 + 80);
+    rattle_alloc_at(v3 + 56, 0x10006, 1);
+    if (((uint32_t)get64(v3 + 56) & 1) != 0) {
+        v23 = get64(v3 + 64);
+        config = (uint64_t)v5;
+        if (v5 == 0) {
+            kept = v3 + 792;
+        } else {
+            rattle_alloc_at(v3 + 40, config << 5, 8);
+            if (((uint32_t)get64(v3 + 40) & 1) == 0) {
+                rattle_dealloc_at(v23);
+                goto l12;
+            }
+            kept = get64(v3 + 48);
+        }
+        put64(v3 + 416, 0);
+        put64(v3 + 400, 0);
+        put64(v3 + 392, kept);
+        put64(v3 + 424, 0);
+        put64(v3 + 408, config);
+        config = config + 127;
+        rattle_alloc_at(v3 + 24, config << 3, 8);
+        v4 = get32(v3 + 24) & 1;
+        if (v4 == 0) {
+            std_alloc_vec_deque_VecDeque_drop_695a0d5c0a17370d(v3 + 392);
+            rattle_dealloc_at(v23);
+            put64(v3 + 376, 0);
+            put64(v3 + 368, v21);
+            put64(v3 + 360, v22);
+            put64(v3 + 384, 0);
+            circular_buffer_heap_HeapCircularBuffer_drop_695a0d5c0a17370d(v3 + 360);
+            put64(v3 + 328, 0);
+            put64(v3 + 336, 0);
+            put64(v3 + 344, 0);
+            put64(v3 + 352, 0);
+            put64(v3 + 320, v3 + 792);
+            std_alloc_vec_deque_VecDeque_drop_695a0d5c0a17370d(v3 + 320);
+            goto l10;
+        }
+        v18 = (v4 != 0) ? config : 0ULL;
+        v24 = get64(v3 + 32);
+        kept = 0;
+        v25 = (uint64_t)get8(v3 + 99);
+        if (v25 != 0) {
+            config = 0;
+            v19 = v24;
+            kept = 0;
+            do {
+                v20 = (uint64_t)get8(v16 + config);
+                if ((config - kept) < v18) {
+                    put64(v19 - (kept << 3), v20);
+                } else {
+                    put64(v24 + (kept << 3), v20);
+                    kept = kept + 1;
+                }
+                v19 = v19 + 8;
+                config = config + 1;
+            } while (v25 != config);
+        }
+        v19 = (v4 != 0) ? v24 : 0ULL;
+        put64(v3 + 232, get64(v3 + 392));
+        put64(v3 + 240, get64(v3 + 400));
+        put64(v3 + 248, get64(v3 + 408));
+        put64(v3 + 256, get64(v3 + 416));
+        put64(v3 + 264, get64(v3 + 424));
+        v13 = get8(v3 + 98);
+        v20 = get64(v3 + 88);
+        rattle_alloc_at(v3 + 8, 400, 8);
+        if (((uint32_t)get64(v3 + 8) & 1) == 0) {
+            put32(v3 + 444, get32(v3 + 312));
+            put64(v3 + 436, get64(v3 + 304));
+            put64(v3 + 428, get64(v3 + 296));
+            put64(v3 + 420, get64(v3 + 288));
+            put64(v3 + 452, get64(v3 + 272));
+            put32(v3 + 460, get32(v3 + 280));
+            put64(v3 + 481, 0);
+            put64(v3 + 489, 0);
+            put64(v3 + 497, 0);
+            put64(v3 + 505, 0);
+            put64(v3 + 513, 0);
+            put64(v3 + 520, 0);
+            put64(v3 + 552, 0);
+            put64(v3 + 544, 0);
+            put64(v3 + 568, 0);
+            put64(v3 + 576, 0);
+            put64(v3 + 584, 0);
+            put64(v3 + 592, 0);
+            put64(v3 + 689, 0);
+            put64(v3 + 696, 0);
+            put64(v3 + 600, get64(v3 + 232));
+            put64(v3 + 608, get64(v3 + 240));
+            put64(v3 + 616, get64(v3 + 248));
+            put64(v3 + 624, get64(v3 + 256));
+            put64(v3 + 632, get64(v3 + 264));
+            put64(v3 + 760, 0);
+            put64(v3 + 752, 0);
+            put64(v3 + 744, 0);
+            put64(v3 + 736, 0);
+            put64(v3 + 784, 0);
+            put64(v3 + 776, 0);
+            put8(v3 + 480, 1);
+            put8(v3 + 473, 0);
+            put8(v3 + 470, 0);
+            put8(v3 + 465, 5);
+            put8(v3 + 464, v12);
+            put8(v3 + 466, v15);
+            put8(v3 + 467, v14);
+            put8(v3 + 471, v8);
+            put8(v3 + 472, v7);
+            put16(v3 + 474, v6);
+            put32(v3 + 476, 0);
+            put16(v3 + 468, 0);
+            put8(v3 + 688, v13);
+            put64(v3 + 720, 0x10006);
+            put64(v3 + 712, 0);
+            put64(v3 + 704, v23);
+            put64(v3 + 680, kept);
+            put64(v3 + 672, 0);
+            put64(v3 + 664, v18);
+            put64(v3 + 656, v25);
+            put64(v3 + 648, v19);
+            put64(v3 + 640, v20);
+            put64(v3 + 536, v21);
+            put64(v3 + 528, v22);
+            put32(v3 + 448, v5);
+            put32(v3 + 416, v6);
+            put32(v3 + 412, v7);
+            put32(v3 + 408, v8);
+            put32(v3 + 404, v9);
+            put32(v3 + 400, v10);
+            put64(v3 + 392, v11);
+            put64(v3 + 768, v3 + 792);
+            put64(v3 + 728, v3 + 792);
+            put64(v3 + 560, v3 + 792);
+            sedgechisel_nodes_nodes_ground_node_Ground_Destruct_drop(v3 + 392);
+            goto l10;
+        }
+        config = get64(v3 + 16);
+        put32(config + 24, v6);
+        put32(config + 20, v7);
+        put32(config + 16, v8);
+        put32(config + 12, v9);
+        put32(config + 8, v10);
+        put64(config, v11);
+        put64(config + 28, get64(v3 + 288));
+        put64(config + 36, get64(v3 + 296));
+        put64(config + 44, get64(v3 + 304));
+        put32(config + 52, get32(v3 + 312));
+        put32(config + 56, v5);
+        put64(config + 60, get64(v3 + 272));
+        put32(config + 68, get32(v3 + 280));
+        put8(config + 88, 1);
+        v4 = 0;
+        put32(config + 84, 0);
+        put16(config + 82, v6);
+        put8(config + 81, 0);
+        put8(config + 80, v7);
+        put8(config + 79, v8);
+        put8(config + 78, 0);
+        put16(config + 76, 0);
+        put8(config + 75, v14);
+        put8(config + 74, v15);
+        put8(config + 73, 5);
+        put8(config + 72, v12);
+        put64(config + 89, 0);
+        put64(config + 97, 0);
+        put64(config + 105, 0);
+        put64(config + 113, 0);
+        put64(config + 121, 0);
+        put64(config + 128, 0);
+        put64(config + 144, v21);
+        put64(config + 136, v22);
+        put64(config + 152, 0);
+        put64(config + 160, 0);
+        put64(config + 200, 0);
+        put64(config + 192, 0);
+        put64(config + 184, 0);
+        put64(config + 176, 0);
+        put64(config + 240, get64(v3 + 264));
+        put64(config + 232, get64(v3 + 256));
+        put64(config + 224, get64(v3 + 248));
+        put64(config + 216, get64(v3 + 240));
+        put64(config + 208, get64(v3 + 232));
+        put64(config + 168, v3 + 792);
+        put8(config + 296, v13);
+        put64(config + 288, kept);
+        put64(config + 280, 0);
+        put64(config + 272, v18);
+        put64(config + 264, v25);
+        put64(config + 256, v19);
+        put64(config + 248, v20);
+        put64(config + 304, 0);
+        put64(config + 297, 0);
+        put64(config + 328, 0x10006);
+        put64(config + 320, 0);
+        put64(config + 312, v23);
+        put64(config + 336, v3 + 792);
+        put64(config + 368, 0);
+        put64(config + 360, 0);
+        put64(config + 352, 0);
+        put64(config + 344, 0);
+        put64(config + 376, v3 + 792);
+        put64(config + 392, 0);
+        put64(config + 384, 0);
+        kept = get64(ground /* node */);
+        put64(ground /* node */, config);
+        if (kept == 0) return 0;
+        copy(v3 + 392, kept, 400);
+        rattle_dealloc_at(kept);
+        sedgechisel_nodes_nodes_ground_node_Ground_Destruct_drop(v3 + 392);
+        return 0;
+    }
+l12:;
+    rattle_dealloc_at(v22);
+l10:;
+    v4 = 6;
+    return 6;
+}
+
 /* sedge_link_fault_name, crates/sedgechisel_nodes/src/names.rt:24 */
 static uint64_t sedge_link_fault_name_at(uint64_t result, uint32_t number)
 {
@@ -7926,9 +8640,9 @@ static uint64_t sedge_link_fault_name_at(uint64_t result, uint32_t number)
     number = number - 1;
     if ((number & 255) <= 9) {
         v4 = (uint64_t)number & 255;
-        v5 = get8(v4 + address(switch_table_sedge_link_fault_name_396));
+        v5 = get8(v4 + address(switch_table_sedge_link_fault_name_417));
         v2 = get8(v4 + address(switch_table_sedge_link_fault_name));
-        v4 = get64((v4 << 3) + address(switch_table_sedge_link_fault_name_397));
+        v4 = get64((v4 << 3) + address(switch_table_sedge_link_fault_name_418));
     }
     put8(result + 9, v5);
     put8(result + 8, v2);
@@ -7952,10 +8666,10 @@ static uint64_t sedge_parameter_name_at(uint64_t result, uint32_t number)
     } else {
         v5 = (uint64_t)number & 255;
         v6 = v5 << 2;
-        number = get32(v6 + address(switch_table_sedge_parameter_name_400));
-        v4 = get32(v6 + address(switch_table_sedge_parameter_name_399));
+        number = get32(v6 + address(switch_table_sedge_parameter_name_421));
+        v4 = get32(v6 + address(switch_table_sedge_parameter_name_420));
         v5 = v5 << 1;
-        v3 = get16(v5 + address(switch_table_sedge_parameter_name_398));
+        v3 = get16(v5 + address(switch_table_sedge_parameter_name_419));
         v2 = get16(v5 + address(switch_table_sedge_parameter_name));
     }
     put64(result + 12, 0);
@@ -7976,20 +8690,20 @@ static uint64_t sedge_sim_fault_name_at(uint64_t result, uint32_t number)
     case 0:
         put16(v2 + 13, 0);
         put64(v2 + 5, 0);
-        put32(v2, get32(address(constant_22 + 1)));
-        put8(v2 + 4, get8(address(constant_22 + 5)));
+        put32(v2, get32(address(constant_25 + 1)));
+        put8(v2 + 4, get8(address(constant_25 + 5)));
         number = 77;
         break;
     case 1:
-        put64(v2 + 7, get64(address(constant_24 + 8)));
-        put64(v2, get64(address(constant_24 + 1)));
+        put64(v2 + 7, get64(address(constant_27 + 8)));
+        put64(v2, get64(address(constant_27 + 1)));
         number = 78;
         break;
     case 2:
         put8(v2 + 14, 0);
         put16(v2 + 12, 0);
-        put64(v2, get64(address(constant_25 + 1)));
-        put32(v2 + 8, get32(address(constant_25 + 9)));
+        put64(v2, get64(address(constant_28 + 1)));
+        put32(v2 + 8, get32(address(constant_28 + 9)));
         number = 78;
         break;
     default:
@@ -8008,240 +8722,240 @@ static uint64_t sedge_sim_fault_name_at(uint64_t result, uint32_t number)
 /* sedge_sim_open, crates/sedgechisel_nodes/src/handles.rt:219 */
 static uint32_t sedge_sim_open_at(uint64_t config, uint64_t sim)
 {
-    unsigned char frame_octets[40688 + 15];
+    unsigned char frame_octets[26528 + 15];
     uint32_t v3 = 0, v4 = 0, v16 = 0, v17 = 0;
     uint64_t v2 = 0, v5 = 0, v6 = 0, v7 = 0, v8 = 0, v9 = 0, v10 = 0, v11 = 0, v12 = 0, v13 = 0, v14 = 0, v15 = 0,
         v18 = 0, v19 = 0, v20 = 0, v21 = 0, v22 = 0, v23 = 0, v24 = 0, v25 = 0, v26 = 0, v27 = 0, v28 = 0, v29 = 0,
         v30 = 0, v31 = 0, v32 = 0, v33 = 0, v34 = 0, v35 = 0, v36 = 0, v37 = 0, v38 = 0, v39 = 0, v40 = 0, v41 = 0,
         v42 = 0, v43 = 0, v44 = 0, v45 = 0, v46 = 0, v47 = 0, v48 = 0;
     v2 = aligned(frame_octets);
-    fill(v2 + 0x1690, 0, 88);
-    put64(v2 + 5768, 0);
-    put64(v2 + 5760, 0);
-    put64(v2 + 5752, 0);
-    put64(v2 + 5736, 0);
-    put64(v2 + 5744, 0);
-    fill(v2 + 0x1620, 0, 72);
-    put32(v2 + 5659, 0);
-    put32(v2 + 5656, 0);
-    put64(v2 + 5640, 0);
-    put64(v2 + 5648, 0);
-    put32(v2 + 5632, 0);
-    put16(v2 + 5636, 0);
-    fill(v2 + 0xcc0, 0, 0x940);
+    fill(v2 + 0xeb0, 0, 88);
+    put64(v2 + 3752, 0);
+    put64(v2 + 3744, 0);
+    put64(v2 + 3736, 0);
+    put64(v2 + 3720, 0);
+    put64(v2 + 3728, 0);
+    fill(v2 + 0xe40, 0, 72);
+    put32(v2 + 3643, 0);
+    put32(v2 + 3640, 0);
+    put64(v2 + 3624, 0);
+    put64(v2 + 3632, 0);
+    put32(v2 + 3616, 0);
+    put16(v2 + 3620, 0);
+    fill(v2 + 0xcc8, 0, 344);
+    put64(v2 + 3264, 0);
     put64(v2 + 3256, 0);
     put64(v2 + 3248, 0);
     put64(v2 + 3240, 0);
-    put64(v2 + 3232, 0);
-    put64(v2 + 3200, 0);
     put64(v2 + 3208, 0);
     put64(v2 + 3216, 0);
     put64(v2 + 3224, 0);
+    put64(v2 + 3232, 0);
+    put32(v2 + 3200, 0);
+    put16(v2 + 3204, 0);
     put32(v2 + 3192, 0);
-    put16(v2 + 3196, 0);
-    put32(v2 + 3184, 0);
-    put32(v2 + 3187, 0);
-    put64(v2 + 3168, 0);
+    put32(v2 + 3195, 0);
     put64(v2 + 3176, 0);
-    fill(v2 + 0x660, 0, 0x600);
-    fill(v2 + 96, 0, 0x600);
+    put64(v2 + 3184, 0);
+    fill(v2 + 0x668, 0, 0x600);
+    fill(v2 + 104, 0, 0x600);
+    put64(v2 + 96, 0);
     put64(v2 + 88, 0);
     put64(v2 + 80, 0);
     put64(v2 + 72, 0);
-    put64(v2 + 64, 0);
-    put64(v2 + 48, 0);
     put64(v2 + 56, 0);
-    put64(v2 + 32, 0);
+    put64(v2 + 64, 0);
     put64(v2 + 40, 0);
-    put64(v2 + 16, 0);
+    put64(v2 + 48, 0);
     put64(v2 + 24, 0);
-    nodes_config_Config_fault(v2 + 0x1678, config);
-    if (get8(v2 + 5752) == 1) {
+    put64(v2 + 32, 0);
+    nodes_config_Config_fault(v2 + 0xe98, config);
+    if (get8(v2 + 3736) == 1) {
         v3 = 254;
         return 254;
     }
-    put64(v2 + 17248, 0);
-    put64(v2 + 17240, 0);
-    fill(v2 + 0x4310, 0, 72);
-    put32(v2 + 17163, 0);
-    put32(v2 + 17160, 0);
-    put64(v2 + 17144, 0);
-    put64(v2 + 17152, 0);
-    put32(v2 + 17136, 0);
-    put16(v2 + 17140, 0);
-    fill(v2 + 0x39b0, 0, 0x940);
-    put64(v2 + 14760, 0);
-    put64(v2 + 14752, 0);
-    put64(v2 + 14744, 0);
-    put64(v2 + 14736, 0);
-    put64(v2 + 14704, 0);
+    put64(v2 + 11184, 0);
+    put64(v2 + 11176, 0);
+    fill(v2 + 0x2b60, 0, 72);
+    put32(v2 + 11099, 0);
+    put32(v2 + 11096, 0);
+    put64(v2 + 11080, 0);
+    put64(v2 + 11088, 0);
+    put32(v2 + 11072, 0);
+    put16(v2 + 11076, 0);
+    fill(v2 + 0x29e8, 0, 344);
+    put64(v2 + 10720, 0);
+    put64(v2 + 10712, 0);
+    put64(v2 + 10704, 0);
+    put64(v2 + 10696, 0);
+    put64(v2 + 10664, 0);
+    put64(v2 + 10672, 0);
+    put64(v2 + 10680, 0);
+    put64(v2 + 10688, 0);
+    put32(v2 + 10656, 0);
+    put16(v2 + 10660, 0);
+    put32(v2 + 10648, 0);
+    put32(v2 + 10651, 0);
+    put64(v2 + 10632, 0);
+    put64(v2 + 10640, 0);
+    fill(v2 + 0x2388, 0, 0x600);
+    fill(v2 + 0x1d88, 0, 0x600);
+    put64(v2 + 7552, 0);
+    put64(v2 + 7544, 0);
+    fill(v2 + 0x1d30, 0, 72);
+    put32(v2 + 7467, 0);
+    put32(v2 + 7464, 0);
+    put64(v2 + 7448, 0);
+    put64(v2 + 7456, 0);
+    put32(v2 + 7440, 0);
+    put16(v2 + 7444, 0);
+    fill(v2 + 0x1bb8, 0, 344);
+    put64(v2 + 7088, 0);
+    put64(v2 + 7080, 0);
+    put64(v2 + 7072, 0);
+    put64(v2 + 7064, 0);
+    put64(v2 + 7032, 0);
+    put64(v2 + 7040, 0);
+    put64(v2 + 7048, 0);
+    put64(v2 + 7056, 0);
+    put32(v2 + 7024, 0);
+    put16(v2 + 7028, 0);
+    put32(v2 + 7016, 0);
+    put32(v2 + 7019, 0);
+    put64(v2 + 7000, 0);
+    put64(v2 + 7008, 0);
+    fill(v2 + 0x1558, 0, 0x600);
+    fill(v2 + 0xf58, 0, 0x600);
+    put64(v2 + 3920, 0);
+    put64(v2 + 3912, 0);
+    put64(v2 + 3904, 0);
+    put64(v2 + 3896, 0);
+    put64(v2 + 3880, 0);
+    put64(v2 + 3888, 0);
+    put64(v2 + 3864, 0);
+    put64(v2 + 3872, 0);
+    put64(v2 + 3848, 0);
+    put64(v2 + 3856, 0);
+    copy(v2 + 0x4818, config, 72);
+    put64(v2 + 18448, 0);
+    put64(v2 + 18440, 0);
+    fill(v2 + 0x47c0, 0, 72);
+    put32(v2 + 18363, 0);
+    put32(v2 + 18360, 0);
+    put64(v2 + 18344, 0);
+    put64(v2 + 18352, 0);
+    put32(v2 + 18336, 0);
+    put16(v2 + 18340, 0);
+    fill(v2 + 0x4648, 0, 344);
+    put64(v2 + 17984, 0);
+    put64(v2 + 17976, 0);
+    put64(v2 + 17968, 0);
+    put64(v2 + 17960, 0);
+    put64(v2 + 17928, 0);
+    put64(v2 + 17936, 0);
+    put64(v2 + 17944, 0);
+    put64(v2 + 17952, 0);
+    put32(v2 + 17920, 0);
+    put16(v2 + 17924, 0);
+    put32(v2 + 17912, 0);
+    put32(v2 + 17915, 0);
+    put64(v2 + 17896, 0);
+    put64(v2 + 17904, 0);
+    fill(v2 + 0x3fe8, 0, 0x600);
+    fill(v2 + 0x39e8, 0, 0x600);
+    put64(v2 + 14816, 0);
+    put64(v2 + 14808, 0);
+    fill(v2 + 0x3990, 0, 72);
+    put32(v2 + 14731, 0);
+    put32(v2 + 14728, 0);
     put64(v2 + 14712, 0);
     put64(v2 + 14720, 0);
-    put64(v2 + 14728, 0);
-    put32(v2 + 14696, 0);
-    put16(v2 + 14700, 0);
-    put32(v2 + 14688, 0);
-    put32(v2 + 14691, 0);
-    put64(v2 + 14672, 0);
-    put64(v2 + 14680, 0);
-    fill(v2 + 0x3350, 0, 0x600);
-    fill(v2 + 0x2d50, 0, 0x600);
-    put64(v2 + 11592, 0);
-    put64(v2 + 11584, 0);
-    fill(v2 + 0x2cf8, 0, 72);
-    put32(v2 + 11507, 0);
-    put32(v2 + 11504, 0);
-    put64(v2 + 11488, 0);
-    put64(v2 + 11496, 0);
-    put32(v2 + 11480, 0);
-    put16(v2 + 11484, 0);
-    fill(v2 + 0x2398, 0, 0x940);
-    put64(v2 + 9104, 0);
-    put64(v2 + 9096, 0);
-    put64(v2 + 9088, 0);
-    put64(v2 + 9080, 0);
-    put64(v2 + 9048, 0);
-    put64(v2 + 9056, 0);
-    put64(v2 + 9064, 0);
-    put64(v2 + 9072, 0);
-    put32(v2 + 9040, 0);
-    put16(v2 + 9044, 0);
-    put32(v2 + 9032, 0);
-    put32(v2 + 9035, 0);
-    put64(v2 + 9016, 0);
-    put64(v2 + 9024, 0);
-    fill(v2 + 0x1d38, 0, 0x600);
-    fill(v2 + 0x1738, 0, 0x600);
-    put64(v2 + 5936, 0);
-    put64(v2 + 5928, 0);
-    put64(v2 + 5920, 0);
-    put64(v2 + 5912, 0);
-    put64(v2 + 5896, 0);
-    put64(v2 + 5904, 0);
-    put64(v2 + 5880, 0);
-    put64(v2 + 5888, 0);
-    put64(v2 + 5864, 0);
-    put64(v2 + 5872, 0);
-    copy(v2 + 0x6f98, config, 72);
-    put64(v2 + 28560, 0);
-    put64(v2 + 28552, 0);
-    fill(v2 + 0x6f40, 0, 72);
-    put32(v2 + 28475, 0);
-    put32(v2 + 28472, 0);
-    put64(v2 + 28456, 0);
-    put64(v2 + 28464, 0);
-    put32(v2 + 28448, 0);
-    put16(v2 + 28452, 0);
-    fill(v2 + 0x65e0, 0, 0x940);
-    put64(v2 + 26072, 0);
-    put64(v2 + 26064, 0);
-    put64(v2 + 26056, 0);
-    put64(v2 + 26048, 0);
-    put64(v2 + 26016, 0);
-    put64(v2 + 26024, 0);
-    put64(v2 + 26032, 0);
-    put64(v2 + 26040, 0);
-    put32(v2 + 26008, 0);
-    put16(v2 + 26012, 0);
-    put32(v2 + 26000, 0);
-    put32(v2 + 26003, 0);
-    put64(v2 + 25984, 0);
-    put64(v2 + 25992, 0);
-    fill(v2 + 0x5f80, 0, 0x600);
-    fill(v2 + 0x5980, 0, 0x600);
-    put64(v2 + 22904, 0);
-    put64(v2 + 22896, 0);
-    fill(v2 + 0x5928, 0, 72);
-    put32(v2 + 22819, 0);
-    put32(v2 + 22816, 0);
-    put64(v2 + 22800, 0);
-    put64(v2 + 22808, 0);
-    put32(v2 + 22792, 0);
-    put16(v2 + 22796, 0);
-    fill(v2 + 0x4fc8, 0, 0x940);
-    put64(v2 + 20416, 0);
-    put64(v2 + 20408, 0);
-    put64(v2 + 20400, 0);
-    put64(v2 + 20392, 0);
-    put64(v2 + 20360, 0);
-    put64(v2 + 20368, 0);
-    put64(v2 + 20376, 0);
-    put64(v2 + 20384, 0);
-    put32(v2 + 20352, 0);
-    put16(v2 + 20356, 0);
-    put32(v2 + 20344, 0);
-    put32(v2 + 20347, 0);
-    put64(v2 + 20328, 0);
-    put64(v2 + 20336, 0);
-    fill(v2 + 0x4968, 0, 0x600);
-    fill(v2 + 0x4368, 0, 0x600);
-    put64(v2 + 34624, 0);
-    put64(v2 + 34616, 0);
-    put64(v2 + 34608, 0);
-    nodes_config_Config_fault(v2 + 0x8730, v2 + 0x6f98);
-    if (get8(v2 + 34608) != 0) goto l5;
+    put32(v2 + 14704, 0);
+    put16(v2 + 14708, 0);
+    fill(v2 + 0x3818, 0, 344);
+    put64(v2 + 14352, 0);
+    put64(v2 + 14344, 0);
+    put64(v2 + 14336, 0);
+    put64(v2 + 14328, 0);
+    put64(v2 + 14296, 0);
+    put64(v2 + 14304, 0);
+    put64(v2 + 14312, 0);
+    put64(v2 + 14320, 0);
+    put32(v2 + 14288, 0);
+    put16(v2 + 14292, 0);
+    put32(v2 + 14280, 0);
+    put32(v2 + 14283, 0);
+    put64(v2 + 14264, 0);
+    put64(v2 + 14272, 0);
+    fill(v2 + 0x31b8, 0, 0x600);
+    fill(v2 + 0x2bb8, 0, 0x600);
+    put64(v2 + 22488, 0);
+    put64(v2 + 22480, 0);
+    put64(v2 + 22472, 0);
+    nodes_config_Config_fault(v2 + 0x57c8, v2 + 0x4818);
+    if (get8(v2 + 22472) != 0) goto l5;
     v4 = 0;
-    fill(v2 + 0x7f28, 0, 408);
-    put16(v2 + 30180, 0);
-    put32(v2 + 30176, 0);
-    fill(v2 + 0x80c0, 0, 0x600);
-    fill(v2 + 0x6fe0, 0, 0x600);
-    nodes_ground_node_Ground_of(v2 + 0x7f28, v2 + 0x6f98);
-    if (get8(v2 + 32552) == 0) {
-        v5 = get64(v2 + 32952);
-        v6 = get64(v2 + 32944);
-        v7 = get64(v2 + 32936);
-        v8 = get64(v2 + 32928);
-        v9 = get64(v2 + 32920);
-        v10 = get64(v2 + 32912);
-        v11 = get64(v2 + 32904);
-        v12 = get64(v2 + 32896);
-        v13 = get64(v2 + 32888);
-        v14 = get64(v2 + 32880);
-        v15 = get64(v2 + 32872);
-        v16 = get8(v2 + 32865);
-        v17 = get8(v2 + 32864);
-        v18 = get64(v2 + 32856);
-        v19 = get64(v2 + 32832);
-        v20 = get64(v2 + 32824);
-        v21 = get64(v2 + 32816);
-        v22 = get64(v2 + 32808);
-        v23 = get64(v2 + 32800);
-        v24 = get64(v2 + 32792);
-        v25 = get64(v2 + 32784);
-        v26 = get64(v2 + 32776);
-        v27 = get64(v2 + 32768);
-        v28 = get64(v2 + 32760);
-        v29 = get64(v2 + 32752);
-        v30 = get64(v2 + 32744);
-        v31 = get64(v2 + 32736);
-        v32 = get64(v2 + 32728);
-        v33 = get64(v2 + 32720);
-        v34 = get64(v2 + 32712);
-        v35 = get64(v2 + 32704);
-        v36 = get64(v2 + 32696);
-        v37 = get64(v2 + 32688);
-        v38 = get64(v2 + 32680);
-        v39 = get64(v2 + 32672);
-        v40 = get64(v2 + 32664);
-        v3 = get8(v2 + 32656);
-        v41 = get64(v2 + 32560);
-        fill(v2 + 0x8730, 0, 0x948);
-        nodes_spacecraft_Spacecraft_restarted(v2 + 0x8730, v2 + 0x6f98, 0);
-        v4 = get8(v2 + 34608);
-        v42 = v2 + 0x75e6;
-        copy(v42, v2 + 0x8730 + 8, 0x940);
+    fill(v2 + 0x4fc0, 0, 408);
+    put16(v2 + 20068, 0);
+    put32(v2 + 20064, 0);
+    fill(v2 + 0x5158, 0, 0x600);
+    fill(v2 + 0x4860, 0, 0x600);
+    nodes_ground_node_Ground_of(v2 + 0x4fc0, v2 + 0x4818);
+    if (get8(v2 + 20416) == 0) {
+        v5 = get64(v2 + 20816);
+        v6 = get64(v2 + 20808);
+        v7 = get64(v2 + 20800);
+        v8 = get64(v2 + 20792);
+        v9 = get64(v2 + 20784);
+        v10 = get64(v2 + 20776);
+        v11 = get64(v2 + 20768);
+        v12 = get64(v2 + 20760);
+        v13 = get64(v2 + 20752);
+        v14 = get64(v2 + 20744);
+        v15 = get64(v2 + 20736);
+        v16 = get8(v2 + 20729);
+        v17 = get8(v2 + 20728);
+        v18 = get64(v2 + 20720);
+        v19 = get64(v2 + 20696);
+        v20 = get64(v2 + 20688);
+        v21 = get64(v2 + 20680);
+        v22 = get64(v2 + 20672);
+        v23 = get64(v2 + 20664);
+        v24 = get64(v2 + 20656);
+        v25 = get64(v2 + 20648);
+        v26 = get64(v2 + 20640);
+        v27 = get64(v2 + 20632);
+        v28 = get64(v2 + 20624);
+        v29 = get64(v2 + 20616);
+        v30 = get64(v2 + 20608);
+        v31 = get64(v2 + 20600);
+        v32 = get64(v2 + 20592);
+        v33 = get64(v2 + 20584);
+        v34 = get64(v2 + 20576);
+        v35 = get64(v2 + 20568);
+        v36 = get64(v2 + 20560);
+        v37 = get64(v2 + 20552);
+        v38 = get64(v2 + 20544);
+        v39 = get64(v2 + 20536);
+        v40 = get64(v2 + 20528);
+        v3 = get8(v2 + 20520);
+        v41 = get64(v2 + 20424);
+        fill(v2 + 0x57c8, 0, 352);
+        nodes_spacecraft_Spacecraft_restarted(v2 + 0x57c8, v2 + 0x4818, 0);
+        v4 = get8(v2 + 22472);
+        v42 = v2 + 0x4e66;
+        copy(v42, v2 + 0x57c8 + 8, 344);
         if (v4 == 0) {
-            v43 = v2 + 0x8062;
-            v44 = v2 + 0x8048;
-            v45 = v2 + 0x7f91;
-            v46 = v2 + 0x7f28 + 32;
-            v47 = v2 + 0x7f28 + 16;
-            fill(v2 + 0x8730, 0, 0x600);
+            v43 = v2 + 0x50fa;
+            v44 = v2 + 0x50e0;
+            v45 = v2 + 0x5029;
+            v46 = v2 + 0x4fc0 + 32;
+            v47 = v2 + 0x4fc0 + 16;
+            fill(v2 + 0x57c8, 0, 0x600);
             v48 = 0;
             do {
-                config = v2 + 0x8730 + v48;
-                put64(config, v2 + 0x9ee8);
+                config = v2 + 0x57c8 + v48;
+                put64(config, v2 + 0x6798);
                 put64(config + 8, 0);
                 put64(config + 16, 0);
                 put64(config + 32, 0);
@@ -8250,17 +8964,17 @@ static uint32_t sedge_sim_open_at(uint64_t config, uint64_t sim)
                 put64(config + 64, 0);
                 put64(config + 80, 0);
                 put64(config + 88, 0);
-                put64(config + 24, v2 + 0x9ee8);
-                put64(config + 48, v2 + 0x9ee8);
-                put64(config + 72, v2 + 0x9ee8);
+                put64(config + 24, v2 + 0x6798);
+                put64(config + 48, v2 + 0x6798);
+                put64(config + 72, v2 + 0x6798);
                 v48 = v48 + 96;
             } while (v48 != 0x600);
-            copy(v2 + 0x80c0, v2 + 0x8730, 0x600);
-            fill(v2 + 0x8730, 0, 0x600);
+            copy(v2 + 0x5158, v2 + 0x57c8, 0x600);
+            fill(v2 + 0x57c8, 0, 0x600);
             v48 = 0;
             do {
-                config = v2 + 0x8730 + v48;
-                put64(config, v2 + 0x9ee8);
+                config = v2 + 0x57c8 + v48;
+                put64(config, v2 + 0x6798);
                 put64(config + 8, 0);
                 put64(config + 16, 0);
                 put64(config + 32, 0);
@@ -8269,39 +8983,39 @@ static uint32_t sedge_sim_open_at(uint64_t config, uint64_t sim)
                 put64(config + 64, 0);
                 put64(config + 80, 0);
                 put64(config + 88, 0);
-                put64(config + 24, v2 + 0x9ee8);
-                put64(config + 48, v2 + 0x9ee8);
-                put64(config + 72, v2 + 0x9ee8);
+                put64(config + 24, v2 + 0x6798);
+                put64(config + 48, v2 + 0x6798);
+                put64(config + 72, v2 + 0x6798);
                 v48 = v48 + 96;
             } while (v48 != 0x600);
-            copy(v2 + 0x6fe0, v2 + 0x8730, 0x600);
-            put64(v2 + 22896, get64(v47));
-            put64(v2 + 22904, get64(v47 + 8));
-            copy(v2 + 0x5928, v46, 72);
-            put32(v2 + 22819, get32(v45 + 3));
-            put32(v2 + 22816, get32(v45));
-            put64(v2 + 22800, get64(v44));
-            put64(v2 + 22808, get64(v44 + 8));
-            put32(v2 + 22792, get32(v43));
-            put16(v2 + 22796, get16(v43 + 4));
-            copy(v2 + 0x4fc8, v42, 0x940);
-            put64(v2 + 20416, 0);
-            put64(v2 + 20408, 0);
-            put64(v2 + 20400, 0);
-            put64(v2 + 20392, 0);
-            put64(v2 + 20360, 0);
-            put64(v2 + 20368, 0);
-            put64(v2 + 20376, 0);
-            put64(v2 + 20384, 0);
-            put32(v2 + 20352, 0);
-            put16(v2 + 20356, 0);
-            put32(v2 + 20344, 0);
-            put32(v2 + 20347, 0);
-            put64(v2 + 20328, 0);
-            put64(v2 + 20336, 0);
-            copy(v2 + 0x4968, v2 + 0x80c0, 0x600);
-            copy(v2 + 0x4368, v2 + 0x6fe0, 0x600);
-            v48 = v2 + 0x9ee8;
+            copy(v2 + 0x4860, v2 + 0x57c8, 0x600);
+            put64(v2 + 14808, get64(v47));
+            put64(v2 + 14816, get64(v47 + 8));
+            copy(v2 + 0x3990, v46, 72);
+            put32(v2 + 14731, get32(v45 + 3));
+            put32(v2 + 14728, get32(v45));
+            put64(v2 + 14712, get64(v44));
+            put64(v2 + 14720, get64(v44 + 8));
+            put32(v2 + 14704, get32(v43));
+            put16(v2 + 14708, get16(v43 + 4));
+            copy(v2 + 0x3818, v42, 344);
+            put64(v2 + 14352, 0);
+            put64(v2 + 14344, 0);
+            put64(v2 + 14336, 0);
+            put64(v2 + 14328, 0);
+            put64(v2 + 14296, 0);
+            put64(v2 + 14304, 0);
+            put64(v2 + 14312, 0);
+            put64(v2 + 14320, 0);
+            put32(v2 + 14288, 0);
+            put16(v2 + 14292, 0);
+            put32(v2 + 14280, 0);
+            put32(v2 + 14283, 0);
+            put64(v2 + 14264, 0);
+            put64(v2 + 14272, 0);
+            copy(v2 + 0x31b8, v2 + 0x5158, 0x600);
+            copy(v2 + 0x2bb8, v2 + 0x4860, 0x600);
+            v48 = v2 + 0x6798;
             v4 = 1;
             goto l6;
         }
@@ -8403,61 +9117,61 @@ static uint32_t sedge_sim_open_at(uint64_t config, uint64_t sim)
         }
         if (v5 != 0) rattle_dealloc_at(v7);
         v41 = 0;
-        put64(v2 + 22904, 0);
-        put64(v2 + 22896, 0);
+        put64(v2 + 14816, 0);
+        put64(v2 + 14808, 0);
         v4 = 0;
-        fill(v2 + 0x5928, 0, 72);
-        put32(v2 + 22819, 0);
-        put32(v2 + 22816, 0);
-        put64(v2 + 22800, 0);
-        put64(v2 + 22808, 0);
-        put32(v2 + 22792, 0);
-        put16(v2 + 22796, 0);
-        fill(v2 + 0x4fc8, 0, 0x940);
-        put64(v2 + 20416, 0);
-        put64(v2 + 20408, 0);
-        put64(v2 + 20400, 0);
-        put64(v2 + 20392, 0);
-        put64(v2 + 20360, 0);
-        put64(v2 + 20368, 0);
-        put64(v2 + 20376, 0);
-        put64(v2 + 20384, 0);
-        put32(v2 + 20352, 0);
-        put16(v2 + 20356, 0);
-        put32(v2 + 20344, 0);
-        put32(v2 + 20347, 0);
-        put64(v2 + 20328, 0);
-        put64(v2 + 20336, 0);
-        fill(v2 + 0x4968, 0, 0x600);
-        fill(v2 + 0x4368, 0, 0x600);
+        fill(v2 + 0x3990, 0, 72);
+        put32(v2 + 14731, 0);
+        put32(v2 + 14728, 0);
+        put64(v2 + 14712, 0);
+        put64(v2 + 14720, 0);
+        put32(v2 + 14704, 0);
+        put16(v2 + 14708, 0);
+        fill(v2 + 0x3818, 0, 344);
+        put64(v2 + 14352, 0);
+        put64(v2 + 14344, 0);
+        put64(v2 + 14336, 0);
+        put64(v2 + 14328, 0);
+        put64(v2 + 14296, 0);
+        put64(v2 + 14304, 0);
+        put64(v2 + 14312, 0);
+        put64(v2 + 14320, 0);
+        put32(v2 + 14288, 0);
+        put16(v2 + 14292, 0);
+        put32(v2 + 14280, 0);
+        put32(v2 + 14283, 0);
+        put64(v2 + 14264, 0);
+        put64(v2 + 14272, 0);
+        fill(v2 + 0x31b8, 0, 0x600);
+        fill(v2 + 0x2bb8, 0, 0x600);
     } else {
         v41 = 0;
-        put64(v2 + 22904, 0);
-        put64(v2 + 22896, 0);
-        fill(v2 + 0x5928, 0, 72);
-        put32(v2 + 22819, 0);
-        put32(v2 + 22816, 0);
-        put64(v2 + 22800, 0);
-        put64(v2 + 22808, 0);
-        put32(v2 + 22792, 0);
-        put16(v2 + 22796, 0);
-        fill(v2 + 0x4fc8, 0, 0x940);
-        put64(v2 + 20416, 0);
-        put64(v2 + 20408, 0);
-        put64(v2 + 20400, 0);
-        put64(v2 + 20392, 0);
-        put64(v2 + 20360, 0);
-        put64(v2 + 20368, 0);
-        put64(v2 + 20376, 0);
-        put64(v2 + 20384, 0);
-        put32(v2 + 20352, 0);
-        put16(v2 + 20356, 0);
-        put32(v2 + 20344, 0);
-        put32(v2 + 20347, 0);
-        put64(v2 + 20328, 0);
-        put64(v2 + 20336, 0);
-        fill(v2 + 0x4968, 0, 0x600);
-        fill(v2 + 0x4368, 0, 0x600);
+        put64(v2 + 14816, 0);
+        put64(v2 + 14808, 0);
+        fill(v2 + 0x3990, 0, 72);
+        put32(v2 + 14731, 0);
+        put32(v2 + 14728, 0);
+        put64(v2 + 14712, 0);
+        put64(v2 + 14720, 0);
+        put32(v2 + 14704, 0);
+        put16(v2 + 14708, 0);
+        fill(v2 + 0x3818, 0, 344);
+        put64(v2 + 14352, 0);
+        put64(v2 + 14344, 0);
+        put64(v2 + 14336, 0);
+        put64(v2 + 14328, 0);
+        put64(v2 + 14296, 0);
+        put64(v2 + 14304, 0);
+        put64(v2 + 14312, 0);
+        put64(v2 + 14320, 0);
+        put32(v2 + 14288, 0);
+        put16(v2 + 14292, 0);
+        put32(v2 + 14280, 0);
+        put32(v2 + 14283, 0);
+        put64(v2 + 14264, 0);
+        put64(v2 + 14272, 0);
+        fill(v2 + 0x31b8, 0, 0x600);
+        fill(v2 + 0x2bb8, 0, 0x600);
     }
     v3 = 0;
     v40 = 0;
@@ -8498,60 +9212,60 @@ static uint32_t sedge_sim_open_at(uint64_t config, uint64_t sim)
     v5 = 0;
     v48 = 0;
 l6:;
-    fill(v2 + 0x6fe0, 0, 72);
-    put32(v2 + 34587, 0);
-    put32(v2 + 34584, 0);
-    put64(v2 + 34568, 0);
-    put64(v2 + 34576, 0);
-    put32(v2 + 34560, 0);
-    put16(v2 + 34564, 0);
-    fill(v2 + 0x8730, 0, 0x940);
-    put64(v2 + 32576, 0);
-    put64(v2 + 32568, 0);
-    put64(v2 + 32560, 0);
-    put64(v2 + 32552, 0);
-    put64(v2 + 34528, 0);
-    put64(v2 + 34536, 0);
-    put64(v2 + 34544, 0);
-    put64(v2 + 34552, 0);
-    put32(v2 + 34520, 0);
-    put16(v2 + 34524, 0);
-    put32(v2 + 34512, 0);
-    put32(v2 + 34515, 0);
-    put64(v2 + 34496, 0);
-    put64(v2 + 34504, 0);
-    fill(v2 + 0x75e0, 0, 0x600);
-    fill(v2 + 0x80c0, 0, 0x600);
+    fill(v2 + 0x4fc0, 0, 72);
+    put32(v2 + 22451, 0);
+    put32(v2 + 22448, 0);
+    put64(v2 + 22432, 0);
+    put64(v2 + 22440, 0);
+    put32(v2 + 22424, 0);
+    put16(v2 + 22428, 0);
+    fill(v2 + 0x4860, 0, 344);
+    put64(v2 + 20088, 0);
+    put64(v2 + 20080, 0);
+    put64(v2 + 20072, 0);
+    put64(v2 + 20064, 0);
+    put64(v2 + 22392, 0);
+    put64(v2 + 22400, 0);
+    put64(v2 + 22408, 0);
+    put64(v2 + 22416, 0);
+    put32(v2 + 22384, 0);
+    put16(v2 + 22388, 0);
+    put32(v2 + 22376, 0);
+    put32(v2 + 22379, 0);
+    put64(v2 + 22360, 0);
+    put64(v2 + 22368, 0);
+    fill(v2 + 0x57c8, 0, 0x600);
+    fill(v2 + 0x5158, 0, 0x600);
     if (v4 != 0) {
-        put64(v2 + 34600, get64(v2 + 22904));
-        put64(v2 + 34592, get64(v2 + 22896));
-        copy(v2 + 0x6fe0, v2 + 0x5928, 72);
-        put32(v2 + 34587, get32(v2 + 22819));
-        put32(v2 + 34584, get32(v2 + 22816));
-        put64(v2 + 34568, get64(v2 + 22800));
-        put64(v2 + 34576, get64(v2 + 22808));
-        put32(v2 + 34560, get32(v2 + 22792));
-        put16(v2 + 34564, get16(v2 + 22796));
-        copy(v2 + 0x8730, v2 + 0x4fc8, 0x940);
-        put64(v2 + 32576, get64(v2 + 20416));
-        put64(v2 + 32568, get64(v2 + 20408));
-        put64(v2 + 32560, get64(v2 + 20400));
-        put64(v2 + 32552, get64(v2 + 20392));
-        put64(v2 + 34528, get64(v2 + 20360));
-        put64(v2 + 34536, get64(v2 + 20368));
-        put64(v2 + 34544, get64(v2 + 20376));
-        put64(v2 + 34552, get64(v2 + 20384));
-        put32(v2 + 34520, get32(v2 + 20352));
-        put16(v2 + 34524, get16(v2 + 20356));
-        put32(v2 + 34515, get32(v2 + 20347));
-        put32(v2 + 34512, get32(v2 + 20344));
-        put64(v2 + 34504, get64(v2 + 20336));
-        put64(v2 + 34496, get64(v2 + 20328));
-        copy(v2 + 0x75e0, v2 + 0x4968, 0x600);
-        copy(v2 + 0x80c0, v2 + 0x4368, 0x600);
+        put64(v2 + 22464, get64(v2 + 14816));
+        put64(v2 + 22456, get64(v2 + 14808));
+        copy(v2 + 0x4fc0, v2 + 0x3990, 72);
+        put32(v2 + 22451, get32(v2 + 14731));
+        put32(v2 + 22448, get32(v2 + 14728));
+        put64(v2 + 22432, get64(v2 + 14712));
+        put64(v2 + 22440, get64(v2 + 14720));
+        put32(v2 + 22424, get32(v2 + 14704));
+        put16(v2 + 22428, get16(v2 + 14708));
+        copy(v2 + 0x4860, v2 + 0x3818, 344);
+        put64(v2 + 20088, get64(v2 + 14352));
+        put64(v2 + 20080, get64(v2 + 14344));
+        put64(v2 + 20072, get64(v2 + 14336));
+        put64(v2 + 20064, get64(v2 + 14328));
+        put64(v2 + 22392, get64(v2 + 14296));
+        put64(v2 + 22400, get64(v2 + 14304));
+        put64(v2 + 22408, get64(v2 + 14312));
+        put64(v2 + 22416, get64(v2 + 14320));
+        put32(v2 + 22384, get32(v2 + 14288));
+        put16(v2 + 22388, get16(v2 + 14292));
+        put32(v2 + 22379, get32(v2 + 14283));
+        put32(v2 + 22376, get32(v2 + 14280));
+        put64(v2 + 22368, get64(v2 + 14272));
+        put64(v2 + 22360, get64(v2 + 14264));
+        copy(v2 + 0x57c8, v2 + 0x31b8, 0x600);
+        copy(v2 + 0x5158, v2 + 0x2bb8, 0x600);
     } else {
-        put64(v2 + 34600, get64(v2 + 22904));
-        put64(v2 + 34592, get64(v2 + 22896));
+        put64(v2 + 22464, get64(v2 + 14816));
+        put64(v2 + 22456, get64(v2 + 14808));
         v41 = v41 & 255;
         v3 = 0;
         v40 = 0;
@@ -8592,97 +9306,97 @@ l6:;
         v5 = 0;
         v48 = 0;
     }
-    put64(v2 + 28560, get64(v2 + 34600));
-    put64(v2 + 28552, get64(v2 + 34592));
-    copy(v2 + 0x6f40, v2 + 0x6fe0, 72);
-    put32(v2 + 28475, get32(v2 + 34587));
-    put32(v2 + 28472, get32(v2 + 34584));
-    put64(v2 + 28456, get64(v2 + 34568));
-    put64(v2 + 28464, get64(v2 + 34576));
-    put32(v2 + 28448, get32(v2 + 34560));
-    put16(v2 + 28452, get16(v2 + 34564));
-    copy(v2 + 0x65e0, v2 + 0x8730, 0x940);
-    put64(v2 + 26072, get64(v2 + 32576));
-    put64(v2 + 26064, get64(v2 + 32568));
-    put64(v2 + 26056, get64(v2 + 32560));
-    put64(v2 + 26048, get64(v2 + 32552));
-    put64(v2 + 26016, get64(v2 + 34528));
-    put64(v2 + 26024, get64(v2 + 34536));
-    put64(v2 + 26032, get64(v2 + 34544));
-    put64(v2 + 26040, get64(v2 + 34552));
-    put32(v2 + 26008, get32(v2 + 34520));
-    put16(v2 + 26012, get16(v2 + 34524));
-    put32(v2 + 26003, get32(v2 + 34515));
-    put32(v2 + 26000, get32(v2 + 34512));
-    put64(v2 + 25984, get64(v2 + 34496));
-    put64(v2 + 25992, get64(v2 + 34504));
-    copy(v2 + 0x5f80, v2 + 0x75e0, 0x600);
-    copy(v2 + 0x5980, v2 + 0x80c0, 0x600);
+    put64(v2 + 18448, get64(v2 + 22464));
+    put64(v2 + 18440, get64(v2 + 22456));
+    copy(v2 + 0x47c0, v2 + 0x4fc0, 72);
+    put32(v2 + 18363, get32(v2 + 22451));
+    put32(v2 + 18360, get32(v2 + 22448));
+    put64(v2 + 18344, get64(v2 + 22432));
+    put64(v2 + 18352, get64(v2 + 22440));
+    put32(v2 + 18336, get32(v2 + 22424));
+    put16(v2 + 18340, get16(v2 + 22428));
+    copy(v2 + 0x4648, v2 + 0x4860, 344);
+    put64(v2 + 17984, get64(v2 + 20088));
+    put64(v2 + 17976, get64(v2 + 20080));
+    put64(v2 + 17968, get64(v2 + 20072));
+    put64(v2 + 17960, get64(v2 + 20064));
+    put64(v2 + 17928, get64(v2 + 22392));
+    put64(v2 + 17936, get64(v2 + 22400));
+    put64(v2 + 17944, get64(v2 + 22408));
+    put64(v2 + 17952, get64(v2 + 22416));
+    put32(v2 + 17920, get32(v2 + 22384));
+    put16(v2 + 17924, get16(v2 + 22388));
+    put32(v2 + 17915, get32(v2 + 22379));
+    put32(v2 + 17912, get32(v2 + 22376));
+    put64(v2 + 17896, get64(v2 + 22360));
+    put64(v2 + 17904, get64(v2 + 22368));
+    copy(v2 + 0x3fe8, v2 + 0x57c8, 0x600);
+    copy(v2 + 0x39e8, v2 + 0x5158, 0x600);
     if (v4 != 0) {
-        put64(v2 + 17248, get64(v2 + 28560));
-        put64(v2 + 17240, get64(v2 + 28552));
-        copy(v2 + 0x4310, v2 + 0x6f40, 72);
-        put32(v2 + 17163, get32(v2 + 28475));
-        put32(v2 + 17160, get32(v2 + 28472));
-        put64(v2 + 17144, get64(v2 + 28456));
-        put64(v2 + 17152, get64(v2 + 28464));
-        put32(v2 + 17136, get32(v2 + 28448));
-        put16(v2 + 17140, get16(v2 + 28452));
-        copy(v2 + 0x39b0, v2 + 0x65e0, 0x940);
-        put64(v2 + 14760, get64(v2 + 26072));
-        put64(v2 + 14752, get64(v2 + 26064));
-        put64(v2 + 14744, get64(v2 + 26056));
-        put64(v2 + 14736, get64(v2 + 26048));
-        put64(v2 + 14704, get64(v2 + 26016));
-        put64(v2 + 14712, get64(v2 + 26024));
-        put64(v2 + 14720, get64(v2 + 26032));
-        put64(v2 + 14728, get64(v2 + 26040));
-        put32(v2 + 14696, get32(v2 + 26008));
-        put16(v2 + 14700, get16(v2 + 26012));
-        put32(v2 + 14691, get32(v2 + 26003));
-        put32(v2 + 14688, get32(v2 + 26000));
-        put64(v2 + 14680, get64(v2 + 25992));
-        put64(v2 + 14672, get64(v2 + 25984));
-        copy(v2 + 0x3350, v2 + 0x5f80, 0x600);
-        copy(v2 + 0x2d50, v2 + 0x5980, 0x600);
-        put64(v2 + 11592, get64(v2 + 17248));
-        put64(v2 + 11584, get64(v2 + 17240));
-        copy(v2 + 0x2cf8, v2 + 0x4310, 72);
-        put32(v2 + 11507, get32(v2 + 17163));
-        put32(v2 + 11504, get32(v2 + 17160));
-        put64(v2 + 11488, get64(v2 + 17144));
-        put64(v2 + 11496, get64(v2 + 17152));
-        put32(v2 + 11480, get32(v2 + 17136));
-        put16(v2 + 11484, get16(v2 + 17140));
-        copy(v2 + 0x2398, v2 + 0x39b0, 0x940);
-        put64(v2 + 9104, get64(v2 + 14760));
-        put64(v2 + 9096, get64(v2 + 14752));
-        put64(v2 + 9088, get64(v2 + 14744));
-        put64(v2 + 9080, get64(v2 + 14736));
-        put64(v2 + 9048, get64(v2 + 14704));
-        put64(v2 + 9056, get64(v2 + 14712));
-        put64(v2 + 9064, get64(v2 + 14720));
-        put64(v2 + 9072, get64(v2 + 14728));
-        put32(v2 + 9040, get32(v2 + 14696));
-        put16(v2 + 9044, get16(v2 + 14700));
-        put32(v2 + 9035, get32(v2 + 14691));
-        put32(v2 + 9032, get32(v2 + 14688));
-        put64(v2 + 9024, get64(v2 + 14680));
-        put64(v2 + 9016, get64(v2 + 14672));
-        copy(v2 + 0x1d38, v2 + 0x3350, 0x600);
-        copy(v2 + 0x1738, v2 + 0x2d50, 0x600);
-        put64(v2 + 5936, 0);
-        put64(v2 + 5928, 0);
-        put64(v2 + 5920, 0);
-        put64(v2 + 5912, 0);
-        put64(v2 + 5896, 0);
-        put64(v2 + 5904, 0);
-        put64(v2 + 5880, 0);
-        put64(v2 + 5888, 0);
-        put64(v2 + 5864, 0);
-        put64(v2 + 5872, 0);
+        put64(v2 + 11184, get64(v2 + 18448));
+        put64(v2 + 11176, get64(v2 + 18440));
+        copy(v2 + 0x2b60, v2 + 0x47c0, 72);
+        put32(v2 + 11099, get32(v2 + 18363));
+        put32(v2 + 11096, get32(v2 + 18360));
+        put64(v2 + 11080, get64(v2 + 18344));
+        put64(v2 + 11088, get64(v2 + 18352));
+        put32(v2 + 11072, get32(v2 + 18336));
+        put16(v2 + 11076, get16(v2 + 18340));
+        copy(v2 + 0x29e8, v2 + 0x4648, 344);
+        put64(v2 + 10720, get64(v2 + 17984));
+        put64(v2 + 10712, get64(v2 + 17976));
+        put64(v2 + 10704, get64(v2 + 17968));
+        put64(v2 + 10696, get64(v2 + 17960));
+        put64(v2 + 10664, get64(v2 + 17928));
+        put64(v2 + 10672, get64(v2 + 17936));
+        put64(v2 + 10680, get64(v2 + 17944));
+        put64(v2 + 10688, get64(v2 + 17952));
+        put32(v2 + 10656, get32(v2 + 17920));
+        put16(v2 + 10660, get16(v2 + 17924));
+        put32(v2 + 10651, get32(v2 + 17915));
+        put32(v2 + 10648, get32(v2 + 17912));
+        put64(v2 + 10640, get64(v2 + 17904));
+        put64(v2 + 10632, get64(v2 + 17896));
+        copy(v2 + 0x2388, v2 + 0x3fe8, 0x600);
+        copy(v2 + 0x1d88, v2 + 0x39e8, 0x600);
+        put64(v2 + 7552, get64(v2 + 11184));
+        put64(v2 + 7544, get64(v2 + 11176));
+        copy(v2 + 0x1d30, v2 + 0x2b60, 72);
+        put32(v2 + 7467, get32(v2 + 11099));
+        put32(v2 + 7464, get32(v2 + 11096));
+        put64(v2 + 7448, get64(v2 + 11080));
+        put64(v2 + 7456, get64(v2 + 11088));
+        put32(v2 + 7440, get32(v2 + 11072));
+        put16(v2 + 7444, get16(v2 + 11076));
+        copy(v2 + 0x1bb8, v2 + 0x29e8, 344);
+        put64(v2 + 7088, get64(v2 + 10720));
+        put64(v2 + 7080, get64(v2 + 10712));
+        put64(v2 + 7072, get64(v2 + 10704));
+        put64(v2 + 7064, get64(v2 + 10696));
+        put64(v2 + 7032, get64(v2 + 10664));
+        put64(v2 + 7040, get64(v2 + 10672));
+        put64(v2 + 7048, get64(v2 + 10680));
+        put64(v2 + 7056, get64(v2 + 10688));
+        put32(v2 + 7024, get32(v2 + 10656));
+        put16(v2 + 7028, get16(v2 + 10660));
+        put32(v2 + 7019, get32(v2 + 10651));
+        put32(v2 + 7016, get32(v2 + 10648));
+        put64(v2 + 7008, get64(v2 + 10640));
+        put64(v2 + 7000, get64(v2 + 10632));
+        copy(v2 + 0x1558, v2 + 0x2388, 0x600);
+        copy(v2 + 0xf58, v2 + 0x1d88, 0x600);
+        put64(v2 + 3920, 0);
+        put64(v2 + 3912, 0);
+        put64(v2 + 3904, 0);
+        put64(v2 + 3896, 0);
+        put64(v2 + 3880, 0);
+        put64(v2 + 3888, 0);
+        put64(v2 + 3864, 0);
+        put64(v2 + 3872, 0);
+        put64(v2 + 3848, 0);
+        put64(v2 + 3856, 0);
         v4 = 1;
-        v42 = v2 + 0x9ee8;
+        v42 = v2 + 0x6798;
         goto l3;
     }
 l5:;
@@ -8728,51 +9442,51 @@ l5:;
     v42 = 0;
     v4 = 0;
 l3:;
-    put64(v2 + 5744, get64(v2 + 11592));
-    put64(v2 + 5736, get64(v2 + 11584));
-    copy(v2 + 0x1620, v2 + 0x2cf8, 72);
-    put32(v2 + 5659, get32(v2 + 11507));
-    put32(v2 + 5656, get32(v2 + 11504));
-    put64(v2 + 5640, get64(v2 + 11488));
-    put64(v2 + 5648, get64(v2 + 11496));
-    put32(v2 + 5632, get32(v2 + 11480));
-    put16(v2 + 5636, get16(v2 + 11484));
-    copy(v2 + 0xcc0, v2 + 0x2398, 0x940);
-    put64(v2 + 3256, get64(v2 + 9104));
-    put64(v2 + 3248, get64(v2 + 9096));
-    put64(v2 + 3240, get64(v2 + 9088));
-    put64(v2 + 3232, get64(v2 + 9080));
-    put64(v2 + 3200, get64(v2 + 9048));
-    put64(v2 + 3208, get64(v2 + 9056));
-    put64(v2 + 3216, get64(v2 + 9064));
-    put64(v2 + 3224, get64(v2 + 9072));
-    put32(v2 + 3192, get32(v2 + 9040));
-    put16(v2 + 3196, get16(v2 + 9044));
-    put32(v2 + 3187, get32(v2 + 9035));
-    put32(v2 + 3184, get32(v2 + 9032));
-    put64(v2 + 3168, get64(v2 + 9016));
-    put64(v2 + 3176, get64(v2 + 9024));
-    copy(v2 + 0x660, v2 + 0x1d38, 0x600);
-    copy(v2 + 96, v2 + 0x1738, 0x600);
-    put64(v2 + 88, get64(v2 + 5936));
-    put64(v2 + 80, get64(v2 + 5928));
-    put64(v2 + 72, get64(v2 + 5920));
-    put64(v2 + 64, get64(v2 + 5912));
-    put64(v2 + 48, get64(v2 + 5896));
-    put64(v2 + 56, get64(v2 + 5904));
-    put64(v2 + 32, get64(v2 + 5880));
-    put64(v2 + 40, get64(v2 + 5888));
-    put64(v2 + 16, get64(v2 + 5864));
-    put64(v2 + 24, get64(v2 + 5872));
+    put64(v2 + 3728, get64(v2 + 7552));
+    put64(v2 + 3720, get64(v2 + 7544));
+    copy(v2 + 0xe40, v2 + 0x1d30, 72);
+    put32(v2 + 3643, get32(v2 + 7467));
+    put32(v2 + 3640, get32(v2 + 7464));
+    put64(v2 + 3624, get64(v2 + 7448));
+    put64(v2 + 3632, get64(v2 + 7456));
+    put32(v2 + 3616, get32(v2 + 7440));
+    put16(v2 + 3620, get16(v2 + 7444));
+    copy(v2 + 0xcc8, v2 + 0x1bb8, 344);
+    put64(v2 + 3264, get64(v2 + 7088));
+    put64(v2 + 3256, get64(v2 + 7080));
+    put64(v2 + 3248, get64(v2 + 7072));
+    put64(v2 + 3240, get64(v2 + 7064));
+    put64(v2 + 3208, get64(v2 + 7032));
+    put64(v2 + 3216, get64(v2 + 7040));
+    put64(v2 + 3224, get64(v2 + 7048));
+    put64(v2 + 3232, get64(v2 + 7056));
+    put32(v2 + 3200, get32(v2 + 7024));
+    put16(v2 + 3204, get16(v2 + 7028));
+    put32(v2 + 3195, get32(v2 + 7019));
+    put32(v2 + 3192, get32(v2 + 7016));
+    put64(v2 + 3176, get64(v2 + 7000));
+    put64(v2 + 3184, get64(v2 + 7008));
+    copy(v2 + 0x668, v2 + 0x1558, 0x600);
+    copy(v2 + 104, v2 + 0xf58, 0x600);
+    put64(v2 + 96, get64(v2 + 3920));
+    put64(v2 + 88, get64(v2 + 3912));
+    put64(v2 + 80, get64(v2 + 3904));
+    put64(v2 + 72, get64(v2 + 3896));
+    put64(v2 + 56, get64(v2 + 3880));
+    put64(v2 + 64, get64(v2 + 3888));
+    put64(v2 + 40, get64(v2 + 3864));
+    put64(v2 + 48, get64(v2 + 3872));
+    put64(v2 + 24, get64(v2 + 3848));
+    put64(v2 + 32, get64(v2 + 3856));
     if (v4 != 0) {
-        put64(v2 + 5784, get64(v2 + 5744));
-        put64(v2 + 5776, get64(v2 + 5736));
-        copy(v2 + 0x16a0, v2 + 0x1620, 72);
-        rattle_alloc_at(v2, 0x17b8, 8);
-        if (((uint32_t)get64(v2) & 1) != 0) {
-            config = get64(v2 + 8);
+        put64(v2 + 3768, get64(v2 + 3728));
+        put64(v2 + 3760, get64(v2 + 3720));
+        copy(v2 + 0xec0, v2 + 0xe40, 72);
+        rattle_alloc_at(v2 + 8, 0xfd0, 8);
+        if (((uint32_t)get64(v2 + 8) & 1) != 0) {
+            config = get64(v2 + 16);
             put64(config, v41);
-            copy(config + 8, v2 + 0x1690, 88);
+            copy(config + 8, v2 + 0xeb0, 88);
             put8(config + 96, v3);
             put64(config + 272, v19);
             put64(config + 264, v20);
@@ -8796,8 +9510,8 @@ l3:;
             put64(config + 120, v38);
             put64(config + 112, v39);
             put64(config + 104, v40);
-            put32(config + 97, get32(v2 + 5656));
-            put32(config + 100, get32(v2 + 5659));
+            put32(config + 97, get32(v2 + 3640));
+            put32(config + 100, get32(v2 + 3643));
             put64(config + 296, v18);
             put8(config + 305, v16);
             put8(config + 304, v17);
@@ -8812,137 +9526,137 @@ l3:;
             put64(config + 376, v7);
             put64(config + 384, v6);
             put64(config + 392, v5);
-            put64(config + 288, get64(v2 + 5648));
-            put64(config + 280, get64(v2 + 5640));
-            put32(config + 306, get32(v2 + 5632));
-            put16(config + 310, get16(v2 + 5636));
-            copy(config + 400, v2 + 0xcc0, 0x940);
-            put64(config + 2768, v48);
-            put64(config + 2808, v48);
-            put64(config + 2776, get64(v2 + 3232));
-            put64(config + 2784, get64(v2 + 3240));
-            put64(config + 2792, get64(v2 + 3248));
-            put64(config + 2800, get64(v2 + 3256));
-            put64(config + 2816, get64(v2 + 3200));
-            put64(config + 2824, get64(v2 + 3208));
-            put64(config + 2832, get64(v2 + 3216));
-            put64(config + 2840, get64(v2 + 3224));
+            put64(config + 288, get64(v2 + 3632));
+            put64(config + 280, get64(v2 + 3624));
+            put32(config + 306, get32(v2 + 3616));
+            put16(config + 310, get16(v2 + 3620));
+            copy(config + 400, v2 + 0xcc8, 344);
+            put64(config + 744, v48);
+            put64(config + 784, v48);
+            put64(config + 752, get64(v2 + 3240));
+            put64(config + 760, get64(v2 + 3248));
+            put64(config + 768, get64(v2 + 3256));
+            put64(config + 776, get64(v2 + 3264));
+            put64(config + 792, get64(v2 + 3208));
+            put64(config + 800, get64(v2 + 3216));
+            put64(config + 808, get64(v2 + 3224));
+            put64(config + 816, get64(v2 + 3232));
             v3 = 0;
-            put16(config + 2848, 0);
-            put8(config + 2856, 0);
-            put64(config + 2864, v48);
-            put32(config + 2850, get32(v2 + 3192));
-            put16(config + 2854, get16(v2 + 3196));
-            put32(config + 2857, get32(v2 + 3184));
-            put32(config + 2860, get32(v2 + 3187));
-            put64(config + 2872, get64(v2 + 3168));
-            put64(config + 2880, get64(v2 + 3176));
-            copy(config + 0xb48, v2 + 0x660, 0x600);
-            copy(config + 0x1148, v2 + 96, 0x600);
-            put64(config + 5960, v48);
-            put64(config + 6000, v48);
-            put64(config + 6024, v42);
-            put64(config + 5968, get64(v2 + 64));
-            put64(config + 5976, get64(v2 + 72));
-            put64(config + 5984, get64(v2 + 80));
-            put64(config + 5992, get64(v2 + 88));
-            put64(config + 6008, get64(v2 + 48));
-            put64(config + 6016, get64(v2 + 56));
-            put64(config + 6032, get64(v2 + 32));
-            put64(config + 6040, get64(v2 + 40));
-            put64(config + 6048, v42);
-            put64(config + 6056, get64(v2 + 16));
-            put64(config + 6064, get64(v2 + 24));
+            put16(config + 824, 0);
+            put8(config + 832, 0);
+            put64(config + 840, v48);
+            put32(config + 826, get32(v2 + 3200));
+            put16(config + 830, get16(v2 + 3204));
+            put32(config + 833, get32(v2 + 3192));
+            put32(config + 836, get32(v2 + 3195));
+            put64(config + 848, get64(v2 + 3176));
+            put64(config + 856, get64(v2 + 3184));
+            copy(config + 864, v2 + 0x668, 0x600);
+            copy(config + 0x960, v2 + 104, 0x600);
+            put64(config + 3936, v48);
+            put64(config + 3976, v48);
+            put64(config + 4000, v42);
+            put64(config + 3944, get64(v2 + 72));
+            put64(config + 3952, get64(v2 + 80));
+            put64(config + 3960, get64(v2 + 88));
+            put64(config + 3968, get64(v2 + 96));
+            put64(config + 3984, get64(v2 + 56));
+            put64(config + 3992, get64(v2 + 64));
+            put64(config + 4008, get64(v2 + 40));
+            put64(config + 4016, get64(v2 + 48));
+            put64(config + 4024, v42);
+            put64(config + 4032, get64(v2 + 24));
+            put64(config + 4040, get64(v2 + 32));
             v6 = get64(sim /* link */);
             put64(sim /* link */, config);
             if (v6 == 0) return 0;
-            copy(v2 + 0x8730, v6, 0x17b8);
+            copy(v2 + 0x57c8, v6, 0xfd0);
             rattle_dealloc_at(v6);
-            sedgechisel_nodes_sedgechisel_nodes_sim_link_Link_Destruct_drop(v2 + 0x8730);
+            sedgechisel_nodes_sedgechisel_nodes_sim_link_Link_Destruct_drop(v2 + 0x57c8);
             return 0;
         }
-        copy(v2 + 0x8730 + 8, v2 + 0x1690, 88);
-        put32(v2 + 34708, get32(v2 + 5659));
-        put32(v2 + 34705, get32(v2 + 5656));
-        put64(v2 + 34888, get64(v2 + 5640));
-        put64(v2 + 34896, get64(v2 + 5648));
-        put32(v2 + 34914, get32(v2 + 5632));
-        put16(v2 + 34918, get16(v2 + 5636));
-        copy(v2 + 0x88c0, v2 + 0xcc0, 0x940);
-        put64(v2 + 37408, get64(v2 + 3256));
-        put64(v2 + 37400, get64(v2 + 3248));
-        put64(v2 + 37392, get64(v2 + 3240));
-        put64(v2 + 37384, get64(v2 + 3232));
-        put64(v2 + 37424, get64(v2 + 3200));
-        put64(v2 + 37432, get64(v2 + 3208));
-        put64(v2 + 37440, get64(v2 + 3216));
-        put64(v2 + 37448, get64(v2 + 3224));
-        put32(v2 + 37458, get32(v2 + 3192));
-        put16(v2 + 37462, get16(v2 + 3196));
-        put32(v2 + 37468, get32(v2 + 3187));
-        put32(v2 + 37465, get32(v2 + 3184));
-        put64(v2 + 37480, get64(v2 + 3168));
-        put64(v2 + 37488, get64(v2 + 3176));
-        copy(v2 + 0x9278, v2 + 0x660, 0x600);
-        copy(v2 + 0x9878, v2 + 96, 0x600);
-        put64(v2 + 40600, get64(v2 + 88));
-        put64(v2 + 40592, get64(v2 + 80));
-        put64(v2 + 40584, get64(v2 + 72));
-        put64(v2 + 40576, get64(v2 + 64));
-        put64(v2 + 40616, get64(v2 + 48));
-        put64(v2 + 40624, get64(v2 + 56));
-        put64(v2 + 40640, get64(v2 + 32));
-        put64(v2 + 40648, get64(v2 + 40));
-        put64(v2 + 40664, get64(v2 + 16));
-        put64(v2 + 40672, get64(v2 + 24));
-        put64(v2 + 40656, v42);
-        put64(v2 + 40632, v42);
-        put64(v2 + 40608, v48);
-        put64(v2 + 40568, v48);
-        put64(v2 + 37472, v48);
-        put8(v2 + 37464, 0);
-        put16(v2 + 37456, 0);
-        put64(v2 + 37416, v48);
-        put64(v2 + 37376, v48);
-        put64(v2 + 35000, v5);
-        put64(v2 + 34992, v6);
-        put64(v2 + 34984, v7);
-        put64(v2 + 34976, v8);
-        put64(v2 + 34968, v9);
-        put64(v2 + 34960, v10);
-        put64(v2 + 34952, v11);
-        put64(v2 + 34944, v12);
-        put64(v2 + 34936, v13);
-        put64(v2 + 34928, v14);
-        put64(v2 + 34920, v15);
-        put8(v2 + 34913, v16);
-        put8(v2 + 34912, v17);
-        put64(v2 + 34904, v18);
-        put64(v2 + 34880, v19);
-        put64(v2 + 34872, v20);
-        put64(v2 + 34864, v21);
-        put64(v2 + 34856, v22);
-        put64(v2 + 34848, v23);
-        put64(v2 + 34840, v24);
-        put64(v2 + 34832, v25);
-        put64(v2 + 34824, v26);
-        put64(v2 + 34816, v27);
-        put64(v2 + 34808, v28);
-        put64(v2 + 34800, v29);
-        put64(v2 + 34792, v30);
-        put64(v2 + 34784, v31);
-        put64(v2 + 34776, v32);
-        put64(v2 + 34768, v33);
-        put64(v2 + 34760, v34);
-        put64(v2 + 34752, v35);
-        put64(v2 + 34744, v36);
-        put64(v2 + 34736, v37);
-        put64(v2 + 34728, v38);
-        put64(v2 + 34720, v39);
-        put64(v2 + 34712, v40);
-        put8(v2 + 34704, v3);
-        put64(v2 + 34608, v41);
-        sedgechisel_nodes_sedgechisel_nodes_sim_link_Link_Destruct_drop(v2 + 0x8730);
+        copy(v2 + 0x57c8 + 8, v2 + 0xeb0, 88);
+        put32(v2 + 22572, get32(v2 + 3643));
+        put32(v2 + 22569, get32(v2 + 3640));
+        put64(v2 + 22752, get64(v2 + 3624));
+        put64(v2 + 22760, get64(v2 + 3632));
+        put32(v2 + 22778, get32(v2 + 3616));
+        put16(v2 + 22782, get16(v2 + 3620));
+        copy(v2 + 0x5958, v2 + 0xcc8, 344);
+        put64(v2 + 23248, get64(v2 + 3264));
+        put64(v2 + 23240, get64(v2 + 3256));
+        put64(v2 + 23232, get64(v2 + 3248));
+        put64(v2 + 23224, get64(v2 + 3240));
+        put64(v2 + 23264, get64(v2 + 3208));
+        put64(v2 + 23272, get64(v2 + 3216));
+        put64(v2 + 23280, get64(v2 + 3224));
+        put64(v2 + 23288, get64(v2 + 3232));
+        put32(v2 + 23298, get32(v2 + 3200));
+        put16(v2 + 23302, get16(v2 + 3204));
+        put32(v2 + 23308, get32(v2 + 3195));
+        put32(v2 + 23305, get32(v2 + 3192));
+        put64(v2 + 23320, get64(v2 + 3176));
+        put64(v2 + 23328, get64(v2 + 3184));
+        copy(v2 + 0x5b28, v2 + 0x668, 0x600);
+        copy(v2 + 0x6128, v2 + 104, 0x600);
+        put64(v2 + 26440, get64(v2 + 96));
+        put64(v2 + 26432, get64(v2 + 88));
+        put64(v2 + 26424, get64(v2 + 80));
+        put64(v2 + 26416, get64(v2 + 72));
+        put64(v2 + 26456, get64(v2 + 56));
+        put64(v2 + 26464, get64(v2 + 64));
+        put64(v2 + 26480, get64(v2 + 40));
+        put64(v2 + 26488, get64(v2 + 48));
+        put64(v2 + 26504, get64(v2 + 24));
+        put64(v2 + 26512, get64(v2 + 32));
+        put64(v2 + 26496, v42);
+        put64(v2 + 26472, v42);
+        put64(v2 + 26448, v48);
+        put64(v2 + 26408, v48);
+        put64(v2 + 23312, v48);
+        put8(v2 + 23304, 0);
+        put16(v2 + 23296, 0);
+        put64(v2 + 23256, v48);
+        put64(v2 + 23216, v48);
+        put64(v2 + 22864, v5);
+        put64(v2 + 22856, v6);
+        put64(v2 + 22848, v7);
+        put64(v2 + 22840, v8);
+        put64(v2 + 22832, v9);
+        put64(v2 + 22824, v10);
+        put64(v2 + 22816, v11);
+        put64(v2 + 22808, v12);
+        put64(v2 + 22800, v13);
+        put64(v2 + 22792, v14);
+        put64(v2 + 22784, v15);
+        put8(v2 + 22777, v16);
+        put8(v2 + 22776, v17);
+        put64(v2 + 22768, v18);
+        put64(v2 + 22744, v19);
+        put64(v2 + 22736, v20);
+        put64(v2 + 22728, v21);
+        put64(v2 + 22720, v22);
+        put64(v2 + 22712, v23);
+        put64(v2 + 22704, v24);
+        put64(v2 + 22696, v25);
+        put64(v2 + 22688, v26);
+        put64(v2 + 22680, v27);
+        put64(v2 + 22672, v28);
+        put64(v2 + 22664, v29);
+        put64(v2 + 22656, v30);
+        put64(v2 + 22648, v31);
+        put64(v2 + 22640, v32);
+        put64(v2 + 22632, v33);
+        put64(v2 + 22624, v34);
+        put64(v2 + 22616, v35);
+        put64(v2 + 22608, v36);
+        put64(v2 + 22600, v37);
+        put64(v2 + 22592, v38);
+        put64(v2 + 22584, v39);
+        put64(v2 + 22576, v40);
+        put8(v2 + 22568, v3);
+        put64(v2 + 22472, v41);
+        sedgechisel_nodes_sedgechisel_nodes_sim_link_Link_Destruct_drop(v2 + 0x57c8);
     }
     v3 = 6;
     return 6;
@@ -8951,42 +9665,42 @@ l3:;
 /* sedge_spacecraft_open, crates/sedgechisel_nodes/src/handles.rt:125 */
 static uint32_t sedge_spacecraft_open_at(uint64_t config, uint64_t spacecraft)
 {
-    unsigned char frame_octets[4832 + 15];
+    unsigned char frame_octets[784 + 15];
     uint32_t v3 = 0;
     uint64_t v2 = 0, v4 = 0;
     v2 = aligned(frame_octets);
-    put64(v2 + 2472, 0);
-    put64(v2 + 2464, 0);
-    put64(v2 + 2456, 0);
-    nodes_config_Config_fault(v2 + 0x998, config);
-    if (get8(v2 + 2456) != 0) {
+    put64(v2 + 448, 0);
+    put64(v2 + 440, 0);
+    put64(v2 + 432, 0);
+    nodes_config_Config_fault(v2 + 432, config);
+    if (get8(v2 + 432) != 0) {
         v3 = 254;
         return 254;
     }
-    copy(v2 + 0x950, config, 72);
-    fill(v2 + 0x998, 0, 0x948);
-    nodes_spacecraft_Spacecraft_restarted(v2 + 0x998, v2 + 0x950, 0);
-    config = get64(v2 + 2464);
-    v3 = get8(v2 + 2456);
-    copy(v2 + 24, v2 + 0x9a8, 0x938);
+    copy(v2 + 360, config, 72);
+    fill(v2 + 432, 0, 352);
+    nodes_spacecraft_Spacecraft_restarted(v2 + 432, v2 + 360, 0);
+    config = get64(v2 + 440);
+    v3 = get8(v2 + 432);
+    copy(v2 + 24, v2 + 448, 336);
     if (v3 == 0) {
-        rattle_alloc_at(v2 + 8, 0x940, 8);
+        rattle_alloc_at(v2 + 8, 344, 8);
         if (((uint32_t)get64(v2 + 8) & 1) != 0) {
             v4 = get64(v2 + 16);
             put64(v4, config);
-            copy(v4 + 8, v2 + 24, 0x938);
+            copy(v4 + 8, v2 + 24, 336);
             config = get64(spacecraft /* node */);
             put64(spacecraft /* node */, v4);
             v3 = 0;
             if (config == 0) return 0;
-            copy(v2 + 0x998, config, 0x940);
+            copy(v2 + 432, config, 344);
             rattle_dealloc_at(config);
-            sedgechisel_nodes_nodes_spacecraft_Spacecraft_Destruct_drop(v2 + 0x998);
+            sedgechisel_nodes_nodes_spacecraft_Spacecraft_Destruct_drop(v2 + 432);
             return 0;
         }
-        copy(v2 + 0x998 + 8, v2 + 24, 0x938);
-        put64(v2 + 2456, config);
-        sedgechisel_nodes_nodes_spacecraft_Spacecraft_Destruct_drop(v2 + 0x998);
+        copy(v2 + 432 + 8, v2 + 24, 336);
+        put64(v2 + 432, config);
+        sedgechisel_nodes_nodes_spacecraft_Spacecraft_Destruct_drop(v2 + 432);
     }
     v3 = 6;
     return 6;
@@ -8995,40 +9709,40 @@ static uint32_t sedge_spacecraft_open_at(uint64_t config, uint64_t spacecraft)
 /* sedge_spacecraft_open_kept, crates/sedgechisel_nodes/src/handles.rt:141 */
 static uint32_t sedge_spacecraft_open_kept_at(uint64_t config, uint64_t kept, uint64_t spacecraft)
 {
-    unsigned char frame_octets[4832 + 15];
+    unsigned char frame_octets[784 + 15];
     uint32_t v5 = 0;
     uint64_t v3 = 0, v6 = 0;
     v3 = aligned(frame_octets);
-    fill(v3 + 16, 0, 0x948);
-    put64(v3 + 2480, 0);
-    put64(v3 + 2472, 0);
-    put64(v3 + 2464, 0);
-    nodes_config_Config_fault(v3 + 0x9a0, config);
-    if (get8(v3 + 2464) != 0) return 254;
-    copy(v3 + 0x958, config, 72);
+    fill(v3 + 16, 0, 352);
+    put64(v3 + 456, 0);
+    put64(v3 + 448, 0);
+    put64(v3 + 440, 0);
+    nodes_config_Config_fault(v3 + 440, config);
+    if (get8(v3 + 440) != 0) return 254;
+    copy(v3 + 368, config, 72);
     v5 = get8(kept + 27);
     if (v5 > 3) return 254;
-    nodes_spacecraft_Spacecraft_restarted(v3 + 16, v3 + 0x958, (((v5 << 8) | get8(kept + 28)) | (get8(kept + 30) <<
-        16)) | (get8(kept + 31) << 24));
+    nodes_spacecraft_Spacecraft_restarted(v3 + 16, v3 + 368, (((v5 << 8) | get8(kept + 28)) | (get8(kept + 30) << 16))
+        | (get8(kept + 31) << 24));
     if (get8(v3 + 16) != 0) return 6;
     config = get64(v3 + 24);
-    rattle_alloc_at(v3, 0x940, 8);
+    rattle_alloc_at(v3, 344, 8);
     kept = v3 + 32;
     if (((uint32_t)get64(v3) & 1) != 0) {
         v6 = get64(v3 + 8);
         put64(v6, config);
-        copy(v6 + 8, kept, 0x938);
+        copy(v6 + 8, kept, 336);
         config = get64(spacecraft /* node */);
         put64(spacecraft /* node */, v6);
         if (config == 0) return 0;
-        copy(v3 + 0x9a0, config, 0x940);
+        copy(v3 + 440, config, 344);
         rattle_dealloc_at(config);
-        sedgechisel_nodes_nodes_spacecraft_Spacecraft_Destruct_drop(v3 + 0x9a0);
+        sedgechisel_nodes_nodes_spacecraft_Spacecraft_Destruct_drop(v3 + 440);
         return 0;
     }
-    copy(v3 + 0x9a0 + 8, kept, 0x938);
-    put64(v3 + 2464, config);
-    sedgechisel_nodes_nodes_spacecraft_Spacecraft_Destruct_drop(v3 + 0x9a0);
+    copy(v3 + 440 + 8, kept, 336);
+    put64(v3 + 440, config);
+    sedgechisel_nodes_nodes_spacecraft_Spacecraft_Destruct_drop(v3 + 440);
     return 6;
 }
 
@@ -9221,6 +9935,65 @@ static uint32_t sedge_ground_forget_telemetry_at(uint64_t ground)
     v2 = v1 + 320;
     if (get64(v2) != 0) put64(v2, 0);
     put64(ground /* node */, v1);
+    return 0;
+}
+
+/* sedge_ground_kept, crates/sedgechisel_nodes/src/ground_kept.rt:72 */
+static uint32_t sedge_ground_kept_at(uint64_t ground, uint64_t kept)
+{
+    unsigned char frame_octets[128 + 15];
+    uint32_t v4 = 0, v6 = 0, v7 = 0, v16 = 0;
+    uint64_t v2 = 0, v3 = 0, v5 = 0, v8 = 0, v9 = 0, v10 = 0, v11 = 0, v12 = 0, v13 = 0, v14 = 0, v15 = 0;
+    v2 = aligned(frame_octets);
+    v3 = get64(ground /* node */);
+    put64(ground /* node */, 0);
+    if (v3 == 0) return 255;
+    v4 = 0;
+    fill(v2, 0, 127);
+    v5 = get64(v3 + 264);
+    if (v5 == 0) {
+        v6 = get8(v3 + 75);
+        v7 = get8(v3 + 74);
+    } else {
+        v7 = get8(v3 + 74);
+        v6 = get8(v3 + 75);
+        v8 = (uint64_t)(v7 - v6) & 255;
+        v9 = get64(v3 + 288);
+        v10 = v9 - v5;
+        v11 = v5 - v9;
+        v12 = get64(v3 + 256);
+        v9 = 0;
+        v13 = v3 + 280;
+        do {
+            if (v9 < v11) {
+                v14 = v12 + (get64(v13) << 3);
+                v15 = v9;
+            } else {
+                v15 = v10 + v9;
+                v14 = v12;
+            }
+            v14 = get64(v14 + (v15 << 3));
+            v15 = (v14 > 1) ? v14 : 1ULL;
+            if (v8 < v15) goto l4;
+            put8(v2 + v9, (uint32_t)v14);
+            v8 = v8 - v15;
+            v9 = v9 + 1;
+        } while (v5 != v9);
+        v9 = v5;
+    l4:;
+        v4 = (uint32_t)v9;
+    }
+    v9 = get64(v3 + 248);
+    v16 = get8(v3 + 296);
+    put8(kept + 11 /* whole */, v4);
+    put8(kept + 10 /* known */, v16);
+    put8(kept + 9 /* nn */, v6);
+    put8(kept + 8 /* vs */, v7);
+    put64(kept /* acknowledged */, v9);
+    copy(kept + 12, v2, 127);
+    put8(kept + 143, 0);
+    put32(kept + 139 /* zeros */, 0);
+    put64(ground /* node */, v3);
     return 0;
 }
 
@@ -9588,15 +10361,15 @@ static uint32_t sedge_ground_tick_at(uint64_t ground)
 /* sedge_sim_close, crates/sedgechisel_nodes/src/handles.rt:233 */
 static void sedge_sim_close_at(uint64_t sim)
 {
-    unsigned char frame_octets[6080 + 15];
+    unsigned char frame_octets[4048 + 15];
     uint64_t v1 = 0, v2 = 0;
     v1 = aligned(frame_octets);
     v2 = get64(sim /* link */);
     put64(sim /* link */, 0);
     if (v2 == 0) return;
-    copy(v1 + 8, v2, 0x17b8);
+    copy(v1, v2, 0xfd0);
     rattle_dealloc_at(v2);
-    sedgechisel_nodes_sedgechisel_nodes_sim_link_Link_Destruct_drop(v1 + 8);
+    sedgechisel_nodes_sedgechisel_nodes_sim_link_Link_Destruct_drop(v1);
     return;
 }
 
@@ -9610,16 +10383,16 @@ static uint32_t sedge_sim_count_at(uint64_t sim, uint32_t record, uint32_t map, 
     if (v4 == 0) return 255;
     switch ((record & 255) - 1) {
     case 0:
-        if ((map & 255) <= 63) v5 = get64((v4 + (((uint64_t)map & 255) * 24)) + 0xb50);
+        if ((map & 255) <= 63) v5 = get64((v4 + (((uint64_t)map & 255) * 24)) + 872);
         break;
     case 1:
-        if ((map & 255) <= 63) v5 = get64((v4 + (((uint64_t)map & 255) * 24)) + 0x1150);
+        if ((map & 255) <= 63) v5 = get64((v4 + (((uint64_t)map & 255) * 24)) + 0x968);
         break;
     case 2:
-        v5 = get64(v4 + 0x1750);
+        v5 = get64(v4 + 0xf68);
         break;
     case 3:
-        v5 = get64(v4 + 0x1778) - get64(v4 + 0x1768);
+        v5 = get64(v4 + 0xf90) - get64(v4 + 0xf80);
         break;
     default:
         break;
@@ -9646,8 +10419,8 @@ static uint32_t sedge_sim_entry_at(uint64_t sim, uint32_t record, uint32_t map, 
             return 253;
         }
         v9 = v7 + (((uint64_t)map & 255) * 24);
-        v10 = get64(v9 + 0xb50);
-        v9 = get64(v9 + 0xb48);
+        v10 = get64(v9 + 872);
+        v9 = get64(v9 + 864);
         break;
     case 1:
         if ((map & 255) > 63) {
@@ -9655,17 +10428,17 @@ static uint32_t sedge_sim_entry_at(uint64_t sim, uint32_t record, uint32_t map, 
             return 253;
         }
         v9 = v7 + (((uint64_t)map & 255) * 24);
-        v10 = get64(v9 + 0x1150);
-        v9 = get64(v9 + 0x1148);
+        v10 = get64(v9 + 0x968);
+        v9 = get64(v9 + 0x960);
         break;
     case 2:
-        v10 = get64(v7 + 0x1750);
-        v9 = get64(v7 + 0x1748);
+        v10 = get64(v7 + 0xf68);
+        v9 = get64(v7 + 0xf60);
         break;
     case 3:
-        v9 = get64(v7 + 0x1768);
-        v10 = get64(v7 + 0x1778) - v9;
-        v9 = get64(v7 + 0x1770) + (v9 * 24);
+        v9 = get64(v7 + 0xf80);
+        v10 = get64(v7 + 0xf90) - v9;
+        v9 = get64(v7 + 0xf88) + (v9 * 24);
         break;
     default:
         put64(sim /* link */, v7);
@@ -9801,14 +10574,14 @@ static uint32_t sedge_sim_octets_at(uint64_t sim, uint64_t out, uint64_t room, u
     v4 = get64(sim /* link */);
     put64(sim /* link */, 0);
     if (v4 == 0) return 255;
-    v5 = get64(v4 + 0x17a8);
+    v5 = get64(v4 + 0xfc0);
     if (room < v5) {
         put64(sim /* link */, v4);
         return 252;
     }
     v6 = (out == 0) ? 0x1000ULL : 0ULL;
     v7 = out + v6;
-    v8 = get64(v4 + 0x17a0);
+    v8 = get64(v4 + 0xfb8);
     if ((v7 - v8) >= v5) {
         if (v5 == 0) {
             put64(count, v5);
@@ -9862,9 +10635,9 @@ static uint32_t sedge_sim_read_at(uint64_t sim, uint64_t read)
     put64(sim /* link */, 0);
     if (v2 == 0) return 255;
     v3 = 1;
-    v4 = get8(v2 + 0xb20);
+    v4 = get8(v2 + 824);
     if (v4 == 1) {
-        v5 = get8(v2 + 0xb22);
+        v5 = get8(v2 + 826);
         switch ((uint32_t)((uint64_t)v5 & 255)) {
         case 1:
             v5 = 0;
@@ -9885,7 +10658,7 @@ static uint32_t sedge_sim_read_at(uint64_t sim, uint64_t read)
         default:
             goto l2;
         }
-        v5 = get8(v2 + 0xb23);
+        v5 = get8(v2 + 827);
         v3 = 4;
         goto l2;
     }
@@ -9896,11 +10669,11 @@ l2:;
     v6 = get8(v2 + 96);
     v7 = get64(v2 + 216);
     v8 = get64(v2 + 152);
-    v9 = get8(v2 + 0xb26);
-    v10 = get8(v2 + 0xb27);
+    v9 = get8(v2 + 830);
+    v10 = get8(v2 + 831);
     v11 = get8(v2 + 73);
-    v12 = get64(v2 + 0x1760);
-    v13 = get8(v2 + 0xb28);
+    v12 = get64(v2 + 0xf78);
+    v13 = get8(v2 + 832);
     put16(read + 22, 0);
     put8(read + 21 /* confirmed */, v13);
     put8(read + 18 /* vr */, v5);
@@ -9927,12 +10700,12 @@ static uint32_t sedge_sim_spacecraft_read_at(uint64_t sim, uint64_t read)
     v4 = get8(v2 + 475);
     v5 = get8(v2 + 474);
     v6 = (uint64_t)get32(v2 + 460);
-    v7 = get16(v2 + 0xa70);
+    v7 = get16(v2 + 648);
     v8 = get8(v2 + 473);
     v9 = get8(v2 + 477);
     v10 = get32(v2 + 404);
-    v11 = get64(v2 + 0xa50);
-    put64(read + 8 /* ready */, get64(v2 + 0xa20));
+    v11 = get64(v2 + 616);
+    put64(read + 8 /* ready */, get64(v2 + 568));
     put64(read + 16 /* bypassed */, v11);
     put8(read + 24 /* status */, 0);
     put8(read + 25 /* vcid */, v10);
@@ -9949,7 +10722,7 @@ static uint32_t sedge_sim_spacecraft_read_at(uint64_t sim, uint64_t read)
 /* sedge_sim_step, crates/sedgechisel_nodes/src/sim/events.rt:74 */
 static uint32_t sedge_sim_step_at(uint64_t sim, uint64_t event, uint64_t reply)
 {
-    unsigned char frame_octets[2576 + 15];
+    unsigned char frame_octets[2608 + 15];
     uint32_t v4 = 0, v5 = 0, v6 = 0, v9 = 0, v10 = 0, v11 = 0, v12 = 0, v13 = 0, v14 = 0, v15 = 0, v16 = 0, v17 = 0,
         v24 = 0, v25 = 0, v27 = 0, v28 = 0, v32 = 0, v33 = 0, v34 = 0, v35 = 0, v36 = 0, v37 = 0, v43 = 0, v44 = 0,
         v45 = 0, v46 = 0, v47 = 0, t2, t3, t4, t5, t6, t7, t8, t11, t15, t16, t17;
@@ -10140,27 +10913,27 @@ l2:;
     v6 = 255;
     if (event == 0) return 255;
     v17 = 0;
-    put16(v3 + 220, 0);
-    put32(v3 + 216, 0);
+    put16(v3 + 228, 0);
+    put32(v3 + 224, 0);
     switch (v13) {
     case 1:
-        nodes_ground_node_Ground_bypass(v3 + 48, event, v12, v7, v8);
+        nodes_ground_node_Ground_bypass(v3 + 56, event, v12, v7, v8);
         v25 = 0;
-        v11 = get8(v3 + 49);
+        v11 = get8(v3 + 57);
         v13 = v11 == 5;
-        v12 = get8(v3 + 48);
+        v12 = get8(v3 + 56);
         v6 = (v12 != 0) ? ((v13 != 0) ? 0U : 3U) : 0U;
         if ((v13 & (uint32_t)(v12 != 0)) != 0) goto l51;
         v24 = (v12 != 0) ? ((v13 != 0) ? 0U : v11) : 0U;
         v22 = 0;
         goto l52;
     case 2:
-        put16(v3 + 498, v5);
-        put8(v3 + 497, v9);
-        put8(v3 + 496, v11);
+        put16(v3 + 530, v5);
+        put8(v3 + 529, v9);
+        put8(v3 + 528, v11);
         v6 = 0;
-        put16(v3 + 248, 0);
-        put8(v3 + 250, 0);
+        put16(v3 + 256, 0);
+        put8(v3 + 258, 0);
         if (v10 != 0) {
             v13 = 0;
             v12 = 0;
@@ -10173,22 +10946,22 @@ l2:;
         v12 = 0;
         goto l56;
     case 3:
-        put64(v3 + 496, 0);
-        put64(v3 + 504, 0);
-        put32(v3 + 248, 2);
+        put64(v3 + 528, 0);
+        put64(v3 + 536, 0);
+        put32(v3 + 256, 2);
         v6 = 0;
-        if (get64(event + 0xad8) == 0) v6 = get64(event + 0xb00) == 0;
+        if (get64(event + 752) == 0) v6 = get64(event + 792) == 0;
         v13 = simulated_link_world_World_is_idle(event);
-        nodes_ground_node_Ground_resume(v3 + 496, event, v12);
-        if (get8(v3 + 496) == 0) {
-            v7 = get64(v3 + 504);
-            simulated_link_world_World_begin(event, v3 + 248, v6, v13);
+        nodes_ground_node_Ground_resume(v3 + 528, event, v12);
+        if (get8(v3 + 528) == 0) {
+            v7 = get64(v3 + 536);
+            simulated_link_world_World_begin(event, v3 + 256, v6, v13);
             v24 = 0;
             v6 = 10;
         } else {
             v7 = 0;
             v6 = 3;
-            v24 = get8(v3 + 497);
+            v24 = get8(v3 + 529);
         }
         v26 = v7 & 0xffffffffff000000ULL;
         v25 = (uint32_t)(v7 >> 16);
@@ -10201,10 +10974,10 @@ l2:;
         goto l50;
     case 4:
         v26 = 0;
+        put64(v3 + 264, 0);
         put64(v3 + 256, 0);
-        put64(v3 + 248, 0);
-        nodes_ground_node_Ground_peek(v3 + 496, event);
-        if (get8(v3 + 496) != 1) {
+        nodes_ground_node_Ground_peek(v3 + 528, event);
+        if (get8(v3 + 528) != 1) {
             nodes_ground_node_Ground_advance(event);
             v28 = 0;
             v27 = 0;
@@ -10213,23 +10986,23 @@ l2:;
             v22 = 0;
             goto l48;
         }
-        v26 = get64(v3 + 528);
-        v11 = get8(v3 + 521);
-        v10 = get8(v3 + 520);
-        v6 = get8(v3 + 513);
-        v18 = get64(v3 + 536);
-        v13 = get8(v3 + 512);
+        v26 = get64(v3 + 560);
+        v11 = get8(v3 + 553);
+        v10 = get8(v3 + 552);
+        v6 = get8(v3 + 545);
+        v18 = get64(v3 + 568);
+        v13 = get8(v3 + 544);
         v7 = (v13 == 2) ? ((v6 != 0) ? 4ULL : 2ULL) : (v18 + 2);
         v29 = v7 + 6;
         v12 = v29 == 0;
         if (v12 != 0) {
             v7 = 0;
-            v19 = v3 + 0xa08;
+            v19 = v3 + 0xa28;
         } else {
             if (v29 > 0x7fffffffffffffffULL) goto l58;
-            rattle_alloc_at(v3 + 88, v29, 1);
-            if (((uint32_t)get64(v3 + 88) & 1) == 0) goto l58;
-            v19 = get64(v3 + 96);
+            rattle_alloc_at(v3 + 96, v29, 1);
+            if (((uint32_t)get64(v3 + 96) & 1) == 0) goto l58;
+            v19 = get64(v3 + 104);
             v8 = 0;
             if (v29 != 1) {
                 v8 = v7 + 5;
@@ -10238,18 +11011,18 @@ l2:;
             put8(v19 + v8, 0);
             v7 = v8 + 1;
         }
-        tc_frame_encoding_encode(v3 + 248, v3 + 504, v19, v7);
-        if (get8(v3 + 248) != 0) UNREACHABLE;
+        tc_frame_encoding_encode(v3 + 256, v3 + 536, v19, v7);
+        if (get8(v3 + 256) != 0) UNREACHABLE;
         v5 = v7 == 0;
         if (v5 != 0) {
-            v21 = v3 + 0xa08;
+            v21 = v3 + 0xa28;
         } else {
-            rattle_alloc_at(v3 + 72, v7, 1);
-            if (((uint32_t)get64(v3 + 72) & 1) == 0) {
+            rattle_alloc_at(v3 + 80, v7, 1);
+            if (((uint32_t)get64(v3 + 80) & 1) == 0) {
                 if (v12 == 0) goto l120;
                 goto l58;
             }
-            v21 = get64(v3 + 80);
+            v21 = get64(v3 + 88);
         }
         if ((v21 - v19) < v7) {
             v23 = v7 & 3;
@@ -10282,13 +11055,13 @@ l2:;
         v23 = 0;
         v13 = v13 != 0 || (v6 & 255) != (get8(event + 74) & 255);
         if (v13 == 0) {
-            v23 = v3 + 0xa08;
+            v23 = v3 + 0xa28;
             v31 = v18 + 1;
             if (v31 != 0) {
                 if (v31 > 0x7fffffffffffffffULL) goto l121;
-                rattle_alloc_at(v3 + 56, v31, 1);
-                if (((uint32_t)get64(v3 + 56) & 1) == 0) goto l121;
-                v23 = get64(v3 + 64);
+                rattle_alloc_at(v3 + 64, v31, 1);
+                if (((uint32_t)get64(v3 + 64) & 1) == 0) goto l121;
+                v23 = get64(v3 + 72);
             }
             put8(v23, (v10 << 6) + v11);
             v8 = v23 + 1;
@@ -10317,12 +11090,12 @@ l2:;
             } else if (v18 != 0) copy(v8, v26, v18);
         }
     l130:;
-        if (get64(event + 0xae0) == get64(event + 0xad8)) {
-            t2 = std_alloc_vec_deque_VecDeque_grow_1598ebf9113514c4(event + 0xad0);
+        if (get64(event + 760) == get64(event + 752)) {
+            t2 = std_alloc_vec_deque_VecDeque_grow_1598ebf9113514c4(event + 744);
             if (t2 == 0) goto l136;
         }
-        if (get64(event + 0x1758) != get64(event + 0x1750)) goto l119;
-        t3 = std_alloc_vec_Vec_grow_amortized_1598ebf9113514c4(event + 0x1748, 1);
+        if (get64(event + 0xf70) != get64(event + 0xf68)) goto l119;
+        t3 = std_alloc_vec_Vec_grow_amortized_1598ebf9113514c4(event + 0xf60, 1);
         if (t3 != 0) goto l119;
     l136:;
         if (v12 == 0) rattle_dealloc_at(v19);
@@ -10339,13 +11112,13 @@ l2:;
         goto l58;
     l119:;
         nodes_ground_node_Ground_advance(event);
-        v8 = get64(event + 0xad0);
-        v22 = get64(event + 0xad8);
-        v26 = event + 0xaf0;
+        v8 = get64(event + 744);
+        v22 = get64(event + 752);
+        v26 = event + 776;
         v20 = get64(v26);
         v30 = v22 - v20;
-        v18 = get64(event + 0xae8);
-        if (v30 < (get64(event + 0xae0) - v18)) {
+        v18 = get64(event + 768);
+        if (v30 < (get64(event + 760) - v18)) {
             v8 = v8 + ((v18 + v30) * 24);
             put64(v8 + 16, v29);
             put64(v8 + 8, v7);
@@ -10357,19 +11130,19 @@ l2:;
             put64(v8, v19);
             put64(v26, v20 + 1);
         }
-        put64(event + 0xad8, v22 + 1);
+        put64(event + 752, v22 + 1);
         if (v13 == 0) {
-            v22 = event + 0x1750;
+            v22 = event + 0xf68;
             v20 = get64(v22);
-            v8 = get64(event + 0x1748) + (v20 * 24);
+            v8 = get64(event + 0xf60) + (v20 * 24);
             put64(v8 + 16, v31);
             put64(v8 + 8, v31);
             put64(v8, v23);
             put64(v22, v20 + 1);
         }
         v13 = 0;
-        put16(v3 + 500, 0);
-        put32(v3 + 496, 0);
+        put16(v3 + 532, 0);
+        put32(v3 + 528, 0);
         v26 = v21 & 0xffffffffff000000ULL;
         v25 = (uint32_t)(v21 >> 16);
         v27 = (uint32_t)(v21 >> 8);
@@ -10399,31 +11172,31 @@ l2:;
         goto l30;
     case 5:
         v26 = 0;
-        put64(v3 + 472, 0);
-        put64(v3 + 480, 0);
-        put64(v3 + 488, 0);
+        put64(v3 + 504, 0);
+        put64(v3 + 512, 0);
+        put64(v3 + 520, 0);
         v28 = 0;
-        fill(v3 + 496, 0, 208);
-        put64(v3 + 464, 0);
-        put64(v3 + 456, 0);
-        put64(v3 + 448, 0);
-        put64(v3 + 224, 0);
+        fill(v3 + 528, 0, 232);
+        put64(v3 + 496, 0);
+        put64(v3 + 488, 0);
+        put64(v3 + 480, 0);
         put64(v3 + 232, 0);
         put64(v3 + 240, 0);
+        put64(v3 + 248, 0);
         v13 = 1;
-        v8 = get64(event + 0xad8);
+        v8 = get64(event + 752);
         if (v8 == 0) {
             v6 = 1;
             goto l61;
         }
-        v7 = get64(event + 0xad0);
-        if (v8 != get64(event + 0xaf0)) v7 = v7 + (get64(event + 0xae8) * 24);
+        v7 = get64(event + 744);
+        if (v8 != get64(event + 776)) v7 = v7 + (get64(event + 768) * 24);
         v31 = event + 400;
-        nodes_spacecraft_Spacecraft_prepare(v3 + 496, v31, get64(v7), get64(v7 + 8));
+        nodes_spacecraft_Spacecraft_prepare(v3 + 528, v31, get64(v7), get64(v7 + 8));
         v6 = 0;
-        if (get8(v3 + 496) != 0) goto l62;
-        copy(v3 + 248, v3 + 496 + 8, 200);
-        v12 = get8(v3 + 296);
+        if (get8(v3 + 528) != 0) goto l62;
+        copy(v3 + 256, v3 + 528 + 8, 224);
+        v12 = get8(v3 + 304);
         if (v12 != 1) {
             v13 = 0;
             v40 = 0;
@@ -10433,22 +11206,22 @@ l2:;
             v39 = 0;
             goto l146;
         }
-        v21 = get64(v3 + 344);
-        v5 = get8(v3 + 336);
-        v38 = get64((v5 != 0) ? (v3 + 352) : (v3 + 368));
-        v13 = get8(v3 + 305);
-        v23 = get64(v3 + 312);
-        v11 = get8(v3 + 304);
-        v7 = get64(v3 + 320);
+        v21 = get64(v3 + 352);
+        v5 = get8(v3 + 344);
+        v38 = get64((v5 != 0) ? (v3 + 360) : (v3 + 376));
+        v13 = get8(v3 + 313);
+        v23 = get64(v3 + 320);
+        v11 = get8(v3 + 312);
+        v7 = get64(v3 + 328);
         v39 = v7 + 1;
         v10 = v39 == 0;
         if (v10 != 0) {
-            v18 = v3 + 0xa08;
+            v18 = v3 + 0xa28;
         } else {
             if (v39 > 0x7fffffffffffffffULL) goto l151;
-            rattle_alloc_at(v3 + 136, v39, 1);
-            if (((uint32_t)get64(v3 + 136) & 1) == 0) goto l151;
-            v18 = get64(v3 + 144);
+            rattle_alloc_at(v3 + 144, v39, 1);
+            if (((uint32_t)get64(v3 + 144) & 1) == 0) goto l151;
+            v18 = get64(v3 + 152);
         }
         put8(v18, (v11 << 6) + v13);
         v8 = v18 + 1;
@@ -10480,19 +11253,19 @@ l2:;
         } else if (v7 != 0) copy(v8, v23, v7);
     l154:;
         if (v38 == 0) {
-            v40 = v3 + 0xa08;
+            v40 = v3 + 0xa28;
             v38 = 0;
             v30 = 0;
             goto l163;
         }
         if (v38 > 0x555555555555555ULL) goto l159;
-        rattle_alloc_at(v3 + 120, v38 * 24, 8);
-        if (((uint32_t)get64(v3 + 120) & 1) == 0) goto l159;
-        v41 = (v5 != 0) ? v21 : (v3 + 344);
-        v42 = get64(v3 + 128);
-        put64(v3 + 2560, v38);
-        put64(v3 + 2552, 0);
-        put64(v3 + 2544, v42);
+        rattle_alloc_at(v3 + 128, v38 * 24, 8);
+        if (((uint32_t)get64(v3 + 128) & 1) == 0) goto l159;
+        v41 = (v5 != 0) ? v21 : (v3 + 352);
+        v42 = get64(v3 + 136);
+        put64(v3 + 2592, v38);
+        put64(v3 + 2584, 0);
+        put64(v3 + 2576, v42);
         v30 = 0;
         v40 = 0;
         do {
@@ -10501,12 +11274,12 @@ l2:;
             v29 = get64(v7 + 8);
             v11 = v29 == 0;
             if (v11 != 0) {
-                v23 = v3 + 0xa08;
+                v23 = v3 + 0xa28;
             } else {
                 if (v29 > 0x7fffffffffffffffULL) goto l162;
-                rattle_alloc_at(v3 + 104, v29, 1);
-                if (((uint32_t)get64(v3 + 104) & 1) == 0) goto l162;
-                v23 = get64(v3 + 112);
+                rattle_alloc_at(v3 + 112, v29, 1);
+                if (((uint32_t)get64(v3 + 112) & 1) == 0) goto l162;
+                v23 = get64(v3 + 120);
             }
             if ((v23 - v19) < v29) {
                 v20 = v29 & 3;
@@ -10535,57 +11308,57 @@ l2:;
                 } while (v20 != 0);
             } else if (v11 == 0) copy(v23, v19, v29);
         l168:;
-            if (get64(v3 + 2560) == v30) {
-                t4 = std_alloc_vec_Vec_grow_amortized_1598ebf9113514c4(v3 + 0x9f0, 1);
+            if (get64(v3 + 2592) == v30) {
+                t4 = std_alloc_vec_Vec_grow_amortized_1598ebf9113514c4(v3 + 0xa10, 1);
                 if (t4 == 0) goto l161;
-                v42 = get64(v3 + 2544);
-                v30 = get64(v3 + 2552);
+                v42 = get64(v3 + 2576);
+                v30 = get64(v3 + 2584);
             }
             v7 = v42 + (v30 * 24);
             put64(v7 + 16, v29);
             put64(v7 + 8, v29);
             put64(v7, v23);
             v30 = v30 + 1;
-            put64(v3 + 2552, v30);
+            put64(v3 + 2584, v30);
             v40 = v40 + 1;
         } while (v40 != v38);
-        v38 = get64(v3 + 2560);
-        v40 = get64(v3 + 2544);
+        v38 = get64(v3 + 2592);
+        v40 = get64(v3 + 2576);
     l163:;
-        if (get64(event + 0x1780) == get64(event + 0x1778)) {
-            t5 = std_alloc_vec_Vec_grow_amortized_1598ebf9113514c4(event + 0x1770, 1);
+        if (get64(event + 0xf98) == get64(event + 0xf90)) {
+            t5 = std_alloc_vec_Vec_grow_amortized_1598ebf9113514c4(event + 0xf88, 1);
             if (t5 == 0) goto l174;
         }
-        v7 = event + 0x1148 + (((uint64_t)v13 & 255) * 24);
+        v7 = event + 0x960 + (((uint64_t)v13 & 255) * 24);
         if (v30 <= (get64(v7 + 16) - get64(v7 + 8))) goto l146;
         t6 = std_alloc_vec_Vec_grow_amortized_1598ebf9113514c4(v7, v30);
         if (t6 != 0) goto l146;
     l174:;
         if (v10 == 0) rattle_dealloc_at(v18);
-        put64(v3 + 464, v38);
-        put64(v3 + 456, v30);
-        put64(v3 + 448, v40);
-        std_alloc_vec_Vec_drop_b0c2e3ac61d256b1(v3 + 448);
+        put64(v3 + 496, v38);
+        put64(v3 + 488, v30);
+        put64(v3 + 480, v40);
+        std_alloc_vec_Vec_drop_b0c2e3ac61d256b1(v3 + 480);
         v13 = 1;
-        if (get8(v3 + 296) != 1) goto l148;
-        v22 = get64(v3 + 400);
-        v20 = get64(v3 + 384);
-        v12 = get8(v3 + 376);
-        v7 = get64(v3 + 360);
-        v8 = get64(v3 + 344);
-        if (get8(v3 + 336) != 0) {
-            v23 = get64(v3 + 352);
-            put64(v3 + 240, v7);
-            put64(v3 + 232, v23);
-            put64(v3 + 224, v8);
-            std_alloc_vec_Vec_drop_b0c2e3ac61d256b1(v3 + 224);
+        if (get8(v3 + 304) != 1) goto l148;
+        v22 = get64(v3 + 408);
+        v20 = get64(v3 + 392);
+        v12 = get8(v3 + 384);
+        v7 = get64(v3 + 368);
+        v8 = get64(v3 + 352);
+        if (get8(v3 + 344) != 0) {
+            v23 = get64(v3 + 360);
+            put64(v3 + 248, v7);
+            put64(v3 + 240, v23);
+            put64(v3 + 232, v8);
+            std_alloc_vec_Vec_drop_b0c2e3ac61d256b1(v3 + 232);
             goto l149;
         }
         if (v7 == 0) goto l149;
         rattle_dealloc_at(v8);
         goto l149;
     l162:;
-        v8 = get64(v3 + 2560);
+        v8 = get64(v3 + 2592);
         if (v30 != 0) {
             v7 = v42;
             do {
@@ -10598,9 +11371,9 @@ l2:;
         goto l159;
     l161:;
         if (v11 == 0) rattle_dealloc_at(v23);
-        v22 = get64(v3 + 2560);
-        v42 = get64(v3 + 2544);
-        v8 = get64(v3 + 2552);
+        v22 = get64(v3 + 2592);
+        v42 = get64(v3 + 2576);
+        v8 = get64(v3 + 2584);
         if (v8 != 0) {
             v7 = v42;
             do {
@@ -10616,68 +11389,82 @@ l2:;
         if (v10 == 0) rattle_dealloc_at(v18);
     l151:;
         v13 = 1;
-        if (get8(v3 + 296) != 1) goto l184;
-        v23 = get64(v3 + 400);
-        v19 = get64(v3 + 384);
-        v12 = get8(v3 + 376);
-        v20 = get64(v3 + 360);
-        v22 = get64(v3 + 344);
-        if (get8(v3 + 336) == 0) {
-            if (v20 != 0) goto l186;
+        if (get8(v3 + 304) != 1) goto l184;
+        v19 = get64(v3 + 432);
+        v8 = get64(v3 + 424);
+        v20 = get64(v3 + 416);
+        v30 = get64(v3 + 408);
+        v29 = get64(v3 + 392);
+        v12 = get8(v3 + 384);
+        v21 = get64(v3 + 368);
+        v23 = get64(v3 + 352);
+        if (get8(v3 + 344) == 0) {
+            if (v21 != 0) goto l186;
             goto l185;
         }
-        v8 = get64(v3 + 352);
-        if (v8 != 0) {
-            v7 = v22;
+        v22 = get64(v3 + 360);
+        if (v22 != 0) {
+            v7 = v23;
             do {
                 if (get64(v7 + 16) != 0) rattle_dealloc_at(get64(v7));
                 v7 = v7 + 24;
+                v22 = v22 - 1;
+            } while (v22 != 0);
+        }
+        if (v21 == 0) goto l185;
+    l186:;
+        rattle_dealloc_at(v23);
+    l185:;
+        if ((v12 & 255) == 2 && v30 != 0) rattle_dealloc_at(v29);
+        if (v8 != 0) {
+            v7 = v20;
+            do {
+                if (get8(v7) != 0 && get64(v7 + 24) != 0) rattle_dealloc_at(get64(v7 + 8));
+                v7 = v7 + 32;
                 v8 = v8 - 1;
             } while (v8 != 0);
         }
-        if (v20 == 0) goto l185;
-    l186:;
-        rattle_dealloc_at(v22);
-    l185:;
-        if ((v12 & 255) == 2 && v23 != 0) rattle_dealloc_at(v19);
+        if (v19 != 0) rattle_dealloc_at(v20);
     l184:;
-        if (get8(v3 + 408) != 1 || get64(v3 + 440) == 0) goto l62;
-        rattle_dealloc_at(get64(v3 + 424));
+        if (get8(v3 + 440) != 1 || get64(v3 + 472) == 0) goto l62;
+        rattle_dealloc_at(get64(v3 + 456));
         v28 = 0;
         goto l61;
     l149:;
+        v7 = v3 + 416;
         if ((v12 & 255) == 2 && v22 != 0) rattle_dealloc_at(v20);
+        std_alloc_vec_Vec_drop_555ceec2fcbf3849(v7);
     l148:;
         v7 = 0;
-        if (get8(v3 + 408) != 1 || get64(v3 + 440) == 0) goto l63;
-        rattle_dealloc_at(get64(v3 + 424));
+        if (get8(v3 + 440) != 1 || get64(v3 + 472) == 0) goto l63;
+        rattle_dealloc_at(get64(v3 + 456));
         goto l63;
     l146:;
-        nodes_spacecraft_Spacecraft_commit(v3 + 472, v31, v3 + 248);
-        v7 = get64(event + 0xad8);
+        nodes_spacecraft_Spacecraft_commit(v3 + 504, v31, v3 + 256);
+        v7 = get64(event + 752);
         if (v7 != 0) {
-            v22 = event + 0xaf0;
+            v22 = event + 776;
             if (get64(v22) != v7) {
-                v8 = get64(event + 0xae8);
+                v8 = get64(event + 768);
             } else {
                 v8 = 0;
                 put64(v22, 0);
             }
-            put64(event + 0xad8, v7 - 1);
-            put64(event + 0xae8, v8 + 1);
-            v7 = get64(event + 0xad0) + (v8 * 24);
+            put64(event + 752, v7 - 1);
+            put64(event + 768, v8 + 1);
+            v7 = get64(event + 744) + (v8 * 24);
             if (get64(v7 + 16) != 0) rattle_dealloc_at(get64(v7));
         }
-        if (v12 != 1) goto l194;
-        v8 = event + 0x1778;
+        if (v12 != 1) goto l199;
+        v8 = event + 0xf90;
         v22 = get64(v8);
-        v7 = get64(event + 0x1770) + (v22 * 24);
+        v7 = get64(event + 0xf88) + (v22 * 24);
         put64(v7 + 16, v39);
         put64(v7 + 8, v39);
         put64(v7, v18);
         put64(v8, v22 + 1);
         if (v30 != 0) {
-            v23 = (event + (((uint64_t)v13 & 255) * 24)) + 0x1148;
+            v23 = (event + (((uint64_t)v13 & 255) * 24)) + 0x960;
             v19 = v23 + 8;
             v18 = get64(v19);
             v22 = 0;
@@ -10707,7 +11494,7 @@ l2:;
                     v8 = v8 + 48;
                     v22 = v22 + 2;
                 } while (v31 != v22);
-                if (v39 == 0) goto l195;
+                if (v39 == 0) goto l200;
                 v18 = v18 + v22;
             }
             v7 = v40 + (v22 * 24);
@@ -10719,71 +11506,71 @@ l2:;
             put64(v8, v22);
             put64(v19, v18 + 1);
         }
-    l195:;
+    l200:;
         if (v38 != 0) rattle_dealloc_at(v40);
-    l194:;
+    l199:;
         v6 = 7;
         v13 = 0;
-        v22 = (uint64_t)get16(v3 + 488);
-        v7 = get64(v3 + 480);
-        v25 = get8(v3 + 474);
-        v27 = get8(v3 + 473);
-        v28 = get8(v3 + 472);
+        v22 = (uint64_t)get16(v3 + 520);
+        v7 = get64(v3 + 512);
+        v25 = get8(v3 + 506);
+        v27 = get8(v3 + 505);
+        v28 = get8(v3 + 504);
         goto l60;
     case 6:
-        v7 = get64(event + 0xad8);
+        v7 = get64(event + 752);
         if (v7 == 0) {
             v6 = 1;
             goto l51;
         }
-        v22 = event + 0xaf0;
+        v22 = event + 776;
         if (get64(v22) != v7) {
-            v8 = get64(event + 0xae8);
+            v8 = get64(event + 768);
         } else {
             v8 = 0;
             put64(v22, 0);
         }
-        put64(event + 0xad8, v7 - 1);
-        put64(event + 0xae8, v8 + 1);
-        v7 = get64(event + 0xad0) + (v8 * 24);
+        put64(event + 752, v7 - 1);
+        put64(event + 768, v8 + 1);
+        v7 = get64(event + 744) + (v8 * 24);
         if (get64(v7 + 16) != 0) goto l82;
         goto l64;
     case 7:
-        v22 = get64(event + 0xad8);
+        v22 = get64(event + 752);
         if (v22 == 0) {
             v6 = 1;
             goto l51;
         }
         if (v8 < 5) {
             v27 = 0;
-            goto l202;
+            goto l207;
         }
         v6 = get8(v7);
         if (v6 > 63) {
             v27 = 1;
-            goto l202;
+            goto l207;
         }
         if ((v6 & 48) == 16) {
             v27 = 2;
-            goto l202;
+            goto l207;
         }
         if ((v6 & 12) != 0) {
             v27 = 3;
-            goto l202;
+            goto l207;
         }
         v27 = 4;
         v20 = (((uint64_t)get8(v7 + 2) << 8) & 768) | (uint64_t)get8(v7 + 3);
-        if (v8 != (v20 + 1) || v20 < 6) goto l202;
+        if (v8 != (v20 + 1) || v20 < 6) goto l207;
         v20 = v8 - 2;
         v13 = get16(v7 + v20);
         t7 = octets_frame_check_check(v7, v20);
         if ((((v13 << 8) | (v13 >> 8)) & 0xffff) != (t7 & 0xffff)) {
             v27 = 5;
-            goto l202;
+            goto l207;
         }
         if (v6 >= 32 && (get8(v7 + 4) & 255) != 0) {
             v27 = 6;
-            goto l202;
+            goto l207;
         }
         if ((v6 & 16) != 0) {
             v8 = v8 - 7;
@@ -10797,10 +11584,10 @@ l2:;
                     break;
                 case 3:
                     v27 = 8;
-                    if (get8(v7 + 5) != 130 || get8(v7 + 6) != 0) goto l202;
+                    if (get8(v7 + 5) != 130 || get8(v7 + 6) != 0) goto l207;
                     goto l65;
                 default:
-                    goto l202;
+                    goto l207;
                 }
             }
             v27 = 8;
@@ -10808,59 +11595,59 @@ l2:;
             if ((v8 - 9) < ~1ULL) goto l65;
             v27 = 7;
         }
-    l202:;
-        v8 = event + 0xaf0;
+    l207:;
+        v8 = event + 776;
         if (get64(v8) != v22) {
-            v7 = get64(event + 0xae8);
+            v7 = get64(event + 768);
         } else {
             v7 = 0;
             put64(v8, 0);
         }
-        put64(event + 0xad8, v22 - 1);
-        put64(event + 0xae8, v7 + 1);
-        v7 = get64(event + 0xad0) + (v7 * 24);
+        put64(event + 752, v22 - 1);
+        put64(event + 768, v7 + 1);
+        v7 = get64(event + 744) + (v7 * 24);
         if (get64(v7 + 16) != 0) rattle_dealloc_at(get64(v7));
         v25 = 0;
-        put16(v3 + 500, 0);
-        put32(v3 + 496, 0);
+        put16(v3 + 532, 0);
+        put32(v3 + 528, 0);
         v22 = 0;
         v7 = 0;
         v26 = 0;
         goto l35;
     case 8:
-        put64(v3 + 472, 0);
-        put64(v3 + 480, 0);
-        put64(v3 + 488, 0);
-        put64(v3 + 248, 0);
+        put64(v3 + 504, 0);
+        put64(v3 + 512, 0);
+        put64(v3 + 520, 0);
         put64(v3 + 256, 0);
         put64(v3 + 264, 0);
-        put16(v3 + 272, 0);
+        put64(v3 + 272, 0);
+        put16(v3 + 280, 0);
         v6 = get32(event + 460);
         v21 = (uint64_t)v6;
         if (v6 == 0) {
-            v18 = v3 + 0xa08;
+            v18 = v3 + 0xa28;
         } else {
-            rattle_alloc_at(v3 + 152, v21, 1);
+            rattle_alloc_at(v3 + 160, v21, 1);
             v13 = 1;
-            if (((uint32_t)get64(v3 + 152) & 1) == 0) {
+            if (((uint32_t)get64(v3 + 160) & 1) == 0) {
                 v8 = 0;
-                put64(v3 + 480, 0);
-                put64(v3 + 472, 0);
-                v7 = v3 + 472;
+                put64(v3 + 512, 0);
+                put64(v3 + 504, 0);
+                v7 = v3 + 504;
                 goto l67;
             }
-            v18 = get64(v3 + 160);
+            v18 = get64(v3 + 168);
         }
-        put64(v3 + 464, v21);
-        put64(v3 + 456, 0);
-        put64(v3 + 448, v18);
-        if (get64(event + 0xb08) == get64(event + 0xb00)) {
-            t8 = std_alloc_vec_deque_VecDeque_grow_1598ebf9113514c4(event + 0xaf8);
+        put64(v3 + 496, v21);
+        put64(v3 + 488, 0);
+        put64(v3 + 480, v18);
+        if (get64(event + 800) == get64(event + 792)) {
+            t8 = std_alloc_vec_deque_VecDeque_grow_1598ebf9113514c4(event + 784);
             if (t8 == 0) {
                 v8 = 0;
-                put64(v3 + 480, 0);
-                put64(v3 + 472, 0);
-                v7 = v3 + 472;
+                put64(v3 + 512, 0);
+                put64(v3 + 504, 0);
+                v7 = v3 + 504;
                 v13 = 1;
                 if (v6 == 0) goto l67;
                 rattle_dealloc_at(v18);
@@ -10873,33 +11660,33 @@ l2:;
         v6 = get8(event + 476);
         v10 = get8(event + 475);
         v5 = get8(event + 474);
-        fill(v3 + 496, 0, 0x800);
+        fill(v3 + 528, 0, 0x800);
         if ((v13 & 192) != 0 || (v12 & 255) > 3) UNREACHABLE;
-        put16(v3 + 2549, 0);
-        put8(v3 + 2551, 0);
-        put8(v3 + 2548, get8(event + 0xa71));
-        put8(v3 + 2547, get8(event + 0xa70));
-        put8(v3 + 2546, get8(event + 0xa62));
-        put16(v3 + 2544, get16(event + 0xa60));
-        put64(v3 + 2560, (uint64_t)get32(event + 0xaa0));
-        v22 = event + 0xa78;
-        put64(v3 + 2552, get64(v22));
-        v7 = event + 0xa98;
+        put16(v3 + 2581, 0);
+        put8(v3 + 2583, 0);
+        put8(v3 + 2580, get8(event + 649));
+        put8(v3 + 2579, get8(event + 648));
+        put8(v3 + 2578, get8(event + 634));
+        put16(v3 + 2576, get16(event + 632));
+        put64(v3 + 2592, (uint64_t)get32(event + 696));
+        v22 = event + 656;
+        put64(v3 + 2584, get64(v22));
+        v7 = event + 688;
         v8 = get64(v7);
-        v20 = event + 0xa88;
+        v20 = event + 672;
         v5 = v5 << 5;
         v10 = v10 << 4;
         v9 = v6 << 3;
-        t9 = get64(event + 0xa80) + v8;
+        t9 = get64(event + 664) + v8;
         t10 = get64(v20) - v8;
-        v8 = event + 0xa68;
-        tm_link_turn_put_next(v3 + 0x9f0, t9, t10, (((((((v5 | (v12 << 1)) | v10) | v9) & 255) << 16) | ((v13 << 10) &
-            0xfc00)) | (v11 << 24)) | 1, v3 + 496, get64(v8));
+        v8 = event + 640;
+        tm_link_turn_put_next(v3 + 0xa10, t9, t10, (((((((v5 | (v12 << 1)) | v10) | v9) & 255) << 16) | ((v13 << 10) &
+            0xfc00)) | (v11 << 24)) | 1, v3 + 528, get64(v8));
         v26 = get64(v8);
         v7 = get64(v7);
         v8 = get64(v20);
         v22 = get64(v22);
-        if (v22 == 0 && v8 == v7) goto l219;
+        if (v22 == 0 && v8 == v7) goto l224;
         v20 = v8 - v7;
         v8 = v26 - 12;
         v19 = (v8 < v22) ? v8 : v22;
@@ -10911,20 +11698,20 @@ l2:;
             v22 = v8 - v20;
             v22 = (v22 < 7) ? (v22 ^ 7) : 0ULL;
         }
-        put64(event + 0xa98, v23 + v7);
-        put64(event + 0xa78, v22);
-        v6 = get32(event + 0xaa0);
+        put64(event + 688, v23 + v7);
+        put64(event + 656, v22);
+        v6 = get32(event + 696);
         v20 = (uint64_t)v6;
         if (v8 > v20) {
-            v30 = event + 0xab0;
+            v30 = event + 712;
             v7 = get64(v30);
-            v23 = event + 0xac8;
-            v19 = event + 0xac0;
-            v29 = event + 0xaa8;
+            v23 = event + 736;
+            v19 = event + 728;
+            v29 = event + 704;
             do {
                 if (v7 == 0) {
                     v6 = 0;
-                    goto l223;
+                    goto l228;
                 }
                 if (v7 != get64(v23)) {
                     v22 = get64(v19);
@@ -10942,153 +11729,153 @@ l2:;
             } while (v8 > v22);
         }
         v6 = v6 - (uint32_t)v8;
-    l223:;
-        put32(event + 0xaa0, v6);
-    l219:;
+    l228:;
+        put32(event + 696, v6);
+    l224:;
         v6 = v10 | v5;
-        v7 = event + 0xa70;
+        v7 = event + 648;
         put8(v7, get8(v7) + 1);
-        v7 = event + 0xa71;
+        v7 = event + 649;
         put8(v7, get8(v7) + 1);
         v7 = 0;
         if (v26 > v21) {
-            t11 = std_alloc_vec_Vec_grow_amortized_49bbd27f022ae39a(v3 + 448, v26);
-            if (t11 == 0) goto l229;
-            v18 = get64(v3 + 448);
-            v21 = get64(v3 + 464);
-            v7 = get64(v3 + 456);
+            t11 = std_alloc_vec_Vec_grow_amortized_49bbd27f022ae39a(v3 + 480, v26);
+            if (t11 == 0) goto l234;
+            v18 = get64(v3 + 480);
+            v21 = get64(v3 + 496);
+            v7 = get64(v3 + 488);
         }
-        if (v26 != 0) copy(v18 + v7, v3 + 496, v26);
-        put64(v3 + 464, v21);
-        put64(v3 + 456, v7 + v26);
-    l229:;
+        if (v26 != 0) copy(v18 + v7, v3 + 528, v26);
+        put64(v3 + 496, v21);
+        put64(v3 + 488, v7 + v26);
+    l234:;
         v6 = v6 | v9;
-        v7 = get64(event + 0xaf8);
-        v8 = get64(event + 0xb00);
-        v20 = event + 0xb18;
+        v7 = get64(event + 784);
+        v8 = get64(event + 792);
+        v20 = event + 816;
         v22 = get64(v20);
         v23 = v8 - v22;
-        v19 = get64(event + 0xb10);
-        if (v23 < (get64(event + 0xb08) - v19)) {
+        v19 = get64(event + 808);
+        if (v23 < (get64(event + 800) - v19)) {
             v7 = v7 + ((v19 + v23) * 24);
-            put64(v7 + 16, get64(v3 + 464));
-            put64(v7 + 8, get64(v3 + 456));
-            put64(v7, get64(v3 + 448));
+            put64(v7 + 16, get64(v3 + 496));
+            put64(v7 + 8, get64(v3 + 488));
+            put64(v7, get64(v3 + 480));
         } else {
             v7 = v7 + (v22 * 24);
-            put64(v7 + 16, get64(v3 + 464));
-            put64(v7 + 8, get64(v3 + 456));
-            put64(v7, get64(v3 + 448));
+            put64(v7 + 16, get64(v3 + 496));
+            put64(v7 + 8, get64(v3 + 488));
+            put64(v7, get64(v3 + 480));
             put64(v20, v22 + 1);
         }
-        put64(event + 0xb00, v8 + 1);
+        put64(event + 792, v8 + 1);
         t12 = (((((uint64_t)v12 & 255) << 24) | (uint64_t)((v13 << 8) & 0x3f00)) | ((uint64_t)v11 << 32)) |
             (((uint64_t)v6 & 255) << 16);
         v24 = (uint32_t)(t12 >> 8);
-        v7 = (v3 + 248) | 2;
+        v7 = (v3 + 256) | 2;
         v6 = 6;
         v13 = 0;
-        v8 = get64(v3 + 250);
+        v8 = get64(v3 + 258);
         goto l66;
     case 9:
         v26 = 0;
-        put64(v3 + 520, 0);
-        put64(v3 + 512, 0);
-        put64(v3 + 504, 0);
-        put64(v3 + 496, 0);
-        v8 = get64(event + 0xb00);
+        put64(v3 + 552, 0);
+        put64(v3 + 544, 0);
+        put64(v3 + 536, 0);
+        put64(v3 + 528, 0);
+        v8 = get64(event + 792);
         if (v8 == 0) {
             v28 = 0;
             v6 = 1;
             goto l68;
         }
-        v7 = get64(event + 0xaf8);
-        if (v8 != get64(event + 0xb18)) v7 = v7 + (get64(event + 0xb10) * 24);
+        v7 = get64(event + 784);
+        if (v8 != get64(event + 816)) v7 = v7 + (get64(event + 808) * 24);
         v6 = get8(event + 75);
         v13 = get8(event + 73);
-        nodes_ground_node_Ground_telemetry(v3 + 496, event, get64(v7), get64(v7 + 8));
-        if (get8(v3 + 496) != 0) {
+        nodes_ground_node_Ground_telemetry(v3 + 528, event, get64(v7), get64(v7 + 8));
+        if (get8(v3 + 528) != 0) {
             v6 = 0;
             v28 = 0;
             goto l68;
         }
-        v22 = (uint64_t)get32(v3 + 520);
-        v7 = get64(v3 + 512);
-        v25 = get8(v3 + 506);
-        v27 = get8(v3 + 505);
-        v28 = get8(v3 + 504);
-        v8 = get64(event + 0xb00);
+        v22 = (uint64_t)get32(v3 + 552);
+        v7 = get64(v3 + 544);
+        v25 = get8(v3 + 538);
+        v27 = get8(v3 + 537);
+        v28 = get8(v3 + 536);
+        v8 = get64(event + 792);
         if (v8 != 0) {
-            v23 = event + 0xb18;
+            v23 = event + 816;
             if (get64(v23) != v8) {
-                v20 = get64(event + 0xb10);
+                v20 = get64(event + 808);
             } else {
                 v20 = 0;
                 put64(v23, 0);
             }
-            put64(event + 0xb00, v8 - 1);
-            put64(event + 0xb10, v20 + 1);
-            v8 = get64(event + 0xaf8) + (v20 * 24);
+            put64(event + 792, v8 - 1);
+            put64(event + 808, v20 + 1);
+            v8 = get64(event + 784) + (v20 * 24);
             if (get64(v8 + 16) != 0) rattle_dealloc_at(get64(v8));
         }
-        v8 = event + 0x1760;
+        v8 = event + 0xf78;
         put64(v8, get64(v8) + ((uint64_t)(get8(event + 75) - v6) & 255));
         v6 = 1;
-        v8 = event + 0xb28;
+        v8 = event + 832;
         if (get8(v8) == 0) v6 = ((v13 - 3) & 255) < 2 && get8(event + 73) == 0;
         put8(v8, v6);
         v6 = 8;
         goto l59;
     case 10:
-        v7 = get64(event + 0xb00);
+        v7 = get64(event + 792);
         if (v7 == 0) {
             v6 = 1;
             goto l51;
         }
-        v22 = event + 0xb18;
+        v22 = event + 816;
         if (get64(v22) != v7) {
-            v8 = get64(event + 0xb10);
+            v8 = get64(event + 808);
         } else {
             v8 = 0;
             put64(v22, 0);
         }
-        put64(event + 0xb00, v7 - 1);
-        put64(event + 0xb10, v8 + 1);
-        v7 = get64(event + 0xaf8) + (v8 * 24);
+        put64(event + 792, v7 - 1);
+        put64(event + 808, v8 + 1);
+        v7 = get64(event + 784) + (v8 * 24);
         if (get64(v7 + 16) == 0) goto l64;
         goto l82;
     case 11:
+        put64(v3 + 568, 0);
+        put64(v3 + 560, 0);
+        put64(v3 + 552, 0);
+        put64(v3 + 544, 0);
         put64(v3 + 536, 0);
         put64(v3 + 528, 0);
-        put64(v3 + 520, 0);
-        put64(v3 + 512, 0);
-        put64(v3 + 504, 0);
-        put64(v3 + 496, 0);
         v27 = 0;
-        if (get64(event + 0xb00) == 0) {
+        if (get64(event + 792) == 0) {
             v13 = 1;
             v6 = 1;
         } else {
-            tm_link_decoding_decode(v3 + 496, v7, v8, (uint64_t)get32(event + 60));
+            tm_link_decoding_decode(v3 + 528, v7, v8, (uint64_t)get32(event + 60));
             v13 = 1;
-            if (get8(v3 + 496) != 1) {
+            if (get8(v3 + 528) != 1) {
                 v6 = 2;
             } else {
                 v6 = 8;
                 v13 = 0;
-                v27 = get8(v3 + 497);
-                v7 = get64(event + 0xb00);
+                v27 = get8(v3 + 529);
+                v7 = get64(event + 792);
                 if (v7 != 0) {
-                    v22 = event + 0xb18;
+                    v22 = event + 816;
                     if (get64(v22) != v7) {
-                        v8 = get64(event + 0xb10);
+                        v8 = get64(event + 808);
                     } else {
                         v8 = 0;
                         put64(v22, 0);
                     }
-                    put64(event + 0xb00, v7 - 1);
-                    put64(event + 0xb10, v8 + 1);
-                    v7 = get64(event + 0xaf8) + (v8 * 24);
+                    put64(event + 792, v7 - 1);
+                    put64(event + 808, v8 + 1);
+                    v7 = get64(event + 784) + (v8 * 24);
                     if (get64(v7 + 16) != 0) rattle_dealloc_at(get64(v7));
                 }
             }
@@ -11101,13 +11888,13 @@ l2:;
         v28 = 0;
         goto l59;
     case 12:
+        put64(v3 + 568, 0);
+        put64(v3 + 560, 0);
+        put64(v3 + 552, 0);
+        put64(v3 + 544, 0);
         put64(v3 + 536, 0);
         put64(v3 + 528, 0);
-        put64(v3 + 520, 0);
-        put64(v3 + 512, 0);
-        put64(v3 + 504, 0);
-        put64(v3 + 496, 0);
-        v8 = get64(event + 0xb00);
+        v8 = get64(event + 792);
         if (v8 == 0) {
             v17 = 0;
             v12 = 1;
@@ -11115,26 +11902,26 @@ l2:;
             v24 = 0;
             v13 = 0;
             v27 = 0;
-            goto l249;
+            goto l254;
         }
-        v7 = get64(event + 0xaf8);
-        if (v8 != get64(event + 0xb18)) v7 = v7 + (get64(event + 0xb10) * 24);
-        tm_link_decoding_decode(v3 + 496, get64(v7), get64(v7 + 8), (uint64_t)get32(event + 60));
-        v27 = get8(v3 + 497);
-        v13 = get32(v3 + 536);
-        v6 = get8(v3 + 496);
-        v7 = get64(event + 0xb00);
+        v7 = get64(event + 784);
+        if (v8 != get64(event + 816)) v7 = v7 + (get64(event + 808) * 24);
+        tm_link_decoding_decode(v3 + 528, get64(v7), get64(v7 + 8), (uint64_t)get32(event + 60));
+        v27 = get8(v3 + 529);
+        v13 = get32(v3 + 568);
+        v6 = get8(v3 + 528);
+        v7 = get64(event + 792);
         if (v7 != 0) {
-            v22 = event + 0xb18;
+            v22 = event + 816;
             if (get64(v22) != v7) {
-                v8 = get64(event + 0xb10);
+                v8 = get64(event + 808);
             } else {
                 v8 = 0;
                 put64(v22, 0);
             }
-            put64(event + 0xb00, v7 - 1);
-            put64(event + 0xb10, v8 + 1);
-            v7 = get64(event + 0xaf8) + (v8 * 24);
+            put64(event + 792, v7 - 1);
+            put64(event + 808, v8 + 1);
+            v7 = get64(event + 784) + (v8 * 24);
             if (get64(v7 + 16) != 0) rattle_dealloc_at(get64(v7));
         }
         v12 = 0;
@@ -11142,52 +11929,52 @@ l2:;
             v6 = 8;
             v17 = 0;
             v24 = 0;
-            goto l255;
+            goto l260;
         }
         v6 = get8(event + 75);
         v11 = get8(event + 73);
-        put32(v3 + 2544, 0);
-        put32(v3 + 248, 0);
-        put16(v3 + 252, 0);
+        put32(v3 + 2576, 0);
+        put32(v3 + 256, 0);
+        put16(v3 + 260, 0);
         if (extend32(v13, 0x80) > 0x7fffffffU) {
-            put32(v3 + 249, 0);
-            put8(v3 + 248, 1);
-            put8(v3 + 253, 0);
+            put32(v3 + 257, 0);
+            put8(v3 + 256, 1);
+            put8(v3 + 261, 0);
         } else if ((v13 & 255) >= 32) {
-            put16(v3 + 248, 257);
+            put16(v3 + 256, 257);
         } else if ((v13 & 3) != 1) {
-            put16(v3 + 248, 513);
+            put16(v3 + 256, 513);
         } else {
             v10 = v13 >> 8;
             if ((v10 & 3) != 0) {
-                put16(v3 + 248, 769);
+                put16(v3 + 256, 769);
             } else {
                 v5 = v13 >> 16;
                 if ((v5 & 1) != 0) {
-                    put16(v3 + 248, 769);
+                    put16(v3 + 256, 769);
                 } else {
-                    put8(v3 + 253, v13 >> 24);
-                    put8(v3 + 251, v5 & 248);
-                    put8(v3 + 252, (v5 >> 1) & 3);
-                    put8(v3 + 250, (v10 & 252) >> 2);
-                    put8(v3 + 249, (v13 & 252) >> 2);
+                    put8(v3 + 261, v13 >> 24);
+                    put8(v3 + 259, v5 & 248);
+                    put8(v3 + 260, (v5 >> 1) & 3);
+                    put8(v3 + 258, (v10 & 252) >> 2);
+                    put8(v3 + 257, (v13 & 252) >> 2);
                 }
             }
         }
-        nodes_ground_node_Ground_report(v3 + 0x9f0, event, v3 + 248);
-        v17 = get32(v3 + 2544);
-        v7 = event + 0x1760;
+        nodes_ground_node_Ground_report(v3 + 0xa10, event, v3 + 256);
+        v17 = get32(v3 + 2576);
+        v7 = event + 0xf78;
         put64(v7, get64(v7) + ((uint64_t)(get8(event + 75) - v6) & 255));
         v6 = 1;
-        v7 = event + 0xb28;
+        v7 = event + 832;
         if (get8(v7) == 0) v6 = ((v11 - 3) & 255) < 2 && get8(event + 73) == 0;
         put8(v7, v6);
         v24 = v17 >> 8;
         v27 = 0;
         v6 = 9;
-    l255:;
+    l260:;
         v13 = v24 & 0xffff00;
-    l249:;
+    l254:;
         if (v12 != 0) goto l51;
         v22 = 0;
         v25 = 0;
@@ -11196,12 +11983,12 @@ l2:;
         v28 = 0;
         goto l50;
     case 13:
-        nodes_ground_node_Ground_tick(v3 + 168, event);
-        if (get8(v3 + 168) == 0) goto l75;
-        v17 = get8(v3 + 169);
+        nodes_ground_node_Ground_tick(v3 + 176, event);
+        if (get8(v3 + 176) == 0) goto l75;
+        v17 = get8(v3 + 177);
         v28 = 0;
-        put16(v3 + 500, 0);
-        put32(v3 + 496, 0);
+        put16(v3 + 532, 0);
+        put32(v3 + 528, 0);
         v26 = 0;
         v27 = 0;
         v25 = 0;
@@ -11210,7 +11997,7 @@ l2:;
         goto l36;
     case 14:
         v13 = 0;
-        v7 = get64(event + 0xa20);
+        v7 = get64(event + 568);
         if (v7 == 0) {
             v6 = 1;
             v8 = 0;
@@ -11219,17 +12006,17 @@ l2:;
             v17 = 0;
             goto l70;
         }
-        v22 = event + 0xa38;
+        v22 = event + 592;
         if (get64(v22) != v7) {
-            v8 = get64(event + 0xa30);
+            v8 = get64(event + 584);
         } else {
             v8 = 0;
             put64(v22, 0);
         }
         v23 = v7 - 1;
-        put64(event + 0xa20, v23);
-        put64(event + 0xa30, v8 + 1);
-        v7 = get64(event + 0xa18) + (v8 << 5);
+        put64(event + 568, v23);
+        put64(event + 584, v8 + 1);
+        v7 = get64(event + 560) + (v8 << 5);
         v20 = get64(v7 + 24);
         v22 = get64(v7 + 16);
         v8 = get64(v7 + 8);
@@ -11240,17 +12027,17 @@ l2:;
         v7 = 0;
         if (v22 == 0) {
             rattle_dealloc_at(v8);
-            v8 = v3 + 0xa08;
+            v8 = v3 + 0xa28;
             v22 = 0;
             goto l70;
         }
-        rattle_realloc_at(v3 + 176, v8, v22, v22, 1);
-        if (((uint32_t)get64(v3 + 176) & 1) == 0) goto l71;
-        v8 = get64(v3 + 184);
+        rattle_realloc_at(v3 + 184, v8, v22, v22, 1);
+        if (((uint32_t)get64(v3 + 184) & 1) == 0) goto l71;
+        v8 = get64(v3 + 192);
         v7 = v22;
         goto l70;
     case 15:
-        v7 = event + 0xa50;
+        v7 = event + 616;
         v8 = get64(v7);
         if (v8 == 0) {
             v6 = 1;
@@ -11259,13 +12046,13 @@ l2:;
             v22 = 0;
         } else {
             put64(v7, v8 - 1);
-            v7 = event + 0xa58;
+            v7 = event + 624;
             t13 = v7;
             v7 = get64(v7);
             v8 = v7 + 1;
-            v22 = get64(event + 0xa48);
+            v22 = get64(event + 608);
             put64(t13, v8 - ((v8 < v22) ? 0ULL : v22));
-            v7 = get64(event + 0xa40) + (v7 << 5);
+            v7 = get64(event + 600) + (v7 << 5);
             v8 = get64(v7 + 8);
             v17 = get8(v7);
             v6 = 11;
@@ -11275,12 +12062,12 @@ l2:;
                 if (v7 == 0) {
                     rattle_dealloc_at(v8);
                     v7 = 0;
-                    v8 = v3 + 0xa08;
+                    v8 = v3 + 0xa28;
                     v22 = 0;
                 } else {
-                    rattle_realloc_at(v3 + 192, v8, v7, v7, 1);
-                    if (((uint32_t)get64(v3 + 192) & 1) != 0) {
-                        v8 = get64(v3 + 200);
+                    rattle_realloc_at(v3 + 200, v8, v7, v7, 1);
+                    if (((uint32_t)get64(v3 + 200) & 1) != 0) {
+                        v8 = get64(v3 + 208);
                         v22 = v7;
                     }
                 }
@@ -11293,13 +12080,13 @@ l2:;
         v13 = 0;
         goto l69;
     case 16:
-        nodes_spacecraft_Spacecraft_telemetry(v3 + 208, event + 400, v7, v8);
-        if (get8(v3 + 208) == 0) goto l75;
-        v43 = get8(v3 + 209);
+        nodes_spacecraft_Spacecraft_telemetry(v3 + 216, event + 400, v7, v8);
+        if (get8(v3 + 216) == 0) goto l75;
+        v43 = get8(v3 + 217);
         if ((v43 & 255) == 6) goto l58;
         v25 = 0;
-        put16(v3 + 500, 0);
-        put32(v3 + 496, 0);
+        put16(v3 + 532, 0);
+        put32(v3 + 528, 0);
         v22 = 0;
         v7 = 0;
         v26 = 0;
@@ -11309,27 +12096,27 @@ l2:;
     default:
         break;
     }
-    fill(v3 + 496, 0, 128);
-    put64(v3 + 488, 0);
-    put64(v3 + 480, 0);
-    put64(v3 + 472, 0);
-    nodes_ground_node_Ground_prepare(v3 + 496, event, v12, v7, v8);
-    if (get8(v3 + 496) != 0) {
-        v6 = get8(v3 + 497);
+    fill(v3 + 528, 0, 128);
+    put64(v3 + 520, 0);
+    put64(v3 + 512, 0);
+    put64(v3 + 504, 0);
+    nodes_ground_node_Ground_prepare(v3 + 528, event, v12, v7, v8);
+    if (get8(v3 + 528) != 0) {
+        v6 = get8(v3 + 529);
         v13 = v6 == 5;
         v24 = (v13 != 0) ? 0U : v6;
         v6 = (v13 != 0) ? 0U : 3U;
         goto l53;
     }
-    copy(v3 + 248, v3 + 504, 120);
+    copy(v3 + 256, v3 + 536, 120);
     v13 = v8 == 0;
     if (v13 != 0) {
-        v18 = v3 + 0xa08;
+        v18 = v3 + 0xa28;
     } else {
         if (v8 > 0x7fffffffffffffffULL) goto l94;
-        rattle_alloc_at(v3 + 32, v8, 1);
-        if (((uint32_t)get64(v3 + 32) & 1) == 0) goto l94;
-        v18 = get64(v3 + 40);
+        rattle_alloc_at(v3 + 40, v8, 1);
+        if (((uint32_t)get64(v3 + 40) & 1) == 0) goto l94;
+        v18 = get64(v3 + 48);
     }
     if ((v18 - v7) >= v8) {
         if (v13 != 0) goto l55;
@@ -11362,20 +12149,20 @@ l2:;
     } while (v19 != 0);
     goto l55;
 l94:;
-    if (get8(v3 + 288) == 1 && get64(v3 + 312) != 0) rattle_dealloc_at(get64(v3 + 296));
-    v7 = get64(v3 + 352);
-    v22 = get64(v3 + 336);
-    if (get8(v3 + 320) == 0) {
+    if (get8(v3 + 296) == 1 && get64(v3 + 320) != 0) rattle_dealloc_at(get64(v3 + 304));
+    v7 = get64(v3 + 360);
+    v22 = get64(v3 + 344);
+    if (get8(v3 + 328) == 0) {
         if (v7 != 0) {
             v20 = v22;
             goto l103;
         }
         goto l54;
     }
-    v23 = get64(v3 + 344);
-    v20 = get64(v3 + 328);
+    v23 = get64(v3 + 352);
+    v20 = get64(v3 + 336);
     if (v22 != 0) {
-        v8 = get64(v3 + 360);
+        v8 = get64(v3 + 368);
         v22 = v22 - v8;
         if (v7 < (v22 + v7)) {
             v7 = ((v7 << 5) + v20) + 24;
@@ -11476,7 +12263,7 @@ l58:;
     goto l51;
 l57:;
     v12 = 0;
-    if (get64(event + 0xad8) == 0) v12 = get64(event + 0xb00) == 0;
+    if (get64(event + 752) == 0) v12 = get64(event + 792) == 0;
     if (v10 != 0) {
         v13 = 0;
         if (get8(event + 473) != get8(event + 74)) {
@@ -11487,14 +12274,14 @@ l57:;
     v6 = simulated_link_world_World_is_idle(event);
     v13 = v11;
 l56:;
-    nodes_ground_node_Ground_directive(v3 + 248, event, v3 + 496);
-    v24 = get8(v3 + 249);
-    if (get8(v3 + 248) != 0) {
+    nodes_ground_node_Ground_directive(v3 + 256, event, v3 + 528);
+    v24 = get8(v3 + 257);
+    if (get8(v3 + 256) != 0) {
         v17 = 1;
         v6 = 3;
     } else {
-        v11 = get8(v3 + 250);
-        if (v13 <= 3) simulated_link_world_World_begin(event, v3 + 496, v12, v6);
+        v11 = get8(v3 + 258);
+        if (v13 <= 3) simulated_link_world_World_begin(event, v3 + 528, v12, v6);
         v13 = v24 & 255;
         v24 = 0;
         v6 = (v13 != 0) ? 4U : 0U;
@@ -11509,23 +12296,23 @@ l56:;
     v13 = 0;
     goto l50;
 l55:;
-    v6 = get8(v3 + 288) == 1;
-    v40 = (v6 != 0) ? get64(v3 + 304) : 1ULL;
+    v6 = get8(v3 + 296) == 1;
+    v40 = (v6 != 0) ? get64(v3 + 312) : 1ULL;
     if (v40 == 0) {
-        v22 = v3 + 0xa08;
+        v22 = v3 + 0xa28;
         v20 = 0;
         v30 = 0;
-        goto l284;
+        goto l289;
     }
-    if (v40 > 0x555555555555555ULL) goto l277;
-    v7 = get64(v3 + 296);
-    rattle_alloc_at(v3 + 16, v40 * 24, 8);
-    if (((uint32_t)get64(v3 + 16) & 1) == 0) goto l277;
-    v38 = (v6 != 0) ? v7 : (v3 + 272);
-    v39 = get64(v3 + 24);
-    put64(v3 + 2560, v40);
-    put64(v3 + 2552, 0);
-    put64(v3 + 2544, v39);
+    if (v40 > 0x555555555555555ULL) goto l282;
+    v7 = get64(v3 + 304);
+    rattle_alloc_at(v3 + 24, v40 * 24, 8);
+    if (((uint32_t)get64(v3 + 24) & 1) == 0) goto l282;
+    v38 = (v6 != 0) ? v7 : (v3 + 280);
+    v39 = get64(v3 + 32);
+    put64(v3 + 2592, v40);
+    put64(v3 + 2584, 0);
+    put64(v3 + 2576, v39);
     v30 = 0;
     v31 = 0;
     do {
@@ -11534,12 +12321,12 @@ l55:;
         v29 = get64(v7 + 8);
         v6 = v29 == 0;
         if (v6 != 0) {
-            v19 = v3 + 0xa08;
+            v19 = v3 + 0xa28;
         } else {
-            if (v29 > 0x7fffffffffffffffULL) goto l283;
-            rattle_alloc_at(v3, v29, 1);
-            if (((uint32_t)get64(v3) & 1) == 0) goto l283;
-            v19 = get64(v3 + 8);
+            if (v29 > 0x7fffffffffffffffULL) goto l288;
+            rattle_alloc_at(v3 + 8, v29, 1);
+            if (((uint32_t)get64(v3 + 8) & 1) == 0) goto l288;
+            v19 = get64(v3 + 16);
         }
         if ((v19 - v21) < v29) {
             v23 = v29 & 3;
@@ -11556,7 +12343,7 @@ l55:;
                     put8(v7 + 3, get8(v20 + 3));
                     v22 = v22 + 4;
                 } while (v26 != v22);
-                if (v23 == 0) goto l289;
+                if (v23 == 0) goto l294;
             }
             v7 = v19 + v22;
             v22 = v21 + v22;
@@ -11567,42 +12354,42 @@ l55:;
                 v23 = v23 - 1;
             } while (v23 != 0);
         } else if (v6 == 0) copy(v19, v21, v29);
-    l289:;
-        if (get64(v3 + 2560) == v30) {
-            t15 = std_alloc_vec_Vec_grow_amortized_1598ebf9113514c4(v3 + 0x9f0, 1);
-            if (t15 == 0) goto l282;
-            v39 = get64(v3 + 2544);
-            v30 = get64(v3 + 2552);
+    l294:;
+        if (get64(v3 + 2592) == v30) {
+            t15 = std_alloc_vec_Vec_grow_amortized_1598ebf9113514c4(v3 + 0xa10, 1);
+            if (t15 == 0) goto l287;
+            v39 = get64(v3 + 2576);
+            v30 = get64(v3 + 2584);
         }
         v7 = v39 + (v30 * 24);
         put64(v7 + 16, v29);
         put64(v7 + 8, v29);
         put64(v7, v19);
         v30 = v30 + 1;
-        put64(v3 + 2552, v30);
+        put64(v3 + 2584, v30);
         v31 = v31 + 1;
     } while (v31 != v40);
-    v20 = get64(v3 + 2560);
-    v22 = get64(v3 + 2544);
-l284:;
-    if (get64(event + 0xb40) == get64(event + 0xb38)) {
-        t16 = std_alloc_vec_Vec_grow_amortized_722da43a23cbcade(event + 0xb30);
+    v20 = get64(v3 + 2592);
+    v22 = get64(v3 + 2576);
+l289:;
+    if (get64(event + 856) == get64(event + 848)) {
+        t16 = std_alloc_vec_Vec_grow_amortized_722da43a23cbcade(event + 840);
         if (t16 == 0) {
-            if (v30 == 0) goto l279;
-            goto l280;
+            if (v30 == 0) goto l284;
+            goto l285;
         }
     }
-    v23 = event + 0xb48;
+    v23 = event + 864;
     v7 = v23 + (((uint64_t)v12 & 255) * 24);
     if (v30 > (get64(v7 + 16) - get64(v7 + 8))) {
         t17 = std_alloc_vec_Vec_grow_amortized_1598ebf9113514c4(v7, v30);
-        if (t17 == 0) goto l280;
+        if (t17 == 0) goto l285;
     }
-    nodes_ground_node_Ground_commit(event, v3 + 248);
+    nodes_ground_node_Ground_commit(event, v3 + 256);
     v13 = 0;
-    v19 = event + 0xb38;
+    v19 = event + 848;
     v21 = get64(v19);
-    v7 = get64(event + 0xb30) + (v21 << 5);
+    v7 = get64(event + 840) + (v21 << 5);
     put32(v7 + 1, 0);
     put8(v7, v12);
     put32(v7 + 4, 0);
@@ -11610,15 +12397,15 @@ l284:;
     put64(v7 + 16, v8);
     put64(v7 + 8, v18);
     put64(v19, v21 + 1);
-    put64(v3 + 488, v20);
-    put64(v3 + 480, v30);
-    put64(v3 + 472, v22);
-    simulated_link_map_lists_append_on(v23, v12, v3 + 472);
+    put64(v3 + 520, v20);
+    put64(v3 + 512, v30);
+    put64(v3 + 504, v22);
+    simulated_link_map_lists_append_on(v23, v12, v3 + 504);
     v6 = 0;
     v24 = 0;
     goto l53;
-l283:;
-    v8 = get64(v3 + 2560);
+l288:;
+    v8 = get64(v3 + 2592);
     if (v30 != 0) {
         v7 = v39;
         do {
@@ -11627,13 +12414,13 @@ l283:;
             v30 = v30 - 1;
         } while (v30 != 0);
     }
-    if (v8 == 0) goto l277;
-    goto l278;
-l282:;
+    if (v8 == 0) goto l282;
+    goto l283;
+l287:;
     if (v6 == 0) rattle_dealloc_at(v19);
-    v22 = get64(v3 + 2560);
-    v39 = get64(v3 + 2544);
-    v8 = get64(v3 + 2552);
+    v22 = get64(v3 + 2592);
+    v39 = get64(v3 + 2576);
+    v8 = get64(v3 + 2584);
     if (v8 != 0) {
         v7 = v39;
         do {
@@ -11642,30 +12429,30 @@ l282:;
             v8 = v8 - 1;
         } while (v8 != 0);
     }
-    if (v22 != 0) goto l278;
-    goto l277;
-l280:;
+    if (v22 != 0) goto l283;
+    goto l282;
+l285:;
     v7 = v22;
     do {
         if (get64(v7 + 16) != 0) rattle_dealloc_at(get64(v7));
         v7 = v7 + 24;
         v30 = v30 - 1;
     } while (v30 != 0);
-l279:;
+l284:;
     if (v20 != 0) rattle_dealloc_at(v22);
     if (v13 == 0) rattle_dealloc_at(v18);
-    if (get8(v3 + 288) == 1 && get64(v3 + 312) != 0) rattle_dealloc_at(get64(v3 + 296));
-    v7 = get64(v3 + 352);
-    v22 = get64(v3 + 336);
-    if (get8(v3 + 320) == 0) {
+    if (get8(v3 + 296) == 1 && get64(v3 + 320) != 0) rattle_dealloc_at(get64(v3 + 304));
+    v7 = get64(v3 + 360);
+    v22 = get64(v3 + 344);
+    if (get8(v3 + 328) == 0) {
         if (v7 == 0) goto l54;
         rattle_dealloc_at(v22);
         goto l54;
     }
-    v23 = get64(v3 + 344);
-    v20 = get64(v3 + 328);
+    v23 = get64(v3 + 352);
+    v20 = get64(v3 + 336);
     if (v22 != 0) {
-        v8 = get64(v3 + 360);
+        v8 = get64(v3 + 368);
         v22 = v22 - v8;
         if (v7 < (v22 + v7)) {
             v7 = ((v7 << 5) + v20) + 24;
@@ -11687,20 +12474,20 @@ l279:;
     if (v23 == 0) goto l54;
     rattle_dealloc_at(v20);
     goto l54;
-l278:;
+l283:;
     rattle_dealloc_at(v39);
-l277:;
+l282:;
     if (v13 == 0) rattle_dealloc_at(v18);
-    if (get8(v3 + 288) == 1 && get64(v3 + 312) != 0) rattle_dealloc_at(get64(v3 + 296));
-    v7 = get64(v3 + 352);
-    v22 = get64(v3 + 336);
-    if (get8(v3 + 320) == 0) {
+    if (get8(v3 + 296) == 1 && get64(v3 + 320) != 0) rattle_dealloc_at(get64(v3 + 304));
+    v7 = get64(v3 + 360);
+    v22 = get64(v3 + 344);
+    if (get8(v3 + 328) == 0) {
         if (v7 != 0) rattle_dealloc_at(v22);
     } else {
-        v23 = get64(v3 + 344);
-        v20 = get64(v3 + 328);
+        v23 = get64(v3 + 352);
+        v20 = get64(v3 + 336);
         if (v22 != 0) {
-            v8 = get64(v3 + 360);
+            v8 = get64(v3 + 368);
             v22 = v22 - v8;
             if (v7 < (v22 + v7)) {
                 v7 = ((v7 << 5) + v20) + 24;
@@ -11741,8 +12528,8 @@ l51:;
     v6 = v6 + 6;
     goto l27;
 l50:;
-    put16(v3 + 500, 0);
-    put32(v3 + 496, 0);
+    put16(v3 + 532, 0);
+    put32(v3 + 528, 0);
     v43 = v13 | (v24 & 255);
     v30 = (uint64_t)v43;
     v29 = v30 >> 16;
@@ -12122,8 +12909,8 @@ l50:;
     }
 l49:;
     v6 = 0;
-    put16(v3 + 500, 0);
-    put32(v3 + 496, 0);
+    put16(v3 + 532, 0);
+    put32(v3 + 528, 0);
     v8 = 0;
     v20 = 0;
     v23 = 0;
@@ -12148,8 +12935,8 @@ l49:;
     goto l30;
 l48:;
     v13 = 0;
-    put16(v3 + 500, 0);
-    put32(v3 + 496, 0);
+    put16(v3 + 532, 0);
+    put32(v3 + 528, 0);
     v8 = 0;
     v6 = 1;
     v20 = 0;
@@ -12283,8 +13070,8 @@ l32:;
     goto l30;
 l31:;
     v13 = 0;
-    put16(v3 + 500, 0);
-    put32(v3 + 496, 0);
+    put16(v3 + 532, 0);
+    put32(v3 + 528, 0);
     v8 = 0;
     v6 = 2;
     v20 = 0;
@@ -12313,8 +13100,8 @@ l29:;
     v46 = 0;
     v47 = 0;
 l28:;
-    put16(v3 + 220, get16(v3 + 500));
-    put32(v3 + 216, get32(v3 + 496));
+    put16(v3 + 228, get16(v3 + 532));
+    put32(v3 + 224, get32(v3 + 528));
     put8(reply + 52, (uint32_t)(v8 >> 32));
     put32(reply + 48, (uint32_t)v8);
     put8(reply + 57, v47);
@@ -12342,19 +13129,19 @@ l28:;
     put64(reply + 16, v19);
     put64(reply + 8, v23);
     put64(reply, v20);
-    put16(reply + 62, get16(v3 + 220));
-    put32(reply + 58, get32(v3 + 216));
+    put16(reply + 62, get16(v3 + 228));
+    put32(reply + 58, get32(v3 + 224));
     reply = (((((uint64_t)v27 & 255) << 8) | ((uint64_t)v28 & 255)) + v26) + (((uint64_t)v25 & 255) << 16);
     if (((1U << (v6 & 31)) & 0x7df) != 0) {
-        reply = v3 + 0xa08;
+        reply = v3 + 0xa28;
         v7 = 0;
         v22 = 0;
     }
-    put64(event + 0x17a8, v7);
-    v7 = event + 0x17b0;
+    put64(event + 0xfc0, v7);
+    v7 = event + 0xfc8;
     v8 = get64(v7);
     put64(v7, v22);
-    v7 = event + 0x17a0;
+    v7 = event + 0xfb8;
     v22 = get64(v7);
     put64(v7, reply);
     v6 = 0;
@@ -12373,11 +13160,11 @@ static uint32_t sedge_sim_submission_at(uint64_t sim, uint64_t k, uint64_t map, 
     v6 = get64(sim /* link */);
     put64(sim /* link */, 0);
     if (v6 == 0) return 255;
-    if (k >= get64(v6 + 0xb38)) {
+    if (k >= get64(v6 + 848)) {
         put64(sim /* link */, v6);
         return 253;
     }
-    k = get64(v6 + 0xb30) + (k << 5);
+    k = get64(v6 + 840) + (k << 5);
     v7 = get64(k + 16);
     if (room < v7) {
         put64(sim /* link */, v6);
@@ -12429,8 +13216,8 @@ static uint32_t sedge_sim_submission_length_at(uint64_t sim, uint64_t k, uint64_
     put64(sim /* link */, 0);
     if (v4 == 0) return 255;
     v5 = 253;
-    if (k < get64(v4 + 0xb38)) {
-        k = get64(v4 + 0xb30) + (k << 5);
+    if (k < get64(v4 + 848)) {
+        k = get64(v4 + 840) + (k << 5);
         v6 = get64(k + 16);
         put8(map, get8(k));
         put64(count, v6);
@@ -12447,7 +13234,7 @@ static uint32_t sedge_sim_submissions_at(uint64_t sim, uint64_t count)
     v2 = get64(sim /* link */);
     put64(sim /* link */, 0);
     if (v2 == 0) return 255;
-    put64(count, get64(v2 + 0xb38));
+    put64(count, get64(v2 + 848));
     put64(sim /* link */, v2);
     return 0;
 }
@@ -12455,15 +13242,15 @@ static uint32_t sedge_sim_submissions_at(uint64_t sim, uint64_t count)
 /* sedge_spacecraft_close, crates/sedgechisel_nodes/src/handles.rt:177 */
 static void sedge_spacecraft_close_at(uint64_t spacecraft)
 {
-    unsigned char frame_octets[2368 + 15];
+    unsigned char frame_octets[352 + 15];
     uint64_t v1 = 0, v2 = 0;
     v1 = aligned(frame_octets);
     v2 = get64(spacecraft /* node */);
     put64(spacecraft /* node */, 0);
     if (v2 == 0) return;
-    copy(v1, v2, 0x940);
+    copy(v1 + 8, v2, 344);
     rattle_dealloc_at(v2);
-    sedgechisel_nodes_nodes_spacecraft_Spacecraft_Destruct_drop(v1);
+    sedgechisel_nodes_nodes_spacecraft_Spacecraft_Destruct_drop(v1 + 8);
     return;
 }
 
@@ -12475,10 +13262,10 @@ static uint32_t sedge_spacecraft_next_at(uint64_t spacecraft, uint64_t map, uint
     v4 = 0;
     put64(spacecraft /* node */, 0);
     if (v3 == 0) return 255;
-    v5 = get64(v3 + 0x890);
+    v5 = get64(v3 + 168);
     if (v5 != 0) {
-        v6 = get64(v3 + 0x888);
-        if (v5 != get64(v3 + 0x8a8)) v6 = v6 + (get64(v3 + 0x8a0) << 5);
+        v6 = get64(v3 + 160);
+        if (v5 != get64(v3 + 192)) v6 = v6 + (get64(v3 + 184) << 5);
         v4 = get64(v6 + 16);
         put8(map, get8(v6));
     }
@@ -12495,10 +13282,10 @@ static uint32_t sedge_spacecraft_next_bypass_at(uint64_t spacecraft, uint64_t ma
     v4 = 0;
     put64(spacecraft /* node */, 0);
     if (v3 == 0) return 255;
-    if (get64(v3 + 0x8c0) != 0) {
-        v4 = get64(v3 + 0x8c8);
-        v5 = get64(v3 + 0x8b8);
-        v5 = get64(v3 + 0x8b0) + ((v4 - ((v4 < v5) ? 0ULL : v5)) << 5);
+    if (get64(v3 + 216) != 0) {
+        v4 = get64(v3 + 224);
+        v5 = get64(v3 + 208);
+        v5 = get64(v3 + 200) + ((v4 - ((v4 < v5) ? 0ULL : v5)) << 5);
         v4 = get64(v5 + 16);
         put8(map, get8(v5));
     }
@@ -12519,12 +13306,12 @@ static uint32_t sedge_spacecraft_read_at(uint64_t spacecraft, uint64_t read)
     v4 = get8(v2 + 75);
     v5 = get8(v2 + 74);
     v6 = (uint64_t)get32(v2 + 60);
-    v7 = get16(v2 + 0x8e0);
+    v7 = get16(v2 + 248);
     v8 = get8(v2 + 73);
     v9 = get8(v2 + 77);
     v10 = get32(v2 + 4);
-    v11 = get64(v2 + 0x8c0);
-    put64(read + 8 /* ready */, get64(v2 + 0x890));
+    v11 = get64(v2 + 216);
+    put64(read + 8 /* ready */, get64(v2 + 168));
     put64(read + 16 /* bypassed */, v11);
     put8(read + 24 /* status */, 0);
     put8(read + 25 /* vcid */, v10);
@@ -12541,7 +13328,7 @@ static uint32_t sedge_spacecraft_read_at(uint64_t spacecraft, uint64_t read)
 /* sedge_spacecraft_receive, crates/sedgechisel_nodes/src/spacecraft.rt:103 */
 static uint32_t sedge_spacecraft_receive_at(uint64_t spacecraft, uint64_t octets, uint64_t count, uint64_t received)
 {
-    unsigned char frame_octets[240 + 15];
+    unsigned char frame_octets[256 + 15];
     uint32_t v6 = 0, v7 = 0, v8 = 0, v9 = 0, v10 = 0, v11 = 0, v12 = 0, v13 = 0, v14 = 0, v15 = 0;
     uint64_t v4 = 0, v5 = 0;
     v4 = aligned(frame_octets);
@@ -12552,17 +13339,17 @@ static uint32_t sedge_spacecraft_receive_at(uint64_t spacecraft, uint64_t octets
         return 255;
     }
     v6 = 0;
-    fill(v4 + 32, 0, 208);
-    put64(v4 + 24, 0);
+    fill(v4 + 24, 0, 232);
     put64(v4 + 16, 0);
     put64(v4 + 8, 0);
-    nodes_spacecraft_Spacecraft_prepare(v4 + 32, v5, some(octets), count);
-    if (get8(v4 + 32) != 0) {
+    put64(v4, 0);
+    nodes_spacecraft_Spacecraft_prepare(v4 + 24, v5, some(octets), count);
+    if (get8(v4 + 24) != 0) {
         v6 = 6;
     } else {
-        nodes_spacecraft_Spacecraft_commit(v4 + 8, v5, v4 + 40);
-        v7 = get8(v4 + 10);
-        v8 = get8(v4 + 9);
+        nodes_spacecraft_Spacecraft_commit(v4, v5, v4 + 32);
+        v7 = get8(v4 + 2);
+        v8 = get8(v4 + 1);
         octets = 0;
         v9 = 2;
         v10 = 0;
@@ -12571,13 +13358,13 @@ static uint32_t sedge_spacecraft_receive_at(uint64_t spacecraft, uint64_t octets
         v13 = 0;
         v14 = 0;
         v15 = 0;
-        switch ((uint32_t)(uint64_t)get8(v4 + 8)) {
+        switch ((uint32_t)(uint64_t)get8(v4)) {
         case 1:
             goto l5;
         case 2:
-            octets = get64(v4 + 16);
+            octets = get64(v4 + 8);
             v6 = 0;
-            v12 = ((get8(v4 + 24) & 255) != 0) ? (get8(v4 + 25) + 1) : 0U;
+            v12 = ((get8(v4 + 16) & 255) != 0) ? (get8(v4 + 17) + 1) : 0U;
             v9 = 3;
             v10 = 0;
             v11 = 0;
@@ -12675,20 +13462,20 @@ static uint32_t sedge_spacecraft_telemetry_frame_at(uint64_t spacecraft, uint64_
     v11 = get8(v5 + 75);
     put16(v4 + 13, 0);
     put8(v4 + 15, 0);
-    put8(v4 + 12, get8(v5 + 0x8e1));
-    put8(v4 + 11, get8(v5 + 0x8e0));
-    put8(v4 + 10, get8(v5 + 0x8d2));
-    put16(v4 + 8, get16(v5 + 0x8d0));
-    put64(v4 + 24, (uint64_t)get32(v5 + 0x910));
-    v12 = v5 + 0x8e8;
+    put8(v4 + 12, get8(v5 + 249));
+    put8(v4 + 11, get8(v5 + 248));
+    put8(v4 + 10, get8(v5 + 234));
+    put16(v4 + 8, get16(v5 + 232));
+    put64(v4 + 24, (uint64_t)get32(v5 + 296));
+    v12 = v5 + 256;
     put64(v4 + 16, get64(v12));
-    room = v5 + 0x908;
+    room = v5 + 288;
     v13 = get64(room);
-    v14 = v5 + 0x8f8;
+    v14 = v5 + 272;
     t1 = (((((((v11 << 4) | (v7 << 1)) | (v10 << 5)) | (v9 << 3)) & 254) << 16) | ((v6 << 10) & 0xfc00)) | (v8 << 24);
     t2 = some(out);
-    out = v5 + 0x8d8;
-    tm_link_turn_put_next(v4 + 8, get64(v5 + 0x8f0) + v13, get64(v14) - v13, t1 | 1, t2, get64(out));
+    out = v5 + 240;
+    tm_link_turn_put_next(v4 + 8, get64(v5 + 264) + v13, get64(v14) - v13, t1 | 1, t2, get64(out));
     v15 = get64(out);
     room = get64(room);
     out = get64(v14);
@@ -12705,16 +13492,16 @@ static uint32_t sedge_spacecraft_telemetry_frame_at(uint64_t spacecraft, uint64_
         v12 = out - v13;
         v12 = (v12 < 7) ? (v12 ^ 7) : 0ULL;
     }
-    put64(v5 + 0x908, v14 + room);
-    put64(v5 + 0x8e8, v12);
-    v6 = get32(v5 + 0x910);
+    put64(v5 + 288, v14 + room);
+    put64(v5 + 256, v12);
+    v6 = get32(v5 + 296);
     v13 = (uint64_t)v6;
     if (out > v13) {
-        v17 = v5 + 0x920;
+        v17 = v5 + 312;
         room = get64(v17);
-        v14 = v5 + 0x938;
-        v16 = v5 + 0x930;
-        v18 = v5 + 0x918;
+        v14 = v5 + 336;
+        v16 = v5 + 328;
+        v18 = v5 + 304;
         do {
             if (room == 0) {
                 v6 = 0;
@@ -12737,11 +13524,11 @@ static uint32_t sedge_spacecraft_telemetry_frame_at(uint64_t spacecraft, uint64_
     }
     v6 = v6 - (uint32_t)out;
 l9:;
-    put32(v5 + 0x910, v6);
+    put32(v5 + 296, v6);
 l5:;
-    room = v5 + 0x8e0;
+    room = v5 + 248;
     put8(room, get8(room) + 1);
-    room = v5 + 0x8e1;
+    room = v5 + 249;
     put8(room, get8(room) + 1);
     put64(count, v15);
     v6 = 0;
@@ -12766,14 +13553,14 @@ static uint32_t sedge_spacecraft_take_bypass_at(uint64_t spacecraft, uint64_t ma
     v5 = get64(spacecraft /* node */);
     put64(spacecraft /* node */, 0);
     if (v5 == 0) return 255;
-    if (get64(v5 + 0x8c0) == 0) {
+    if (get64(v5 + 216) == 0) {
         put64(count, 0);
         goto l3;
     }
     v6 = 252;
-    v7 = get64(v5 + 0x8c8);
-    v8 = get64(v5 + 0x8b8);
-    v7 = get64(v5 + 0x8b0) + ((v7 - ((v7 < v8) ? 0ULL : v8)) << 5);
+    v7 = get64(v5 + 224);
+    v8 = get64(v5 + 208);
+    v7 = get64(v5 + 200) + ((v7 - ((v7 < v8) ? 0ULL : v8)) << 5);
     v9 = get64(v7 + 16);
     if (room < v9) {
         put64(spacecraft /* node */, v5);
@@ -12817,17 +13604,17 @@ l4:;
     put8(map, v6);
 l3:;
     v6 = 0;
-    room = v5 + 0x8c0;
+    room = v5 + 216;
     v7 = get64(room);
     if (v7 != 0) {
         put64(room, v7 - 1);
-        room = v5 + 0x8c8;
+        room = v5 + 224;
         t1 = room;
         room = get64(room);
         v7 = room + 1;
-        v8 = get64(v5 + 0x8b8);
+        v8 = get64(v5 + 208);
         put64(t1, v7 - ((v7 < v8) ? 0ULL : v8));
-        room = get64(v5 + 0x8b0) + (room << 5);
+        room = get64(v5 + 200) + (room << 5);
         if (get64(room + 24) != 0) rattle_dealloc_at(get64(room + 8));
     }
     put64(spacecraft /* node */, v5);
@@ -12969,8 +13756,8 @@ static uint32_t sedge_sim_entry_length_at(uint64_t sim, uint32_t record, uint32_
             return 253;
         }
         v7 = v5 + (((uint64_t)map & 255) * 24);
-        v8 = get64(v7 + 0xb50);
-        v7 = get64(v7 + 0xb48);
+        v8 = get64(v7 + 872);
+        v7 = get64(v7 + 864);
         break;
     case 1:
         if ((map & 255) > 63) {
@@ -12978,17 +13765,17 @@ static uint32_t sedge_sim_entry_length_at(uint64_t sim, uint32_t record, uint32_
             return 253;
         }
         v7 = v5 + (((uint64_t)map & 255) * 24);
-        v8 = get64(v7 + 0x1150);
-        v7 = get64(v7 + 0x1148);
+        v8 = get64(v7 + 0x968);
+        v7 = get64(v7 + 0x960);
         break;
     case 2:
-        v8 = get64(v5 + 0x1750);
-        v7 = get64(v5 + 0x1748);
+        v8 = get64(v5 + 0xf68);
+        v7 = get64(v5 + 0xf60);
         break;
     case 3:
-        v7 = get64(v5 + 0x1768);
-        v8 = get64(v5 + 0x1778) - v7;
-        v7 = get64(v5 + 0x1770) + (v7 * 24);
+        v7 = get64(v5 + 0xf80);
+        v8 = get64(v5 + 0xf90) - v7;
+        v7 = get64(v5 + 0xf88) + (v7 * 24);
         break;
     default:
         put64(sim /* link */, v5);
@@ -13174,6 +13961,33 @@ static void get_sedge_ground_reading(uint64_t at, struct sedge_ground_reading *i
     it->vs = (uint8_t)get8(at + 67);
     it->nn = (uint8_t)get8(at + 68);
     it->count = (uint8_t)get8(at + 69);
+}
+
+typedef char sedge_ground_kept_is_laid_out_so[COPIES_COUNTS || (IS(sedge_ground_kept, 144, 8) && AT(sedge_ground_kept,
+    acknowledged, 0) && AT(sedge_ground_kept, vs, 8) && AT(sedge_ground_kept, nn, 9) && AT(sedge_ground_kept, known,
+    10) && AT(sedge_ground_kept, whole, 11) && AT(sedge_ground_kept, segments, 12) && AT(sedge_ground_kept, zeros,
+    139)) ? 1 : -1];
+
+static void put_sedge_ground_kept(uint64_t at, const struct sedge_ground_kept *it)
+{
+    put64(at, it->acknowledged);
+    put8(at + 8, it->vs);
+    put8(at + 9, it->nn);
+    put8(at + 10, it->known);
+    put8(at + 11, it->whole);
+    copy(at + 12, address(it->segments), 127);
+    copy(at + 139, address(it->zeros), 5);
+}
+
+static void get_sedge_ground_kept(uint64_t at, struct sedge_ground_kept *it)
+{
+    it->acknowledged = get64(at);
+    it->vs = (uint8_t)get8(at + 8);
+    it->nn = (uint8_t)get8(at + 9);
+    it->known = (uint8_t)get8(at + 10);
+    it->whole = (uint8_t)get8(at + 11);
+    copy(address(it->segments), at + 12, 127);
+    copy(address(it->zeros), at + 139, 5);
 }
 
 static void put_sedge_spacecraft(uint64_t at, const struct sedge_spacecraft *it)
@@ -13616,6 +14430,38 @@ APART uint8_t sedge_ground_resume(struct sedge_ground *ground, uint8_t value, ui
     answer = (uint8_t)sedge_ground_resume_at(ground_at, value, whole_at);
     get_sedge_ground(ground_at, ground);
     if (COPIES_COUNTS && answer == 0) *whole = get64(whole_at);
+    return answer;
+}
+
+APART uint8_t sedge_ground_kept(struct sedge_ground *ground, struct sedge_ground_kept *kept)
+{
+    unsigned char ground_octets[8 + 15];
+    const uint64_t ground_at = aligned(ground_octets);
+    unsigned char kept_octets[COPIES_COUNTS ? 144 + 15 : 1];
+    const uint64_t kept_at = COPIES_COUNTS ? aligned(kept_octets) : address(kept);
+    uint8_t answer;
+    put_sedge_ground(ground_at, ground);
+    answer = (uint8_t)sedge_ground_kept_at(ground_at, kept_at);
+    get_sedge_ground(ground_at, ground);
+    if (COPIES_COUNTS && answer == 0) get_sedge_ground_kept(kept_at, kept);
+    return answer;
+}
+
+APART uint8_t sedge_ground_open_kept(const struct sedge_config *config, const struct sedge_ground_kept *kept, struct
+    sedge_ground *ground)
+{
+    unsigned char config_octets[COPIES_COUNTS ? 72 + 15 : 1];
+    const uint64_t config_at = COPIES_COUNTS ? aligned(config_octets) : address(config);
+    unsigned char kept_octets[COPIES_COUNTS ? 144 + 15 : 1];
+    const uint64_t kept_at = COPIES_COUNTS ? aligned(kept_octets) : address(kept);
+    unsigned char ground_octets[8 + 15];
+    const uint64_t ground_at = aligned(ground_octets);
+    uint8_t answer;
+    if (COPIES_COUNTS) put_sedge_config(config_at, config);
+    if (COPIES_COUNTS) put_sedge_ground_kept(kept_at, kept);
+    put_sedge_ground(ground_at, ground);
+    answer = (uint8_t)sedge_ground_open_kept_at(config_at, kept_at, ground_at);
+    get_sedge_ground(ground_at, ground);
     return answer;
 }
 

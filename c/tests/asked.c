@@ -9,9 +9,9 @@
 #include <stdio.h>
 #include <stdlib.h>
 
-/* The octets of a ground and of a spacecraft, of a place in a list of segments or of packets on board, of one in the
- * list of submissions, and of the extractor's packet; and how many segments may be sent and not acknowledged. */
-enum { GROUND = 400, SPACECRAFT = 2368, PLACE = 32, NUMBER = 8, EXTRACTOR = 65542, FRAME = 1016, SENT = 127 };
+/* The octets of a ground and of a spacecraft, of a place in a list of segments, of packets or of open parts, of one in
+ * the list of submissions, and of the extractor's packet; and how many segments may be sent and not acknowledged. */
+enum { GROUND = 400, SPACECRAFT = 344, PLACE = 32, NUMBER = 8, EXTRACTOR = 65542, FRAME = 1016, SENT = 127 };
 
 static int failures;
 
@@ -38,6 +38,8 @@ static uint32_t below(uint32_t limit) {
 #define ASKED(call) (asked = 0, (call) == 0 ? asked : SIZE_MAX)
 
 static struct sedge_config config;
+/* The MAPs, all of which are open; the last of them is used. */
+static uint32_t maps;
 static struct sedge_ground ground;
 static struct sedge_spacecraft spacecraft;
 static struct sedge_sim sim;
@@ -55,6 +57,8 @@ static void any_config(void) {
     config.queue_slots = 1 + (below(2) ? below(65535) : below(300));
     config.frame_length = 16 + below(2033);
     config.blocking = below(2);
+    maps = 1 + below(64);
+    config.maps = UINT64_MAX >> (64 - maps);
 }
 
 /* A packet of as many octets; its type is 1 for a command. */
@@ -83,13 +87,13 @@ static void asks_on_ground(void) {
     WANT(live == 5 && sedge_ground_init_without_check(&ground) == 0 && live == 5);
     if (count == 0) return;
     make_packet(1, count);
-    WANT(ASKED(sedge_ground_submit(&ground, 63, packet, count)) == count + list && live == 6);
-    WANT(ASKED(sedge_ground_bypass(&ground, 63, packet, count)) == count + 4 * PLACE && live == 8);
+    WANT(ASKED(sedge_ground_submit(&ground, (uint8_t)(maps - 1), packet, count)) == count + list && live == 6);
+    WANT(ASKED(sedge_ground_bypass(&ground, (uint8_t)(maps - 1), packet, count)) == count + 4 * PLACE && live == 8);
 }
 
 /* The next Type-AD frame arrives, with these octets of the packet. */
 static uint8_t arrives(uint8_t n, uint8_t flags, size_t from, size_t count) {
-    struct sedge_tc_frame frame = {1, 2, SEDGE_TC_AD, n, flags, 9, 0, 0};
+    struct sedge_tc_frame frame = {1, 2, SEDGE_TC_AD, n, flags, (uint8_t)(maps - 1), 0, 0};
     struct sedge_received received;
     size_t total;
     if (sedge_tc_encode(&frame, packet + from, count, true, octets, sizeof octets, &total) != 0) return 1;
@@ -100,19 +104,19 @@ static uint8_t arrives(uint8_t n, uint8_t flags, size_t from, size_t count) {
 static void asks_on_board(void) {
     size_t count = 7 + below((uint32_t)most_alone(FRAME) - 6), half = 1 + below((uint32_t)count - 1);
     WANT(ASKED(sedge_spacecraft_open(&config, &spacecraft))
-         == SPACECRAFT + PLACE * (config.ready_slots + 170) + PLACE * config.bypass_slots);
+         == SPACECRAFT + PLACE * (config.ready_slots + 145) + PLACE * config.bypass_slots);
     WANT(live == 3);
     make_packet(1, count);
-    WANT(ASKED(arrives(0, SEDGE_SEGMENT_FIRST, 0, half)) == config.max_packet && live == 4);
-    WANT(ASKED(arrives(1, SEDGE_SEGMENT_LAST, half, count - half)) == count && live == 4);
+    WANT(ASKED(arrives(0, SEDGE_SEGMENT_FIRST, 0, half)) == config.max_packet + PLACE * maps && live == 5);
+    WANT(ASKED(arrives(1, SEDGE_SEGMENT_LAST, half, count - half)) == count && live == 5);
     make_packet(0, count = 7 + below(config.max_packet - 6));
-    WANT(ASKED(sedge_spacecraft_telemetry(&spacecraft, packet, count)) == (count < 8 ? 8 : count) + 16 && live == 6);
+    WANT(ASKED(sedge_spacecraft_telemetry(&spacecraft, packet, count)) == (count < 8 ? 8 : count) + 16 && live == 7);
 }
 
 /* What a link asks for beside its two nodes is the same for all. */
 static void asks_of_link(void) {
     static size_t same;
-    size_t nodes = lists_of_ground() + PLACE * (config.ready_slots + 170) + PLACE * config.bypass_slots;
+    size_t nodes = lists_of_ground() + PLACE * (config.ready_slots + 145) + PLACE * config.bypass_slots;
     size_t more = ASKED(sedge_sim_open(&config, &sim)) - nodes;
     if (same == 0) same = more;
     WANT(more == same && more < 65536);
@@ -136,8 +140,7 @@ int main(int count, char **words) {
     WANT(refused == 0);
     printf("| ground | %d; 16 * `width`; %d * `queue_slots`; %d * (`queue_slots` + %d); 65,542 | 1 each |\n", GROUND,
            PLACE, NUMBER, SENT);
-    printf("| spacecraft | %d,%03d; %d * (`ready_slots` + 170); %d * `bypass_slots` | 1 each |\n", SPACECRAFT / 1000,
-           SPACECRAFT % 1000, PLACE, PLACE);
+    printf("| spacecraft | %d; %d * (`ready_slots` + 145); %d * `bypass_slots` | 1 each |\n", SPACECRAFT, PLACE, PLACE);
     if (failures > 0) printf("%d failed\n", failures);
     return failures != 0;
 }

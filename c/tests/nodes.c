@@ -405,6 +405,49 @@ static void a_restart_on_purpose(void) {
     WANT(live == 0);
 }
 
+/* Another ground goes on at what was kept of one that is lost: two packets were sent, and one was accepted. */
+static void a_ground_that_fails_over(void) {
+    struct sedge_config whole = config, wrong;
+    struct sedge_ground ground = {0};
+    struct sedge_spacecraft spacecraft = {0};
+    struct sedge_ground_kept kept = {0}, read = {0};
+    whole.part = 1016;
+    WANT(sizeof kept == 144 && sedge_ground_kept(&ground, &kept) == SEDGE_NODE_NONE && kept.whole == 0);
+    while (again(sedge_ground_open(&whole, &ground)))
+        ;
+    while (again(sedge_spacecraft_open(&whole, &spacecraft)))
+        ;
+    WANT(sedge_ground_init_without_check(&ground) == 0);
+    while (again(sedge_ground_submit(&ground, 5, packet, sizeof packet)))
+        ;
+    while (again(sedge_ground_submit(&ground, 5, packet, sizeof packet)))
+        ;
+    goes_up(&ground, &spacecraft, 3);
+    WANT(sedge_ground_advance(&ground) == 0); /* this frame is lost */
+    WANT(sedge_ground_kept(&ground, &kept) == 0 && kept.acknowledged == 0 && kept.vs == 2 && kept.nn == 0);
+    WANT(kept.known == 1 && kept.whole == 2 && kept.segments[0] == 1 && kept.segments[1] == 1 && kept.segments[2] == 0);
+    sedge_ground_close(&ground);
+    wrong = whole;
+    wrong.limit = 0;
+    WANT(sedge_ground_open_kept(&wrong, &kept, &ground) == SEDGE_NODE_OUT_OF_RANGE && ground.node == NULL);
+    kept.known = 2;
+    WANT(sedge_ground_open_kept(&whole, &kept, &ground) == SEDGE_NODE_OUT_OF_RANGE && ground.node == NULL);
+    kept.known = 1, kept.whole = 3;
+    WANT(sedge_ground_open_kept(&whole, &kept, &ground) == SEDGE_NODE_OUT_OF_RANGE && ground.node == NULL);
+    kept.whole = 2, kept.zeros[0] = 7; /* which is not looked at */
+    while (again(sedge_ground_open_kept(&whole, &kept, &ground)))
+        ;
+    kept.zeros[0] = 0;
+    WANT(sedge_ground_kept(&ground, &read) == 0 && memcmp(&read, &kept, sizeof kept) == 0);
+    has_come(&ground, 2, 2, 0);
+    does_not_resume(&ground, 3);
+    resumes(&ground, 1, 1);
+    comes_out(&spacecraft, sedge_spacecraft_next, sedge_spacecraft_take, 5);
+    sedge_ground_close(&ground);
+    sedge_spacecraft_close(&spacecraft);
+    WANT(live == 0);
+}
+
 /* A frame on a MAP that is closed on board is accepted, and its octets are dropped. */
 static void on_a_closed_map(void) {
     struct sedge_config whole = config, board;
@@ -735,6 +778,7 @@ int main(void) {
     after_an_alert();
     on_a_closed_map();
     a_restart_on_purpose();
+    a_ground_that_fails_over();
     link();
     events_by_number();
     all = tried;
@@ -748,6 +792,7 @@ int main(void) {
         after_an_alert();
         on_a_closed_map();
         a_restart_on_purpose();
+        a_ground_that_fails_over();
         link();
         events_by_number();
     }

@@ -18,11 +18,11 @@
 #include <string.h>
 
 /* The octets of a node, and of what it keeps for each packet, segment or number of a list. */
-enum { GROUND = 400, SPACECRAFT = 2368 };
+enum { GROUND = 400, SPACECRAFT = 344 };
 enum { UNIT = 16, PLACE = 32, COUNT = 8, CUT = 24, SLICE = 16, PACKET = 24, NUMBER = 4 };
 /* The longest packet; the most segments that are sent and not acknowledged; the most data of a frame, and packets in
  * them; the places on board past the ready slots; and the sizes that a list of places may have. */
-enum { LONGEST = 65542, SHORTEST = 7, SENT = 127, DATA = 1016, MOST = DATA / SHORTEST, FURTHER = 170, SIZES = 512 };
+enum { LONGEST = 65542, SHORTEST = 7, SENT = 127, DATA = 1016, MOST = DATA / SHORTEST, FURTHER = 145, SIZES = 512 };
 enum { KINDS = 32 };
 
 struct traffic {
@@ -172,6 +172,13 @@ static size_t open_maps(const struct sedge_config *config) {
     return count;
 }
 
+/* The places of the list of the parts: one of each MAP up to the highest that is open. */
+static size_t part_places(const struct sedge_config *config) {
+    size_t count = 64;
+    while (count > 0 && (config->maps >> (count - 1) & 1) == 0) count--;
+    return count;
+}
+
 /* The octets that wait stand after some that were sent, which are fewer than they were before the last packet. */
 static void add_telemetry(const struct traffic *traffic) {
     size_t most = (2 * (size_t)traffic->telemetry - 1) * traffic->telemetry_octets;
@@ -182,15 +189,17 @@ static void add_telemetry(const struct traffic *traffic) {
 
 /* The packets that are ready are fewer than the ready slots when a frame comes, and then those of its segment more;
  * those past the sequence control are one more while one comes. The part that is open on each MAP has room for the
- * longest. */
+ * longest. A first segment brings the list of the parts where no part is open, and there may be one already. */
 static void places_of_spacecraft(const struct sedge_config *config, const struct traffic *traffic) {
+    size_t parts = PLACE * part_places(config);
     struct kind *packets;
     kinds_count = rows_count = 0;
     packets = add_kind(PACKETS, SHORTEST, config->max_packet, config->ready_slots - 1);
     packets->data = config->blocking == 1 ? DATA : 0, packets->past = config->bypass_slots;
     packets->parts = open_maps(config);
     add(SPACECRAFT), add(PLACE * (config->ready_slots + FURTHER)), add(PLACE * config->bypass_slots);
-    if (config->blocking == 1) add_list(PACKET, MOST);
+    if (parts > 0) (void)add_kind(ANY, parts, parts, 2);
+    if (config->blocking == 1) (void)add_kind(ANY, 2 * PACKET, MOST * PACKET, 1);
     add_telemetry(traffic);
     list_places();
 }
