@@ -163,6 +163,16 @@ export interface sedge_ground_reading {
     count: number;
 }
 
+export interface sedge_ground_kept {
+    acknowledged: bigint;
+    vs: number;
+    nn: number;
+    known: number;
+    whole: number;
+    segments: number[];
+    zeros: number[];
+}
+
 export interface sedge_spacecraft {
     node: number;
 }
@@ -312,6 +322,8 @@ export interface Calls {
     sedge_ground_accepted_beyond(ground: Partial<sedge_ground>, value: number, accepted: Partial<Box>): number;
     sedge_ground_known_on_board(ground: Partial<sedge_ground>, value: number, whole: Partial<Box>): number;
     sedge_ground_resume(ground: Partial<sedge_ground>, value: number, whole: Partial<Box>): number;
+    sedge_ground_kept(ground: Partial<sedge_ground>, kept: Partial<sedge_ground_kept>): number;
+    sedge_ground_open_kept(config: sedge_config, kept: sedge_ground_kept, ground: Partial<sedge_ground>): number;
     sedge_spacecraft_open(config: sedge_config, spacecraft: Partial<sedge_spacecraft>): number;
     sedge_spacecraft_close(spacecraft: Partial<sedge_spacecraft>): void;
     sedge_spacecraft_receive(spacecraft: Partial<sedge_spacecraft>, octets: Uint8Array, received: Partial<sedge_received>): number;

@@ -84,6 +84,14 @@ function nodes() {
     assert.equal(sedge.sedge_spacecraft_telemetry_frame(spacecraft, out, count), n.SEDGE_NODE_OK);
     assert.equal(sedge.sedge_ground_telemetry(ground, out.subarray(0, count.value), heard), n.SEDGE_NODE_OK);
     assert.deepEqual([heard.first, heard.missing], [0, 0]);
+    const kept = {}, value = {};
+    assert.equal(sedge.sedge_ground_kept(ground, kept), n.SEDGE_NODE_OK);
+    assert.deepEqual([kept.acknowledged, kept.vs, kept.nn, kept.known, kept.whole], [1n, 1, 1, 1, 0]);
+    sedge.sedge_ground_close(ground);
+    assert.equal(sedge.sedge_ground_open_kept(DEFAULTS, { ...kept, whole: 1 }, ground), n.SEDGE_NODE_OUT_OF_RANGE);
+    assert.equal(sedge.sedge_ground_open_kept(DEFAULTS, kept, ground), n.SEDGE_NODE_OK);
+    assert.equal(sedge.sedge_ground_resume(ground, 1, value), n.SEDGE_NODE_OK);
+    assert.equal(value.value, 1n);
     sedge.sedge_ground_close(ground);
     sedge.sedge_spacecraft_close(spacecraft);
     assert.equal(sedge.sedge_ground_tick(ground), n.SEDGE_NODE_NONE);

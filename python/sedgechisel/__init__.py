@@ -24,13 +24,14 @@ from ._faults import (
     CheckFault, ClcwFault, CopFault, Fault, LinkFault, MapFault, PacketFault, SimFault, TcFault, TelemetryFault, TmFault)
 from ._files import read_frames
 from ._link import Begun, Link
-from ._nodes import Arrived, Config, ConfigFault, Ground, Heard, KeptNumbers, OnMap, Received, Report, Spacecraft
+from ._nodes import (
+    Arrived, Config, ConfigFault, Ground, Heard, KeptGround, KeptNumbers, OnMap, Received, Report, Spacecraft)
 
 __version__ = version
 __all__ = [
     "NO_START", "ONLY_IDLE", "Alert", "Arrived", "Assembled", "Begun", "CheckFault", "Clcw", "ClcwFault", "Command",
     "Config", "ConfigFault", "Control", "CopFault", "Extracted", "Farm", "Fault", "Flags", "Fop", "GapCheck", "Ground",
-    "Heard", "KeptNumbers", "Kind", "Link", "LinkFault", "Map", "MapFault", "Mode", "Next", "OnMap", "Packet",
-    "PacketFault", "PacketKind", "Received", "Report", "Segment", "SequenceFlags", "SimFault", "Spacecraft", "State",
-    "TakenFrame", "TcFault", "TcFrame", "TelemetryFault", "TmBuilder", "TmExtractor", "TmFault", "TmFrame", "Verdict",
-    "accepted_beyond", "check", "check_append", "check_holds", "read_frames", "segments", "version"]
+    "Heard", "KeptGround", "KeptNumbers", "Kind", "Link", "LinkFault", "Map", "MapFault", "Mode", "Next", "OnMap",
+    "Packet", "PacketFault", "PacketKind", "Received", "Report", "Segment", "SequenceFlags", "SimFault", "Spacecraft",
+    "State", "TakenFrame", "TcFault", "TcFrame", "TelemetryFault", "TmBuilder", "TmExtractor", "TmFault", "TmFrame",
+    "Verdict", "accepted_beyond", "check", "check_append", "check_holds", "read_frames", "segments", "version"]

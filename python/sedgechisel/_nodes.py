@@ -7,7 +7,7 @@ from dataclasses import dataclass, field
 from enum import EnumMeta
 from threading import RLock
 from types import TracebackType
-from typing import Any, Callable, Dict, Iterator, NamedTuple, Optional, Type, TypeVar
+from typing import Any, Callable, Dict, Iterator, NamedTuple, Optional, Tuple, Type, TypeVar
 
 from ._calls import Alert, Clcw, Command, Directives, Mode, State, Verdict, _directive, _dropped_word, _Struct
 from ._faults import ClcwFault, CopFault, Fault, LinkFault, TcFault, TelemetryFault, TmFault, word_of as _word_of
@@ -314,14 +314,81 @@ class _GroundReading(ctypes.Structure):
                 ("count", c_uint8)]
 
 
+class _GroundKept(ctypes.Structure):
+    _fields_ = [("acknowledged", c_uint64), ("vs", c_uint8), ("nn", c_uint8), ("known", c_uint8), ("whole", c_uint8),
+                ("_segments", c_uint8 * 127), ("_zeros", c_uint8 * 5)]
+
+
+_ground_kept = _call("ground_kept", c_uint8, POINTER(_Raw), POINTER(_GroundKept))
+_ground_open_kept = _call("ground_open_kept", c_uint8, POINTER(Config), POINTER(_GroundKept), POINTER(_Raw))
 _ground_open = _call("ground_open", c_uint8, POINTER(Config), POINTER(_Raw))
 _ground_close = _call("ground_close", None, POINTER(_Raw))
+
+
+@dataclass(frozen=True)
+class KeptGround:
+    """What is kept of a ground, with which another goes on where it was lost.
+
+    - `acknowledged`, how many submissions are acknowledged whole
+    - `vs`, V(S), the number of the next segment that is sent for the first time
+    - `nn`, NN(R), the number that the spacecraft was last known to expect
+    - `known`, whether these are a session's, and no alert has shown that a condition is broken
+    - `segments`, of each submission more that was sent whole how many of its segments are not acknowledged"""
+
+    acknowledged: int = 0
+    vs: int = 0
+    nn: int = 0
+    known: bool = False
+    segments: Tuple[int, ...] = ()
+
+    def _record(self) -> _GroundKept:
+        numbers = {"acknowledged": c_uint64, "vs": c_uint8, "nn": c_uint8}
+        for name, kind in numbers.items():
+            _within(name, kind, getattr(self, name))
+        record = _GroundKept(self.acknowledged, self.vs, self.nn, bool(self.known), min(len(self.segments), 128))
+        for place, count in enumerate(self.segments[:127]):
+            _within("segments", c_uint8, count)
+            record._segments[place] = count
+        return record
 
 
 class Ground(Directives, Handle):
     """The ground: it sends packets until they are accepted, and takes telemetry."""
 
     _opens, _closes = _ground_open, _ground_close
+
+    def __init__(
+            self, config: Optional[Config] = None, *, kept: Optional[KeptGround] = None,
+            scid: Optional[int] = None, vcid: Optional[int] = None, tm_vcid: Optional[int] = None,
+            width: Optional[int] = None, window: Optional[int] = None, limit: Optional[int] = None,
+            timer: Optional[int] = None, part: Optional[int] = None, max_packet: Optional[int] = None,
+            maps: Optional[int] = None, ready_slots: Optional[int] = None, bypass_slots: Optional[int] = None,
+            queue_slots: Optional[int] = None, frame_length: Optional[int] = None,
+            blocking: Optional[int] = None) -> None:
+        """A ground with these managed parameters: a Config, or some of its fields, each by its name; the others have
+        their defaults. With `kept` it goes on in S6 where another was lost, at what its `kept` was: `resume` begins the
+        next session, as after an alert. A ConfigFault where a parameter is out of its range; an OverflowError for a
+        record that no ground of this configuration gives; or a LinkFault, 6 Memory."""
+        self._kept = None if kept is None else _struct_of("kept", KeptGround, kept)._record()
+        super().__init__(config, **_fields_of(locals()))
+
+    def _open(self, config: Config) -> int:
+        if self._kept is None:
+            return super()._open(config)
+        answer = int(_ground_open_kept(config, self._kept, self._handle))
+        if answer == _OUT_OF_RANGE and not _config_fault(config):
+            raise OverflowError("kept: no ground of this configuration gives this record")
+        return answer
+
+    @property
+    def kept(self) -> KeptGround:
+        """What is kept of this ground, in a record of fixed size. A program stores it after each call, and after a pull
+        before the frame goes out; where the ground is lost, `Ground(config, kept=..)` opens another at it. Of
+        submissions that were not sent whole nothing is kept, nor of bypass packets, of telemetry, and of what
+        directives set."""
+        it = _GroundKept()
+        self._asked(_ground_kept(self._handle, it))
+        return KeptGround(it.acknowledged, it.vs, it.nn, it.known == 1, tuple(it._segments[:it.whole]))
 
     def _direct(self, name: str, own: str = "", value: int = 0, kind: Any = c_uint8) -> None:
         self._asked(_ground_directive(self._handle, *_directive(name, own, value, kind)), CopFault)

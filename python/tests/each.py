@@ -373,6 +373,9 @@ def longest_nodes(it):
         assert board.take() == (63, command) and [*board.packets()] == [] and ground.accepted_beyond(64) == 65
         assert (ground.submitted, ground.sent_whole, ground.acknowledged_whole) == (1, 1, 0)
         # V(S) is 64, NN(R) 255, and the submission has 65 segments.
+        assert ground.kept == it.KeptGround(vs=64, nn=255, known=True, segments=(65,))
+        with it.Ground(largest(it), kept=ground.kept) as another:
+            assert another.kept == ground.kept
         assert [ground.known_on_board(value) for value in (254, 255, 63, 64, 65)] == [None, 0, 0, 1, None]
         ground.advance()
         assert ground.peek() is None
@@ -453,10 +456,12 @@ def callables(it):
 def each_wrong_argument(it):
     """A value of a wrong type is a TypeError, and a number that does not fit an OverflowError; both name it."""
     right = {"int": 1, "Optional[int]": 1, "bytes": bytes(4), "bool": False, "Clcw": it.Clcw(), "TmFrame": it.TmFrame(),
-             "Optional[Config]": None, "Optional[KeptNumbers]": None, "Readable": io.BytesIO()}
+             "Optional[Config]": None, "Optional[KeptGround]": None, "Optional[KeptNumbers]": None,
+             "Readable": io.BytesIO()}
     wrong = {"int": ("1", 1.0, None, b"1"), "bytes": ("1", 1, None), "Clcw": ("1", 1, None, it.TmFrame()),
              "TmFrame": ("1", 1, None, it.Clcw()), "Optional[Config]": ("1", 1, it.Clcw()), "Optional[int]": ("1", 1.0),
-             "Optional[KeptNumbers]": ("1", 1, it.Clcw()), "Readable": ("1", 1, None)}
+             "Optional[KeptGround]": ("1", 1, it.KeptNumbers()), "Optional[KeptNumbers]": ("1", 1, it.Clcw()),
+             "Readable": ("1", 1, None)}
     tried = 0
     for name, call in callables(it):
         parameters = {own: one for own, one in inspect.signature(call).parameters.items() if own != "fields"}

@@ -122,6 +122,7 @@ PREFIXES = {"Clcw": "clcw", "Farm": "farm", "Fop": "fop", "TcFrame": "tc", "Pack
 # Methods that make other calls than the one of their own name, and what these are.
 OTHERS = {
     "GapCheck.__init__": "gap_check_open", "Spacecraft._open": "spacecraft_open_kept config_fault",
+    "Ground._open": "ground_open_kept config_fault",
     "Farm.__init__": "farm_open", "Farm.mode": "farm_state", "Fop.__init__": "fop_open",
     "TmBuilder.__init__": "tm_builder_open", "TmExtractor._taken": "tm_extractor_frame tm_packet",
     "TmExtractor.take_all": "tm_extractor_frames",
@@ -162,8 +163,8 @@ BY = {
 # Methods that make none at all.
 NONE = {"TmFrame.__init__", "TmFrame.ocf", "TmBuilder.waiting", "TmExtractor.__init__", "TmExtractor.dropped",
         "TmExtractor._begun", "TmExtractor.take", "TcFrame.decode_all", "Ground.telemetry_all", "Map.__init__",
-        "Clcw.__init__", "TcFrame.__init__", "Packet.__init__", "Config.__init__", "Spacecraft.__init__",
-        "Spacecraft._taken", "Link._taken", "Directives._direct"}
+        "Clcw.__init__", "TcFrame.__init__", "Packet.__init__", "Config.__init__", "Ground.__init__",
+        "Spacecraft.__init__", "Spacecraft._taken", "Link._taken", "Directives._direct"}
 # Methods that read a struct, of which another one gives a field.
 READS = ("_read", "_read_ground", "_read_spacecraft")
 # What a method keeps for itself, wherever it does.
@@ -220,7 +221,8 @@ def methods_and_their_calls(it):
         owner, _, own = name.rpartition(".")
         prefix = "directive" if own in it._calls._DIRECTIVES else PREFIXES.get(owner)
         default = f"{prefix}_{own}" if prefix else own
-        if owner in ("Handle", "_Struct", "_Part", "_Heard", "_Renamed", "KeptNumbers") or (not owner and default not in known):
+        others = ("Handle", "_Struct", "_Part", "_Heard", "_Renamed", "KeptGround", "KeptNumbers")
+        if owner in others or (not owner and default not in known):
             assert made == OTHERS.get(name, ""), f"{name} calls {made}"
         elif name in BY:
             assert reads_in(function) == BY[name] and not made, f"{name} reads {reads_in(function)}"
@@ -242,7 +244,7 @@ def methods_and_their_arguments(it):
             continue
         given = (*function.args.args, *function.args.kwonlyargs)
         # (A node gives the fields of its configuration by `_fields_of`, all at once.)
-        others = ("self", "cls", *(it.Config._kinds if owner == "Spacecraft" and own == "__init__" else ()))
+        others = ("self", "cls", *(it.Config._kinds if owner in ("Ground", "Spacecraft") and own == "__init__" else ()))
         parameters = [one.arg for one in given if one.arg not in others]
         octets = [one for one in parameters if one in ("octets", "data", "packet", "packets", "ocf")
                   and name not in ("TmFrame.__init__", "TmFrame.ocf")]

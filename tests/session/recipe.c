@@ -1,10 +1,12 @@
 /* Follows the ways on after an alert and after a reset (docs/C.md, "After an alert"; docs/TOUR.md) over random links,
  * until that many sessions have begun: `recipe SESSIONS`. Frames are delayed and lost; in some runs they overtake each
- * other, and in some the spacecraft restarts. On board each packet has to be the next one that was wanted on its MAP:
- * none twice, and none left out that was said to be on board. recipe.py and recipe.rs do the same, and write the same
- * lines. A second word takes a step away, and is found out: with `early` it believes the first report after an alert,
- * whenever that was made, and begins a session by it even where the ground refuses; with `numbers` it goes by the
- * numbers of the ground and of the report alone, whatever the alert says, and whether the spacecraft has restarted. */
+ * other, and in some the spacecraft restarts. In some the ground is lost at times, and another goes on at what was
+ * kept of it, or at an older record (docs/TOUR.md, "The ground fails over"). On board each packet has to be the next
+ * one that was wanted on its MAP: none twice, and none left out that was said to be on board. recipe.py and recipe.rs
+ * do the same, and write the same lines. A second word takes a step away, and is found out: with `early` it believes
+ * the first report after an alert, whenever that was made, and begins a session by it even where the ground refuses;
+ * with `numbers` it goes by the numbers of the ground and of the report alone, whatever the alert says, and whether
+ * the spacecraft has restarted. */
 #include "sedgechisel_nodes.h"
 #include <stdio.h>
 #include <stdlib.h>
@@ -58,6 +60,10 @@ static size_t submitted, done;
 static int restarts;
 static struct board board, heard_of;
 static size_t taken[2];
+/* Whether the ground is lost at times; what is kept of it, which in some runs is stored seldom; and whether the ground
+ * was opened at such a record. */
+static int fails, is_late, is_old;
+static struct sedge_ground_kept stored;
 
 static uint32_t draw(uint32_t below) {
     state = state * 1664525 + 1013904223;
@@ -137,13 +143,16 @@ static void begin_run(void) {
     begin_way(&down, delay);
     pause = 1 + draw(3);
     restarts = draw(3) == 0;
+    fails = draw(3) == 0;
+    is_late = draw(3) == 0;
     begin_packets();
     quiet = -99;
-    has_begun = is_broken = 0;
+    has_begun = is_broken = is_old = 0;
     memset(&board, 0, sizeof board);
     memset(&heard_of, 0, sizeof heard_of);
     submitted = done = taken[0] = taken[1] = 0;
     expect(sedge_ground_open(&config, &ground) == 0, "sedge_ground_open");
+    expect(sedge_ground_kept(&ground, &stored) == 0, "sedge_ground_kept");
     expect(sedge_spacecraft_open(&config, &spacecraft) == 0, "sedge_spacecraft_open");
 }
 
@@ -187,6 +196,19 @@ static void restart(void) {
     board.starts++;
 }
 
+/* What is kept of the ground; in some runs an older record stays. */
+static void store(void) {
+    if (!is_late || draw(8) == 0) expect(sedge_ground_kept(&ground, &stored) == 0, "sedge_ground_kept");
+}
+
+/* The ground is lost, and another goes on; a round trip has to go by from now on. */
+static void fail_over(long now) {
+    sedge_ground_close(&ground);
+    expect(sedge_ground_open_kept(&config, &stored, &ground) == 0, "sedge_ground_open_kept");
+    is_old = is_late;
+    quiet = now;
+}
+
 /* The next telemetry frame: a report, and beside it what the spacecraft says of itself. */
 static void report(long now) {
     struct sedge_spacecraft_reading reading;
@@ -216,7 +238,13 @@ static void begin_first(uint8_t value) {
 /* Begins the next session where the last one has got to. */
 static void resume(uint8_t value, const struct board *it) {
     uint64_t known = 0, whole = 0;
-    if (sedge_ground_known_on_board(&ground, value, &known) != 0 || sedge_ground_resume(&ground, value, &whole) != 0) {
+    int is_known = sedge_ground_known_on_board(&ground, value, &known) == 0;
+    if (is_old && (!is_known || done + known != it->whole)) { /* the second way */
+        begin_first(value);
+        done = it->whole;
+        return;
+    }
+    if (!is_known || sedge_ground_resume(&ground, value, &whole) != 0) {
         if (!is_early) wrong("nothing is known of how far the session has come");
         begin_first(value);
         return;
@@ -246,7 +274,7 @@ static void begin(uint8_t value, const struct board *it) {
         resume(value, it);
     }
     has_begun = 1;
-    is_broken = 0;
+    is_broken = is_old = 0;
     submitted = done;
     begun++;
     if (begun % 1000 == 0) {
@@ -303,6 +331,7 @@ static void submit_and_send(long now) {
         expect(sedge_ground_pull(&ground, frame.octets, sizeof frame.octets, &frame.count) == 0, "pull");
         if (frame.count == 0) return;
         quiet = now;
+        store();
         send(&up, now, &frame);
     }
 }
@@ -315,8 +344,12 @@ static void tick(long now) {
     }
     while (draw(pause) == 0 && take()) continue;
     if (restarts && draw(60) == 0) restart();
+    if (fails && draw(60) == 0) fail_over(now);
     report(now);
-    while (arrived(&down, now, &frame)) hear(&frame, now);
+    while (arrived(&down, now, &frame)) {
+        hear(&frame, now);
+        store();
+    }
     alerts += sedge_ground_tick(&ground) != 0;
     if (draw(50) == 0 && read_ground().state != SEDGE_FOP_S6) {
         expect(sedge_ground_terminate(&ground) == 0, "sedge_ground_terminate");
@@ -326,7 +359,7 @@ static void tick(long now) {
 }
 
 /* Goes on until all packets were taken, as the spacecraft says, as long as a run may be. What was said to be on board
- * has come then, unless the spacecraft has restarted and not said so yet. */
+ * has come then, unless the spacecraft has restarted and not said so yet, or the ground is at an old record. */
 static void play(void) {
     long now;
     begin_run();
@@ -335,7 +368,7 @@ static void play(void) {
         tick(now);
     }
     while (take()) continue;
-    if (!is_broken && board.starts == heard_of.starts) done += (size_t)read_ground().acknowledged_whole;
+    if (!is_broken && !is_old && board.starts == heard_of.starts) done += (size_t)read_ground().acknowledged_whole;
     else done = heard_of.taken;
     if (taken[0] + taken[1] < done) wrong("a packet that was said to be on board did not come");
 }

@@ -1,10 +1,12 @@
 """Follows the ways on after an alert and after a reset (docs/TOUR.md, "After an alert", "After a reset") over random
-links, until that many sessions have begun: `recipe.py SESSIONS`. Frames are delayed and lost; in some runs they overtake
-each other, and in some the spacecraft restarts. On board each packet has to be the next one that was wanted on its MAP:
-none twice, and none left out that was said to be on board. recipe.c and recipe.rs do the same, and write the same lines.
-A second word takes a step away, and is found out: with `early` it believes the first report after an alert, whenever
-that was made, and begins a session by it even where the ground refuses; with `numbers` it goes by the numbers of the
-ground and of the report alone, whatever the alert says, and whether the spacecraft has restarted."""
+links, until that many sessions have begun: `recipe.py SESSIONS`. Frames are delayed and lost; in some runs they
+overtake each other, and in some the spacecraft restarts. In some the ground is lost at times, and another goes on at
+what was kept of it, or at an older record (docs/TOUR.md, "The ground fails over"). On board each packet has to be the
+next one that was wanted on its MAP: none twice, and none left out that was said to be on board. recipe.c and recipe.rs
+do the same, and write the same lines. A second word takes a step away, and is found out: with `early` it believes the
+first report after an alert, whenever that was made, and begins a session by it even where the ground refuses; with
+`numbers` it goes by the numbers of the ground and of the report alone, whatever the alert says, and whether the
+spacecraft has restarted."""
 import bisect
 import collections
 import sys
@@ -66,6 +68,7 @@ class Run:
         self.up, self.down = Way(self.delay), Way(self.delay)
         self.pause = 1 + draw(3)
         self.restarts = draw(3) == 0
+        self.fails, self.is_late = draw(3) == 0, draw(3) == 0
         self.packets = []
         for k in range(PACKETS):
             map_, length = 4 + draw(2), 1 + draw(24)
@@ -76,6 +79,8 @@ class Run:
         # from which nothing has gone up; packets submitted, and of them those that earlier sessions have brought on
         # board; how often the spacecraft was started, and what of that has come; packets taken
         self.has_begun = self.is_broken = False
+        # what is kept of the ground, in some runs seldom; whether the ground was opened at such a record
+        self.stored, self.is_old = self.ground.kept, False
         self.quiet, self.submitted, self.done = -99, 0, 0
         self.starts, self.heard_of, self.taken = 0, Board(0, 0, 0), {4: 0, 5: 0}
 
@@ -99,6 +104,17 @@ class Run:
         assert self.spacecraft.receive(LOCKING).verdict == sc.Verdict.OUTSIDE
         self.starts += 1
 
+    def store(self):
+        """What is kept of the ground; in some runs an older record stays."""
+        if not self.is_late or draw(8) == 0:
+            self.stored = self.ground.kept
+
+    def fail_over(self, now):
+        """The ground is lost, and another goes on; a round trip has to go by from now on."""
+        self.ground.close()
+        self.ground = sc.Ground(self.config, kept=self.stored)
+        self.is_old, self.quiet = self.is_late, now
+
     def report(self, now):
         """The next telemetry frame: a report, and beside it what the spacecraft says of itself."""
         taken = sum(self.taken.values())
@@ -119,6 +135,10 @@ class Run:
     def resume(self, value, board):
         """Begins the next session where the last one has got to."""
         known = self.ground.known_on_board(value)
+        if self.is_old and (known is None or self.done + known != board.whole):  # the second way
+            self.begin_first(value)
+            self.done = board.whole
+            return
         try:
             whole = self.ground.resume(value)
         except sc.LinkFault:
@@ -142,7 +162,7 @@ class Run:
             self.done = board.whole
         else:
             self.resume(value, board)
-        self.has_begun, self.is_broken, self.submitted = True, False, self.done
+        self.has_begun, self.is_broken, self.is_old, self.submitted = True, False, False, self.done
         begun += 1
         if begun % 1000 == 0:
             print(f"{begun} sessions: {alerts} alerts, {taken_in_all} packets, {ticks} ticks")
@@ -189,9 +209,12 @@ class Run:
             pass
         if self.restarts and draw(60) == 0:
             self.restart()
+        if self.fails and draw(60) == 0:
+            self.fail_over(now)
         self.report(now)
         for frame in self.down.arrived(now):
             self.hear(frame, now)
+            self.store()
         alerts += self.ground.tick() != 0
         if draw(50) == 0 and self.ground.state != sc.State.S6:
             self.ground.terminate()
@@ -205,11 +228,13 @@ class Run:
             self.submitted += 1
         while (frame := self.ground.pull()) is not None:
             self.quiet = now
+            self.store()
             self.up.send(now, frame)
 
     def play(self):
         """Goes on until all packets were taken, as the spacecraft says, as long as a run may be. What was said to be on
-        board has come then, unless the spacecraft has restarted and not said so yet."""
+        board has come then, unless the spacecraft has restarted and not said so yet, or the ground is at an old
+        record."""
         global ticks
         with self.ground, self.spacecraft:
             now = 0
@@ -219,7 +244,7 @@ class Run:
                 now += 1
             while self.take():
                 pass
-            is_known = not self.is_broken and self.starts == self.heard_of.starts
+            is_known = not self.is_broken and not self.is_old and self.starts == self.heard_of.starts
             done = self.done + self.ground.acknowledged_whole if is_known else self.heard_of.taken
             if sum(self.taken.values()) < done:
                 wrong("a packet that was said to be on board did not come")

@@ -1,11 +1,12 @@
 //! Follows the ways on after an alert and after a reset (docs/TOUR.md, "After an alert", "After a reset") over random
 //! links, until that many sessions have begun: `recipe SESSIONS`. Frames are delayed and lost; in some runs they
-//! overtake each other, and in some the spacecraft restarts. On board each packet has to be the next one that was
-//! wanted on its MAP: none twice, and none left out that was said to be on board. recipe.c and recipe.py do the same,
-//! and write the same lines. A second word takes a step away, and is found out: with `early` it believes the first
-//! report after an alert, whenever that was made, and begins a session by it even where the ground refuses; with
-//! `numbers` it goes by the numbers of the ground and of the report alone, whatever the alert says, and whether the
-//! spacecraft has restarted.
+//! overtake each other, and in some the spacecraft restarts. In some the ground is lost at times, and another goes on
+//! at what was kept of it, or at an older record (docs/TOUR.md, "The ground fails over"). On board each packet has to
+//! be the next one that was wanted on its MAP: none twice, and none left out that was said to be on board. recipe.c and
+//! recipe.py do the same, and write the same lines. A second word takes a step away, and is found out: with `early` it
+//! believes the first report after an alert, whenever that was made, and begins a session by it even where the ground
+//! refuses; with `numbers` it goes by the numbers of the ground and of the report alone, whatever the alert says, and
+//! whether the spacecraft has restarted.
 
 use sedgechisel::*;
 use std::collections::VecDeque;
@@ -105,6 +106,12 @@ struct Run {
     starts: u8,
     heard_of: Board,
     taken: [usize; 2],
+    /// Whether the ground is lost at times; what is kept of it, which in some runs is stored seldom; and whether the
+    /// ground was opened at such a record.
+    fails: bool,
+    is_late: bool,
+    is_old: bool,
+    stored: KeptGround,
     config: Config,
 }
 
@@ -132,6 +139,7 @@ impl Run {
         let (up, down) = (Way::new(all, delay), Way::new(all, delay));
         let pause = 1 + all.draw(3);
         let restarts = all.draw(3) == 0;
+        let (fails, is_late) = (all.draw(3) == 0, all.draw(3) == 0);
         let mut packets = Vec::new();
         for k in 0..PACKETS as u8 {
             let (map, length) = (4 + all.draw(2), 1 + all.draw(24));
@@ -141,6 +149,7 @@ impl Run {
         }
         let (ground, spacecraft) = (Ground::new(&config)?, Spacecraft::new(&config)?);
         Ok(Run {
+            stored: ground.kept(),
             ground,
             spacecraft,
             up,
@@ -156,6 +165,9 @@ impl Run {
             starts: 0,
             heard_of: Board::default(),
             taken: [0; 2],
+            fails,
+            is_late,
+            is_old: false,
             config,
         })
     }
@@ -176,6 +188,20 @@ impl Run {
             return Err("it begins in Lockout".into());
         };
         self.starts += 1;
+        Ok(())
+    }
+
+    /// What is kept of the ground; in some runs an older record stays.
+    fn store(&mut self, all: &mut Totals) {
+        if !self.is_late || all.draw(8) == 0 {
+            self.stored = self.ground.kept();
+        }
+    }
+
+    /// The ground is lost, and another goes on; a round trip has to go by from now on.
+    fn fail_over(&mut self, now: i64) -> Outcome {
+        self.ground = Ground::open_at(&self.config, &self.stored)?;
+        (self.is_old, self.quiet) = (self.is_late, now);
         Ok(())
     }
 
@@ -208,6 +234,12 @@ impl Run {
     /// Begins the next session where the last one has got to.
     fn resume(&mut self, all: &mut Totals, value: u8, board: Board) -> Outcome {
         let known = self.ground.known_on_board(value);
+        let is_as_said = known.is_some_and(|it| self.done as u64 + it == u64::from(board.whole));
+        if self.is_old && !is_as_said {
+            // the second way
+            self.done = board.whole.into();
+            return self.begin_first(all, value);
+        }
         let Ok(whole) = self.ground.resume(value) else {
             if !all.is_early {
                 all.wrong("nothing is known of how far the session has come");
@@ -252,7 +284,7 @@ impl Run {
         } else {
             self.resume(all, value, board)?;
         }
-        (self.has_begun, self.is_broken, self.submitted) = (true, false, self.done);
+        (self.has_begun, self.is_broken, self.is_old, self.submitted) = (true, false, false, self.done);
         all.begun += 1;
         if all.begun % 1000 == 0 {
             println!(
@@ -315,7 +347,9 @@ impl Run {
         let mut room = [0; TcFrame::LONGEST];
         while let Some(frame) = self.ground.pull(&mut room) {
             self.quiet = now;
-            self.up.send(all, now, frame.to_vec());
+            let frame = frame.to_vec();
+            self.store(all);
+            self.up.send(all, now, frame);
         }
         Ok(())
     }
@@ -328,9 +362,13 @@ impl Run {
         if self.restarts && all.draw(60) == 0 {
             self.restart()?;
         }
+        if self.fails && all.draw(60) == 0 {
+            self.fail_over(now)?;
+        }
         self.report(all, now)?;
         while let Some(frame) = self.down.arrived(now) {
             self.hear(all, &frame, now)?;
+            self.store(all);
         }
         all.alerts += u64::from(self.ground.tick().is_some());
         if all.draw(50) == 0 && self.ground.state() != FopState::S6 {
@@ -344,7 +382,7 @@ impl Run {
     }
 
     /// Goes on until all packets were taken, as the spacecraft says, as long as a run may be. What was said to be on
-    /// board has come then, unless the spacecraft has restarted and not said so yet.
+    /// board has come then, unless the spacecraft has restarted and not said so yet, or the ground is at an old record.
     fn play(&mut self, all: &mut Totals) -> Outcome {
         for now in 0..LONGEST_RUN {
             if usize::from(self.heard_of.taken) == PACKETS || all.begun >= all.sessions {
@@ -354,7 +392,7 @@ impl Run {
             self.tick(all, now)?;
         }
         while self.take(all)? {}
-        let is_known = !self.is_broken && self.starts == self.heard_of.starts;
+        let is_known = !self.is_broken && !self.is_old && self.starts == self.heard_of.starts;
         let acknowledged = usize::try_from(self.ground.acknowledged_whole())?;
         let done = if is_known { self.done + acknowledged } else { self.heard_of.taken.into() };
         if self.taken() < done {

@@ -68,8 +68,8 @@ pub use map::{packets, segments, Dropped, Limits, Map, MapFault, Packets, Segmen
 #[cfg_attr(docsrs, doc(cfg(feature = "nodes")))]
 #[cfg(feature = "nodes")]
 pub use nodes::{
-    Begun, Config, Ground, Heard, HeardClcw, HeardReport, KeptNumbers, Link, LinkFault, OpenFault, Parameter,
-    Received, Record, SimFault, Spacecraft,
+    Begun, Config, Ground, Heard, HeardClcw, HeardReport, KeptGround, KeptNumbers, Link, LinkFault,
+    OpenFault, Parameter, Received, Record, SimFault, Spacecraft,
 };
 pub use packet::{GapCheck, Packet, PacketFault, PacketKind, SequenceFlags};
 pub use tc::{Body, Command, Fecf, Segment, SegmentFlags, TcFault, TcFrame, TcFrames};

@@ -7,7 +7,7 @@ mod spacecraft;
 
 pub(crate) use config::Raw;
 pub use config::{Config, OpenFault, Parameter};
-pub use ground::{Ground, Heard, HeardClcw, HeardReport};
+pub use ground::{Ground, Heard, HeardClcw, HeardReport, KeptGround};
 pub use link::{Begun, Link, Record, SimFault};
 pub use spacecraft::{KeptNumbers, Received, Spacecraft};
 

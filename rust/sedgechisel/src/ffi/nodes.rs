@@ -100,6 +100,18 @@ pub struct GroundReading {
 }
 
 #[repr(C)]
+#[derive(Clone, Copy, Debug)]
+pub struct GroundKept {
+    pub acknowledged: u64,
+    pub vs: u8,
+    pub nn: u8,
+    pub known: u8,
+    pub whole: u8,
+    pub segments: [u8; 127],
+    pub zeros: [u8; 5],
+}
+
+#[repr(C)]
 #[derive(Clone, Copy, Debug, Default)]
 pub struct Received {
     pub ready: usize,
@@ -357,6 +369,8 @@ unsafe extern "C" {
     pub safe fn sedge_ground_accepted_beyond(ground: &mut Ground, value: u8, accepted: &mut u8) -> u8;
     pub safe fn sedge_ground_known_on_board(ground: &mut Ground, value: u8, whole: &mut u64) -> u8;
     pub safe fn sedge_ground_resume(ground: &mut Ground, value: u8, whole: &mut u64) -> u8;
+    pub safe fn sedge_ground_kept(ground: &mut Ground, kept: &mut GroundKept) -> u8;
+    pub safe fn sedge_ground_open_kept(config: &Config, kept: &GroundKept, ground: &mut Ground) -> u8;
 
     pub safe fn sedge_spacecraft_open(config: &Config, spacecraft: &mut Spacecraft) -> u8;
     pub safe fn sedge_spacecraft_close(spacecraft: &mut Spacecraft);

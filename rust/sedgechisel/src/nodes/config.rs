@@ -200,6 +200,8 @@ pub enum OpenFault {
     OutOfRange(Parameter),
     /// FARM-B, of the numbers that were kept, is above 3.
     FarmB,
+    /// The record is none that a ground of this configuration gives.
+    Kept,
     /// There was no memory.
     Memory,
 }
@@ -215,6 +217,7 @@ impl fmt::Display for OpenFault {
         match self {
             Self::OutOfRange(it) => write!(out, "{} {} is out of its range", it.number(), it.name()),
             Self::FarmB => out.write_str("FARM-B is not 0 to 3"),
+            Self::Kept => out.write_str("no ground of this configuration gives this record"),
             Self::Memory => fmt::Display::fmt(&LinkFault::Memory, out),
         }
     }

@@ -102,6 +102,24 @@ pub(super) fn alert_of(number: u8) -> Option<Alert> {
     (number != 0).then(|| Alert::of(number))
 }
 
+/// What is kept of a ground, so that another goes on where it was lost: V(S), NN(R) (CCSDS 232.1-B-2, 5.1) and the
+/// account of the submissions that were sent whole. It has a fixed size, and a program stores it as it likes.
+#[derive(Clone, Copy, Debug, PartialEq, Eq, Hash)]
+pub struct KeptGround {
+    /// How many submissions are acknowledged whole, modulo 2^64.
+    pub acknowledged: u64,
+    /// V(S), the number of the next segment that is sent for the first time.
+    pub vs: u8,
+    /// NN(R), the number that the spacecraft was last known to expect.
+    pub nn: u8,
+    /// Whether these are a session's, and no alert has shown that a condition is broken.
+    pub known: bool,
+    /// How many submissions more were sent whole, 0 to 127.
+    pub whole: u8,
+    /// How many segments of each of these are not acknowledged, the oldest first; and then zeros.
+    pub segments: [u8; 127],
+}
+
 /// The ground: it sends packets until they are accepted on board, and takes telemetry (docs/PROFILE.md, "The node on the
 /// ground"). Its memory is given back when it is dropped.
 ///
@@ -139,6 +157,72 @@ impl Ground {
         let mut ground = Self(raw::Own::default());
         config.judge(raw::sedge_ground_open(&config.raw(), ground.0.get()))?;
         Ok(ground)
+    }
+
+    /// A ground that goes on where another was lost, in the state S6, at what [`kept`](Self::kept) gave of that one:
+    /// with its V(S), its NN(R) and its account of submissions, and with the window, the limit and the timer of the
+    /// configuration. [`resume`](Self::resume) begins its next session, as after an alert.
+    ///
+    /// # Errors
+    ///
+    /// Refused as [`new`](Self::new) is, and then with [`Kept`](OpenFault::Kept).
+    ///
+    /// ```
+    /// use sedgechisel::{Config, Ground, TcFrame};
+    ///
+    /// let mut ground = Ground::new(&Config::default())?;
+    /// ground.init_without_check()?;
+    /// ground.submit(4, &[0x10, 0x05, 0xc0, 0x00, 0x00, 0x00, 0xaa])?;
+    /// let mut room = [0; TcFrame::LONGEST];
+    /// let frame = ground.pull(&mut room);
+    /// let kept = ground.kept(); // stored before the frame goes out
+    /// # let _ = frame;
+    /// drop(ground); // it is lost
+    /// let mut ground = Ground::open_at(&Config::default(), &kept)?;
+    /// assert_eq!(ground.resume(1), Ok(1)); // a report says V(R) = 1: the packet is on board
+    /// # Ok::<(), Box<dyn std::error::Error>>(())
+    /// ```
+    pub fn open_at(config: &Config, kept: &KeptGround) -> Result<Self, OpenFault> {
+        let mut ground = Self(raw::Own::default());
+        let record = raw::GroundKept {
+            acknowledged: kept.acknowledged,
+            vs: kept.vs,
+            nn: kept.nn,
+            known: kept.known.into(),
+            whole: kept.whole,
+            segments: kept.segments,
+            zeros: [0; 5],
+        };
+        match raw::sedge_ground_open_kept(&config.raw(), &record, ground.0.get()) {
+            raw::SEDGE_NODE_OUT_OF_RANGE if config.fault().is_none() => Err(OpenFault::Kept),
+            answer => config.judge(answer).map(|()| ground),
+        }
+    }
+
+    /// What is kept of this ground, in a record of fixed size. A program stores it after each call, and after a pull
+    /// before the frame goes out; where the ground is lost, [`open_at`](Self::open_at) opens another at it. Of
+    /// submissions that were not sent whole nothing is kept, nor of bypass packets, of telemetry, and of what directives
+    /// set.
+    #[must_use]
+    pub fn kept(&self) -> KeptGround {
+        let mut kept = raw::GroundKept {
+            acknowledged: 0,
+            vs: 0,
+            nn: 0,
+            known: 0,
+            whole: 0,
+            segments: [0; 127],
+            zeros: [0; 5],
+        };
+        self.0.read(|it| raw::sedge_ground_kept(it, &mut kept));
+        KeptGround {
+            acknowledged: kept.acknowledged,
+            vs: kept.vs,
+            nn: kept.nn,
+            known: kept.known == 1,
+            whole: kept.whole,
+            segments: kept.segments,
+        }
     }
 
     fn direct(&mut self, directive: u8, value: u16) -> Result<(), CopFault> {

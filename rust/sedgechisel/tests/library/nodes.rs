@@ -306,6 +306,33 @@ fn a_restart_on_purpose() {
     assert_eq!(refused(&Config { limit: 0, ..config }, 4), OpenFault::OutOfRange(Parameter::Limit));
 }
 
+/// Another ground goes on at what was kept of one that is lost: two packets were sent, and one was accepted.
+#[test]
+fn a_ground_that_fails_over() {
+    let config = Config::default();
+    let (mut ground, mut spacecraft) = pair(&config);
+    ground.init_without_check().unwrap();
+    for packet in [P0, P1] {
+        ground.submit(4, &octets_of(packet)).unwrap();
+    }
+    assert_eq!(spacecraft.receive(&sent(&mut ground).unwrap()), Ok(sequence(0, Verdict::Accepted, 1)));
+    sent(&mut ground).unwrap(); // this frame is lost
+    let kept = ground.kept();
+    let mut segments = [0; 127];
+    segments[..2].fill(1);
+    assert_eq!(kept, KeptGround { acknowledged: 0, vs: 2, nn: 0, known: true, whole: 2, segments });
+    drop(ground);
+    let mut ground = Ground::open_at(&config, &kept).unwrap();
+    assert_eq!((ground.kept(), ground.state(), ground.submitted()), (kept, FopState::S6, 2));
+    assert_eq!(ground.resume(3), Err(LinkFault::NotKnown));
+    assert_eq!(ground.resume(spacecraft.control_word().value), Ok(1));
+    let refused =
+        |config: &Config, whole| Ground::open_at(config, &KeptGround { whole, ..kept }).unwrap_err();
+    assert_eq!(refused(&config, 3), OpenFault::Kept);
+    assert_eq!(refused(&config, 3).to_string(), "no ground of this configuration gives this record");
+    assert_eq!(refused(&Config { limit: 0, ..config }, 3), OpenFault::OutOfRange(Parameter::Limit));
+}
+
 /// The first parameter that is out of its range is named.
 #[test]
 fn parameters_out_of_their_ranges() {
