@@ -29,12 +29,16 @@
 #endif
 #endif
 
-/* On these processors a number may stand at any address. Elsewhere memcpy would be called for each, so it is read and
- * written octet by octet. */
+/* On these processors a number may stand at any address, and is read and written whole, turned where they are
+ * big-endian. Elsewhere memcpy would be called for each, so it is read and written octet by octet. */
 #ifdef LITTLE
 #if defined __x86_64__ || defined __i386__ || defined __ARM_FEATURE_UNALIGNED || defined __powerpc__ || defined __wasm__
 #define WHOLE
+#define TURNED(bits, number) (number)
 #endif
+#elif defined __powerpc__ && defined __GNUC__ && !defined SEDGE_BY_OCTETS
+#define WHOLE
+#define TURNED(bits, number) __builtin_bswap##bits(number)
 #endif
 
 typedef char octets_have_8_bits[CHAR_BIT == 8 ? 1 : -1];
@@ -77,7 +81,7 @@ static uint32_t get16_at(uintptr_t at)
 #ifdef WHOLE
     uint16_t value;
     memcpy(&value, OCTETS(at), 2);
-    return value;
+    return TURNED(16, value);
 #else
     const unsigned char *o = OCTETS(at);
     return (uint32_t)o[0] | (uint32_t)o[1] << 8;
@@ -90,7 +94,7 @@ static uint32_t get32_at(uintptr_t at)
 #ifdef WHOLE
     uint32_t value;
     memcpy(&value, OCTETS(at), 4);
-    return value;
+    return TURNED(32, value);
 #else
     const unsigned char *o = OCTETS(at);
     return (uint32_t)o[0] | (uint32_t)o[1] << 8 | (uint32_t)o[2] << 16 | (uint32_t)o[3] << 24;
@@ -103,7 +107,7 @@ static uint64_t get64_at(uintptr_t at)
 #ifdef WHOLE
     uint64_t value;
     memcpy(&value, OCTETS(at), 8);
-    return value;
+    return TURNED(64, value);
 #else
     return (uint64_t)get32(at) | (uint64_t)get32(at + 4) << 32;
 #endif
@@ -121,7 +125,7 @@ static void put8_at(uintptr_t at, uint32_t value)
 static void put16_at(uintptr_t at, uint32_t value)
 {
 #ifdef WHOLE
-    const uint16_t lowest = (uint16_t)(value & 0xffff);
+    const uint16_t lowest = TURNED(16, (uint16_t)(value & 0xffff));
     memcpy(OCTETS(at), &lowest, 2);
 #else
     unsigned char *o = OCTETS(at);
@@ -134,7 +138,8 @@ static void put16_at(uintptr_t at, uint32_t value)
 static void put32_at(uintptr_t at, uint32_t value)
 {
 #ifdef WHOLE
-    memcpy(OCTETS(at), &value, 4);
+    const uint32_t whole = TURNED(32, value);
+    memcpy(OCTETS(at), &whole, 4);
 #else
     unsigned char *o = OCTETS(at);
     o[0] = (unsigned char)(value & 255);
@@ -148,7 +153,8 @@ static void put32_at(uintptr_t at, uint32_t value)
 static void put64_at(uintptr_t at, uint64_t value)
 {
 #ifdef WHOLE
-    memcpy(OCTETS(at), &value, 8);
+    const uint64_t whole = TURNED(64, value);
+    memcpy(OCTETS(at), &whole, 8);
 #else
     put32(at, (uint32_t)(value & 0xffffffffU));
     put32(at + 4, (uint32_t)(value >> 32));

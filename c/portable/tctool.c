@@ -31,12 +31,16 @@
 #endif
 #endif
 
-/* On these processors a number may stand at any address. Elsewhere memcpy would be called for each, so it is read and
- * written octet by octet. */
+/* On these processors a number may stand at any address, and is read and written whole, turned where they are
+ * big-endian. Elsewhere memcpy would be called for each, so it is read and written octet by octet. */
 #ifdef LITTLE
 #if defined __x86_64__ || defined __i386__ || defined __ARM_FEATURE_UNALIGNED || defined __powerpc__ || defined __wasm__
 #define WHOLE
+#define TURNED(bits, number) (number)
 #endif
+#elif defined __powerpc__ && defined __GNUC__ && !defined SEDGE_BY_OCTETS
+#define WHOLE
+#define TURNED(bits, number) __builtin_bswap##bits(number)
 #endif
 
 typedef char octets_have_8_bits[CHAR_BIT == 8 ? 1 : -1];
@@ -119,7 +123,7 @@ HELPER uint32_t (get16)(uint64_t at)
 #ifdef WHOLE
     uint16_t value;
     memcpy(&value, OCTETS(at), 2);
-    return value;
+    return TURNED(16, value);
 #else
     const unsigned char *o = OCTETS(at);
     return (uint32_t)o[0] | (uint32_t)o[1] << 8;
@@ -131,7 +135,7 @@ HELPER uint32_t (get32)(uint64_t at)
 #ifdef WHOLE
     uint32_t value;
     memcpy(&value, OCTETS(at), 4);
-    return value;
+    return TURNED(32, value);
 #else
     const unsigned char *o = OCTETS(at);
     return (uint32_t)o[0] | (uint32_t)o[1] << 8 | (uint32_t)o[2] << 16 | (uint32_t)o[3] << 24;
@@ -143,7 +147,7 @@ HELPER uint64_t (get64)(uint64_t at)
 #ifdef WHOLE
     uint64_t value;
     memcpy(&value, OCTETS(at), 8);
-    return value;
+    return TURNED(64, value);
 #else
     return (uint64_t)get32(at) | (uint64_t)get32(at + 4) << 32;
 #endif
@@ -159,7 +163,7 @@ HELPER void (put8)(uint64_t at, uint32_t value)
 HELPER void (put16)(uint64_t at, uint32_t value)
 {
 #ifdef WHOLE
-    const uint16_t lowest = (uint16_t)(value & 0xffff);
+    const uint16_t lowest = TURNED(16, (uint16_t)(value & 0xffff));
     memcpy(OCTETS(at), &lowest, 2);
 #else
     unsigned char *o = OCTETS(at);
@@ -171,7 +175,8 @@ HELPER void (put16)(uint64_t at, uint32_t value)
 HELPER void (put32)(uint64_t at, uint32_t value)
 {
 #ifdef WHOLE
-    memcpy(OCTETS(at), &value, 4);
+    const uint32_t whole = TURNED(32, value);
+    memcpy(OCTETS(at), &whole, 4);
 #else
     unsigned char *o = OCTETS(at);
     o[0] = (unsigned char)(value & 255);
@@ -184,7 +189,8 @@ HELPER void (put32)(uint64_t at, uint32_t value)
 HELPER void (put64)(uint64_t at, uint64_t value)
 {
 #ifdef WHOLE
-    memcpy(OCTETS(at), &value, 8);
+    const uint64_t whole = TURNED(64, value);
+    memcpy(OCTETS(at), &whole, 8);
 #else
     put32(at, (uint32_t)(value & 0xffffffffU));
     put32(at + 4, (uint32_t)(value >> 32));
