@@ -121,11 +121,13 @@ fn number_of_packets(octets: &[u8]) -> usize
 fn each_copied(alloc: Global, octets: &[u8]) -> Result<SmallVec<Vec<u8>, 1>, AllocError>
     ensures { IfOk result (λ v. ready_view v ≡ packets_in octets.now) }
 {
-    let mut packets = SmallVec::with_capacity(alloc, number_of_packets(octets))?;
+    let number = number_of_packets(octets);
+    let places = if number > 1 { number } else { 0 };
+    let mut packets = SmallVec::from_vec(Vec::with_capacity(alloc, places)?);
     let mut rest = octets;
     'packets: while let Some(len) = packet_len(rest) {
         let (packet, behind) = rest.split_at(len);
-        packets.push(Vec::from_slice(alloc, packet)?)?;
+        packets.push_reserved(Vec::from_slice(alloc, packet)?);
         rest = behind;
     }
     Ok(packets)
