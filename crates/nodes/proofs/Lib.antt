@@ -7,5 +7,6 @@ pub mod InRange
 pub mod Kept
 pub mod Owed
 pub mod Resuming
+pub mod ShortData
 pub mod SpacecraftBounds
 pub mod Submissions

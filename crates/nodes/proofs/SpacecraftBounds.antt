@@ -2,7 +2,7 @@
 use Rattle.std.proofs.Common.{◌≡◌, ◌≤◌, ◌<◌, ◌+◌, ◌-◌, ◌*◌, ◌++◌, ◌∷◌, [], ℕ, true, false, List, Option, Some}
 use Rattle.std.proofs.Common.{None, IfSome, length, take, ap, sym, ◌∙◌, ◌⊎◌, inl, inr, refl, arith, lit≤}
 use Rattle.std.proofs.Common.{length-append, zero-add}
-use Rattle.std.specs.Prelude.{max}
+use Rattle.std.specs.Prelude.{◌==◌, max}
 use Rattle.std.specs.List.{AllByRecursion, concat, sum_by}
 use Rattle.std.proofs.Math.Nat.{mul-le-mul_right, suc-mul}
 use Rattle.std.proofs.lemmas.Bool.{cond_both, and_parts, ltb-false, not-true}
@@ -31,7 +31,7 @@ use Rattle.nodes.specs.BypassSegments.{is_kept}
 use Rattle.nodes.specs.Packets.{PacketOn, AreWithin, packet_on, put_on_map}
 use Rattle.nodes.specs.Parameters.{limits_of}
 use Rattle.nodes.specs.Spacecraft.{SpacecraftState}
-use Rattle.nodes.specs.SpacecraftBounds.{octets_together, IsReadyWithin, IsPastWithin, IsBounded}
+use Rattle.nodes.specs.SpacecraftBounds.{octets_together, most_ready, IsReadyWithin, IsPastWithin, IsBounded}
 
 -- ---- what a segment makes ready
 
@@ -191,6 +191,14 @@ ready_with c ready m packets is below made =
           (put_within c.max_packet m packets made.within);
       together = omega (arith, sum, before, slots, made.together);
     }
+
+-- and have room
+pub room_for : (c : Config) (ready : List PacketOn) (packets : List (List ℕ)) → length ready < c.ready_slots
+    → IsMade (limits_of c) packets → length ready + length packets ≤ most_ready c
+room_for c ready packets below made =
+    cond_both (c.blocking == 1) (c.ready_slots + 144) c.ready_slots
+    (λ (n : ℕ). length ready + length packets ≤ n)
+    (λ _. omega (arith, below, made.few)) (λ none. omega (arith, below, made.unblocked none))
 
 -- ---- those past the sequence control
 

@@ -1,5 +1,5 @@
 -- What a spacecraft holds at most, by its configuration.
-use Rattle.std.specs.Prelude.{◌≡◌, ◌≤◌, ◌+◌, ◌-◌, ◌*◌, max, ℕ, List, length, Option, IfSome, true}
+use Rattle.std.specs.Prelude.{◌≡◌, ◌≤◌, ◌+◌, ◌-◌, ◌*◌, ◌==◌, if◌then◌else◌, max, ℕ, List, length, Option, IfSome, true}
 use Rattle.std.specs.List.{sum_by}
 use Rattle.map_service.specs.Assembly.{is_open, open_part}
 use Rattle.nodes.specs.declared.config.Config.{Config}
@@ -15,6 +15,12 @@ octets_together packets = sum_by (λ (p : PacketOn). length p.octets) packets
 -- packet, or are within its data
 abbrev pub most_together : Config → ℕ
 most_together c = (c.ready_slots - 1) * c.max_packet + max c.max_packet 1016
+
+-- of how many there is room: with blocking those of one frame more than the slots, of which one was free
+abbrev pub most_ready : Config → ℕ
+most_ready c =
+    if c.blocking == 1 then c.ready_slots + 144
+    else c.ready_slots
 
 -- the packets of sequence-controlled frames that wait to be taken
 pub record IsReadyWithin (c : Config) (ready : List PacketOn) : Type 0 where

@@ -1,5 +1,5 @@
 -- How a spacecraft's fields stand for its state.
-use Rattle.std.specs.Prelude.{◌≡◌, ◌<◌, ◌≤◌, ◌+◌}
+use Rattle.std.specs.Prelude.{◌≡◌, ◌<◌, ◌≤◌}
 use Rattle.std.specs.VecDeque.{deque_capacity}
 use Rattle.map_service.specs.Exactness.{HasPartsOf}
 use Rattle.tm_link.specs.Builder.{BuilderState}
@@ -7,7 +7,7 @@ use Rattle.nodes.specs.declared.config.Config.{Config}
 use Rattle.nodes.specs.declared.spacecraft.Spacecraft.TheInside.{Inside}
 use Rattle.nodes.specs.Parameters.{limits_of}
 use Rattle.nodes.specs.Spacecraft.{SpacecraftState}
-use Rattle.nodes.specs.SpacecraftBounds.{IsReadyWithin, IsPastWithin}
+use Rattle.nodes.specs.SpacecraftBounds.{most_ready, IsReadyWithin, IsPastWithin}
 
 abbrev pub state_of : Inside → SpacecraftState
 state_of s = record {
@@ -33,7 +33,7 @@ pub record IsSound (s : Inside) : Type 0 where
   pub parts : HasPartsOf s.assembler s.accepted.segments
   pub slots : s.bypass.capacity ≡ s.config.bypass_slots
   -- one more frame's packets have room where the buffer is free
-  pub room : s.config.ready_slots + 145 ≤ deque_capacity s.ready
+  pub room : most_ready s.config ≤ deque_capacity s.ready
   pub frames : IsBuilderOf s.config s.builder
   -- no more packets wait than the configuration lets
   pub waiting : IsReadyWithin s.config s.ready.items

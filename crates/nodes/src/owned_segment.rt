@@ -58,7 +58,7 @@ impl OwnedSegment {
     }
 }
 
-// Copies of segments.
+// Copies of segments, in a list that is made once.
 pub(crate) fn own(
     alloc: Global,
     segments: &[Segment<'_>],
@@ -67,12 +67,11 @@ pub(crate) fn own(
     ensures copied { IfOk result (λ owned. owned.items ≡ segment_views segments.now) }
     ensures fault { IsOkUnless result LinkFault.Memory }
 {
-    let mut owned = VecDeque::new(alloc);
+    let Ok(mut owned) = VecDeque::with_capacity(alloc, segments.len()) else {
+        return Err(LinkFault::Memory);
+    };
     for segment in segments {
-        let copied = OwnedSegment::new(alloc, segment)?;
-        if owned.push_back(copied).is_err() {
-            return Err(LinkFault::Memory);
-        }
+        owned.push_back_reserved(OwnedSegment::new(alloc, segment)?);
     }
     Ok(owned)
 }

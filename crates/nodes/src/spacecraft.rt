@@ -2,6 +2,7 @@
 
 ghost use Rattle.std.specs.Prelude.{◌≡◌, ◌<◌};
 ghost use Rattle.cop1.specs.Farm.{IsWidth, new_farm};
+ghost use Rattle.nodes.specs.SpacecraftBounds.{most_ready};
 
 mod accepted;
 mod arrival;
@@ -21,9 +22,6 @@ use std::alloc::Global;
 use std::collections::VecDeque;
 use std::marker::Model;
 use tm_link::{TmBuilder, TmFault};
-
-// The packets that one frame may make ready at most: its segment has at most 1,016 octets of data, a packet at least 7.
-const MOST_PACKETS: usize = 145;
 
 /// The numbers with which a spacecraft that is restarted on purpose goes on, which the program keeps
 /// meanwhile: those of its receiver (CCSDS 232.1-B-2, 6.1) and of its telemetry frames (CCSDS
@@ -134,8 +132,7 @@ impl Spacecraft {
         ) else {
             unreachable!()
         };
-        let most = config.ready_slots as usize + MOST_PACKETS;
-        let Ok(ready) = VecDeque::with_capacity(alloc, most) else {
+        let Ok(ready) = VecDeque::with_capacity(alloc, most_ready(config)) else {
             return Err(LinkFault::Memory);
         };
         let slots = config.bypass_slots as usize;
@@ -329,6 +326,19 @@ impl Spacecraft {
             unreachable!()
         };
         self.builder.build_in(ocf, out)
+    }
+}
+
+// How many packets may wait to be taken. With blocking one frame makes at most 145 ready: its segment has at most
+// 1,016 octets of data, a packet at least 7.
+fn most_ready(config: &Config) -> usize
+    ensures { result ≡ most_ready config.now }
+{
+    let slots = config.ready_slots as usize;
+    if config.blocking == 1 {
+        slots + 144
+    } else {
+        slots
     }
 }
 

@@ -1,26 +1,31 @@
 // What comes from the ground.
 
+ghost use Rattle.std.specs.Prelude.{◌≡◌};
+ghost use Rattle.cop1.specs.Farm.{farm_step};
+ghost use Rattle.nodes.specs.Spacecraft.{command_event};
+
 use super::Spacecraft;
-use super::arrival::Arrival;
 use crate::bypass_segments::is_kept;
 use crate::fault::LinkFault;
 use crate::map_packet::{MapPacket, make_ready};
 use crate::received::Received;
-use cop1::Verdict;
+use cop1::{Farm, Verdict};
 use map_service::Prepared;
 use tc_frame::{Body, Check, Command, Segment, TcFrame, decode};
 
 impl Spacecraft {
-    ghost use Rattle.std.specs.Prelude.{◌≡◌, ◌≤◌, ◌<◌, length, false, None, IsOk, IfOk, IfErr, IfSome, option_map};
-    ghost use Rattle.tc_frame.specs.Layout.{Ad, Bd, Bc, frame_view, segment_view};
+    ghost use Rattle.std.specs.Prelude.{◌≤◌, length, false, None, Some, IsOk, IfOk, IfErr, IfSome, if◌then◌else◌};
+    ghost use Rattle.tc_frame.specs.Layout.{Ad, Bd, frame_view, segment_view};
     ghost use Rattle.tc_frame.specs.Decoding.{frame_at};
-    ghost use Rattle.nodes.specs.Arrival.{segment_in_body};
-    ghost use Rattle.nodes.specs.Arrival.{accepted_of, IsAcceptable, IsArrivalOf, IsArrivalAt, after_accepting, after_keeping};
+    ghost use Rattle.nodes.specs.Arrival.{IsAcceptable, after_keeping};
+    ghost use Rattle.nodes.specs.BypassSegments.{is_kept};
+    ghost use Rattle.nodes.specs.Packets.{packet_on};
     ghost use Rattle.nodes.specs.Spacecraft.{spacecraft_step, Receive, is_free, is_own_frame, hands_on, HandsNothingOn, after_segment, body_outcome};
     ghost use Rattle.nodes.specs.Steps.{TakesStep};
 
     /// Takes octets that came from the ground: exactly one telecommand frame, with its FECF (CCSDS
-    /// 232.0-B-4, 4.1). It is `prepare` and then `commit`. At a fault the spacecraft is as it was.
+    /// 232.0-B-4, 4.1). It does what `prepare` and then `commit` do. At a fault the spacecraft is as it
+    /// was.
     /// Faults: 6 Memory. Memory: only for a Type-AD frame that is accepted or a Type-BD frame that is
     /// kept. Cost: n*, and the packets made ready.
     pub fn receive(&mut self, octets: &[u8]) -> Result<Received, LinkFault>
@@ -29,62 +34,70 @@ impl Spacecraft {
         // It takes no memory for octets of which nothing is handed on.
         ensures none { HandsNothingOn self.old (frame_at Check.On octets.now) → IsOk result }
     {
-        let arrival = self.prepare(octets)?;
-        Ok(self.commit(arrival))
-    }
-
-    /// Finds out what comes of octets, and takes the memory that this needs. Nothing changes.
-    /// Faults: 6 Memory. Memory: only for a Type-AD frame that is accepted or a Type-BD frame that is
-    /// kept. Cost: n*, and the packets made ready.
-    pub fn prepare<'a>(&self, octets: &'a [u8]) -> Result<Arrival<'a>, LinkFault>
-        ensures octets { IfOk result (λ a. a.octets.now ≡ octets.now) }
-        ensures arrival { IfOk result (IsArrivalAt self.now) }
-        ensures fault { IfErr result (λ e. e ≡ LinkFault.Memory) }
-
-        // It takes no memory for octets of which nothing is handed on.
-        ensures none { HandsNothingOn self.now (frame_at Check.On octets.now) → IsOk result }
-        ensures nothing { HandsNothingOn self.now (frame_at Check.On octets.now)
-            → IfOk result (λ a. accepted_of a ≡ None) }
-    {
         let frame = match decode(octets, Check::On) {
             Ok(frame) => frame,
-            Err(fault) => return Ok(self.unchanged(octets, Received::Invalid(fault))),
+            Err(fault) => return Ok(Received::Invalid(fault)),
         };
         if !self.is_own_frame(&frame) {
-            return Ok(self.unchanged(octets, Received::Foreign));
+            return Ok(Received::Foreign);
         }
         match frame.body {
-            Body::Ad { n, segment } => self.prepare_sequence(octets, n, segment),
-            Body::Bd { segment } => self.prepare_bypass(octets, segment),
-            Body::Bc(command) => Ok(self.prepare_command(octets, command)),
+            Body::Ad { n, segment } => self.receive_sequence(n, &segment),
+            Body::Bd { segment } => self.receive_bypass(&segment),
+            Body::Bc(command) => {
+                obey(&mut self.farm, command);
+                Ok(Received::Control(command))
+            }
         }
     }
 
-    /// Takes the octets of which this was prepared; the spacecraft must be as it was then.
-    /// Cost: n.
-    pub fn commit(&mut self, arrival: Arrival<'_>) -> Received
-        requires { IsArrivalAt self.old arrival }
-        ensures answer { result ≡ (spacecraft_step self.old (Receive arrival.entry.octets.now)).answer }
-        ensures after { self.new ≡ (spacecraft_step self.old (Receive arrival.entry.octets.now)).after }
+    fn receive_sequence(&mut self, n: u8, segment: &Segment<'_>) -> Result<Received, LinkFault>
+        requires { length segment.now.payload.now ≤ 1016 }
+        ensures step { TakesStep
+            (body_outcome self.old (Ad n (segment_view segment.now))) self.old self.new result }
+        ensures none { hands_on self.old (Ad n (segment_view segment.now)) ≡ false → IsOk result }
     {
-        self.accept(arrival.accepted);
-        self.keep(arrival.kept);
-        self.farm = arrival.farm;
-        arrival.received
+        let mut farm = self.farm;
+        let verdict = farm.ad(n, self.is_free());
+        let Verdict::Accepted = verdict else {
+            self.farm = farm;
+            return Ok(Received::Sequence {
+                n,
+                verdict,
+                ready: 0,
+                dropped: None,
+            });
+        };
+        let Ok(prepared) = self.assembler.prepare(segment) else {
+            return Err(LinkFault::Memory);
+        };
+        let received = Received::Sequence {
+            n,
+            verdict,
+            ready: prepared.packets.len(),
+            dropped: prepared.dropped,
+        };
+        self.hand_on(segment, prepared);
+        self.farm = farm;
+        Ok(received)
     }
 
-    // Hands on the segment that is accepted, where one is.
-    fn accept(&mut self, accepted: Option<(Segment<'_>, Prepared)>)
-        requires { IfSome accepted (λ p. IsAcceptable self.old (segment_view p.0) p.1) }
-        ensures { self.new
-            ≡ after_accepting self.old (option_map (λ p. segment_view p.0) accepted.entry) }
+    fn receive_bypass(&mut self, segment: &Segment<'_>) -> Result<Received, LinkFault>
+        requires { length segment.now.payload.now ≤ 1016 }
+        ensures step { TakesStep
+            (body_outcome self.old (Bd (segment_view segment.now))) self.old self.new result }
+        ensures none { hands_on self.old (Bd (segment_view segment.now)) ≡ false → IsOk result }
     {
-        if let Some((segment, prepared)) = accepted {
-            self.hand_on(&segment, prepared);
-        }
+        let kept = self.packet_to_keep(segment)?;
+        let received = Received::Bypass {
+            kept: kept.is_some(),
+        };
+        self.farm.bd();
+        self.keep(kept);
+        Ok(received)
     }
 
-    fn hand_on(&mut self, segment: &Segment<'_>, prepared: Prepared)
+    pub(super) fn hand_on(&mut self, segment: &Segment<'_>, prepared: Prepared)
         requires { IsAcceptable self.old (segment_view segment.now) prepared }
         ensures { self.new ≡ after_segment self.old (segment_view segment.now) }
     {
@@ -95,7 +108,7 @@ impl Spacecraft {
 
     // Keeps a packet, where there is one; the oldest goes where as many wait as there are slots.
     #[tactic(auto, using(crate::proofs::SpacecraftBounds::past_with))]
-    fn keep(&mut self, kept: Option<MapPacket>)
+    pub(super) fn keep(&mut self, kept: Option<MapPacket>)
         requires within { IfSome kept (λ p. length p.octets ≤ self.old.config.max_packet) }
         requires short { IfSome kept (λ p. length p.octets ≤ 1016) }
         ensures { self.new ≡ after_keeping self.old kept }
@@ -105,137 +118,49 @@ impl Spacecraft {
         }
     }
 
-    fn is_own_frame(&self, frame: &TcFrame<'_>) -> bool
+    pub(super) fn is_own_frame(&self, frame: &TcFrame<'_>) -> bool
         ensures { result ≡ is_own_frame self.now.config (frame_view frame.now) }
     {
         u32::from(frame.scid) == self.config.scid && u32::from(frame.vcid) == self.config.vcid
     }
 
-    fn is_free(&self) -> bool
+    pub(super) fn is_free(&self) -> bool
         ensures { result ≡ is_free self.now }
     {
         self.ready.len() < self.config.ready_slots as usize
     }
 
-    // The octets are no frame, or none of this channel.
-    fn unchanged<'a>(&self, octets: &'a [u8], received: Received) -> Arrival<'a>
-        ensures octets { result.octets.now ≡ octets.now }
-        ensures arrival { IsArrivalOf
-            self.now (record { answer = received; after = self.now }) None result }
-        ensures nothing { accepted_of result ≡ None }
-    {
-        Arrival {
-            octets,
-            received,
-            farm: self.farm,
-            accepted: None,
-            kept: None,
-        }
-    }
-
-    fn prepare_sequence<'a>(
+    // A copy of the packet that a Type-BD frame carries, where it is kept.
+    #[tactic(auto, using(crate::proofs::SpacecraftBounds::kept_short))]
+    pub(super) fn packet_to_keep(
         &self,
-        octets: &'a [u8],
-        n: u8,
-        segment: Segment<'a>,
-    ) -> Result<Arrival<'a>, LinkFault>
-        requires short { length segment.payload.now ≤ 1016 }
-        requires map { segment.header.map < 64 }
-        ensures octets { IfOk result (λ a. a.octets.now ≡ octets.now) }
-        ensures arrival { IfOk result (IsArrivalOf
-            self.now
-            (body_outcome self.now (Ad n (segment_view segment.entry)))
-            (segment_in_body self.now (Ad n (segment_view segment.entry)))) }
+        segment: &Segment<'_>,
+    ) -> Result<Option<MapPacket>, LinkFault>
+        requires { length segment.now.payload.now ≤ 1016 }
+        ensures packet { IfOk result (λ kept. kept
+            ≡ if is_kept self.now.config (segment_view segment.now)
+            then Some (packet_on segment.now.header.map segment.now.payload.now) else None) }
+        ensures within { IfOk result (λ kept. IfSome kept
+            (λ p. length p.octets ≤ self.now.config.max_packet)) }
+        ensures short { IfOk result (λ kept. IfSome kept (λ p. length p.octets ≤ 1016)) }
         ensures fault { IfErr result (λ e. e ≡ LinkFault.Memory) }
-        ensures none { hands_on self.now (Ad n (segment_view segment.entry)) ≡ false
-            → IsOk result }
-        ensures nothing { hands_on self.now (Ad n (segment_view segment.entry)) ≡ false
-            → IfOk result (λ a. accepted_of a ≡ None) }
+        ensures none { is_kept self.now.config (segment_view segment.now) ≡ false → IsOk result }
     {
-        let mut farm = self.farm;
-        let verdict = farm.ad(n, self.is_free());
-        let Verdict::Accepted = verdict else {
-            let received = Received::Sequence {
-                n,
-                verdict,
-                ready: 0,
-                dropped: None,
-            };
-            return Ok(Arrival {
-                octets,
-                received,
-                farm,
-                accepted: None,
-                kept: None,
-            });
-        };
-        let Ok(prepared) = self.assembler.prepare(&segment) else {
+        if !is_kept(&self.config, segment) {
+            return Ok(None);
+        }
+        let Ok(packet) = Vec::from_slice(self.alloc, segment.payload) else {
             return Err(LinkFault::Memory);
         };
-        Ok(Arrival {
-            octets,
-            received: Received::Sequence {
-                n,
-                verdict,
-                ready: prepared.packets.len(),
-                dropped: prepared.dropped,
-            },
-            farm,
-            accepted: Some((segment, prepared)),
-            kept: None,
-        })
+        Ok(Some(MapPacket::new(segment.header.map, packet)))
     }
+}
 
-    #[tactic(auto, using(crate::proofs::SpacecraftBounds::kept_short))]
-    fn prepare_bypass<'a>(
-        &self,
-        octets: &'a [u8],
-        segment: Segment<'a>,
-    ) -> Result<Arrival<'a>, LinkFault>
-        requires { length segment.payload.now ≤ 1016 }
-        ensures octets { IfOk result (λ a. a.octets.now ≡ octets.now) }
-        ensures arrival { IfOk result (IsArrivalOf
-            self.now (body_outcome self.now (Bd (segment_view segment.entry))) None) }
-        ensures nothing { IfOk result (λ a. accepted_of a ≡ None) }
-        ensures fault { IfErr result (λ e. e ≡ LinkFault.Memory) }
-        ensures none { hands_on self.now (Bd (segment_view segment.entry)) ≡ false → IsOk result }
-    {
-        let mut farm = self.farm;
-        farm.bd();
-        let mut kept = None;
-        if is_kept(&self.config, &segment) {
-            let Ok(packet) = Vec::from_slice(self.alloc, segment.payload) else {
-                return Err(LinkFault::Memory);
-            };
-            kept = Some(MapPacket::new(segment.header.map, packet));
-        }
-        Ok(Arrival {
-            octets,
-            received: Received::Bypass {
-                kept: kept.is_some(),
-            },
-            farm,
-            accepted: None,
-            kept,
-        })
-    }
-
-    fn prepare_command<'a>(&self, octets: &'a [u8], command: Command) -> Arrival<'a>
-        ensures octets { result.octets.now ≡ octets.now }
-        ensures arrival { IsArrivalOf self.now (body_outcome self.now (Bc command)) None result }
-        ensures nothing { accepted_of result ≡ None }
-    {
-        let mut farm = self.farm;
-        match command {
-            Command::Unlock => farm.unlock(),
-            Command::SetVr(vr) => farm.set_vr(vr),
-        }
-        Arrival {
-            octets,
-            received: Received::Control(command),
-            farm,
-            accepted: None,
-            kept: None,
-        }
+pub(super) fn obey(farm: &mut Farm, command: Command)
+    ensures { farm.new ≡ farm_step farm.old (command_event command) }
+{
+    match command {
+        Command::Unlock => farm.unlock(),
+        Command::SetVr(vr) => farm.set_vr(vr),
     }
 }

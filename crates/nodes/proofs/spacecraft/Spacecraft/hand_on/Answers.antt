@@ -14,7 +14,7 @@ use Rattle.nodes.specs.Parameters.{limits_of}
 use Rattle.nodes.specs.Spacecraft.{SpacecraftState, is_free}
 use Rattle.nodes.specs.SpacecraftBounds.{IsReadyWithin}
 use Rattle.nodes.specs.SpacecraftFields.{state_of, IsSound}
-use Rattle.nodes.proofs.SpacecraftBounds.{IsMade, is_made, ready_with}
+use Rattle.nodes.proofs.SpacecraftBounds.{IsMade, is_made, ready_with, room_for}
 use Rattle.nodes.proofs.spacecraft.Spacecraft.hand_on.Goals as goal
 
 -- The packets that come of a segment are packets on its MAP.
@@ -65,7 +65,8 @@ make_ready-requires-clause-room c =
     c.requires.short c.commit-packets.ensures.packets in
     let few = made c.self.inside c.args.self.now s packets c.self.view_is c.self.invariant c.requires.free
     c.requires.short c.commit-packets.ensures.packets in
-    omega (arith, under, few.few, c.self.inside.ready.ok.0, c.self.invariant.room)
+    let room = room_for c.self.inside.config c.self.inside.ready.items packets under few in
+    omega (arith, room, c.self.inside.ready.ok.0, c.self.invariant.room)
 
 pub invariant_of-self : goal.invariant_of-self
 invariant_of-self c =

@@ -1,17 +1,8 @@
-use Rattle.std.proofs.Common.{◌≡◌, ◌≤◌, ℕ, suc, ◌-◌, List, length, take, drop, ap, arith}
-use Rattle.std.proofs.lemmas.List.{length-drop, length-take-le}
-use Rattle.tc_frame.specs.declared.frame.Check.TheVariants.{On}
+use Rattle.std.proofs.Common.{length, ap}
 use Rattle.tc_frame.specs.declared.frame.Body.{Body}
-use Rattle.tc_frame.specs.Layout.{FrameView, body_octets, IsTcFrame, body_view, frame_view}
+use Rattle.tc_frame.specs.Layout.{body_octets, body_view, frame_view}
+use Rattle.nodes.proofs.ShortData.{short_data}
 use Rattle.nodes.proofs.spacecraft.Spacecraft.prepare.Goals as goal
-
--- The data of a frame's segment are at most 1,016 octets: the frame has at most 1,024.
-short_data : (f : FrameView) (b payload : List ℕ) → IsTcFrame On f b
-    → length (body_octets f.body) ≡ suc (suc (length payload)) → length payload ≤ 1016
-short_data f b payload frame count =
-    let rest : length (drop 4 (take (length b - 2) b)) ≡ length (body_octets f.body) = ap length frame.rest in
-    let shorter : length (take (length b - 2) b) ≡ length b - 2 = length-take-le (length b - 2) b (omega arith) in
-    omega (arith, count, rest, shorter, length-drop 4 (take (length b - 2) b), frame.total)
 
 pub prepare_sequence-requires-clause-short : goal.prepare_sequence-requires-clause-short
 prepare_sequence-requires-clause-short c =
