@@ -101,10 +101,15 @@ static uint8_t arrives(uint8_t n, uint8_t flags, size_t from, size_t count) {
     return received.verdict != SEDGE_ACCEPTED || received.dropped != 0;
 }
 
+/* The octets of a spacecraft's lists. */
+static size_t lists_of_spacecraft(void) {
+    size_t ready = config.ready_slots + (config.blocking ? 144 : 0);
+    return PLACE * ready + PLACE * config.bypass_slots;
+}
+
 static void asks_on_board(void) {
     size_t count = 7 + below((uint32_t)most_alone(FRAME) - 6), half = 1 + below((uint32_t)count - 1);
-    WANT(ASKED(sedge_spacecraft_open(&config, &spacecraft))
-         == SPACECRAFT + PLACE * (config.ready_slots + 145) + PLACE * config.bypass_slots);
+    WANT(ASKED(sedge_spacecraft_open(&config, &spacecraft)) == SPACECRAFT + lists_of_spacecraft());
     WANT(live == 3);
     make_packet(1, count);
     WANT(ASKED(arrives(0, SEDGE_SEGMENT_FIRST, 0, half)) == config.max_packet + PLACE * maps && live == 5);
@@ -116,7 +121,7 @@ static void asks_on_board(void) {
 /* What a link asks for beside its two nodes is the same for all. */
 static void asks_of_link(void) {
     static size_t same;
-    size_t nodes = lists_of_ground() + PLACE * (config.ready_slots + 145) + PLACE * config.bypass_slots;
+    size_t nodes = lists_of_ground() + lists_of_spacecraft();
     size_t more = ASKED(sedge_sim_open(&config, &sim)) - nodes;
     if (same == 0) same = more;
     WANT(more == same && more < 65536);
@@ -140,7 +145,8 @@ int main(int count, char **words) {
     WANT(refused == 0);
     printf("| ground | %d; 16 * `width`; %d * `queue_slots`; %d * (`queue_slots` + %d); 65,542 | 1 each |\n", GROUND,
            PLACE, NUMBER, SENT);
-    printf("| spacecraft | %d; %d * (`ready_slots` + 145); %d * `bypass_slots` | 1 each |\n", SPACECRAFT, PLACE, PLACE);
+    printf("| spacecraft | %d; %d * `ready_slots`, and with `blocking` %d more; %d * `bypass_slots` | 1 each |\n",
+           SPACECRAFT, PLACE, PLACE * 144, PLACE);
     if (failures > 0) printf("%d failed\n", failures);
     return failures != 0;
 }

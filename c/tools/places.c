@@ -21,8 +21,8 @@
 enum { GROUND = 400, SPACECRAFT = 344 };
 enum { UNIT = 16, PLACE = 32, COUNT = 8, CUT = 24, SLICE = 16, PACKET = 24, NUMBER = 4 };
 /* The longest packet; the most segments that are sent and not acknowledged; the most data of a frame, and packets in
- * them; the places on board past the ready slots; and the sizes that a list of places may have. */
-enum { LONGEST = 65542, SHORTEST = 7, SENT = 127, DATA = 1016, MOST = DATA / SHORTEST, FURTHER = 145, SIZES = 512 };
+ * them; and the sizes that a list of places may have. */
+enum { LONGEST = 65542, SHORTEST = 7, SENT = 127, DATA = 1016, MOST = DATA / SHORTEST, SIZES = 512 };
 enum { KINDS = 32 };
 
 struct traffic {
@@ -158,7 +158,7 @@ static void places_of_ground(const struct sedge_config *config, const struct tra
     add(LONGEST);
     add_kind(ANY, 1, config->part, config->queue_slots + config->width / 2 + traffic->bypass);
     if (config->blocking == 1) add_list(SLICE, traffic->packets);
-    if (segments > 1) add_list(CUT, segments), add_list(PLACE, segments);
+    if (segments > 1) add_list(CUT, segments), (void)add_kind(ANY, 2 * PLACE, PLACE * segments, 1);
     add_list(PLACE, traffic->bypass);
     add_kind(ANY, SHORTEST, traffic->telemetry_octets, traffic->telemetry);
     add_list(PACKET, traffic->telemetry);
@@ -191,13 +191,13 @@ static void add_telemetry(const struct traffic *traffic) {
  * those past the sequence control are one more while one comes. The part that is open on each MAP has room for the
  * longest. A first segment brings the list of the parts where no part is open, and there may be one already. */
 static void places_of_spacecraft(const struct sedge_config *config, const struct traffic *traffic) {
-    size_t parts = PLACE * part_places(config);
+    size_t parts = PLACE * part_places(config), ready = config->ready_slots + (config->blocking == 1 ? MOST - 1 : 0);
     struct kind *packets;
     kinds_count = rows_count = 0;
     packets = add_kind(PACKETS, SHORTEST, config->max_packet, config->ready_slots - 1);
     packets->data = config->blocking == 1 ? DATA : 0, packets->past = config->bypass_slots;
     packets->parts = open_maps(config);
-    add(SPACECRAFT), add(PLACE * (config->ready_slots + FURTHER)), add(PLACE * config->bypass_slots);
+    add(SPACECRAFT), add(PLACE * ready), add(PLACE * config->bypass_slots);
     if (parts > 0) (void)add_kind(ANY, parts, parts, 2);
     if (config->blocking == 1) (void)add_kind(ANY, 2 * PACKET, MOST * PACKET, 1);
     add_telemetry(traffic);
