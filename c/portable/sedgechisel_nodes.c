@@ -662,7 +662,7 @@ static const unsigned char constant_36[7] = {
 };
 
 /* Of nodes_config_Config_fault, sedge_config_fault_at. */
-static const unsigned char switch_table_sedge_config_fault_416[120] = {
+static const unsigned char switch_table_sedge_config_fault_418[120] = {
     4, 0, 0, 0, 0, 0, 0, 0, 4, 0, 0, 0, 0, 0, 0, 0, 7, 0, 0, 0, 0, 0, 0, 0, 5, 0, 0, 0, 0, 0, 0, 0, 6, 0, 0, 0, 0, 0,
     0, 0, 5, 0, 0, 0, 0, 0, 0, 0, 5, 0, 0, 0, 0, 0, 0, 0, 4, 0, 0, 0, 0, 0, 0, 0, 10, 0, 0, 0, 0, 0, 0, 0, 4, 0, 0, 0,
     0, 0, 0, 0, 11, 0, 0, 0, 0, 0, 0, 0, 12, 0, 0, 0, 0, 0, 0, 0, 11, 0, 0, 0, 0, 0, 0, 0, 12, 0, 0, 0, 0, 0, 0, 0, 8,
@@ -675,12 +675,12 @@ static const unsigned char switch_table_sedge_link_fault_name[10] = {
 };
 
 /* Of sedge_link_fault_name_at. */
-static const unsigned char switch_table_sedge_link_fault_name_417[10] = {
+static const unsigned char switch_table_sedge_link_fault_name_419[10] = {
     0, 0, 100, 0, 0, 0, 0, 0, 0, 0
 };
 
 /* Of sedge_link_fault_name_at. */
-static const unsigned char switch_table_sedge_link_fault_name_418[80] = {
+static const unsigned char switch_table_sedge_link_fault_name_420[80] = {
     78, 111, 116, 79, 112, 101, 110, 0, 67, 108, 111, 115, 101, 100, 77, 97, 78, 111, 116, 67, 111, 109, 109, 97, 84,
     111, 111, 76, 111, 110, 103, 0, 81, 117, 101, 117, 101, 70, 117, 108, 77, 101, 109, 111, 114, 121, 0, 0, 63, 0, 0,
     0, 0, 0, 0, 0, 63, 0, 0, 0, 0, 0, 0, 0, 63, 0, 0, 0, 0, 0, 0, 0, 78, 111, 116, 75, 110, 111, 119, 110
@@ -692,19 +692,19 @@ static const unsigned char switch_table_sedge_parameter_name[30] = {
 };
 
 /* Of sedge_parameter_name_at. */
-static const unsigned char switch_table_sedge_parameter_name_419[30] = {
+static const unsigned char switch_table_sedge_parameter_name_421[30] = {
     0, 0, 0, 0, 0, 0, 0, 0, 0, 0, 0, 0, 0, 0, 0, 0, 101, 116, 0, 0, 111, 116, 108, 111, 111, 116, 110, 103, 0, 0
 };
 
 /* Of sedge_parameter_name_at. */
-static const unsigned char switch_table_sedge_parameter_name_420[60] = {
+static const unsigned char switch_table_sedge_parameter_name_422[60] = {
     0, 0, 0, 0, 0, 0, 0, 0, 99, 105, 100, 0, 104, 0, 0, 0, 111, 119, 0, 0, 116, 0, 0, 0, 114, 0, 0, 0, 0, 0, 0, 0,
     112, 97, 99, 107, 0, 0, 0, 0, 121, 95, 115, 108, 115, 115, 95, 115, 101, 95, 115, 108, 101, 95, 108, 101, 107,
     105, 110, 103
 };
 
 /* Of sedge_parameter_name_at. */
-static const unsigned char switch_table_sedge_parameter_name_421[60] = {
+static const unsigned char switch_table_sedge_parameter_name_423[60] = {
     115, 99, 105, 100, 118, 99, 105, 100, 116, 109, 95, 118, 119, 105, 100, 116, 119, 105, 110, 100, 108, 105, 109,
     105, 116, 105, 109, 101, 112, 97, 114, 116, 109, 97, 120, 95, 109, 97, 112, 115, 114, 101, 97, 100, 98, 121, 112,
     97, 113, 117, 101, 117, 102, 114, 97, 109, 98, 108, 111, 99
@@ -747,9 +747,9 @@ static uint32_t std_alloc_vec_Vec_grow_amortized_07c4d1320351f897(uint64_t p0);
 static uint32_t nodes_ground_node_Ground_lack_of(uint64_t p0, uint64_t p1, uint64_t p2);
 static uint64_t map_service_cutting_group_len(uint64_t p0, uint64_t p1, uint64_t p2);
 static uint32_t std_alloc_vec_Vec_grow_amortized_10d150b3d444a65f(uint64_t p0);
+static void nodes_ground_node_Ground_commit(uint64_t p0, uint64_t p1);
 static uint32_t std_alloc_vec_deque_VecDeque_grow_ab161963403435e1(uint64_t p0, uint64_t p1);
 static uint32_t std_alloc_vec_Vec_grow_amortized_ab161963403435e1(uint64_t p0, uint64_t p1);
-static void nodes_ground_node_Ground_commit(uint64_t p0, uint64_t p1);
 static void nodes_ground_node_Ground_telemetry(uint64_t p0, uint64_t p1, uint64_t p2, uint64_t p3);
 static void tm_link_decoding_decode(uint64_t p0, uint64_t p1, uint64_t p2, uint64_t p3);
 static uint32_t tm_link_hand_out_hand_out(uint64_t p0, uint64_t p1, uint64_t p2, uint64_t p3, uint64_t p4);
@@ -765,14 +765,12 @@ static uint32_t simulated_link_world_World_is_idle(uint64_t p0);
 static void simulated_link_world_World_begin(uint64_t p0, uint64_t p1, uint32_t p2, uint32_t p3);
 static void tc_frame_encoding_encode(uint64_t p0, uint64_t p1, uint64_t p2, uint64_t p3);
 static uint32_t std_alloc_vec_deque_VecDeque_grow_1598ebf9113514c4(uint64_t p0);
-static void nodes_spacecraft_Spacecraft_prepare(uint64_t p0, uint64_t p1, uint64_t p2, uint64_t p3);
-static uint32_t smallvec_small_vec_SmallVec_grow_444910b390f8755b(uint64_t p0, uint64_t p1);
-static uint32_t smallvec_small_vec_SmallVec_reserve_one_444910b390f8755b(uint64_t p0);
+static void map_service_assembler_Assembler_prepare(uint64_t p0, uint64_t p1, uint64_t p2);
 static uint32_t std_alloc_vec_Vec_grow_amortized_a351ad16c7c032ee(uint64_t p0, uint64_t p1);
 static void smallvec_small_vec_SmallVec_push_reserved_ed127ccbaaf726c4(uint64_t p0, uint64_t p1);
 static uint32_t std_alloc_vec_Vec_extend_from_slice_672334860c861157(uint64_t p0, uint64_t p1, uint64_t p2);
 static void std_alloc_vec_Vec_drop_555ceec2fcbf3849(uint64_t p0);
-static void nodes_spacecraft_Spacecraft_commit(uint64_t p0, uint64_t p1, uint64_t p2);
+static void nodes_spacecraft_Spacecraft_hand_on(uint64_t p0, uint64_t p1, uint64_t p2);
 static void tm_link_turn_put_next(uint64_t p0, uint64_t p1, uint64_t p2, uint32_t p3, uint64_t p4, uint64_t p5);
 static void nodes_spacecraft_Spacecraft_telemetry(uint64_t p0, uint64_t p1, uint64_t p2, uint64_t p3);
 static uint32_t std_alloc_vec_deque_VecDeque_grow_ee377714b7165a56(uint64_t p0);
@@ -954,7 +952,7 @@ l1:;
     v18 = 0;
     if ((v19 & 1) != 0) {
         v13 = (uint64_t)get8(v16) << 3;
-        v18 = get64(v13 + address(switch_table_sedge_config_fault_416));
+        v18 = get64(v13 + address(switch_table_sedge_config_fault_418));
         v17 = address(switch_table_sedge_config_fault[v13 / 8]);
         v13 = 1;
     }
@@ -1566,12 +1564,12 @@ static void sedgechisel_nodes_nodes_ground_node_Ground_Destruct_drop(uint64_t p0
     return;
 }
 
-/* nodes::spacecraft::Spacecraft::restarted, crates/nodes/src/spacecraft.rt:112 */
+/* nodes::spacecraft::Spacecraft::restarted, crates/nodes/src/spacecraft.rt:110 */
 static void nodes_spacecraft_Spacecraft_restarted(uint64_t p0, uint64_t p1, uint32_t p2)
 {
     unsigned char frame_octets[128 + 15];
-    uint32_t v4 = 0, v5 = 0, v6 = 0, v7 = 0, v8 = 0, v15 = 0;
-    uint64_t v3 = 0, v9 = 0, v10 = 0, v11 = 0, v12 = 0, v13 = 0, v14 = 0, v16 = 0;
+    uint32_t v4 = 0, v5 = 0, v6 = 0, v7 = 0, v8 = 0, v10 = 0;
+    uint64_t v3 = 0, v9 = 0, v11 = 0, v12 = 0, v13 = 0, v14 = 0, v15 = 0, v16 = 0;
     v3 = aligned(frame_octets);
     fill(v3 + 42, 0, 78);
     v4 = get32(p1 + 12);
@@ -1584,34 +1582,40 @@ static void nodes_spacecraft_Spacecraft_restarted(uint64_t p0, uint64_t p1, uint
     if ((v7 & 255) > 7) UNREACHABLE;
     v8 = get32(p1 + 60);
     if ((v8 - 16) > 0x7f0) UNREACHABLE;
-    v9 = (uint64_t)get32(p1 + 48) + 145;
-    rattle_alloc_at(v3 + 24, v9 << 5, 8);
-    if (((uint32_t)get64(v3 + 24) & 1) == 0) {
-        put16(p0, 0x501);
-        fill(p0 + 8, 0, 344);
-        return;
+    v9 = (uint64_t)get32(p1 + 48);
+    v9 = (get32(p1 + 64) == 1) ? (v9 + 144) : v9;
+    v10 = v9 == 0;
+    if (v10 != 0) {
+        v11 = v3 + 120;
+    } else {
+        rattle_alloc_at(v3 + 24, v9 << 5, 8);
+        if (((uint32_t)get64(v3 + 24) & 1) == 0) {
+            put16(p0, 0x501);
+            fill(p0 + 8, 0, 344);
+            return;
+        }
+        v11 = get64(v3 + 32);
     }
-    v10 = get64(v3 + 32);
-    v11 = (uint64_t)get32(p1 + 52);
-    rattle_alloc_at(v3 + 8, v11 << 5, 8);
+    v12 = (uint64_t)get32(p1 + 52);
+    rattle_alloc_at(v3 + 8, v12 << 5, 8);
     if (((uint32_t)get64(v3 + 8) & 1) == 0) {
-        rattle_dealloc_at(v10);
+        if (v10 == 0) rattle_dealloc_at(v11);
         put16(p0, 0x501);
         fill(p0 + 8, 0, 344);
         return;
     }
-    v12 = get64(v3 + 16);
-    v13 = get64(p1 + 28);
-    v14 = get64(p1 + 40);
-    v15 = get32(p1 + 64);
+    v13 = get64(v3 + 16);
+    v14 = get64(p1 + 28);
+    v15 = get64(p1 + 40);
+    v10 = get32(p1 + 64);
     v16 = v3 + 48;
     copy(v16, p1, 72);
     put16(p0, 0);
     copy(p0 + 8, v16, 72);
     put32(p0 + 105, 0);
-    put8(p0 + 104, v15 == 1);
-    put64(p0 + 96, v14);
-    put64(p0 + 88, v13);
+    put8(p0 + 104, v10 == 1);
+    put64(p0 + 96, v15);
+    put64(p0 + 88, v14);
     put16(p0 + 86, 0);
     put8(p0 + 85, v5);
     put8(p0 + 84, 0);
@@ -1628,11 +1632,11 @@ static void nodes_spacecraft_Spacecraft_restarted(uint64_t p0, uint64_t p1, uint
     put64(p0 + 112, v3 + 120);
     put64(p0 + 184, v9);
     put64(p0 + 176, 0);
-    put64(p0 + 168, v10);
+    put64(p0 + 168, v11);
     put64(p0 + 200, 0);
     put64(p0 + 192, 0);
-    put64(p0 + 216, v11);
-    put64(p0 + 208, v12);
+    put64(p0 + 216, v12);
+    put64(p0 + 208, v13);
     put64(p0 + 232, 0);
     put64(p0 + 224, 0);
     put8(p0 + 242, v7);
@@ -3261,457 +3265,368 @@ l1:;
 /* nodes::ground_node::Ground::prepare, crates/nodes/src/ground_node/submit.rt:46 */
 static void nodes_ground_node_Ground_prepare(uint64_t p0, uint64_t p1, uint32_t p2, uint64_t p3, uint64_t p4)
 {
-    unsigned char frame_octets[144 + 15];
-    uint32_t v6 = 0, v7 = 0, v9 = 0, v10 = 0, v13 = 0, t1, t2, t4, t5, t6, t7, t8;
-    uint64_t v5 = 0, v8 = 0, v11 = 0, v12 = 0, v14 = 0, v15 = 0, v16 = 0, v17 = 0, v18 = 0, v19 = 0, v20 = 0, v21 = 0,
-        v22 = 0, v23 = 0, v24 = 0, v25 = 0, v26 = 0, v27 = 0, v28 = 0, v29 = 0;
+    unsigned char frame_octets[96 + 15];
+    uint32_t v7 = 0, v8 = 0, v10 = 0, v11 = 0, v14 = 0, t1, t2, t4, t5, t6, t7;
+    uint64_t v5 = 0, v6 = 0, v9 = 0, v12 = 0, v13 = 0, v15 = 0, v16 = 0, v17 = 0, v18 = 0, v19 = 0, v20 = 0, v21 = 0,
+        v22 = 0, v23 = 0, v24 = 0, v25 = 0, v26 = 0, v27 = 0, v28 = 0, v29 = 0, v30 = 0;
     v5 = aligned(frame_octets);
     put32(v5 + 59, 0);
     put32(v5 + 56, 0);
     put32(v5 + 48, 0);
-    put16(v5 + 52, 0);
-    put32(v5 + 40, 0);
-    put16(v5 + 44, 0);
-    put32(v5 + 32, 0);
-    put32(v5 + 35, 0);
+    put32(v5 + 51, 0);
     if (get8(p1 + 73) == 5) {
         put16(p0, 1);
         fill(p0 + 8, 0, 120);
         return;
     }
-    if ((p2 & 255) > 63 || ((uint32_t)(get64(p1 + 40) >> (((uint64_t)p2 & 255) & 63)) & 1) == 0) {
-        put16(p0, 257);
-        fill(p0 + 8, 0, 120);
-        return;
-    }
-    v6 = get32(p1 + 32);
-    v7 = get32(p1 + 64);
-    if (v7 != 1) {
-        v13 = 2;
-        if (p4 < 6) goto l5;
-        v10 = get8(p3);
-        if (v10 > 31) goto l5;
-        v9 = ((v10 << 8) & 0x700) | get8(p3 + 1);
-        if (((v10 & 8) != 0 && v9 == 0x7ff) || ((((uint64_t)get8(p3 + 4) << 8) | (uint64_t)get8(p3 + 5)) + 7) != p4 ||
-            v10 < 16 || v9 == 0x7ff) goto l5;
-        v17 = 0;
-        v13 = 3;
-        v18 = 0;
-        v19 = 0;
-        v20 = 0;
-        if (p4 <= (uint64_t)v6) goto l7;
-        goto l5;
-    }
-    put64(v5 + 104, 0);
-    put64(v5 + 112, 0);
-    put64(v5 + 96, v5 + 136);
-    if (p4 < 6) goto l11;
-    v8 = (uint64_t)v6;
-    v9 = 0;
-    v10 = 1;
-    v11 = p4;
-    v12 = p3;
-    do {
-        v13 = get8(v12);
-        if (v13 > 31) goto l11;
-        v6 = ((v13 << 8) & 0x700) | get8(v12 + 1);
-        if ((v13 & 8) != 0 && v6 == 0x7ff) goto l11;
-        v14 = (((uint64_t)get8(v12 + 4) << 8) | (uint64_t)get8(v12 + 5)) + 7;
-        if (v11 < v14) goto l11;
-        if (v13 < 16 || v6 == 0x7ff) {
-            v13 = 2;
-            if (get64(v5 + 112) == 0) goto l5;
-            goto l6;
-        }
-        v11 = v11 - v14;
-        v13 = v14 > v8;
-        v6 = v10 & 1;
-        v10 = 0;
-        if (v6 != 0) {
-            v15 = get64(v5 + 104);
-            if (get64(v5 + 112) == v15) {
-                t1 = std_alloc_vec_Vec_grow_amortized_07c4d1320351f897(v5 + 96);
-                if (t1 == 0) goto l16;
-                v15 = get64(v5 + 104);
+    if ((p2 & 255) <= 63) {
+        v6 = (uint64_t)p2 & 255;
+        if (((uint32_t)(get64(p1 + 40) >> (v6 & 63)) & 1) != 0) {
+            v7 = get32(p1 + 32);
+            v8 = get32(p1 + 64);
+            if (v8 != 1) {
+                v14 = 2;
+                if (p4 < 6) goto l5;
+                v11 = get8(p3);
+                if (v11 > 31) goto l5;
+                v10 = ((v11 << 8) & 0x700) | get8(p3 + 1);
+                if (((v11 & 8) != 0 && v10 == 0x7ff) || ((((uint64_t)get8(p3 + 4) << 8) | (uint64_t)get8(p3 + 5)) + 7)
+                    != p4 || v11 < 16 || v10 == 0x7ff) goto l5;
+                v18 = 0;
+                v14 = 3;
+                v19 = 0;
+                v20 = 0;
+                v21 = 0;
+                if (p4 <= (uint64_t)v7) goto l7;
+                goto l5;
             }
-            v16 = get64(v5 + 96) + (v15 << 4);
-            put64(v16 + 8, v14);
-            put64(v16, v12);
-            put64(v5 + 104, v15 + 1);
-            v10 = 1;
-        }
-    l16:;
-        v12 = v12 + v14;
-        v9 = v9 | v13;
-    } while (v11 > 5);
-    if (v11 == 0) {
-        if ((v9 & 1) != 0) {
-            v13 = 3;
-            if (get64(v5 + 112) != 0) goto l6;
-            goto l5;
-        }
-        if (v10 != 0) {
-            v18 = get64(v5 + 112);
-            v19 = get64(v5 + 104);
-            v20 = get64(v5 + 96);
-            v17 = 1;
-            goto l7;
-        }
-        if (get64(v5 + 112) != 0) rattle_dealloc_at(get64(v5 + 96));
-        t2 = nodes_ground_node_Ground_lack_of(p1, p3, p4);
-        put8(p0 + 1, t2);
-        put8(p0, 1);
-        fill(p0 + 8, 0, 120);
-        return;
-    }
-l11:;
-    v13 = 2;
-    if (get64(v5 + 112) != 0) goto l6;
-    goto l5;
-l7:;
-    put16(v5 + 68, 0);
-    put32(v5 + 64, 0);
-    v14 = (uint64_t)get32(p1 + 28);
-    if (p4 <= v14) {
-        v12 = (uint64_t)get32(p1 + 56);
-        if (v12 == 0 || ((get64(p1 + 216) + (uint64_t)(uint32_t)(get8(p1 + 96) == 1)) + 1) > v12) goto l21;
-        v13 = p4 == 0;
-        if (v13 != 0) {
-            v21 = v5 + 136;
-        } else {
-            rattle_alloc_at(v5 + 16, p4, 1);
-            if (((uint32_t)get64(v5 + 16) & 1) == 0) goto l21;
-            v21 = get64(v5 + 24);
-        }
-        if (v13 == 0) copy(v21, p3, p4);
-        put16(v5 + 44, 0);
-        put32(v5 + 40, 0);
-        v13 = (p2 << 8) | 3;
-        v14 = 0;
-        p1 = p4;
-        v12 = p4;
-        v11 = 0;
-        goto l25;
-    }
-    v12 = 0;
-    put64(v5 + 80, 0);
-    put64(v5 + 88, 0);
-    put64(v5 + 72, v5 + 136);
-    v22 = v5 + 136;
-    v23 = p4;
-    v24 = p3;
-    do {
-        v16 = map_service_cutting_group_len(v24, v23, v14);
-        v11 = get64(v5 + 88);
-        if (v16 <= v14) {
-            if (v11 != v12) {
-                v13 = 3;
-                v11 = v12;
-                v15 = v24;
-                v8 = v16;
-                goto l34;
-            }
-            t4 = std_alloc_vec_Vec_grow_amortized_10d150b3d444a65f(v5 + 72);
-            if (t4 == 0) goto l32;
-            v13 = 3;
-            v15 = v24;
-            v8 = v16;
-            goto l35;
-        }
-        if (v11 == v12) {
-            t5 = std_alloc_vec_Vec_grow_amortized_10d150b3d444a65f(v5 + 72);
-            if (t5 == 0) goto l32;
-            v22 = get64(v5 + 72);
-            v12 = get64(v5 + 80);
-        }
-        v11 = v22 + (v12 * 24);
-        put32(v11 + 2, 0);
-        put8(v11 + 1, p2);
-        put8(v11, 1);
-        put16(v11 + 6, 0);
-        put64(v11 + 16, v14);
-        put64(v11 + 8, v24);
-        v11 = v12 + 1;
-        put64(v5 + 80, v11);
-        v15 = v24 + v14;
-        v8 = v16 - v14;
-        if (v8 > v14) {
+            put64(v5 + 72, 0);
+            put64(v5 + 80, 0);
+            put64(v5 + 64, v5 + 88);
+            if (p4 < 6) goto l11;
+            v9 = (uint64_t)v7;
+            v10 = 0;
+            v11 = 1;
+            v12 = p4;
+            v13 = p3;
             do {
-                if (get64(v5 + 88) == v11) {
-                    t6 = std_alloc_vec_Vec_grow_amortized_10d150b3d444a65f(v5 + 72);
-                    if (t6 == 0) goto l32;
-                    v11 = get64(v5 + 80);
+                v14 = get8(v13);
+                if (v14 > 31) goto l11;
+                v7 = ((v14 << 8) & 0x700) | get8(v13 + 1);
+                if ((v14 & 8) != 0 && v7 == 0x7ff) goto l11;
+                v15 = (((uint64_t)get8(v13 + 4) << 8) | (uint64_t)get8(v13 + 5)) + 7;
+                if (v12 < v15) goto l11;
+                if (v14 < 16 || v7 == 0x7ff) {
+                    v14 = 2;
+                    if (get64(v5 + 80) == 0) goto l5;
+                    goto l6;
                 }
-                v12 = get64(v5 + 72) + (v11 * 24);
+                v12 = v12 - v15;
+                v14 = v15 > v9;
+                v7 = v11 & 1;
+                v11 = 0;
+                if (v7 != 0) {
+                    v16 = get64(v5 + 72);
+                    if (get64(v5 + 80) == v16) {
+                        t1 = std_alloc_vec_Vec_grow_amortized_07c4d1320351f897(v5 + 64);
+                        if (t1 == 0) goto l16;
+                        v16 = get64(v5 + 72);
+                    }
+                    v17 = get64(v5 + 64) + (v16 << 4);
+                    put64(v17 + 8, v15);
+                    put64(v17, v13);
+                    put64(v5 + 72, v16 + 1);
+                    v11 = 1;
+                }
+            l16:;
+                v13 = v13 + v15;
+                v10 = v10 | v14;
+            } while (v12 > 5);
+            if (v12 == 0) {
+                if ((v10 & 1) != 0) {
+                    v14 = 3;
+                    if (get64(v5 + 80) != 0) goto l6;
+                    goto l5;
+                }
+                if (v11 != 0) {
+                    v19 = get64(v5 + 80);
+                    v20 = get64(v5 + 72);
+                    v21 = get64(v5 + 64);
+                    v18 = 1;
+                    goto l7;
+                }
+                if (get64(v5 + 80) != 0) rattle_dealloc_at(get64(v5 + 64));
+                t2 = nodes_ground_node_Ground_lack_of(p1, p3, p4);
+                put8(p0 + 1, t2);
+                put8(p0, 1);
+                fill(p0 + 8, 0, 120);
+                return;
+            }
+        l11:;
+            v14 = 2;
+            if (get64(v5 + 80) != 0) goto l6;
+            goto l5;
+        l7:;
+            v15 = (uint64_t)get32(p1 + 28);
+            if (p4 <= v15) {
+                v13 = (uint64_t)get32(p1 + 56);
+                if (v13 == 0 || ((get64(p1 + 216) + (uint64_t)(uint32_t)(get8(p1 + 96) == 1)) + 1) > v13) goto l22;
+                v14 = p4 == 0;
+                if (v14 != 0) {
+                    v16 = v5 + 88;
+                } else {
+                    rattle_alloc_at(v5 + 32, p4, 1);
+                    if (((uint32_t)get64(v5 + 32) & 1) == 0) goto l22;
+                    v16 = get64(v5 + 40);
+                }
+                if (v14 == 0) copy(v16, p3, p4);
+                v22 = (v6 << 8) | 3;
+                v23 = 0;
+                v24 = p4;
+                v13 = p4;
+                p1 = 0;
+                goto l21;
+            }
+            v13 = 0;
+            put64(v5 + 72, 0);
+            put64(v5 + 80, 0);
+            put64(v5 + 64, v5 + 88);
+            v25 = v5 + 88;
+            v26 = p4;
+            v17 = p3;
+            do {
+                v9 = map_service_cutting_group_len(v17, v26, v15);
+                v12 = get64(v5 + 80);
+                if (v9 <= v15) {
+                    if (v12 != v13) {
+                        v14 = 3;
+                        v12 = v13;
+                        v16 = v17;
+                        v6 = v9;
+                        goto l33;
+                    }
+                    t4 = std_alloc_vec_Vec_grow_amortized_10d150b3d444a65f(v5 + 64);
+                    if (t4 == 0) goto l31;
+                    v14 = 3;
+                    v16 = v17;
+                    v6 = v9;
+                    goto l34;
+                }
+                if (v12 == v13) {
+                    t5 = std_alloc_vec_Vec_grow_amortized_10d150b3d444a65f(v5 + 64);
+                    if (t5 == 0) goto l31;
+                    v25 = get64(v5 + 64);
+                    v13 = get64(v5 + 72);
+                }
+                v12 = v25 + (v13 * 24);
                 put32(v12 + 2, 0);
                 put8(v12 + 1, p2);
-                put8(v12, 0);
+                put8(v12, 1);
                 put16(v12 + 6, 0);
-                put64(v12 + 16, v14);
-                put64(v12 + 8, v15);
-                v11 = v11 + 1;
-                put64(v5 + 80, v11);
-                v15 = v15 + v14;
-                v8 = v8 - v14;
-            } while (v8 > v14);
+                put64(v12 + 16, v15);
+                put64(v12 + 8, v17);
+                v12 = v13 + 1;
+                put64(v5 + 72, v12);
+                v16 = v17 + v15;
+                v6 = v9 - v15;
+                if (v6 > v15) {
+                    do {
+                        if (get64(v5 + 80) == v12) {
+                            t6 = std_alloc_vec_Vec_grow_amortized_10d150b3d444a65f(v5 + 64);
+                            if (t6 == 0) goto l31;
+                            v12 = get64(v5 + 72);
+                        }
+                        v13 = get64(v5 + 64) + (v12 * 24);
+                        put32(v13 + 2, 0);
+                        put8(v13 + 1, p2);
+                        put8(v13, 0);
+                        put16(v13 + 6, 0);
+                        put64(v13 + 16, v15);
+                        put64(v13 + 8, v16);
+                        v12 = v12 + 1;
+                        put64(v5 + 72, v12);
+                        v16 = v16 + v15;
+                        v6 = v6 - v15;
+                    } while (v6 > v15);
+                }
+                if (get64(v5 + 80) != v12) {
+                    v14 = 2;
+                    goto l33;
+                }
+                t7 = std_alloc_vec_Vec_grow_amortized_10d150b3d444a65f(v5 + 64);
+                if (t7 == 0) goto l31;
+                v14 = 2;
+            l34:;
+                v12 = get64(v5 + 72);
+            l33:;
+                v17 = v17 + v9;
+                v25 = get64(v5 + 64);
+                v13 = v25 + (v12 * 24);
+                put32(v13 + 2, 0);
+                put8(v13 + 1, p2);
+                put8(v13, v14);
+                put16(v13 + 6, 0);
+                put64(v13 + 16, v6);
+                put64(v13 + 8, v16);
+                v13 = v12 + 1;
+                put64(v5 + 72, v13);
+                v26 = v26 - v9;
+            } while (v26 != 0);
+            v15 = (uint64_t)get32(p1 + 56);
+            if (v13 > v15 || (get64(p1 + 216) + v13 + (uint64_t)(uint32_t)(get8(p1 + 96) == 1)) > v15) {
+                if (get64(v5 + 80) != 0) goto l29;
+                goto l22;
+            }
+            v24 = 0;
+            if (v13 == 0) {
+                v22 = v5 + 88;
+                v23 = 0;
+                goto l28;
+            }
+            rattle_alloc_at(v5 + 16, v13 << 5, 8);
+            if (((uint32_t)get64(v5 + 16) & 1) == 0) goto l44;
+            v22 = get64(v5 + 24);
+            v27 = 0;
+            v23 = 0;
+            for (;;) {
+                v28 = v25 + (v27 * 24);
+                v26 = get64(v28 + 8);
+                v29 = get64(v28 + 16);
+                v14 = v29 == 0;
+                if (v14 != 0) {
+                    v17 = v5 + 88;
+                } else {
+                    if (v29 > 0x7fffffffffffffffULL) break;
+                    rattle_alloc_at(v5, v29, 1);
+                    if (((uint32_t)get64(v5) & 1) == 0) break;
+                    v17 = get64(v5 + 8);
+                }
+                if ((v17 - v26) < v29) {
+                    v9 = v29 & 3;
+                    v16 = 0;
+                    if (v29 >= 4) {
+                        v30 = v29 & ~3ULL;
+                        v16 = 0;
+                        do {
+                            v15 = v17 + v16;
+                            v6 = v26 + v16;
+                            put8(v15, get8(v6));
+                            put8(v15 + 1, get8(v6 + 1));
+                            put8(v15 + 2, get8(v6 + 2));
+                            put8(v15 + 3, get8(v6 + 3));
+                            v16 = v16 + 4;
+                        } while (v30 != v16);
+                        if (v9 == 0) goto l49;
+                    }
+                    v15 = v17 + v16;
+                    v16 = v26 + v16;
+                    do {
+                        put8(v15, get8(v16));
+                        v15 = v15 + 1;
+                        v16 = v16 + 1;
+                        v9 = v9 - 1;
+                    } while (v9 != 0);
+                } else if (v14 == 0) copy(v17, v26, v29);
+            l49:;
+                v14 = get16(v28);
+                v15 = v27 - v23;
+                if (v15 < v13) {
+                    v15 = v22 + (v15 << 5);
+                    put32(v15 + 2, 0);
+                    put16(v15, v14);
+                    put16(v15 + 6, 0);
+                    put64(v15 + 24, v29);
+                    put64(v15 + 16, v29);
+                    put64(v15 + 8, v17);
+                } else {
+                    v15 = v22 + (v23 << 5);
+                    put32(v15 + 2, 0);
+                    put16(v15, v14);
+                    put16(v15 + 6, 0);
+                    put64(v15 + 24, v29);
+                    put64(v15 + 16, v29);
+                    put64(v15 + 8, v17);
+                    v23 = v23 + 1;
+                }
+                v14 = v27 == v12;
+                v27 = v27 + 1;
+                if (v14 != 0) goto l28;
+            }
+            if (v27 != 0) {
+                if (v27 != v23) {
+                    v13 = v22 + 24;
+                    v15 = v23;
+                    do {
+                        if (get64(v13) != 0) rattle_dealloc_at(get64(v13 - 16));
+                        v13 = v13 + 32;
+                        v15 = v15 + 1;
+                    } while (v27 != v15);
+                    if (v23 == 0) goto l56;
+                }
+                v13 = v22 + 24;
+                do {
+                    if (get64(v13) != 0) rattle_dealloc_at(get64(v13 - 16));
+                    v13 = v13 + 32;
+                    v23 = v23 - 1;
+                } while (v23 != 0);
+            }
+        l56:;
+            rattle_dealloc_at(v22);
+        l44:;
+            if (get64(v5 + 80) == 0) goto l22;
+            goto l29;
+        l31:;
+            if (get64(v5 + 80) == 0) goto l22;
+            rattle_dealloc_at(get64(v5 + 64));
+            goto l22;
+        l29:;
+            rattle_dealloc_at(v25);
+            goto l22;
+        l28:;
+            p1 = 1;
+            if (get64(v5 + 80) != 0) rattle_dealloc_at(v25);
+            v16 = v13;
+            goto l21;
+        l22:;
+            p2 = nodes_ground_node_Ground_lack_of(p1, p3, p4);
+            if (v8 == 1 && v19 != 0) rattle_dealloc_at(v21);
+            put8(p0, 1);
+            put8(p0 + 8, 0);
+            put8(p0 + 1, p2);
+            put32(p0 + 9, get32(v5 + 56));
+            put32(p0 + 12, get32(v5 + 59));
+            fill(p0 + 16, 0, 112);
+            return;
+        l21:;
+            put16(p0, 0);
+            put8(p0 + 8, p2);
+            put32(p0 + 9, get32(v5 + 48));
+            put32(p0 + 12, get32(v5 + 51));
+            put64(p0 + 120, v23);
+            put64(p0 + 112, v24);
+            put64(p0 + 104, v13);
+            put64(p0 + 96, v16);
+            put64(p0 + 88, v22);
+            put64(p0 + 80, p1);
+            put64(p0 + 72, v19);
+            put64(p0 + 64, v20);
+            put64(p0 + 56, v21);
+            put64(p0 + 48, v18);
+            put64(p0 + 40, p4);
+            put64(p0 + 32, p3);
+            put64(p0 + 24, p4);
+            put64(p0 + 16, p3);
+            return;
+        l6:;
+            rattle_dealloc_at(get64(v5 + 64));
+        l5:;
+            put8(p0, 1);
+            put8(p0 + 1, v14);
+            fill(p0 + 8, 0, 120);
+            return;
         }
-        if (get64(v5 + 88) != v11) {
-            v13 = 2;
-            goto l34;
-        }
-        t7 = std_alloc_vec_Vec_grow_amortized_10d150b3d444a65f(v5 + 72);
-        if (t7 == 0) goto l32;
-        v13 = 2;
-    l35:;
-        v11 = get64(v5 + 80);
-    l34:;
-        v24 = v24 + v16;
-        v22 = get64(v5 + 72);
-        v12 = v22 + (v11 * 24);
-        put32(v12 + 2, 0);
-        put8(v12 + 1, p2);
-        put8(v12, v13);
-        put16(v12 + 6, 0);
-        put64(v12 + 16, v8);
-        put64(v12 + 8, v15);
-        v12 = v11 + 1;
-        put64(v5 + 80, v12);
-        v23 = v23 - v16;
-    } while (v23 != 0);
-    v14 = (uint64_t)get32(p1 + 56);
-    if (v12 > v14 || (get64(p1 + 216) + v12 + (uint64_t)(uint32_t)(get8(p1 + 96) == 1)) > v14) {
-        if (get64(v5 + 88) == 0) goto l21;
-        rattle_dealloc_at(v22);
-        goto l21;
     }
-    v14 = 0;
-    put64(v5 + 104, 0);
-    put64(v5 + 112, 0);
-    put64(v5 + 120, 0);
-    put64(v5 + 128, 0);
-    put64(v5 + 96, v5 + 136);
-    if (v12 == 0) {
-        v13 = (uint32_t)(v5 + 136);
-        p1 = 0;
-        v12 = 0;
-        v21 = 0;
-        goto l44;
-    }
-    v21 = 0;
-    v25 = v5 + 136;
-    v26 = v25;
-    v12 = 0;
-    do {
-        v27 = v12;
-        v28 = v22 + (v27 * 24);
-        v24 = get64(v28 + 8);
-        v16 = v25;
-        v29 = get64(v28 + 16);
-        v6 = v29 == 0;
-        if (v6 == 0) {
-            if (v29 > 0x7fffffffffffffffULL) goto l50;
-            rattle_alloc_at(v5, v29, 1);
-            if (((uint32_t)get64(v5) & 1) == 0) goto l50;
-            v16 = get64(v5 + 8);
-        }
-        if ((v16 - v24) < v29) {
-            v8 = v29 & 3;
-            v14 = 0;
-            if (v29 >= 4) {
-                v23 = v29 & ~3ULL;
-                v14 = 0;
-                do {
-                    v12 = v16 + v14;
-                    v15 = v24 + v14;
-                    put8(v12, get8(v15));
-                    put8(v12 + 1, get8(v15 + 1));
-                    put8(v12 + 2, get8(v15 + 2));
-                    put8(v12 + 3, get8(v15 + 3));
-                    v14 = v14 + 4;
-                } while (v23 != v14);
-                if (v8 == 0) goto l52;
-            }
-            v12 = v16 + v14;
-            v14 = v24 + v14;
-            do {
-                put8(v12, get8(v14));
-                v12 = v12 + 1;
-                v14 = v14 + 1;
-                v8 = v8 - 1;
-            } while (v8 != 0);
-        } else if (v6 == 0) copy(v16, v24, v29);
-    l52:;
-        v13 = get16(v28);
-        v12 = get64(v5 + 112);
-        if (v21 < v12) {
-            v14 = get64(v5 + 128);
-            v15 = v21 - v14;
-            v8 = get64(v5 + 120);
-            if (v15 >= (v12 - v8)) {
-                v12 = v26 + (v14 << 5);
-                put64(v12 + 24, v29);
-                put64(v12 + 16, v29);
-                put64(v12 + 8, v16);
-                put32(v12 + 2, 0);
-                put16(v12, v13);
-                put16(v12 + 6, 0);
-                put64(v5 + 128, v14 + 1);
-                goto l47;
-            }
-            v12 = v26 + ((v15 + v8) << 5);
-            put32(v12 + 2, 0);
-            put64(v12 + 24, v29);
-            put64(v12 + 16, v29);
-            put64(v12 + 8, v16);
-            put16(v12, v13);
-            put16(v12 + 6, 0);
-            goto l47;
-        }
-        t8 = std_alloc_vec_deque_VecDeque_grow_ab161963403435e1(v5 + 96, 1);
-        if (t8 != 0) {
-            v12 = (uint64_t)v13 & 0xffff;
-            v26 = get64(v5 + 96);
-            v21 = get64(v5 + 104);
-            v14 = get64(v5 + 128);
-            v15 = v21 - v14;
-            v8 = get64(v5 + 120);
-            if (v15 < (get64(v5 + 112) - v8)) {
-                v14 = v26 + ((v8 + v15) << 5);
-                put64(v14 + 24, v29);
-                put64(v14 + 16, v29);
-                put64(v14 + 8, v16);
-                put64(v14, v12);
-                goto l47;
-            }
-            v15 = v26 + (v14 << 5);
-            put64(v15 + 24, v29);
-            put64(v15 + 16, v29);
-            put64(v15 + 8, v16);
-            put64(v15, v12);
-            put64(v5 + 128, v14 + 1);
-            goto l47;
-        }
-        if (v6 == 0) rattle_dealloc_at(v16);
-        v15 = get64(v5 + 112);
-        v26 = get64(v5 + 96);
-        v12 = get64(v5 + 104);
-        if (v12 != 0) {
-            v8 = get64(v5 + 120);
-            v14 = get64(v5 + 128);
-            v11 = v12 - v14;
-            if (v8 < (v8 + v11)) {
-                v12 = ((v8 << 5) + v26) + 24;
-                do {
-                    if (get64(v12) != 0) rattle_dealloc_at(get64(v12 - 16));
-                    v12 = v12 + 32;
-                    v11 = v11 - 1;
-                } while (v11 != 0);
-            }
-            if (v14 != 0) {
-                v12 = v26 + 24;
-                do {
-                    if (get64(v12) != 0) rattle_dealloc_at(get64(v12 - 16));
-                    v12 = v12 + 32;
-                    v14 = v14 - 1;
-                } while (v14 != 0);
-            }
-        }
-        if (v15 != 0) goto l24;
-        goto l23;
-    l50:;
-        v15 = get64(v5 + 112);
-        if (v21 != 0) {
-            v12 = get64(v5 + 120);
-            v14 = get64(v5 + 128);
-            v11 = v21 - v14;
-            if (v12 < (v12 + v11)) {
-                v12 = ((v12 << 5) + v26) + 24;
-                do {
-                    if (get64(v12) != 0) rattle_dealloc_at(get64(v12 - 16));
-                    v12 = v12 + 32;
-                    v11 = v11 - 1;
-                } while (v11 != 0);
-            }
-            if (v14 != 0) {
-                v12 = v26 + 24;
-                do {
-                    if (get64(v12) != 0) rattle_dealloc_at(get64(v12 - 16));
-                    v12 = v12 + 32;
-                    v14 = v14 - 1;
-                } while (v14 != 0);
-            }
-        }
-        if (v15 == 0) goto l23;
-        goto l24;
-    l47:;
-        v21 = v21 + 1;
-        put64(v5 + 104, v21);
-        v12 = v27 + 1;
-    } while (v27 != v11);
-    v14 = get64(v5 + 128);
-    p1 = get64(v5 + 120);
-    v12 = get64(v5 + 112);
-    v13 = get16(v5 + 96);
-l44:;
-    put16(v5 + 68, get16(v5 + 102));
-    put32(v5 + 64, get32(v5 + 98));
-    if (get64(v5 + 88) != 0) rattle_dealloc_at(get64(v5 + 72));
-    put16(v5 + 44, get16(v5 + 68));
-    put32(v5 + 40, get32(v5 + 64));
-    v11 = 1;
-    goto l25;
-l32:;
-    if (get64(v5 + 88) != 0) goto l22;
-    goto l21;
-l25:;
-    put8(p0 + 8, p2);
-    put16(p0, 0);
-    put32(p0 + 9, get32(v5 + 32));
-    put32(p0 + 12, get32(v5 + 35));
-    put16(p0 + 88, v13);
-    put64(p0 + 80, v11);
-    put64(p0 + 72, v18);
-    put64(p0 + 64, v19);
-    put64(p0 + 56, v20);
-    put64(p0 + 48, v17);
-    put64(p0 + 40, p4);
-    put64(p0 + 32, p3);
-    put64(p0 + 24, p4);
-    put64(p0 + 16, p3);
-    put32(p0 + 90, get32(v5 + 40));
-    put16(p0 + 94, get16(v5 + 44));
-    put64(p0 + 120, v14);
-    put64(p0 + 112, p1);
-    put64(p0 + 104, v12);
-    put64(p0 + 96, v21);
-    return;
-l24:;
-    rattle_dealloc_at(v26);
-l23:;
-    if (get64(v5 + 88) == 0) goto l21;
-l22:;
-    rattle_dealloc_at(get64(v5 + 72));
-l21:;
-    p2 = nodes_ground_node_Ground_lack_of(p1, p3, p4);
-    if (v7 == 1 && v18 != 0) rattle_dealloc_at(v20);
-    put8(p0, 1);
-    put8(p0 + 8, 0);
-    put8(p0 + 1, p2);
-    put32(p0 + 9, get32(v5 + 56));
-    put32(p0 + 12, get32(v5 + 59));
-    fill(p0 + 16, 0, 74);
-    put64(p0 + 96, 0);
-    put64(p0 + 104, 0);
-    put64(p0 + 112, 0);
-    put64(p0 + 120, 0);
-    put16(p0 + 94, get16(v5 + 52));
-    put32(p0 + 90, get32(v5 + 48));
-    return;
-l6:;
-    rattle_dealloc_at(get64(v5 + 96));
-l5:;
-    put8(p0, 1);
-    put8(p0 + 1, v13);
+    put16(p0, 257);
     fill(p0 + 8, 0, 120);
     return;
 }
@@ -3857,6 +3772,131 @@ static uint32_t std_alloc_vec_Vec_grow_amortized_10d150b3d444a65f(uint64_t p0)
     put64(p0 + 16, v4);
     put64(p0, v3);
     return 1;
+}
+
+/* nodes::ground_node::Ground::commit, crates/nodes/src/ground_node/submit.rt:79 */
+static void nodes_ground_node_Ground_commit(uint64_t p0, uint64_t p1)
+{
+    uint32_t v3 = 0, v12 = 0, t1;
+    uint64_t v2 = 0, v4 = 0, v5 = 0, v6 = 0, v7 = 0, v8 = 0, v9 = 0, v10 = 0, v11 = 0, v13 = 0, v14 = 0, v15 = 0,
+        v16 = 0, v17 = 0, v18 = 0, v19 = 0, v20 = 0, v21 = 0, v22 = 0;
+    v2 = get64(p1 + 88);
+    v3 = get8(p1 + 72);
+    v4 = (v3 != 0) ? v2 : 1ULL;
+    v5 = get64(p0 + 256);
+    v6 = get64(p1 + 112);
+    v7 = get64(p1 + 104);
+    v8 = get64(p1 + 96);
+    v9 = get64(p1 + 80);
+    v10 = get64(p1 + 64);
+    v11 = get64(p1 + 48);
+    v12 = get8(p1 + 40);
+    p1 = get64(p0 + 264);
+    v13 = p0 + 288;
+    v14 = get64(v13);
+    v15 = p1 - v14;
+    v16 = get64(p0 + 280);
+    if (v15 < (get64(p0 + 272) - v16)) {
+        put64(v5 + ((v16 + v15) << 3), v4);
+    } else {
+        put64(v5 + (v14 << 3), v4);
+        put64(v13, v14 + 1);
+    }
+    put64(p0 + 264, p1 + 1);
+    if (v3 == 0) {
+        p1 = get64(p0 + 208);
+        v6 = get64(p0 + 216);
+        v5 = p0 + 240;
+        v4 = get64(v5);
+        v14 = v6 - v4;
+        v13 = get64(p0 + 232);
+        if (v14 < (get64(p0 + 224) - v13)) {
+            p1 = p1 + ((v13 + v14) << 5);
+            put64(p1 + 24, v7);
+            put64(p1 + 16, v8);
+            put64(p1 + 8, v2);
+            put64(p1, v9);
+        } else {
+            p1 = p1 + (v4 << 5);
+            put64(p1 + 24, v7);
+            put64(p1 + 16, v8);
+            put64(p1 + 8, v2);
+            put64(p1, v9);
+            put64(v5, v4 + 1);
+        }
+        put64(p0 + 216, v6 + 1);
+        goto l3;
+    }
+    p1 = get64(p0 + 216);
+    if (v2 > (get64(p0 + 224) - p1)) {
+        t1 = std_alloc_vec_deque_VecDeque_grow_ab161963403435e1(p0 + 208, v2);
+        if (t1 == 0) {
+            p1 = v2 - v6;
+            if (v7 < (p1 + v7)) {
+                v7 = ((v7 << 5) + v9) + 24;
+                do {
+                    if (get64(v7) != 0) rattle_dealloc_at(get64(v7 - 16));
+                    v7 = v7 + 32;
+                    p1 = p1 - 1;
+                } while (p1 != 0);
+            }
+            if (v6 != 0) {
+                v7 = v9 + 24;
+                do {
+                    if (get64(v7) != 0) rattle_dealloc_at(get64(v7 - 16));
+                    v7 = v7 + 32;
+                    v6 = v6 - 1;
+                } while (v6 != 0);
+            }
+            goto l7;
+        }
+        p1 = get64(p0 + 216);
+    } else if (v2 == 0) goto l7;
+    v16 = p0 + 232;
+    v17 = p0 + 224;
+    v13 = p0 + 240;
+    v18 = p0 + 208;
+    v19 = p0 + 216;
+    do {
+        v3 = v2 == v6;
+        v5 = (v3 != 0) ? 0ULL : v7;
+        v7 = v9 + (v5 << 5);
+        v14 = get64(v18);
+        v4 = get64(v13);
+        v15 = get64(v16);
+        if ((p1 - v4) < (get64(v17) - v15)) {
+            v20 = get64(v7);
+            v21 = get64(v7 + 8);
+            v22 = get64(v7 + 16);
+            v4 = v14 + ((p1 + (v15 - v4)) << 5);
+            put64(v4 + 24, get64(v7 + 24));
+            put64(v4 + 16, v22);
+            put64(v4 + 8, v21);
+            put64(v4, v20);
+        } else {
+            v15 = get64(v7);
+            v20 = get64(v7 + 8);
+            v21 = get64(v7 + 16);
+            v14 = v14 + (v4 << 5);
+            put64(v14 + 24, get64(v7 + 24));
+            put64(v14 + 16, v21);
+            put64(v14 + 8, v20);
+            put64(v14, v15);
+            put64(v13, v4 + 1);
+        }
+        v6 = (v3 != 0) ? 0ULL : v6;
+        v7 = v5 + 1;
+        p1 = p1 + 1;
+        put64(v19, p1);
+        v2 = v2 - 1;
+    } while (v2 != 0);
+l7:;
+    if (v8 != 0) rattle_dealloc_at(v9);
+l3:;
+    nodes_ground_node_Ground_refill(p0);
+    if ((v12 & 255) != 1 || v10 == 0) return;
+    rattle_dealloc_at(v11);
+    return;
 }
 
 static uint32_t std_alloc_vec_deque_VecDeque_grow_ab161963403435e1(uint64_t p0, uint64_t p1)
@@ -4146,131 +4186,6 @@ static uint32_t std_alloc_vec_Vec_grow_amortized_ab161963403435e1(uint64_t p0, u
     put64(p0 + 16, p1);
     put64(p0, v4);
     return 1;
-}
-
-/* nodes::ground_node::Ground::commit, crates/nodes/src/ground_node/submit.rt:79 */
-static void nodes_ground_node_Ground_commit(uint64_t p0, uint64_t p1)
-{
-    uint32_t v3 = 0, v12 = 0, t1;
-    uint64_t v2 = 0, v4 = 0, v5 = 0, v6 = 0, v7 = 0, v8 = 0, v9 = 0, v10 = 0, v11 = 0, v13 = 0, v14 = 0, v15 = 0,
-        v16 = 0, v17 = 0, v18 = 0, v19 = 0, v20 = 0, v21 = 0, v22 = 0;
-    v2 = get64(p1 + 88);
-    v3 = get8(p1 + 72);
-    v4 = (v3 != 0) ? v2 : 1ULL;
-    v5 = get64(p0 + 256);
-    v6 = get64(p1 + 112);
-    v7 = get64(p1 + 104);
-    v8 = get64(p1 + 96);
-    v9 = get64(p1 + 80);
-    v10 = get64(p1 + 64);
-    v11 = get64(p1 + 48);
-    v12 = get8(p1 + 40);
-    p1 = get64(p0 + 264);
-    v13 = p0 + 288;
-    v14 = get64(v13);
-    v15 = p1 - v14;
-    v16 = get64(p0 + 280);
-    if (v15 < (get64(p0 + 272) - v16)) {
-        put64(v5 + ((v16 + v15) << 3), v4);
-    } else {
-        put64(v5 + (v14 << 3), v4);
-        put64(v13, v14 + 1);
-    }
-    put64(p0 + 264, p1 + 1);
-    if (v3 == 0) {
-        p1 = get64(p0 + 208);
-        v6 = get64(p0 + 216);
-        v5 = p0 + 240;
-        v4 = get64(v5);
-        v14 = v6 - v4;
-        v13 = get64(p0 + 232);
-        if (v14 < (get64(p0 + 224) - v13)) {
-            p1 = p1 + ((v13 + v14) << 5);
-            put64(p1 + 24, v7);
-            put64(p1 + 16, v8);
-            put64(p1 + 8, v2);
-            put64(p1, v9);
-        } else {
-            p1 = p1 + (v4 << 5);
-            put64(p1 + 24, v7);
-            put64(p1 + 16, v8);
-            put64(p1 + 8, v2);
-            put64(p1, v9);
-            put64(v5, v4 + 1);
-        }
-        put64(p0 + 216, v6 + 1);
-        goto l3;
-    }
-    p1 = get64(p0 + 216);
-    if (v2 > (get64(p0 + 224) - p1)) {
-        t1 = std_alloc_vec_deque_VecDeque_grow_ab161963403435e1(p0 + 208, v2);
-        if (t1 == 0) {
-            p1 = v2 - v6;
-            if (v7 < (p1 + v7)) {
-                v7 = ((v7 << 5) + v9) + 24;
-                do {
-                    if (get64(v7) != 0) rattle_dealloc_at(get64(v7 - 16));
-                    v7 = v7 + 32;
-                    p1 = p1 - 1;
-                } while (p1 != 0);
-            }
-            if (v6 != 0) {
-                v7 = v9 + 24;
-                do {
-                    if (get64(v7) != 0) rattle_dealloc_at(get64(v7 - 16));
-                    v7 = v7 + 32;
-                    v6 = v6 - 1;
-                } while (v6 != 0);
-            }
-            goto l7;
-        }
-        p1 = get64(p0 + 216);
-    } else if (v2 == 0) goto l7;
-    v16 = p0 + 232;
-    v17 = p0 + 224;
-    v13 = p0 + 240;
-    v18 = p0 + 208;
-    v19 = p0 + 216;
-    do {
-        v3 = v2 == v6;
-        v5 = (v3 != 0) ? 0ULL : v7;
-        v7 = v9 + (v5 << 5);
-        v14 = get64(v18);
-        v4 = get64(v13);
-        v15 = get64(v16);
-        if ((p1 - v4) < (get64(v17) - v15)) {
-            v20 = get64(v7);
-            v21 = get64(v7 + 8);
-            v22 = get64(v7 + 16);
-            v4 = v14 + ((p1 + (v15 - v4)) << 5);
-            put64(v4 + 24, get64(v7 + 24));
-            put64(v4 + 16, v22);
-            put64(v4 + 8, v21);
-            put64(v4, v20);
-        } else {
-            v15 = get64(v7);
-            v20 = get64(v7 + 8);
-            v21 = get64(v7 + 16);
-            v14 = v14 + (v4 << 5);
-            put64(v14 + 24, get64(v7 + 24));
-            put64(v14 + 16, v21);
-            put64(v14 + 8, v20);
-            put64(v14, v15);
-            put64(v13, v4 + 1);
-        }
-        v6 = (v3 != 0) ? 0ULL : v6;
-        v7 = v5 + 1;
-        p1 = p1 + 1;
-        put64(v19, p1);
-        v2 = v2 - 1;
-    } while (v2 != 0);
-l7:;
-    if (v8 != 0) rattle_dealloc_at(v9);
-l3:;
-    nodes_ground_node_Ground_refill(p0);
-    if ((v12 & 255) != 1 || v10 == 0) return;
-    rattle_dealloc_at(v11);
-    return;
 }
 
 /* nodes::ground_node::Ground::telemetry, crates/nodes/src/ground_node/telemetry.rt:29 */
@@ -5819,1369 +5734,686 @@ l3:;
     return 1;
 }
 
-/* nodes::spacecraft::Spacecraft::prepare, crates/nodes/src/spacecraft/receive.rt:39 */
-static void nodes_spacecraft_Spacecraft_prepare(uint64_t p0, uint64_t p1, uint64_t p2, uint64_t p3)
+/* map_service::assembler::Assembler::prepare, crates/map_service/src/assembler.rt:200 */
+static void map_service_assembler_Assembler_prepare(uint64_t p0, uint64_t p1, uint64_t p2)
 {
-    unsigned char frame_octets[528 + 15];
-    uint32_t v5 = 0, v6 = 0, v7 = 0, v8 = 0, v10 = 0, v11 = 0, v12 = 0, v14 = 0, v15 = 0, v17 = 0, v18 = 0, v19 = 0,
-        v20 = 0, v21 = 0, v33 = 0, t1, t3, t6;
-    uint64_t v4 = 0, v9 = 0, v13 = 0, v16 = 0, v22 = 0, v23 = 0, v24 = 0, v25 = 0, v26 = 0, v27 = 0, v28 = 0, v29 = 0,
-        v30 = 0, v31 = 0, v32 = 0, v34 = 0, v35 = 0;
-    v4 = aligned(frame_octets);
-    put16(v4 + 148, 0);
-    put32(v4 + 144, 0);
-    put32(v4 + 136, 0);
-    put8(v4 + 140, 0);
-    put32(v4 + 128, 0);
-    put16(v4 + 132, 0);
-    put32(v4 + 120, 0);
-    put16(v4 + 124, 0);
-    put64(v4 + 96, 0);
-    put64(v4 + 104, 0);
-    put64(v4 + 112, 0);
-    v5 = 0;
-    if (p3 < 5) goto l2;
-    v6 = get8(p2);
-    if (v6 > 63) {
-        v5 = 1;
-        goto l2;
-    }
-    if ((v6 & 48) == 16) {
-        v5 = 2;
-        goto l2;
-    }
-    if ((v6 & 12) != 0) {
-        v5 = 3;
-        goto l2;
-    }
-    v5 = 4;
-    v7 = get8(p2 + 2);
-    v8 = ((v7 << 8) & 768) | get8(p2 + 3);
-    if (p3 != (uint64_t)(v8 + 1) || v8 < 6) goto l2;
-    v8 = get8(p2 + 1);
-    v9 = p3 - 2;
-    v5 = get16(p2 + v9);
-    t1 = octets_frame_check_check(p2, v9);
-    if ((((v5 << 8) | (v5 >> 8)) & 0xffff) != (t1 & 0xffff)) {
-        v5 = 5;
-        goto l2;
-    }
-    v5 = get8(p2 + 4);
-    if (v6 >= 32 && (v5 & 255) != 0) {
-        v5 = 6;
-        goto l2;
-    }
-    if ((v6 & 16) == 0) {
-        if ((p3 - 9) > ~2ULL) {
-            v5 = 7;
-            goto l2;
-        }
-        v11 = 0;
-        put32(v4 + 480, 0);
-        put16(v4 + 484, 0);
-        put32(v4 + 440, 0);
-        put16(v4 + 444, 0);
-        v10 = (v6 < 32) ? v5 : 0U;
-        v12 = v6 > 31;
-        v9 = p3 - 8;
-        v13 = p2 + 6;
-        v14 = get8(p2 + 5);
-        v5 = v14 & 63;
-        v14 = v14 >> 6;
-        goto l8;
-    }
-    v9 = p3 - 7;
-    if (v9 <= 3) {
-        v5 = 7;
-        switch ((uint32_t)v9) {
-        case 1:
-            if (get8(p2 + 5) != 0) {
-                v5 = 8;
-                goto l2;
-            }
-            v10 = 0;
-            v11 = 0;
-            break;
-        case 2:
-            goto l10;
-        case 3:
-            v5 = 8;
-            if (get8(p2 + 5) != 130 || get8(p2 + 6) != 0) goto l2;
-            v11 = get8(p2 + 7);
-            v10 = 1;
-            break;
-        default:
-            goto l2;
-        }
-        v5 = 0;
-        put16(v4 + 444, 0);
-        put32(v4 + 440, 0);
-        v12 = 2;
-        v13 = 0;
-        v9 = 0;
-        v14 = 0;
-        goto l8;
-    }
-l10:;
-    v5 = 8;
-    goto l2;
-l8:;
-    put32(v4 + 144, get32(v4 + 440));
-    put16(v4 + 148, get16(v4 + 444));
-    if (get32(p1) != (((v6 << 8) & 768) | v8) || get32(p1 + 4) != ((v7 & 252) >> 2)) {
-        v5 = get32(p1 + 72);
-        v6 = get16(p1 + 76);
-        put64(p0 + 25, 0);
-        put8(p0 + 24, 1);
-        put64(p0 + 16, p3);
-        put64(p0 + 8, p2);
-        put16(p0, 0);
-        put64(p0 + 33, 0);
-        put64(p0 + 40, 0);
-        put16(p0 + 52, v6);
-        put32(p0 + 48, v5);
-        fill(p0 + 54, 0, 178);
-        return;
-    }
-    switch (v12) {
-    case 1:
-        v8 = get8(p1 + 77);
-        v21 = 3;
-        v18 = get8(p1 + 76);
-        v19 = get8(p1 + 75);
-        v12 = get8(p1 + 74);
-        v7 = get8(p1 + 73);
-        v20 = get8(p1 + 72);
-        v23 = 0;
-        v15 = 0;
-        if (v14 != 3 || ((uint32_t)(get64(p1 + 40) >> ((uint64_t)v5 & 63)) & 1) == 0 || v9 > (uint64_t)get32(p1 + 32))
-            goto l36;
-        v10 = 0;
-        v6 = 0;
-        v24 = 0;
-        p1 = 0;
-        if (v9 < 6) goto l35;
-        v6 = get8(v13);
-        if (v6 > 31 || (((v6 & 8) != 0 && (((v6 << 8) & 0x700) | get8(v13 + 1)) == 0x7ff) || ((((uint64_t)get8(v13 +
-            4) << 8) | (uint64_t)get8(v13 + 5)) + 7) != v9)) {
-            v23 = 0;
-            goto l36;
-        }
-        rattle_alloc_at(v4 + 80, v9, 1);
-        if (((uint32_t)get64(v4 + 80) & 1) == 0) {
-            v10 = 0;
-            v23 = 0;
-            v33 = 5;
-            v15 = 1;
-            p2 = 0;
-            p3 = 0;
-            v21 = 0;
-            v20 = 0;
-            v7 = 0;
-            v12 = 0;
-            v19 = 0;
-            v18 = 0;
-            v17 = 0;
-            v34 = 0;
-            v24 = 0;
-            p1 = 0;
-            goto l34;
-        }
-        v24 = get64(v4 + 88);
-        if ((v24 - v13) < v9) {
-            v16 = v9 & 3;
-            p1 = 0;
-            if ((v9 - 1) >= 3) {
-                v30 = v9 & ~3ULL;
-                p1 = 0;
-                do {
-                    v23 = v24 + p1;
-                    v22 = v13 + p1;
-                    put8(v23, get8(v22));
-                    put8(v23 + 1, get8(v22 + 1));
-                    put8(v23 + 2, get8(v22 + 2));
-                    put8(v23 + 3, get8(v22 + 3));
-                    p1 = p1 + 4;
-                } while (v30 != p1);
-                if (v16 == 0) goto l98;
-            }
-            do {
-                put8(v24 + p1, get8(v13 + p1));
-                v23 = 1;
-                p1 = p1 + 1;
-                v10 = 1;
-                v16 = v16 - 1;
-            } while (v16 != 0);
-            goto l97;
-        }
-        if (v9 != 0) copy(v24, v13, v9);
-    l98:;
-        v23 = 1;
-        v10 = 1;
-    l97:;
-        v6 = v5;
-        p1 = v9;
-        goto l35;
-    case 2:
-        v5 = get8(p1 + 77);
-        v7 = get8(p1 + 73);
-        v9 = p1 + 72;
-        v15 = 0;
-        if ((v10 & 255) != 0) {
-            v12 = 1;
-            if ((get8(p1 + 74) & 1) != 0) {
-                v19 = get8(p1 + 75);
-                v18 = get8(p1 + 76);
-                goto l103;
-            }
-            v7 = v11;
-        }
-        v12 = 0;
+    unsigned char frame_octets[480 + 15];
+    uint32_t v6 = 0, v9 = 0, v10 = 0, v11 = 0, t3;
+    uint64_t v3 = 0, v4 = 0, v5 = 0, v7 = 0, v8 = 0, v12 = 0, v13 = 0, v14 = 0, v15 = 0, v16 = 0, v17 = 0, v18 = 0,
         v19 = 0;
-        v18 = 0;
-    l103:;
-        v20 = get8(v9);
-        put8(v4 + 140, 0);
-        put32(v4 + 136, 0);
-        put32(v4 + 128, 0);
-        put16(v4 + 132, 0);
-        put32(v4 + 120, 0);
-        put16(v4 + 124, 0);
-        v16 = 0;
-        put64(v4 + 96, 0);
-        put64(v4 + 104, 0);
-        put64(v4 + 112, 0);
-        v17 = (v5 + 1) & 3;
-        v21 = 4;
-        goto l38;
-    default:
-        break;
-    }
-    v15 = 0;
-    put32(v4 + 264, 0);
-    put8(v4 + 268, 0);
-    put32(v4 + 256, 0);
-    put16(v4 + 260, 0);
-    put32(v4 + 248, 0);
-    put16(v4 + 252, 0);
-    v16 = 0;
-    put64(v4 + 224, 0);
-    put64(v4 + 232, 0);
-    put64(v4 + 240, 0);
-    put64(v4 + 192, 0);
-    put64(v4 + 200, 0);
-    put64(v4 + 208, 0);
-    put64(v4 + 168, 0);
-    put64(v4 + 176, 0);
-    put64(v4 + 184, 0);
-    put8(v4 + 164, 0);
-    put32(v4 + 160, 0);
-    put16(v4 + 156, 0);
-    put32(v4 + 152, 0);
-    put16(v4 + 220, get16(v4 + 148));
-    put32(v4 + 216, get32(v4 + 144));
-    v12 = 1;
-    v17 = get8(p1 + 77);
-    v18 = get8(p1 + 76);
-    v19 = get8(p1 + 75);
-    v7 = get8(p1 + 73);
-    v20 = get8(p1 + 72);
-    v11 = 5;
-    if ((get8(p1 + 74) & 1) == 0) {
-        if ((v10 & 255) == (v7 & 255)) {
-            v12 = 0;
-            if ((v19 & 1) != 0) {
-                v19 = 1;
-                goto l43;
-            }
-            if (get64(p1 + 168) < (uint64_t)get32(p1 + 48)) {
-                put64(v4 + 288, 0);
-                put64(v4 + 280, 0);
-                put64(v4 + 272, 0);
-                v16 = get64(p1 + 104);
-                v22 = get64(p1 + 112);
-                if (v22 == 0) {
-                    v8 = 0;
-                } else {
-                    v23 = v22 - 1;
-                    v24 = v16;
-                    do {
-                        v8 = get8(v24) == 1;
-                        if (v8 != 0) break;
-                        v24 = v24 + 32;
-                        v6 = v23 != 0;
-                        v23 = v23 - 1;
-                    } while (v6 != 0);
-                }
-                put64(v4 + 312, 0);
-                put64(v4 + 304, 0);
-                put64(v4 + 296, 0);
-                v23 = get64(p1 + 88);
-                v24 = (uint64_t)v5;
-                if (((uint32_t)(v23 >> (v24 & 63)) & 1) == 0) {
-                    v25 = 0;
-                    put64(v4 + 192, 0);
-                    put64(v4 + 200, 0);
-                    put64(v4 + 208, 0);
-                    v8 = 0;
-                    v6 = 1;
-                    v26 = 0;
-                    v27 = 0;
-                    v22 = 0;
-                    v28 = 0;
-                    v29 = v4 + 520;
-                    v30 = v29;
-                    v31 = 0;
-                    v32 = 0;
-                    v16 = 0;
-                    goto l20;
-                }
-                v11 = 0;
-                if (v22 <= v24) {
-                    v7 = 1;
-                    v30 = 0;
-                    v22 = 0;
-                } else {
-                    v7 = 1;
-                    v30 = 0;
-                    v22 = 0;
-                    v24 = v16 + (v24 << 5);
-                    if (get8(v24) == 1) {
-                        v22 = get64(v24 + 16);
-                        v30 = get64(v24 + 8);
-                        v11 = 1;
-                        v7 = 0;
-                    }
-                }
-                put64(v4 + 352, 0);
-                put64(v4 + 360, 0);
-                put64(v4 + 368, 0);
-                put64(v4 + 320, 0);
-                put64(v4 + 328, 0);
-                put64(v4 + 336, 0);
-                put64(v4 + 343, 0);
-                switch (v14) {
-                case 1:
-                    v6 = get32(p1 + 84);
-                    v24 = (uint64_t)v6;
-                    if (v9 > v24) {
-                        v30 = v4 + 520;
-                        v6 = 1;
-                        v8 = 4;
-                        v31 = 0;
-                        v32 = 1;
-                        goto l23;
-                    }
-                    v22 = 0;
-                    v16 = v4 + 520;
-                    if (v8 != 0) {
-                        v30 = v16;
-                        v28 = 0;
-                    } else {
-                        v31 = clz64(v23);
-                        v28 = 64 - v31;
-                        if (v23 == 0) {
-                            v30 = v16;
-                        } else {
-                            rattle_alloc_at(v4 + 48, v28 << 5, 8);
-                            if (((uint32_t)get64(v4 + 48) & 1) == 0) goto l29;
-                            v30 = get64(v4 + 56);
-                            v24 = 0x800 - (v31 << 5);
-                            if (v24 != 0) fill(v30, 0, v24);
-                            v6 = get32(p1 + 84);
-                            v24 = (uint64_t)v6;
-                            v22 = v28;
-                        }
-                    }
-                    if (v6 != 0) {
-                        rattle_alloc_at(v4 + 32, v24, 1);
-                        if (((uint32_t)get64(v4 + 32) & 1) == 0) goto l142;
-                        v16 = get64(v4 + 40);
-                    }
-                    put64(v4 + 496, v24);
-                    v31 = 0;
-                    put64(v4 + 488, 0);
-                    put64(v4 + 480, v16);
-                    t6 = std_alloc_vec_Vec_extend_from_slice_672334860c861157(v4 + 480, v13, v9);
-                    if ((t6 & 255) == 0) {
-                        p1 = get64(v4 + 496);
-                        put64(v4 + 343, p1);
-                        v24 = get64(v4 + 488);
-                        put64(v4 + 335, v24);
-                        v23 = get64(v4 + 480);
-                        put64(v4 + 327, v23);
-                        put64(v4 + 352, v23);
-                        put64(v4 + 360, v24);
-                        put64(v4 + 368, p1);
-                        v29 = v4 + 520;
-                        v32 = 2;
-                        v8 = v11;
-                        v6 = v11;
-                        goto l22;
-                    }
-                    if (get64(v4 + 496) != 0) rattle_dealloc_at(get64(v4 + 480));
-                l142:;
-                    if (v22 != 0) {
-                        p3 = v30;
-                        do {
-                            if (get8(p3) != 0 && get64(p3 + 24) != 0) rattle_dealloc_at(get64(p3 + 8));
-                            p3 = p3 + 32;
-                            v22 = v22 - 1;
-                        } while (v22 != 0);
-                    }
-                    if (v28 != 0) rattle_dealloc_at(v30);
-                    goto l29;
-                case 2:
-                    v6 = 1;
-                    v31 = 0;
-                    v32 = 1;
-                    if (v7 != 0) {
-                        v30 = v4 + 520;
-                        v8 = 2;
-                        goto l23;
-                    }
-                    v25 = v22 + v9;
-                    if (v25 > (uint64_t)get32(p1 + 84)) {
-                        v30 = v4 + 520;
-                        v8 = 4;
-                        goto l23;
-                    }
-                    v29 = 0;
-                    put64(v4 + 480, 0);
-                    put64(v4 + 488, 0);
-                    put64(v4 + 496, 0);
-                    put64(v4 + 504, 0);
-                    put64(v4 + 512, 0);
-                    put64(v4 + 376, 0);
-                    put64(v4 + 384, 0);
-                    put64(v4 + 392, 0);
-                    if (v25 == 0) {
-                        v26 = v4 + 520;
-                    } else {
-                        rattle_alloc_at(v4 + 64, v25, 1);
-                        if (((uint32_t)get64(v4 + 64) & 1) == 0) goto l29;
-                        v26 = get64(v4 + 72);
-                    }
-                    put64(v4 + 448, 0);
-                    put64(v4 + 440, v26);
-                    put64(v4 + 456, v25);
-                    if (v22 > v25) {
-                        v6 = std_alloc_vec_Vec_grow_amortized_a351ad16c7c032ee(v4 + 440, v22);
-                        v29 = get64(v4 + 448);
-                        v25 = get64(v4 + 456);
-                        if (v6 == 0) {
-                            v28 = v29;
-                            goto l115;
-                        }
-                        v26 = get64(v4 + 440);
-                    }
-                    v28 = v29 + v22;
-                    v31 = v26 + v29;
-                    if ((v31 - v30) < v22) {
-                        v16 = v22 & 3;
-                        v23 = 0;
-                        if (v22 >= 4) {
-                            v27 = v22 & ~3ULL;
-                            v23 = 0;
-                            do {
-                                v24 = v31 + v23;
-                                v22 = v30 + v23;
-                                put8(v24, get8(v22));
-                                put8(v24 + 1, get8(v22 + 1));
-                                put8(v24 + 2, get8(v22 + 2));
-                                put8(v24 + 3, get8(v22 + 3));
-                                v23 = v23 + 4;
-                            } while (v27 != v23);
-                            if (v16 == 0) goto l118;
-                        }
-                        v24 = v30 + v23;
-                        v23 = v26 + (v29 + v23);
-                        do {
-                            put8(v23, get8(v24));
-                            v23 = v23 + 1;
-                            v24 = v24 + 1;
-                            v16 = v16 - 1;
-                        } while (v16 != 0);
-                    } else if (v22 != 0) copy(v31, v30, v22);
-                l118:;
-                    put64(v4 + 456, v25);
-                    put64(v4 + 448, v28);
-                l115:;
-                    if (v9 > (v25 - v28)) {
-                        v6 = std_alloc_vec_Vec_grow_amortized_a351ad16c7c032ee(v4 + 440, v9);
-                        v28 = get64(v4 + 448);
-                        if (v6 == 0) {
-                            v26 = get64(v4 + 440);
-                            v27 = v28;
-                            goto l123;
-                        }
-                        v25 = get64(v4 + 456);
-                    }
-                    v27 = v28 + v9;
-                    v26 = get64(v4 + 440);
-                    v30 = v26 + v28;
-                    if ((v30 - v13) < v9) {
-                        v16 = v9 & 3;
-                        v23 = 0;
-                        if (v9 >= 4) {
-                            v31 = v9 & ~3ULL;
-                            v23 = 0;
-                            do {
-                                v24 = v30 + v23;
-                                v22 = v13 + v23;
-                                put8(v24, get8(v22));
-                                put8(v24 + 1, get8(v22 + 1));
-                                put8(v24 + 2, get8(v22 + 2));
-                                put8(v24 + 3, get8(v22 + 3));
-                                v23 = v23 + 4;
-                            } while (v31 != v23);
-                            if (v16 == 0) goto l126;
-                        }
-                        v24 = v13 + v23;
-                        v23 = v26 + (v28 + v23);
-                        do {
-                            put8(v23, get8(v24));
-                            v23 = v23 + 1;
-                            v24 = v24 + 1;
-                            v16 = v16 - 1;
-                        } while (v16 != 0);
-                    } else if (v9 != 0) copy(v30, v13, v9);
-                l126:;
-                    put64(v4 + 456, v25);
-                    put64(v4 + 448, v27);
-                l123:;
-                    v8 = 4;
-                    if (v27 <= (uint64_t)get32(p1 + 84)) {
-                        v8 = 3;
-                        if (v27 >= 6) {
-                            v6 = get8(v26);
-                            if (v6 <= 31 && ((v6 & 8) == 0 || (((v6 << 8) & 0x700) | get8(v26 + 1)) != 0x7ff)) {
-                                put64(v4 + 496, 0);
-                                put64(v4 + 480, 0);
-                                put64(v4 + 504, 0);
-                                put64(v4 + 512, 0);
-                                v24 = (uint64_t)get8(v26 + 4);
-                                v23 = (uint64_t)get8(v26 + 5);
-                                put64(v4 + 488, v4 + 520);
-                                p1 = v4 + 496;
-                                v8 = 3;
-                                if (((v23 | (v24 << 8)) + 7) != v27) goto l132;
-                                smallvec_small_vec_SmallVec_push_reserved_ed127ccbaaf726c4(v4 + 480, v4 + 440);
-                                v8 = 0;
-                                v31 = (uint64_t)get8(v4 + 480);
-                                v29 = get64(v4 + 488);
-                                v6 = 0;
-                                goto l131;
-                            }
-                        }
-                    }
-                    put64(v4 + 496, 0);
-                    put64(v4 + 480, 0);
-                    put64(v4 + 504, 0);
-                    put64(v4 + 512, 0);
-                    put64(v4 + 488, v4 + 520);
-                    p1 = v4 + 496;
-                l132:;
-                    v6 = 1;
-                    v29 = v4 + 520;
-                    v31 = 0;
-                    if (get64(v4 + 456) != 0) rattle_dealloc_at(v26);
-                l131:;
-                    put64(v4 + 352, get64(v4 + 376));
-                    v26 = get64(p1 + 8);
-                    put64(v4 + 360, get64(v4 + 384));
-                    v25 = get64(p1 + 16);
-                    put64(v4 + 368, get64(v4 + 392));
-                    v27 = get64(v4 + 496);
-                    v28 = 0;
-                    v30 = v4 + 520;
-                    goto l24;
-                case 3:
-                    break;
-                default:
-                    v6 = 1;
-                    v31 = 0;
-                    v32 = 1;
-                    if (v7 != 0) {
-                        v30 = v4 + 520;
-                        v8 = 2;
-                        goto l23;
-                    }
-                    if ((v22 + v9) > (uint64_t)get32(p1 + 84)) {
-                        v30 = v4 + 520;
-                        v8 = 4;
-                        goto l23;
-                    }
-                    v30 = v4 + 520;
-                    v8 = 0;
-                    v32 = 3;
-                    v6 = 0;
-                    goto l23;
-                }
-                v22 = (uint64_t)get32(p1 + 84);
-                if (get8(p1 + 96) == 0) {
-                    v6 = 1;
-                    v31 = 0;
-                    v32 = 1;
-                    if (v9 > v22) {
-                        v30 = v4 + 520;
-                        v8 = 4;
-                        goto l23;
-                    }
-                    v30 = v4 + 520;
-                    v8 = 3;
-                    if (v9 < 6) goto l23;
-                    v30 = v4 + 520;
-                    v7 = get8(v13);
-                    if (v7 > 31) goto l23;
-                    v32 = 1;
-                    if ((v7 & 8) != 0) {
-                        v30 = v4 + 520;
-                        if ((((v7 << 8) & 0x700) | get8(v13 + 1)) == 0x7ff) goto l23;
-                    }
-                    v30 = v4 + 520;
-                    v29 = v30;
-                    v28 = 0;
-                    v22 = 0;
-                    v27 = 0;
-                    v26 = 0;
-                    v25 = 0;
-                    if (((((uint64_t)get8(v13 + 4) << 8) | (uint64_t)get8(v13 + 5)) + 7) != v9) goto l21;
-                    rattle_alloc_at(v4 + 16, v9, 1);
-                    if (((uint32_t)get64(v4 + 16) & 1) == 0) goto l29;
-                    v29 = get64(v4 + 24);
-                    if ((v29 - v13) >= v9) {
-                        if (v9 != 0) copy(v29, v13, v9);
-                        goto l56;
-                    }
-                    v22 = v9 & 3;
-                    v24 = 0;
-                    if ((v9 - 1) >= 3) {
-                        v16 = v9 & ~3ULL;
-                        v24 = 0;
-                        do {
-                            p1 = v29 + v24;
-                            v23 = v13 + v24;
-                            put8(p1, get8(v23));
-                            put8(p1 + 1, get8(v23 + 1));
-                            put8(p1 + 2, get8(v23 + 2));
-                            put8(p1 + 3, get8(v23 + 3));
-                            v24 = v24 + 4;
-                        } while (v16 != v24);
-                        if (v22 == 0) goto l56;
-                    }
-                    p1 = v29 + v24;
-                    v24 = v13 + v24;
-                    do {
-                        put8(p1, get8(v24));
-                        p1 = p1 + 1;
-                        v24 = v24 + 1;
-                        v22 = v22 - 1;
-                    } while (v22 != 0);
-                    goto l56;
-                }
-                v30 = v4 + 520;
-                v6 = 1;
-                v8 = 3;
-                v31 = 0;
-                v32 = 1;
-                if (v9 < 6) goto l23;
-                v12 = 0;
-                p1 = v13;
-                v23 = v9;
-                do {
-                    v7 = get8(p1);
-                    if (v7 > 31) {
-                        v30 = v4 + 520;
-                        v32 = 1;
-                        goto l23;
-                    }
-                    v32 = 1;
-                    if ((v7 & 8) != 0 && (((v7 << 8) & 0x700) | get8(p1 + 1)) == 0x7ff) {
-                        v30 = v4 + 520;
-                        goto l23;
-                    }
-                    v24 = (((uint64_t)get8(p1 + 4) << 8) | (uint64_t)get8(p1 + 5)) + 7;
-                    if (v23 < v24) {
-                        v30 = v4 + 520;
-                        goto l23;
-                    }
-                    p1 = p1 + v24;
-                    v12 = v12 | (uint32_t)(v24 > v22);
-                    v23 = v23 - v24;
-                } while (v23 > 5);
-                v8 = v23 == 0;
-                v7 = v8 & v12;
-                v8 = (v8 != 0) ? ((v7 != 0) ? 4U : 0U) : 3U;
-                v30 = v4 + 520;
-                if (v7 != 0) goto l23;
-                v16 = 0;
-                v29 = v30;
-                v28 = 0;
-                v22 = 0;
-                v27 = 0;
-                v26 = 0;
-                v25 = 0;
-                if (v23 != 0) goto l21;
-                v24 = v9;
-                p1 = v13;
-                do {
-                    v6 = get8(p1);
-                    if (v6 > 31 || ((v6 & 8) != 0 && (((v6 << 8) & 0x700) | get8(p1 + 1)) == 0x7ff)) break;
-                    v23 = (((uint64_t)get8(p1 + 4) << 8) | (uint64_t)get8(p1 + 5)) + 7;
-                    if (v24 < v23) break;
-                    p1 = p1 + v23;
-                    v16 = v16 + 1;
-                    v24 = v24 - v23;
-                } while (v24 > 5);
-                put64(v4 + 496, 0);
-                put64(v4 + 480, 0);
-                put64(v4 + 504, 0);
-                put64(v4 + 512, 0);
-                put64(v4 + 488, v4 + 520);
-                v24 = 0;
-                if (v16 >= 2) {
-                    v6 = smallvec_small_vec_SmallVec_grow_444910b390f8755b(v4 + 480, v16);
-                    v8 = get8(v4 + 480);
-                    if ((v6 & 255) != 0) {
-                        v9 = get64(v4 + 504);
-                        p2 = get64(v4 + 488);
-                        if ((v8 & 255) == 0) {
-                            if (v9 != 0) goto l106;
-                            goto l29;
-                        }
-                        p1 = get64(v4 + 496);
-                        if (p1 != 0) {
-                            p3 = p2;
-                            do {
-                                if (get64(p3 + 16) != 0) rattle_dealloc_at(get64(p3));
-                                p3 = p3 + 24;
-                                p1 = p1 - 1;
-                            } while (p1 != 0);
-                        }
-                        if (v9 == 0) goto l29;
-                    l106:;
-                        rattle_dealloc_at(p2);
-                        goto l29;
-                    }
-                    v24 = (uint64_t)v8 & 255;
-                }
-                p1 = v4 + 480 + 8;
-                put64(v4 + 472, get64(p1 + 24));
-                put64(v4 + 464, get64(p1 + 16));
-                put64(v4 + 456, get64(p1 + 8));
-                put64(v4 + 448, get64(p1));
-                put64(v4 + 440, v24);
-                v32 = v4 + 456;
-                v29 = v4 + 440 + 8;
-                v28 = v4 + 472;
-                v27 = v9;
-                v16 = v13;
-                for (;;) {
-                    v6 = get8(v16);
-                    if (v6 > 31 || ((v6 & 8) != 0 && (((v6 << 8) & 0x700) | get8(v16 + 1)) == 0x7ff)) goto l26;
-                    p1 = (uint64_t)get8(v16 + 4) << 8;
-                    v23 = (uint64_t)get8(v16 + 5);
-                    v31 = (p1 | v23) + 7;
-                    if (v27 < v31) goto l26;
-                    rattle_alloc_at(v4, v31, 1);
-                    if (((uint32_t)get64(v4) & 1) == 0) break;
-                    v30 = get64(v4 + 8);
-                    if ((v30 - v16) < v31) {
-                        v22 = v31 & 3;
-                        v24 = 0;
-                        if ((v23 + p1 + 6) >= 3) {
-                            v25 = v31 & 0x1fffc;
-                            v24 = 0;
-                            do {
-                                p1 = v30 + v24;
-                                v23 = v16 + v24;
-                                put8(p1, get8(v23));
-                                put8(p1 + 1, get8(v23 + 1));
-                                put8(p1 + 2, get8(v23 + 2));
-                                put8(p1 + 3, get8(v23 + 3));
-                                v24 = v24 + 4;
-                            } while (v25 != v24);
-                            if (v22 == 0) goto l76;
-                        }
-                        p1 = v30 + v24;
-                        v24 = v16 + v24;
-                        do {
-                            put8(p1, get8(v24));
-                            p1 = p1 + 1;
-                            v24 = v24 + 1;
-                            v22 = v22 - 1;
-                        } while (v22 != 0);
-                    } else if (v31 != 0) copy(v30, v16, v31);
-                l76:;
-                    v6 = get8(v4 + 440);
-                    if (get64((v6 != 0) ? v32 : v28) == ((v6 != 0) ? get64(v4 + 464) : 1ULL)) {
-                        t3 = smallvec_small_vec_SmallVec_reserve_one_444910b390f8755b(v4 + 440);
-                        if ((t3 & 255) != 0) goto l72;
-                        v6 = get8(v4 + 440);
-                    }
-                    v27 = v27 - v31;
-                    if ((v6 & 255) == 0) {
-                        v24 = get64(v4 + 472);
-                        p1 = v29 + (v24 * 24);
-                        put64(p1 + 8, v31);
-                        v23 = get64(p1 + 16);
-                        put64(p1 + 16, v31);
-                        v22 = get64(p1);
-                        put64(p1, v30);
-                        if (v23 != 0) rattle_dealloc_at(v22);
-                        put64(v4 + 472, v24 + 1);
-                    } else {
-                        v24 = get64(v4 + 456);
-                        p1 = get64(v4 + 448) + (v24 * 24);
-                        put64(p1 + 16, v31);
-                        put64(p1 + 8, v31);
-                        put64(p1, v30);
-                        put64(v4 + 456, v24 + 1);
-                    }
-                    v16 = v16 + v31;
-                    if (v27 < 6) goto l26;
-                }
-                v9 = get64(v4 + 464);
-                p2 = get64(v4 + 448);
-                if (get8(v4 + 440) == 0) {
-                    if (v9 != 0) goto l85;
-                    goto l29;
-                }
-                p1 = get64(v4 + 456);
-                if (p1 != 0) {
-                    p3 = p2;
-                    do {
-                        if (get64(p3 + 16) != 0) rattle_dealloc_at(get64(p3));
-                        p3 = p3 + 24;
-                        p1 = p1 - 1;
-                    } while (p1 != 0);
-                }
-                if (v9 == 0) goto l29;
-            l85:;
-                rattle_dealloc_at(p2);
-                goto l29;
-            l72:;
-                rattle_dealloc_at(v30);
-                v9 = get64(v4 + 464);
-                p2 = get64(v4 + 448);
-                if (get8(v4 + 440) == 0) {
-                    if (v9 != 0) goto l90;
-                    goto l29;
-                }
-                p1 = get64(v4 + 456);
-                if (p1 != 0) {
-                    p3 = p2;
-                    do {
-                        if (get64(p3 + 16) != 0) rattle_dealloc_at(get64(p3));
-                        p3 = p3 + 24;
-                        p1 = p1 - 1;
-                    } while (p1 != 0);
-                }
-                if (v9 == 0) goto l29;
-            l90:;
-                rattle_dealloc_at(p2);
-                goto l29;
-            l56:;
-                p1 = v4 + 392;
-                put64(v4 + 408, 1);
-                put64(v4 + 400, v9);
-                put64(v4 + 392, v9);
-                v31 = 0;
-                v27 = v9;
-                goto l25;
-            }
-            v11 = 2;
-            v19 = 1;
-            v18 = 1;
-        } else {
-            v12 = 1;
-            v5 = v10 - v7;
-            v6 = (v20 >> 1) & 127;
-            if ((v5 & 255) >= v6) {
-                if ((v5 & 255) > (~v6 & 255)) {
-                    v11 = ((v19 & 1) != 0) ? 5U : 3U;
-                    v12 = 0;
-                } else {
-                    v11 = 4;
-                }
-            } else if ((v19 & 1) != 0) {
-                v12 = 0;
-                v19 = 1;
-            } else {
-                v18 = 1;
-                v12 = 0;
-                v19 = 0;
-                v11 = 1;
-            }
-        }
-    }
-l43:;
-    put8(v4 + 140, 0);
-    put32(v4 + 136, 0);
-    put32(v4 + 128, 0);
-    put16(v4 + 132, 0);
-    put32(v4 + 120, 0);
-    put16(v4 + 124, 0);
-    put64(v4 + 96, 0);
-    put64(v4 + 104, 0);
-    put64(v4 + 112, 0);
-    v21 = 2;
-l38:;
-    v33 = 0;
-    v6 = 0;
-    v8 = 0;
-    goto l28;
-l36:;
-    v10 = 0;
-    v6 = 0;
-    v24 = 0;
-    p1 = 0;
-l35:;
-    v17 = (v8 + 1) & 3;
-    v34 = (uint64_t)v6;
-    v33 = 0;
-l34:;
-    v11 = 0;
-    put8(v4 + 140, 0);
-    put32(v4 + 136, 0);
-    put32(v4 + 128, 0);
-    put16(v4 + 132, 0);
-    put32(v4 + 120, 0);
-    put16(v4 + 124, 0);
-    v16 = 0;
-    put64(v4 + 96, 0);
-    put64(v4 + 104, 0);
-    put64(v4 + 112, 0);
-    v6 = 0;
-    v8 = 0;
-    v35 = 0;
-    v14 = 0;
-    v5 = 0;
-    v13 = 0;
-    v9 = 0;
-    v31 = 0;
-    v29 = 0;
-    v27 = 0;
-    v26 = 0;
-    v25 = 0;
-    v32 = 0;
-    v30 = 0;
-    v22 = 0;
-    v28 = 0;
-    goto l18;
-l29:;
-    put32(v4 + 136, get32(v4 + 264));
-    put8(v4 + 140, get8(v4 + 268));
-    put32(v4 + 128, get32(v4 + 256));
-    put16(v4 + 132, get16(v4 + 260));
-    put32(v4 + 120, get32(v4 + 248));
-    put16(v4 + 124, get16(v4 + 252));
-    put64(v4 + 112, get64(v4 + 240));
-    put64(v4 + 104, get64(v4 + 232));
-    put64(v4 + 96, get64(v4 + 224));
-    v21 = 0;
-    p2 = 0;
-    v33 = 5;
-    v15 = 1;
-    p3 = 0;
-    v10 = 0;
-    v11 = 0;
-    v16 = 0;
-    v6 = 0;
-    v8 = 0;
-    v20 = 0;
-    v7 = 0;
-    v12 = 0;
-    v19 = 0;
-    v18 = 0;
-    v17 = 0;
-l28:;
-    v35 = 0;
-    v14 = 0;
-    v5 = 0;
-    v13 = 0;
-    v9 = 0;
-    v31 = 0;
-    v29 = 0;
-    v27 = 0;
-    v26 = 0;
-    v25 = 0;
-    v32 = 0;
-    v30 = 0;
-    v22 = 0;
-    v28 = 0;
-    goto l19;
-l26:;
-    v27 = get64(v32);
-    put64(v4 + 416, v27);
-    put64(v4 + 424, get64(v32 + 8));
-    put64(v4 + 432, get64(v32 + 16));
-    v29 = get64(v4 + 448);
-    v31 = (uint64_t)get8(v4 + 440);
-    p1 = v4 + 416;
-l25:;
-    v28 = 0;
-    put64(v4 + 352, 0);
-    put64(v4 + 360, 0);
-    put64(v4 + 368, 0);
-    v25 = get64(p1 + 16);
-    v26 = get64(p1 + 8);
-    v30 = v4 + 520;
-    v32 = 1;
-    v8 = v11;
-    v6 = v11;
-l24:;
-    v22 = 0;
-    goto l21;
-l23:;
-    v29 = v30;
-    v28 = 0;
-    v22 = 0;
-l22:;
-    v27 = 0;
-    v26 = 0;
-    v25 = 0;
-l21:;
-    p1 = get64(v4 + 352);
-    put64(v4 + 168, p1);
-    v24 = get64(v4 + 360);
-    put64(v4 + 176, v24);
-    v23 = get64(v4 + 368);
-    put64(v4 + 184, v23);
-    put64(v4 + 192, p1);
-    put64(v4 + 200, v24);
-    put64(v4 + 208, v23);
-    v16 = (v31 == 0) ? v25 : v27;
-l20:;
-    v7 = v10 + 1;
-    put8(v4 + 140, get8(v4 + 164));
-    put32(v4 + 136, get32(v4 + 160));
-    put32(v4 + 128, get32(v4 + 152));
-    put16(v4 + 132, get16(v4 + 156));
-    put32(v4 + 120, get32(v4 + 216));
-    put16(v4 + 124, get16(v4 + 220));
-    put64(v4 + 96, get64(v4 + 192));
-    put64(v4 + 104, get64(v4 + 200));
-    put64(v4 + 112, get64(v4 + 208));
-    v35 = 1;
-    v21 = 2;
-    v15 = 0;
-    v33 = 0;
-    v11 = 0;
-    v12 = 0;
-    v19 = 0;
-    v18 = 0;
-l19:;
-    v23 = 0;
-    v34 = 0;
-    v24 = 0;
-    p1 = 0;
-l18:;
-    put8(p0, v15);
-    put8(p0 + 26, v11);
-    put8(p0 + 25, v10);
-    put8(p0 + 24, v21);
-    put64(p0 + 16, p3);
-    put64(p0 + 8, p2);
-    put8(p0 + 1, v33);
-    put32(p0 + 27, get32(v4 + 136));
-    put8(p0 + 31, get8(v4 + 140));
-    put8(p0 + 41, v8);
-    put8(p0 + 40, v6);
-    put64(p0 + 32, v16);
-    put32(p0 + 42, get32(v4 + 128));
-    put16(p0 + 46, get16(v4 + 132));
-    put16(p0 + 94, 0);
-    put32(p0 + 90, 0);
-    put8(p0 + 65, v5);
-    put8(p0 + 64, v14);
-    put64(p0 + 56, v35);
-    put16(p0 + 54, 0);
-    put8(p0 + 53, v17);
-    put8(p0 + 52, v18);
-    put8(p0 + 51, v19);
-    put8(p0 + 50, v12);
-    put8(p0 + 49, v7);
-    put8(p0 + 48, v20);
-    put64(p0 + 72, v13);
-    put64(p0 + 80, v9);
-    put64(p0 + 96, v31);
-    put64(p0 + 104, v29);
-    put64(p0 + 112, v27);
-    put64(p0 + 120, v26);
-    put64(p0 + 128, v25);
-    put64(p0 + 136, v32);
-    put8(p0 + 89, v8);
-    put8(p0 + 88, v6);
-    put32(p0 + 66, get32(v4 + 120));
-    put16(p0 + 70, get16(v4 + 124));
-    put64(p0 + 224, p1);
-    put64(p0 + 216, p1);
-    put64(p0 + 208, v24);
-    put64(p0 + 200, v34);
-    put64(p0 + 192, v23);
-    put64(p0 + 184, v28);
-    put64(p0 + 176, v22);
-    put64(p0 + 168, v30);
-    put64(p0 + 160, get64(v4 + 112));
-    put64(p0 + 152, get64(v4 + 104));
-    put64(p0 + 144, get64(v4 + 96));
-    return;
-l2:;
-    v6 = get32(p1 + 72);
-    v8 = get16(p1 + 76);
-    put64(p0 + 26, 0);
-    put8(p0 + 25, v5);
-    put8(p0 + 24, 0);
-    put64(p0 + 16, p3);
-    put64(p0 + 8, p2);
-    put16(p0, 0);
-    put64(p0 + 34, 0);
-    put64(p0 + 40, 0);
-    put16(p0 + 52, v8);
-    put32(p0 + 48, v6);
-    fill(p0 + 54, 0, 178);
-    return;
-}
-
-static uint32_t smallvec_small_vec_SmallVec_grow_444910b390f8755b(uint64_t p0, uint64_t p1)
-{
-    unsigned char frame_octets[128 + 15];
-    uint32_t v3 = 0, v4 = 0;
-    uint64_t v2 = 0, v5 = 0, v6 = 0, v7 = 0, v8 = 0, v9 = 0, v10 = 0, v11 = 0, v12 = 0, v13 = 0, v14 = 0, v15 = 0,
-        v16 = 0, v17 = 0;
-    v2 = aligned(frame_octets);
-    v3 = 0;
-    v4 = get8(p0);
-    v5 = get64(p0 + ((v4 != 0) ? 16ULL : 32ULL));
-    if (p1 < v5) return 0;
-    if (p1 <= 1) {
-        if (v4 != 1) return 0;
-        p1 = p0 + 16;
-        v6 = get64(p1);
-        v7 = 0;
-        put64(p1, 0);
-        p1 = p0 + 24;
-        v8 = get64(p1);
-        put64(p1, 0);
-        put64(v2 + 72, 0);
-        put64(v2 + 80, 0);
-        put64(v2 + 88, 0);
-        v9 = p0 + 8;
-        v10 = get64(v9);
-        put64(v9, v2 + 120);
-        put64(v2 + 64, v2 + 120);
-        if (v6 != 0) {
-            p1 = v2 + 64;
-            v5 = v10;
-            do {
-                v11 = get64(p1);
-                put64(p1, get64(v5));
-                put64(p1 + 8, get64(v5 + 8));
-                v12 = p1 + 16;
-                v13 = get64(v12);
-                put64(v12, get64(v5 + 16));
-                if (v13 != 0) rattle_dealloc_at(v11);
-                v7 = v7 + 1;
-                put64(v2 + 88, v7);
-                v5 = v5 + 24;
-                p1 = p1 + 24;
-            } while (v6 != v7);
-        }
-        if (v8 != 0) rattle_dealloc_at(v10);
-        v4 = get8(p0);
-        put64(p0, 0);
-        v7 = get64(p0 + 8);
-        put64(v9, get64(v2 + 64));
-        v5 = get64(p0 + 16);
-        put64(v9 + 8, get64(v2 + 72));
-        p0 = get64(p0 + 24);
-        put64(v9 + 16, get64(v2 + 80));
-        put64(v9 + 24, get64(v2 + 88));
-        if (v4 == 0) {
-            if (p0 != 0) goto l9;
-            return v3;
-        }
-        if (v5 != 0) {
-            p1 = v7;
-            do {
-                if (get64(p1 + 16) != 0) rattle_dealloc_at(get64(p1));
-                p1 = p1 + 24;
-                v5 = v5 - 1;
-            } while (v5 != 0);
-        }
-        if (p0 == 0) return v3;
-    l9:;
-        rattle_dealloc_at(v7);
-        v3 = 0;
-        return 0;
-    }
-    v10 = p0 + 8;
-    if (v4 != 0) {
-        v7 = get64(p0 + 24);
-        if (p1 < v7) {
-            v5 = get64(p0 + 16);
-            if (v5 >= v7) return 0;
-            p1 = (v5 > p1) ? v5 : p1;
-            rattle_realloc_at(v2 + 16, get64(v10), v5 * 24, p1 * 24, 8);
-            if (((uint32_t)get64(v2 + 16) & 1) == 0) return 0;
-            v5 = get64(v2 + 24);
-            put64(p0 + 24, p1);
-            put64(p0 + 8, v5);
-            return 0;
-        }
-        v5 = p1 - v5;
-        p1 = get64(p0 + 16);
-        if (v5 <= (v7 - p1)) return 0;
-        v3 = 1;
-        if (v5 > ~p1) return 1;
-        v5 = p1 + v5;
-        if (v5 > 0x555555555555555ULL) return 1;
-        if (v7 != 0) {
-            rattle_realloc_at(v2 + 48, get64(v10), p1 * 24, v5 * 24, 8);
-            v3 = 1;
-            if (((uint32_t)get64(v2 + 48) & 1) == 0) return 1;
-            p1 = get64(v2 + 56);
-        } else {
-            rattle_alloc_at(v2 + 32, v5 * 24, 8);
-            v3 = 1;
-            if (((uint32_t)get64(v2 + 32) & 1) == 0) return 1;
-            p1 = get64(v2 + 40);
-        }
-        put64(p0 + 24, v5);
-        put64(p0 + 8, p1);
-        v3 = 0;
-        return 0;
-    }
-    if (p1 > 0x555555555555555ULL) goto l2;
-    rattle_alloc_at(v2, p1 * 24, 8);
-    if (((uint32_t)get64(v2) & 1) == 0) goto l2;
-    v8 = get64(v2 + 8);
-    v14 = p0 + 32;
-    v15 = get64(v14);
-    if (v15 != 0) {
-        v13 = 0;
-        if (v15 != 1) {
-            v16 = v15 & 1;
-            v17 = v15 & ~1ULL;
-            v12 = 0;
-            v13 = 0;
-            do {
-                v5 = p0 + v12;
-                v7 = v5 + 16;
-                v11 = get64(v7);
-                put64(v7, 0);
-                v7 = v5 + 24;
-                v6 = get64(v7);
-                put64(v7, 0);
-                v7 = v5 + 8;
-                v9 = get64(v7);
-                put64(v7, v2 + 120);
-                v7 = v8 + v12;
-                put64(v7 + 16, v6);
-                put64(v7 + 8, v11);
-                put64(v7, v9);
-                v11 = v5 + 48;
-                v6 = get64(v11);
-                put64(v11, 0);
-                v11 = v5 + 40;
-                v9 = get64(v11);
-                put64(v11, 0);
-                v5 = v5 + 32;
-                v11 = get64(v5);
-                put64(v5, v2 + 120);
-                put64(v2 + 96, v11);
-                put64(v2 + 104, v9);
-                put64(v2 + 112, v6);
-                put64(v7 + 24, get64(v2 + 96));
-                put64(v7 + 32, get64(v2 + 104));
-                put64(v7 + 40, get64(v2 + 112));
-                v12 = v12 + 48;
-                v13 = v13 + 2;
-            } while (v17 != v13);
-            if (v16 == 0) goto l16;
-        }
-        v11 = v13 * 24;
-        v5 = v10 + v11;
-        v7 = get64(v5 + 8);
-        put64(v5 + 8, 0);
-        v12 = get64(v5 + 16);
-        put64(v5 + 16, 0);
-        v13 = get64(v5);
-        put64(v5, v2 + 120);
-        v5 = v8 + v11;
-        put64(v5 + 16, v12);
-        put64(v5 + 8, v7);
-        put64(v5, v13);
-        put64(v2 + 112, v12);
-        put64(v2 + 104, v7);
-        put64(v2 + 96, v13);
-    l16:;
-        v7 = get64(p0 + 32);
-        if (v7 != 0) {
-            v5 = p0 + 24;
-            do {
-                put64(v5 - 8, 0);
-                v12 = get64(v5);
-                put64(v5, 0);
-                v13 = v5 - 16;
-                v11 = get64(v13);
-                put64(v13, v2 + 120);
-                if (v12 != 0) rattle_dealloc_at(v11);
-                v5 = v5 + 24;
-                v7 = v7 - 1;
-            } while (v7 != 0);
-        }
-    }
-    put64(v14, 0);
-    v4 = get8(p0);
-    put64(p0, 1);
-    v5 = p0 + 24;
-    v12 = get64(v5);
-    put64(v5, p1);
-    p1 = p0 + 16;
-    v5 = get64(p1);
-    put64(p1, v15);
-    p1 = p0 + 8;
-    v7 = get64(p1);
-    put64(p1, v8);
-    if (v4 == 0) {
-        if (v12 == 0) return v3;
-        rattle_dealloc_at(v7);
-        return v3;
-    }
-    if (v5 != 0) {
-        p1 = v7;
-        do {
-            if (get64(p1 + 16) != 0) rattle_dealloc_at(get64(p1));
-            p1 = p1 + 24;
-            v5 = v5 - 1;
-        } while (v5 != 0);
-    }
-    if (v12 == 0) return v3;
-    rattle_dealloc_at(v7);
-    return v3;
-l2:;
-    v3 = 1;
-    return 1;
-}
-
-static uint32_t smallvec_small_vec_SmallVec_reserve_one_444910b390f8755b(uint64_t p0)
-{
-    uint32_t v1 = 0, t1;
-    uint64_t v2 = 0, v3 = 0;
-    v1 = get8(p0);
-    v2 = get64(p0 + ((v1 != 0) ? 16ULL : 32ULL));
-    if (v1 == 0) {
-        v3 = 1;
+    v3 = aligned(frame_octets);
+    put64(v3 + 136, 0);
+    put64(v3 + 128, 0);
+    put64(v3 + 120, 0);
+    put64(v3 + 96, 0);
+    put64(v3 + 104, 0);
+    put64(v3 + 112, 0);
+    v4 = get64(p1 + 24);
+    v5 = get64(p1 + 32);
+    if (v5 == 0) {
+        v6 = 0;
     } else {
-        v3 = get64(p0 + 24);
+        v7 = v5 - 1;
+        v8 = v4;
+        do {
+            v6 = get8(v8) == 1;
+            if (v6 != 0) break;
+            v8 = v8 + 32;
+            v9 = v7 != 0;
+            v7 = v7 - 1;
+        } while (v9 != 0);
     }
-    if (v3 != v2) return 0;
-    if (v2 > 0x7fffffffffffffffULL) return 1;
-    t1 = smallvec_small_vec_SmallVec_grow_444910b390f8755b(p0, 1ULL << ((0 - clz64(v2)) & 63));
-    return t1 & 255;
+    put64(v3 + 168, 0);
+    put64(v3 + 176, 0);
+    put64(v3 + 184, 0);
+    put64(v3 + 144, 0);
+    put64(v3 + 152, 0);
+    put64(v3 + 160, 0);
+    v8 = (uint64_t)get8(p2 + 1);
+    if (v8 <= 63) {
+        v10 = 1;
+        v7 = get64(p1 + 8);
+        if (((uint32_t)(v7 >> (v8 & 63)) & 1) != 0) {
+            v9 = 0;
+            if (v5 <= v8) {
+                v12 = 0;
+                v5 = 0;
+            } else {
+                v10 = 1;
+                v12 = 0;
+                v5 = 0;
+                v8 = v4 + (v8 << 5);
+                if (get8(v8) == 1) {
+                    v5 = get64(v8 + 16);
+                    v12 = get64(v8 + 8);
+                    v9 = 1;
+                    v10 = 0;
+                }
+            }
+            put64(v3 + 344, 0);
+            put64(v3 + 352, 0);
+            put64(v3 + 360, 0);
+            put64(v3 + 320, 0);
+            put64(v3 + 328, 0);
+            put64(v3 + 336, 0);
+            put64(v3 + 296, 0);
+            put64(v3 + 304, 0);
+            put64(v3 + 312, 0);
+            put64(v3 + 272, 0);
+            put64(v3 + 280, 0);
+            put64(v3 + 288, 0);
+            put64(v3 + 248, 0);
+            put64(v3 + 256, 0);
+            put64(v3 + 264, 0);
+            put64(v3 + 240, 0);
+            put64(v3 + 232, 0);
+            put64(v3 + 224, 0);
+            put64(v3 + 215, 0);
+            put64(v3 + 208, 0);
+            put64(v3 + 200, 0);
+            put64(v3 + 192, 0);
+            v4 = get64(p2 + 16);
+            v13 = get64(p2 + 8);
+            switch ((uint32_t)(uint64_t)get8(p2)) {
+            case 1:
+                v10 = get32(p1 + 4);
+                v12 = (uint64_t)v10;
+                if (v4 > v12) goto l22;
+                v8 = 0;
+                v16 = v3 + 472;
+                if (v6 != 0) {
+                    v5 = v16;
+                    p2 = 0;
+                    goto l18;
+                }
+                v15 = clz64(v7);
+                p2 = 64 - v15;
+                if (v7 == 0) {
+                    v5 = v16;
+                } else {
+                    rattle_alloc_at(v3 + 64, p2 << 5, 8);
+                    v6 = 1;
+                    if (((uint32_t)get64(v3 + 64) & 1) == 0) {
+                        v8 = 0;
+                        put64(v3 + 184, 0);
+                        put64(v3 + 176, 0);
+                        put64(v3 + 168, 0);
+                        put64(v3 + 144, 0);
+                        put64(v3 + 152, 0);
+                        put64(v3 + 160, 0);
+                        v9 = 0;
+                        v11 = 2;
+                        goto l10;
+                    }
+                    v5 = get64(v3 + 72);
+                    v8 = 0x800 - (v15 << 5);
+                    if (v8 != 0) fill(v5, 0, v8);
+                    v10 = get32(p1 + 4);
+                    v12 = (uint64_t)v10;
+                    v8 = p2;
+                }
+                goto l18;
+            case 2:
+                if (v10 != 0) {
+                    v10 = 2;
+                    goto l21;
+                }
+                v15 = v4 + v5;
+                if (v15 > (uint64_t)get32(p1 + 4)) goto l22;
+                v17 = 0;
+                put64(v3 + 432, 0);
+                put64(v3 + 440, 0);
+                put64(v3 + 448, 0);
+                put64(v3 + 456, 0);
+                put64(v3 + 464, 0);
+                put64(v3 + 408, 0);
+                put64(v3 + 416, 0);
+                put64(v3 + 424, 0);
+                if (v15 == 0) {
+                    v18 = v3 + 472;
+                } else {
+                    rattle_alloc_at(v3 + 80, v15, 1);
+                    v6 = 1;
+                    if (((uint32_t)get64(v3 + 80) & 1) == 0) {
+                        p1 = 0;
+                        put64(v3 + 312, 0);
+                        put64(v3 + 304, 0);
+                        put64(v3 + 296, 0);
+                        put64(v3 + 272, 0);
+                        put64(v3 + 280, 0);
+                        put64(v3 + 288, 0);
+                        v9 = 0;
+                        v11 = 2;
+                        v10 = 0;
+                        v7 = 0;
+                        v4 = 0;
+                        v5 = 0;
+                        goto l58;
+                    }
+                    v18 = get64(v3 + 88);
+                }
+                put64(v3 + 376, 0);
+                put64(v3 + 368, v18);
+                put64(v3 + 384, v15);
+                if (v5 > v15) {
+                    v9 = std_alloc_vec_Vec_grow_amortized_a351ad16c7c032ee(v3 + 368, v5);
+                    v17 = get64(v3 + 376);
+                    v15 = get64(v3 + 384);
+                    if (v9 == 0) {
+                        v19 = v17;
+                        goto l62;
+                    }
+                    v18 = get64(v3 + 368);
+                }
+                v19 = v17 + v5;
+                v14 = v18 + v17;
+                if ((v14 - v12) < v5) {
+                    v16 = v5 & 3;
+                    v7 = 0;
+                    if (v5 >= 4) {
+                        v5 = v5 & ~3ULL;
+                        v7 = 0;
+                        do {
+                            v8 = v14 + v7;
+                            p2 = v12 + v7;
+                            put8(v8, get8(p2));
+                            put8(v8 + 1, get8(p2 + 1));
+                            put8(v8 + 2, get8(p2 + 2));
+                            put8(v8 + 3, get8(p2 + 3));
+                            v7 = v7 + 4;
+                        } while (v5 != v7);
+                        if (v16 == 0) goto l65;
+                    }
+                    v8 = v12 + v7;
+                    v7 = v18 + (v17 + v7);
+                    do {
+                        put8(v7, get8(v8));
+                        v7 = v7 + 1;
+                        v8 = v8 + 1;
+                        v16 = v16 - 1;
+                    } while (v16 != 0);
+                } else if (v5 != 0) copy(v14, v12, v5);
+            l65:;
+                put64(v3 + 384, v15);
+                put64(v3 + 376, v19);
+            l62:;
+                if (v4 > (v15 - v19)) {
+                    v9 = std_alloc_vec_Vec_grow_amortized_a351ad16c7c032ee(v3 + 368, v4);
+                    v19 = get64(v3 + 376);
+                    if (v9 == 0) {
+                        v14 = get64(v3 + 368);
+                        v16 = v19;
+                        goto l70;
+                    }
+                    v15 = get64(v3 + 384);
+                }
+                v16 = v19 + v4;
+                v14 = get64(v3 + 368);
+                v12 = v14 + v19;
+                if ((v12 - v13) < v4) {
+                    v5 = v4 & 3;
+                    v7 = 0;
+                    if (v4 >= 4) {
+                        v4 = v4 & ~3ULL;
+                        v7 = 0;
+                        do {
+                            v8 = v12 + v7;
+                            p2 = v13 + v7;
+                            put8(v8, get8(p2));
+                            put8(v8 + 1, get8(p2 + 1));
+                            put8(v8 + 2, get8(p2 + 2));
+                            put8(v8 + 3, get8(p2 + 3));
+                            v7 = v7 + 4;
+                        } while (v4 != v7);
+                        if (v5 == 0) goto l73;
+                    }
+                    v8 = v13 + v7;
+                    v7 = v14 + (v19 + v7);
+                    do {
+                        put8(v7, get8(v8));
+                        v7 = v7 + 1;
+                        v8 = v8 + 1;
+                        v5 = v5 - 1;
+                    } while (v5 != 0);
+                } else if (v4 != 0) copy(v12, v13, v4);
+            l73:;
+                put64(v3 + 384, v15);
+                put64(v3 + 376, v16);
+            l70:;
+                if (v16 > (uint64_t)get32(p1 + 4)) {
+                    v9 = 1;
+                    v10 = 4;
+                    goto l78;
+                }
+                v8 = 0;
+                if (v16 < 6) {
+                    v9 = 0;
+                } else {
+                    v6 = get8(v14);
+                    if (v6 > 31) {
+                        v9 = 0;
+                    } else {
+                        if ((v6 & 8) != 0) {
+                            v9 = 0;
+                            if ((((v6 << 8) & 0x700) | get8(v14 + 1)) == 0x7ff) goto l80;
+                        }
+                        v8 = (((uint64_t)get8(v14 + 4) << 8) | (uint64_t)get8(v14 + 5)) + 7;
+                        v9 = v16 >= v8;
+                        v8 = (v9 != 0) ? v8 : 0ULL;
+                    }
+                }
+            l80:;
+                v9 = v9 & (uint32_t)(v8 == v16);
+                v10 = (v9 != 0) ? 0U : 3U;
+                v9 = v9 ^ 1;
+            l78:;
+                p1 = 0;
+                put64(v3 + 448, 0);
+                put64(v3 + 432, 0);
+                put64(v3 + 456, 0);
+                put64(v3 + 464, 0);
+                put64(v3 + 440, v3 + 472);
+                v7 = v3 + 472;
+                if (v9 == 0) {
+                    smallvec_small_vec_SmallVec_push_reserved_ed127ccbaaf726c4(v3 + 432, v3 + 368);
+                    p1 = (uint64_t)get8(v3 + 432);
+                    v7 = get64(v3 + 440);
+                }
+                v8 = v3 + 448;
+                if (v9 != 0 && get64(v3 + 384) != 0) rattle_dealloc_at(v14);
+                put64(v3 + 272, get64(v3 + 408));
+                put64(v3 + 280, get64(v3 + 416));
+                put64(v3 + 288, get64(v3 + 424));
+                put64(v3 + 312, get64(v8 + 16));
+                put64(v3 + 304, get64(v8 + 8));
+                put64(v3 + 296, get64(v8));
+                v5 = v3 + 472;
+                v4 = 1;
+                v6 = 0;
+                v11 = 0;
+            l58:;
+                v8 = 0;
+                p2 = 0;
+                goto l12;
+            case 3:
+                break;
+            default:
+                if (v10 != 0) {
+                    v10 = 2;
+                    goto l21;
+                }
+                if ((v4 + v5) > (uint64_t)get32(p1 + 4)) goto l22;
+                v8 = 0;
+                put64(v3 + 312, 0);
+                put64(v3 + 304, 0);
+                put64(v3 + 296, 0);
+                put64(v3 + 272, 0);
+                put64(v3 + 280, 0);
+                put64(v3 + 288, 0);
+                v7 = v3 + 472;
+                v4 = 3;
+                v6 = 0;
+                p2 = 0;
+                v11 = 0;
+                v9 = 0;
+                v10 = 0;
+                goto l20;
+            }
+            p2 = (uint64_t)get32(p1 + 4);
+            if (get8(p1 + 16) == 0) {
+                if (v4 > p2) goto l22;
+                v10 = 3;
+                if (v4 < 6) goto l21;
+                v6 = get8(v13);
+                if (v6 > 31 || (((v6 & 8) != 0 && (((v6 << 8) & 0x700) | get8(v13 + 1)) == 0x7ff) ||
+                    ((((uint64_t)get8(v13 + 4) << 8) | (uint64_t)get8(v13 + 5)) + 7) != v4)) goto l21;
+                put64(v3 + 384, 0);
+                put64(v3 + 368, 0);
+                put64(v3 + 392, 0);
+                put64(v3 + 400, 0);
+                put64(v3 + 376, v3 + 472);
+                rattle_alloc_at(v3 + 32, v4, 1);
+                if (((uint32_t)get64(v3 + 32) & 1) == 0) goto l11;
+                v7 = get64(v3 + 40);
+                if ((v7 - v13) < v4) {
+                    v12 = v4 & ~3ULL;
+                    v5 = v4 & 3;
+                    v8 = 0;
+                    do {
+                        p1 = v7 + v8;
+                        p2 = v13 + v8;
+                        put8(p1, get8(p2));
+                        put8(p1 + 1, get8(p2 + 1));
+                        put8(p1 + 2, get8(p2 + 2));
+                        put8(p1 + 3, get8(p2 + 3));
+                        v8 = v8 + 4;
+                    } while (v12 != v8);
+                    if (v5 != 0) {
+                        p1 = v13 + v8;
+                        v8 = v7 + v8;
+                        do {
+                            put8(v8, get8(p1));
+                            v8 = v8 + 1;
+                            p1 = p1 + 1;
+                            v5 = v5 - 1;
+                        } while (v5 != 0);
+                    }
+                } else if (v4 != 0) copy(v7, v13, v4);
+                v8 = v3 + 384;
+                put64(v3 + 400, 1);
+                put64(v3 + 392, v4);
+                put64(v3 + 384, v4);
+                put64(v3 + 376, v7);
+                p1 = 0;
+                goto l14;
+            }
+            v10 = 3;
+            if (v4 < 6) goto l21;
+            v11 = 0;
+            v8 = v13;
+            p1 = v4;
+            do {
+                v6 = get8(v8);
+                if (v6 > 31 || ((v6 & 8) != 0 && (((v6 << 8) & 0x700) | get8(v8 + 1)) == 0x7ff)) goto l21;
+                v7 = (((uint64_t)get8(v8 + 4) << 8) | (uint64_t)get8(v8 + 5)) + 7;
+                if (p1 < v7) goto l21;
+                v8 = v8 + v7;
+                v11 = v11 | (uint32_t)(v7 > p2);
+                p1 = p1 - v7;
+            } while (p1 > 5);
+            v6 = p1 == 0;
+            v11 = v6 & v11;
+            v10 = (v6 != 0) ? ((v11 != 0) ? 4U : 0U) : 3U;
+            if (v11 != 0) goto l21;
+            p2 = 0;
+            if (p1 != 0) goto l21;
+            put64(v3 + 464, 0);
+            put64(v3 + 456, 0);
+            put64(v3 + 448, 0);
+            put64(v3 + 440, 0);
+            put64(v3 + 432, 0);
+            v7 = v4;
+            v8 = v13;
+            do {
+                v6 = get8(v8);
+                if (v6 > 31 || ((v6 & 8) != 0 && (((v6 << 8) & 0x700) | get8(v8 + 1)) == 0x7ff)) break;
+                p1 = (((uint64_t)get8(v8 + 4) << 8) | (uint64_t)get8(v8 + 5)) + 7;
+                if (v7 < p1) break;
+                v8 = v8 + p1;
+                p2 = p2 + 1;
+                v7 = v7 - p1;
+            } while (v7 > 5);
+            v8 = v3 + 472;
+            v7 = 0;
+            p1 = 0;
+            if (p2 >= 2) {
+                if (p2 > 0x555555555555555ULL) goto l27;
+                rattle_alloc_at(v3 + 16, p2 * 24, 8);
+                if (((uint32_t)get64(v3 + 16) & 1) == 0) goto l27;
+                v8 = get64(v3 + 24);
+                v7 = 1;
+                p1 = p2;
+            }
+            put64(v3 + 464, 0);
+            put64(v3 + 456, p1);
+            put64(v3 + 448, 0);
+            put64(v3 + 440, v8);
+            put64(v3 + 432, v7);
+            v14 = v3 + 432 + 8;
+            v15 = 0;
+            for (;;) {
+                v6 = get8(v13);
+                if (v6 > 31 || ((v6 & 8) != 0 && (((v6 << 8) & 0x700) | get8(v13 + 1)) == 0x7ff)) goto l15;
+                v8 = (uint64_t)get8(v13 + 4) << 8;
+                p1 = (uint64_t)get8(v13 + 5);
+                v12 = (v8 | p1) + 7;
+                if (v4 < v12) goto l15;
+                rattle_alloc_at(v3, v12, 1);
+                if (((uint32_t)get64(v3) & 1) == 0) break;
+                v5 = get64(v3 + 8);
+                if ((v5 - v13) < v12) {
+                    p2 = v12 & 3;
+                    v7 = 0;
+                    if ((p1 + v8 + 6) >= 3) {
+                        v16 = v12 & 0x1fffc;
+                        v7 = 0;
+                        do {
+                            v8 = v5 + v7;
+                            p1 = v13 + v7;
+                            put8(v8, get8(p1));
+                            put8(v8 + 1, get8(p1 + 1));
+                            put8(v8 + 2, get8(p1 + 2));
+                            put8(v8 + 3, get8(p1 + 3));
+                            v7 = v7 + 4;
+                        } while (v16 != v7);
+                        if (p2 == 0) goto l40;
+                    }
+                    v8 = v5 + v7;
+                    v7 = v13 + v7;
+                    do {
+                        put8(v8, get8(v7));
+                        v8 = v8 + 1;
+                        v7 = v7 + 1;
+                        p2 = p2 - 1;
+                    } while (p2 != 0);
+                } else if (v12 != 0) copy(v5, v13, v12);
+            l40:;
+                v4 = v4 - v12;
+                if (get8(v3 + 432) == 0) {
+                    v8 = v14 + (v15 * 24);
+                    put64(v8 + 8, v12);
+                    v7 = get64(v8 + 16);
+                    put64(v8 + 16, v12);
+                    p1 = get64(v8);
+                    put64(v8, v5);
+                    if (v7 != 0) rattle_dealloc_at(p1);
+                    v15 = v15 + 1;
+                    put64(v3 + 464, v15);
+                } else {
+                    v7 = get64(v3 + 448);
+                    v8 = get64(v3 + 440) + (v7 * 24);
+                    put64(v8 + 16, v12);
+                    put64(v8 + 8, v12);
+                    put64(v8, v5);
+                    put64(v3 + 448, v7 + 1);
+                }
+                v13 = v13 + v12;
+                if (v4 < 6) goto l15;
+            }
+            p2 = get64(v3 + 456);
+            p1 = get64(v3 + 440);
+            if (get8(v3 + 432) == 0) {
+                if (p2 != 0) goto l48;
+                goto l27;
+            }
+            v7 = get64(v3 + 448);
+            if (v7 != 0) {
+                v8 = p1;
+                do {
+                    if (get64(v8 + 16) != 0) rattle_dealloc_at(get64(v8));
+                    v8 = v8 + 24;
+                    v7 = v7 - 1;
+                } while (v7 != 0);
+            }
+            if (p2 == 0) goto l27;
+        l48:;
+            rattle_dealloc_at(p1);
+        l27:;
+            put64(v3 + 424, 0);
+            put64(v3 + 416, 0);
+            put64(v3 + 408, 0);
+            goto l11;
+        l22:;
+            v10 = 4;
+        l21:;
+            v8 = 0;
+            put64(v3 + 312, 0);
+            put64(v3 + 304, 0);
+            put64(v3 + 296, 0);
+            put64(v3 + 272, 0);
+            put64(v3 + 280, 0);
+            put64(v3 + 288, 0);
+            v7 = v3 + 472;
+            v4 = 1;
+            v9 = 1;
+            v6 = 0;
+            p2 = 0;
+            v11 = 0;
+        l20:;
+            p1 = 0;
+            v5 = v7;
+            goto l12;
+        l18:;
+            if (v10 != 0) {
+                rattle_alloc_at(v3 + 48, v12, 1);
+                if (((uint32_t)get64(v3 + 48) & 1) == 0) goto l89;
+                v16 = get64(v3 + 56);
+            }
+            put64(v3 + 448, v12);
+            p1 = 0;
+            put64(v3 + 440, 0);
+            put64(v3 + 432, v16);
+            t3 = std_alloc_vec_Vec_extend_from_slice_672334860c861157(v3 + 432, v13, v4);
+            if ((t3 & 255) == 0) {
+                v7 = get64(v3 + 448);
+                put64(v3 + 215, v7);
+                v4 = get64(v3 + 440);
+                put64(v3 + 207, v4);
+                v13 = get64(v3 + 432);
+                put64(v3 + 199, v13);
+                put64(v3 + 296, 0);
+                put64(v3 + 304, 0);
+                put64(v3 + 312, 0);
+                put64(v3 + 272, v13);
+                put64(v3 + 280, v4);
+                put64(v3 + 288, v7);
+                v4 = 2;
+                v7 = v3 + 472;
+                v6 = 0;
+                goto l13;
+            }
+            if (get64(v3 + 448) != 0) rattle_dealloc_at(get64(v3 + 432));
+        l89:;
+            if (v8 != 0) {
+                v7 = v5;
+                do {
+                    if (get8(v7) != 0 && get64(v7 + 24) != 0) rattle_dealloc_at(get64(v7 + 8));
+                    v7 = v7 + 32;
+                    v8 = v8 - 1;
+                } while (v8 != 0);
+            }
+            if (p2 != 0) rattle_dealloc_at(v5);
+            v8 = 0;
+            put64(v3 + 184, 0);
+            put64(v3 + 176, 0);
+            put64(v3 + 168, 0);
+            put64(v3 + 144, 0);
+            put64(v3 + 152, 0);
+            put64(v3 + 160, 0);
+            v9 = 0;
+            v11 = 2;
+            v6 = 1;
+            goto l10;
+        l15:;
+            put64(v3 + 408, get64(v3 + 448));
+            put64(v3 + 416, get64(v3 + 456));
+            put64(v3 + 424, get64(v3 + 464));
+            v7 = get64(v3 + 440);
+            p1 = (uint64_t)get8(v3 + 432);
+            v8 = v3 + 408;
+        l14:;
+            p2 = get64(v8 + 16);
+            put64(v3 + 264, p2);
+            v5 = get64(v8 + 8);
+            put64(v3 + 256, v5);
+            v8 = get64(v8);
+            put64(v3 + 248, v8);
+            put64(v3 + 272, get64(v3 + 224));
+            put64(v3 + 280, get64(v3 + 232));
+            put64(v3 + 288, get64(v3 + 240));
+            put64(v3 + 296, v8);
+            put64(v3 + 304, v5);
+            put64(v3 + 312, p2);
+            v5 = v3 + 472;
+            v4 = 1;
+            v6 = 0;
+            v8 = 0;
+            p2 = 0;
+        l13:;
+            v11 = 0;
+            v10 = v9;
+        l12:;
+            put64(v3 + 184, get64(v3 + 312));
+            put64(v3 + 176, get64(v3 + 304));
+            put64(v3 + 168, get64(v3 + 296));
+            put64(v3 + 144, get64(v3 + 272));
+            put64(v3 + 152, get64(v3 + 280));
+            put64(v3 + 160, get64(v3 + 288));
+            goto l9;
+        l11:;
+            put64(v3 + 168, get64(v3 + 344));
+            put64(v3 + 176, get64(v3 + 352));
+            put64(v3 + 184, get64(v3 + 360));
+            put64(v3 + 144, get64(v3 + 320));
+            put64(v3 + 152, get64(v3 + 328));
+            put64(v3 + 160, get64(v3 + 336));
+            v9 = 0;
+            v11 = 2;
+            v6 = 1;
+            v8 = 0;
+        l10:;
+            p2 = 0;
+            v7 = 0;
+            v5 = 0;
+            v10 = 0;
+            p1 = 0;
+            v4 = 0;
+        l9:;
+            put64(v3 + 120, get64(v3 + 168));
+            put64(v3 + 128, get64(v3 + 176));
+            put64(v3 + 136, get64(v3 + 184));
+            put64(v3 + 96, get64(v3 + 144));
+            put64(v3 + 104, get64(v3 + 152));
+            put64(v3 + 112, get64(v3 + 160));
+            goto l4;
+        }
+    }
+    v8 = 0;
+    put64(v3 + 136, 0);
+    put64(v3 + 128, 0);
+    put64(v3 + 120, 0);
+    put64(v3 + 96, 0);
+    put64(v3 + 104, 0);
+    put64(v3 + 112, 0);
+    v10 = 0;
+    v9 = 1;
+    p2 = 0;
+    v7 = v3 + 472;
+    v5 = v7;
+    p1 = 0;
+    v4 = 0;
+    v6 = 0;
+    v11 = 0;
+l4:;
+    put16(p0 + 14, 0);
+    put32(p0 + 10, 0);
+    put64(p0 + 24, v7);
+    put64(p0 + 16, p1);
+    put8(p0 + 9, v10);
+    put8(p0 + 8, v9);
+    put8(p0 + 1, v11);
+    put8(p0, v6);
+    put64(p0 + 32, get64(v3 + 120));
+    put64(p0 + 40, get64(v3 + 128));
+    put64(p0 + 48, get64(v3 + 136));
+    put64(p0 + 56, v4);
+    put64(p0 + 64, get64(v3 + 96));
+    put64(p0 + 72, get64(v3 + 104));
+    put64(p0 + 80, get64(v3 + 112));
+    put64(p0 + 104, p2);
+    put64(p0 + 96, v8);
+    put64(p0 + 88, v5);
+    return;
 }
 
 static uint32_t std_alloc_vec_Vec_grow_amortized_a351ad16c7c032ee(uint64_t p0, uint64_t p1)
@@ -7314,310 +6546,247 @@ static void std_alloc_vec_Vec_drop_555ceec2fcbf3849(uint64_t p0)
     return;
 }
 
-/* nodes::spacecraft::Spacecraft::commit, crates/nodes/src/spacecraft/receive.rt:65 */
-static void nodes_spacecraft_Spacecraft_commit(uint64_t p0, uint64_t p1, uint64_t p2)
+/* nodes::spacecraft::Spacecraft::hand_on, crates/nodes/src/spacecraft/receive.rt:100 */
+static void nodes_spacecraft_Spacecraft_hand_on(uint64_t p0, uint64_t p1, uint64_t p2)
 {
-    unsigned char frame_octets[192 + 15];
-    uint32_t v8 = 0, v9 = 0, v10 = 0, v12 = 0, v13 = 0, v14 = 0, v15 = 0, v17 = 0, v24 = 0, t1;
-    uint64_t v3 = 0, v4 = 0, v5 = 0, v6 = 0, v7 = 0, v11 = 0, v16 = 0, v18 = 0, v19 = 0, v20 = 0, v21 = 0, v22 = 0,
-        v23 = 0, v25 = 0, v26 = 0, v27 = 0, v28 = 0, v29 = 0;
+    unsigned char frame_octets[176 + 15];
+    uint32_t v10 = 0, v11 = 0, v18 = 0, t1;
+    uint64_t v3 = 0, v4 = 0, v5 = 0, v6 = 0, v7 = 0, v8 = 0, v9 = 0, v12 = 0, v13 = 0, v14 = 0, v15 = 0, v16 = 0,
+        v17 = 0;
     v3 = aligned(frame_octets);
-    put64(v3 + 8, get64(p2 + 34));
-    put32(v3 + 16, get32(p2 + 42));
-    v4 = get64(p2 + 216);
-    v5 = get64(p2 + 208);
-    v6 = get64(p2 + 200);
-    v7 = get64(p2 + 192);
-    v8 = get8(p2 + 184);
-    v9 = get8(p2 + 33);
-    v10 = get8(p2 + 32);
-    v11 = get64(p2 + 24);
-    v12 = get8(p2 + 18);
-    v13 = get8(p2 + 17);
-    v14 = get8(p2 + 16);
-    if (get8(p2 + 48) != 1) goto l1;
-    v15 = get8(p2 + 88);
-    v16 = (uint64_t)v15 & 255;
-    v17 = get8(p2 + 57);
-    v18 = get64(p2 + 176);
-    v19 = get64(p2 + 168);
-    v20 = get64(p2 + 160);
-    v21 = get64(p2 + 152);
-    v22 = get64(p2 + 144);
-    v23 = get64(p2 + 136);
-    v24 = get8(p2 + 128);
-    v25 = get64(p2 + 72);
-    v26 = get64(p2 + 64);
-    put64(v3 + 48, 0);
-    put64(v3 + 40, 0);
-    put64(v3 + 32, 0);
+    put64(v3 + 8, 0);
+    put64(v3 + 16, 0);
     put64(v3 + 24, 0);
-    put64(v3 + 143, get64(p2 + 120));
-    put64(v3 + 136, get64(p2 + 113));
-    put64(v3 + 128, get64(p2 + 105));
-    put64(v3 + 120, get64(p2 + 97));
-    put64(v3 + 112, get64(p2 + 89));
-    if ((v17 & 255) <= 63) {
-        v27 = (uint64_t)v17 & 255;
-        if (((uint32_t)(get64(p1 + 88) >> (v27 & 63)) & 1) != 0) {
-            p2 = p1 + 112;
-            if (get64(p2) == 0) {
-                put64(p2, v19);
-                p2 = p1 + 120;
-                v19 = get64(p2);
-                put64(p2, v18);
-                p2 = p1 + 104;
-                v18 = get64(p2);
-                put64(p2, v20);
-                v20 = v18;
-                if (v19 != 0) goto l10;
-                goto l9;
-            }
-            if (v19 != 0) {
-                p2 = v20;
-                do {
-                    if (get8(p2) != 0 && get64(p2 + 24) != 0) rattle_dealloc_at(get64(p2 + 8));
-                    p2 = p2 + 32;
-                    v19 = v19 - 1;
-                } while (v19 != 0);
-            }
-            if (v18 == 0) goto l9;
-        l10:;
-            rattle_dealloc_at(v20);
-        l9:;
-            if (get64(p1 + 112) <= v27) {
-                if (v24 != 2 || v21 == 0) goto l2;
-                rattle_dealloc_at(v23);
-                goto l2;
-            }
-            v20 = get64(p1 + 104) + (v27 << 5);
-            switch (v24) {
-            case 1:
-                put64(v20 + 16, 0);
-                v24 = get8(v20);
-                put64(v20, 0);
-                p2 = v20 + 8;
-                v19 = get64(p2);
-                put64(p2, 0);
-                v20 = v20 + 24;
-                p2 = get64(v20);
-                put64(v20, 0);
-                break;
-            case 2:
-                put64(v20 + 16, v22);
-                v24 = get8(v20);
-                put64(v20, 1);
-                v19 = v20 + 24;
-                p2 = get64(v19);
-                put64(v19, v21);
-                v20 = v20 + 8;
-                v19 = get64(v20);
-                put64(v20, v23);
-                break;
-            case 3:
-                if (get8(v20) != 1) goto l2;
-                v28 = get64(v20 + 24);
-                p2 = v20 + 16;
-                v22 = get64(p2);
-                if (v25 > (v28 - v22)) {
-                    t1 = std_alloc_vec_Vec_grow_amortized_a351ad16c7c032ee(v20 + 8, v25);
-                    if (t1 == 0) goto l2;
-                    v28 = get64(v20 + 24);
-                    v22 = get64(v20 + 16);
-                }
-                v19 = 0;
-                put64(p2, 0);
-                put64(p2 + 8, 0);
-                v29 = v22 + v25;
-                v27 = get64(v20 + 8);
-                v23 = v27 + v22;
-                if ((v23 - v26) < v25) {
-                    v21 = v25 & 3;
-                    if (v25 >= 4) {
-                        v25 = v25 & ~3ULL;
-                        v19 = 0;
-                        do {
-                            p2 = v23 + v19;
-                            v18 = v26 + v19;
-                            put8(p2, get8(v18));
-                            put8(p2 + 1, get8(v18 + 1));
-                            put8(p2 + 2, get8(v18 + 2));
-                            put8(p2 + 3, get8(v18 + 3));
-                            v19 = v19 + 4;
-                        } while (v25 != v19);
-                        if (v21 == 0) goto l21;
-                    }
-                    p2 = v26 + v19;
-                    v19 = v27 + (v22 + v19);
-                    do {
-                        put8(v19, get8(p2));
-                        v19 = v19 + 1;
-                        p2 = p2 + 1;
-                        v21 = v21 - 1;
-                    } while (v21 != 0);
-                } else if (v25 != 0) copy(v23, v26, v25);
-            l21:;
-                put64(v20 + 24, v28);
-                put64(v20 + 16, v29);
-                put64(v20 + 8, v27);
-                goto l2;
-            default:
-                goto l2;
-            }
-            if ((v24 & 255) == 1 && p2 != 0) rattle_dealloc_at(v19);
-            goto l2;
+    put64(v3 + 32, 0);
+    v4 = get64(p2 + 96);
+    v5 = get64(p2 + 88);
+    v6 = get64(p2 + 80);
+    v7 = get64(p2 + 72);
+    v8 = get64(p2 + 64);
+    v9 = get64(p2 + 56);
+    v10 = get8(p2 + 48);
+    v11 = get8(p2 + 8);
+    put64(v3 + 127, get64(p2 + 40));
+    put64(v3 + 120, get64(p2 + 33));
+    put64(v3 + 112, get64(p2 + 25));
+    put64(v3 + 104, get64(p2 + 17));
+    put64(v3 + 96, get64(p2 + 9));
+    v12 = (uint64_t)v11 & 255;
+    v13 = (uint64_t)get8(p1 + 1);
+    if (v13 > 63 || ((uint32_t)(get64(p0 + 88) >> (v13 & 63)) & 1) == 0) {
+        if (v5 != 0) {
+            p2 = v6;
+            do {
+                if (get8(p2) != 0 && get64(p2 + 24) != 0) rattle_dealloc_at(get64(p2 + 8));
+                p2 = p2 + 32;
+                v5 = v5 - 1;
+            } while (v5 != 0);
         }
+        if (v4 != 0) rattle_dealloc_at(v6);
+        if (v10 != 2 || v7 == 0) goto l1;
+        rattle_dealloc_at(v9);
+        goto l1;
     }
-    if (v19 != 0) {
-        p2 = v20;
+    p2 = p0 + 112;
+    if (get64(p2) == 0) {
+        put64(p2, v5);
+        p2 = p0 + 120;
+        v5 = get64(p2);
+        put64(p2, v4);
+        p2 = p0 + 104;
+        v4 = get64(p2);
+        put64(p2, v6);
+        v6 = v4;
+        if (v5 != 0) goto l9;
+        goto l8;
+    }
+    if (v5 != 0) {
+        p2 = v6;
         do {
             if (get8(p2) != 0 && get64(p2 + 24) != 0) rattle_dealloc_at(get64(p2 + 8));
             p2 = p2 + 32;
-            v19 = v19 - 1;
-        } while (v19 != 0);
+            v5 = v5 - 1;
+        } while (v5 != 0);
     }
-    if (v18 != 0) rattle_dealloc_at(v20);
-    if (v24 == 2 && v21 != 0) rattle_dealloc_at(v23);
-l2:;
-    p2 = get64(v3 + 143);
-    put64(v3 + 48, p2);
-    v19 = get64(v3 + 135);
-    put64(v3 + 40, v19);
-    v20 = get64(v3 + 127);
-    put64(v3 + 32, v20);
-    v18 = get64(v3 + 119);
-    put64(v3 + 24, v18);
-    put64(v3 + 128, v18);
-    put64(v3 + 136, v20);
-    put64(v3 + 144, v19);
-    put64(v3 + 152, p2);
-    put64(v3 + 120, v16);
-    v24 = v15 & 255;
-    if (((v24 != 0) ? v20 : p2) != 0) {
-        v24 = v24 == 0;
-        v25 = v3 + 128;
-        v19 = v3 + 167;
-        v22 = p1 + 184;
-        v27 = p1 + 176;
-        v23 = p1 + 192;
-        v18 = p1 + 168;
-        v28 = p1 + 160;
-        p2 = 0;
-        do {
-            put64(v3 + 112, p2 + 1);
-            p2 = (((v24 & 1) != 0) ? v25 : get64(v3 + 128)) + (p2 * 24);
-            v20 = get64(p2 + 16);
-            put64(p2 + 16, 0);
-            v16 = get64(p2 + 8);
-            put64(p2 + 8, 0);
-            v21 = get64(p2);
-            put64(v3 + 88, v21);
-            put64(v3 + 96, v16);
-            put64(v3 + 104, v20);
-            put64(p2, v3 + 191);
-            put64(v19 + 16, v20);
-            put64(v19 + 8, v16);
-            put64(v19, v21);
-            put32(v3 + 163, 0);
-            put32(v3 + 160, 0);
-            put64(v3 + 79, get64(v3 + 183));
-            put64(v3 + 72, get64(v3 + 176));
-            put64(v3 + 64, get64(v3 + 168));
-            put64(v3 + 56, get64(v3 + 160));
-            p2 = get64(v28);
-            v20 = get64(v18);
-            v16 = get64(v23);
-            v21 = v20 - v16;
-            v26 = get64(v22);
-            if (v21 < (get64(v27) - v26)) {
-                p2 = p2 + ((v26 + v21) << 5);
-                put8(p2, v17);
-                put64(p2 + 1, get64(v3 + 56));
-                put64(p2 + 9, get64(v3 + 64));
-                put64(p2 + 17, get64(v3 + 72));
-                put64(p2 + 24, get64(v3 + 79));
-            } else {
-                p2 = p2 + (v16 << 5);
-                put64(p2 + 1, get64(v3 + 56));
-                put8(p2, v17);
-                put64(p2 + 9, get64(v3 + 64));
-                put64(p2 + 17, get64(v3 + 72));
-                put64(p2 + 24, get64(v3 + 79));
-                put64(v23, v16 + 1);
-            }
-            put64(v18, v20 + 1);
-            v15 = get8(v3 + 120);
-            v24 = v15 == 0;
-            p2 = get64(v3 + 112);
-            v20 = get64(v3 + 136);
-        } while (p2 != ((v15 != 0) ? v20 : get64(v3 + 152)));
-    }
-    v16 = get64(v3 + 144);
-    v19 = get64(v3 + 128);
-    if ((v15 & 255) == 0) {
-        if (v16 != 0) goto l30;
+    if (v4 == 0) goto l8;
+l9:;
+    rattle_dealloc_at(v6);
+l8:;
+    if (get64(p0 + 112) <= v13) {
+        if (v10 != 2 || v7 == 0) goto l1;
+        rattle_dealloc_at(v9);
         goto l1;
     }
-    if (v20 != 0) {
-        p2 = v19;
+    v6 = get64(p0 + 104) + (v13 << 5);
+    switch (v10) {
+    case 1:
+        break;
+    case 2:
+        put64(v6 + 16, v8);
+        v10 = get8(v6);
+        put64(v6, 1);
+        v5 = v6 + 24;
+        p2 = get64(v5);
+        put64(v5, v7);
+        v6 = v6 + 8;
+        v5 = get64(v6);
+        put64(v6, v9);
+        goto l15;
+    case 3:
+        if (get8(v6) != 1) goto l1;
+        v7 = get64(p1 + 8);
+        p2 = get64(p1 + 16);
+        v14 = get64(v6 + 24);
+        v4 = v6 + 16;
+        v15 = get64(v4);
+        if (p2 > (v14 - v15)) {
+            t1 = std_alloc_vec_Vec_grow_amortized_a351ad16c7c032ee(v6 + 8, p2);
+            if (t1 == 0) goto l1;
+            v14 = get64(v6 + 24);
+            v15 = get64(v6 + 16);
+        }
+        v5 = 0;
+        put64(v4, 0);
+        put64(v4 + 8, 0);
+        v16 = v15 + p2;
+        v17 = get64(v6 + 8);
+        v9 = v17 + v15;
+        if ((v9 - v7) < p2) {
+            v13 = p2 & 3;
+            if (p2 >= 4) {
+                v8 = p2 & ~3ULL;
+                v5 = 0;
+                do {
+                    p2 = v9 + v5;
+                    v4 = v7 + v5;
+                    put8(p2, get8(v4));
+                    put8(p2 + 1, get8(v4 + 1));
+                    put8(p2 + 2, get8(v4 + 2));
+                    put8(p2 + 3, get8(v4 + 3));
+                    v5 = v5 + 4;
+                } while (v8 != v5);
+                if (v13 == 0) goto l20;
+            }
+            p2 = v7 + v5;
+            v5 = v17 + (v15 + v5);
+            do {
+                put8(v5, get8(p2));
+                v5 = v5 + 1;
+                p2 = p2 + 1;
+                v13 = v13 - 1;
+            } while (v13 != 0);
+        } else if (p2 != 0) copy(v9, v7, p2);
+    l20:;
+        put64(v6 + 24, v14);
+        put64(v6 + 16, v16);
+        put64(v6 + 8, v17);
+        goto l1;
+    default:
+        goto l1;
+    }
+    put64(v6 + 16, 0);
+    v10 = get8(v6);
+    put64(v6, 0);
+    p2 = v6 + 8;
+    v5 = get64(p2);
+    put64(p2, 0);
+    v6 = v6 + 24;
+    p2 = get64(v6);
+    put64(v6, 0);
+l15:;
+    if ((v10 & 255) == 1 && p2 != 0) rattle_dealloc_at(v5);
+l1:;
+    p2 = get64(v3 + 127);
+    put64(v3 + 32, p2);
+    v5 = get64(v3 + 119);
+    put64(v3 + 24, v5);
+    v6 = get64(v3 + 111);
+    put64(v3 + 16, v6);
+    v4 = get64(v3 + 103);
+    put64(v3 + 8, v4);
+    v18 = get8(p1 + 1);
+    put64(v3 + 112, v4);
+    put64(v3 + 120, v6);
+    put64(v3 + 128, v5);
+    put64(v3 + 136, p2);
+    put64(v3 + 104, v12);
+    v10 = v11 & 255;
+    if (((v10 != 0) ? v6 : p2) != 0) {
+        v10 = v10 == 0;
+        v7 = v3 + 112;
+        v5 = v3 + 151;
+        v9 = p0 + 184;
+        v8 = p0 + 176;
+        v12 = p0 + 192;
+        p1 = p0 + 168;
+        v15 = p0 + 160;
+        p2 = 0;
+        do {
+            put64(v3 + 96, p2 + 1);
+            p2 = (((v10 & 1) != 0) ? v7 : get64(v3 + 112)) + (p2 * 24);
+            v6 = get64(p2 + 16);
+            put64(p2 + 16, 0);
+            p0 = get64(p2 + 8);
+            put64(p2 + 8, 0);
+            v4 = get64(p2);
+            put64(v3 + 72, v4);
+            put64(v3 + 80, p0);
+            put64(v3 + 88, v6);
+            put64(p2, v3 + 175);
+            put64(v5 + 16, v6);
+            put64(v5 + 8, p0);
+            put64(v5, v4);
+            put32(v3 + 147, 0);
+            put32(v3 + 144, 0);
+            put64(v3 + 63, get64(v3 + 167));
+            put64(v3 + 56, get64(v3 + 160));
+            put64(v3 + 48, get64(v3 + 152));
+            put64(v3 + 40, get64(v3 + 144));
+            p2 = get64(v15);
+            v6 = get64(p1);
+            p0 = get64(v12);
+            v4 = v6 - p0;
+            v13 = get64(v9);
+            if (v4 < (get64(v8) - v13)) {
+                p2 = p2 + ((v13 + v4) << 5);
+                put8(p2, v18);
+                put64(p2 + 1, get64(v3 + 40));
+                put64(p2 + 9, get64(v3 + 48));
+                put64(p2 + 17, get64(v3 + 56));
+                put64(p2 + 24, get64(v3 + 63));
+            } else {
+                p2 = p2 + (p0 << 5);
+                put64(p2 + 1, get64(v3 + 40));
+                put8(p2, v18);
+                put64(p2 + 9, get64(v3 + 48));
+                put64(p2 + 17, get64(v3 + 56));
+                put64(p2 + 24, get64(v3 + 63));
+                put64(v12, p0 + 1);
+            }
+            put64(p1, v6 + 1);
+            v11 = get8(v3 + 104);
+            v10 = v11 == 0;
+            p2 = get64(v3 + 96);
+            v6 = get64(v3 + 120);
+        } while (p2 != ((v11 != 0) ? v6 : get64(v3 + 136)));
+    }
+    p0 = get64(v3 + 128);
+    v5 = get64(v3 + 112);
+    if ((v11 & 255) == 0) {
+        if (p0 != 0) goto l30;
+        return;
+    }
+    if (v6 != 0) {
+        p2 = v5;
         do {
             if (get64(p2 + 16) != 0) rattle_dealloc_at(get64(p2));
             p2 = p2 + 24;
-            v20 = v20 - 1;
-        } while (v20 != 0);
+            v6 = v6 - 1;
+        } while (v6 != 0);
     }
-    if (v16 == 0) goto l1;
+    if (p0 == 0) return;
 l30:;
-    rattle_dealloc_at(v19);
-l1:;
-    if ((v8 & 255) == 1) {
-        p2 = get64(p1 + 208);
-        if (p2 == 0) {
-            p2 = v4;
-            v20 = v6;
-        } else {
-            v18 = p1 + 224;
-            v20 = get64(v18);
-            v19 = p1 + 216;
-            v16 = get64(v19);
-            if (p2 > v16) {
-                v20 = v20 + v16;
-                p2 = get64(p1 + 200) + ((v20 - ((v20 < p2) ? 0ULL : p2)) << 5);
-                put64(p2 + 24, v4);
-                put64(p2 + 16, v5);
-                put64(p2 + 8, v6);
-                put64(p2, v7);
-                put64(v19, get64(v19) + 1);
-                goto l35;
-            }
-            v16 = v16 - 1;
-            put64(v19, v16);
-            v21 = v20 + 1;
-            v21 = v21 - ((v21 < p2) ? 0ULL : p2);
-            put64(v18, v21);
-            v18 = get64(p1 + 200);
-            v16 = v21 + v16;
-            v16 = v18 + ((v16 - ((v16 < p2) ? 0ULL : p2)) << 5);
-            put64(v16, v7);
-            p2 = v18 + (v20 << 5);
-            v20 = get64(p2 + 8);
-            put64(v16 + 8, v6);
-            put64(v16 + 16, v5);
-            p2 = get64(p2 + 24);
-            put64(v16 + 24, v4);
-            put64(v19, get64(v19) + 1);
-        }
-        if (p2 != 0) rattle_dealloc_at(v20);
-    }
-l35:;
-    put16(p1 + 76, get16(v3 + 18));
-    put32(p1 + 72, get32(v3 + 14));
-    put8(p0 + 17, v9);
-    put8(p0 + 16, v10);
-    put64(p0 + 8, v11);
-    put8(p0 + 2, v12);
-    put8(p0 + 1, v13);
-    put8(p0, v14);
+    rattle_dealloc_at(v5);
     return;
 }
 
@@ -7766,7 +6935,7 @@ l1:;
     return;
 }
 
-/* nodes::spacecraft::Spacecraft::telemetry, crates/nodes/src/spacecraft.rt:238 */
+/* nodes::spacecraft::Spacecraft::telemetry, crates/nodes/src/spacecraft.rt:235 */
 static void nodes_spacecraft_Spacecraft_telemetry(uint64_t p0, uint64_t p1, uint64_t p2, uint64_t p3)
 {
     uint32_t v4 = 0, v5 = 0, v6 = 0, t1, t2, t3;
@@ -8270,7 +7439,7 @@ static uint32_t sedge_config_fault_at(uint64_t config)
     do {
         v4 = get8(config + address(constant_0 + 15));
         v5 = ((uint64_t)v4 & 255) << 3;
-        if (v2 == get64(v5 + address(switch_table_sedge_config_fault_416))) {
+        if (v2 == get64(v5 + address(switch_table_sedge_config_fault_418))) {
             v5 = address(switch_table_sedge_config_fault[v5 / 8]);
             if (get8(v3) == get8(v5) && (get8(v3 + 1) & 255) == (get8(v5 + 1) & 255) && (get8(v3 + 2) & 255) ==
                 (get8(v5 + 2) & 255) && (get8(v3 + 3) & 255) == (get8(v5 + 3) & 255)) {
@@ -8646,9 +7815,9 @@ static uint64_t sedge_link_fault_name_at(uint64_t result, uint32_t number)
     number = number - 1;
     if ((number & 255) <= 9) {
         v4 = (uint64_t)number & 255;
-        v5 = get8(v4 + address(switch_table_sedge_link_fault_name_417));
+        v5 = get8(v4 + address(switch_table_sedge_link_fault_name_419));
         v2 = get8(v4 + address(switch_table_sedge_link_fault_name));
-        v4 = get64((v4 << 3) + address(switch_table_sedge_link_fault_name_418));
+        v4 = get64((v4 << 3) + address(switch_table_sedge_link_fault_name_420));
     }
     put8(result + 9, v5);
     put8(result + 8, v2);
@@ -8672,10 +7841,10 @@ static uint64_t sedge_parameter_name_at(uint64_t result, uint32_t number)
     } else {
         v5 = (uint64_t)number & 255;
         v6 = v5 << 2;
-        number = get32(v6 + address(switch_table_sedge_parameter_name_421));
-        v4 = get32(v6 + address(switch_table_sedge_parameter_name_420));
+        number = get32(v6 + address(switch_table_sedge_parameter_name_423));
+        v4 = get32(v6 + address(switch_table_sedge_parameter_name_422));
         v5 = v5 << 1;
-        v3 = get16(v5 + address(switch_table_sedge_parameter_name_419));
+        v3 = get16(v5 + address(switch_table_sedge_parameter_name_421));
         v2 = get16(v5 + address(switch_table_sedge_parameter_name));
     }
     put64(result + 12, 0);
@@ -10728,12 +9897,12 @@ static uint32_t sedge_sim_spacecraft_read_at(uint64_t sim, uint64_t read)
 /* sedge_sim_step, crates/sedgechisel_nodes/src/sim/events.rt:74 */
 static uint32_t sedge_sim_step_at(uint64_t sim, uint64_t event, uint64_t reply)
 {
-    unsigned char frame_octets[2608 + 15];
+    unsigned char frame_octets[2752 + 15];
     uint32_t v4 = 0, v5 = 0, v6 = 0, v9 = 0, v10 = 0, v11 = 0, v12 = 0, v13 = 0, v14 = 0, v15 = 0, v16 = 0, v17 = 0,
-        v24 = 0, v25 = 0, v27 = 0, v28 = 0, v32 = 0, v33 = 0, v34 = 0, v35 = 0, v36 = 0, v37 = 0, v43 = 0, v44 = 0,
-        v45 = 0, v46 = 0, v47 = 0, t2, t3, t4, t5, t6, t7, t8, t11, t15, t16, t17;
+        v24 = 0, v25 = 0, v27 = 0, v28 = 0, v32 = 0, v33 = 0, v34 = 0, v35 = 0, v36 = 0, v37 = 0, v39 = 0, v46 = 0,
+        v47 = 0, v48 = 0, v49 = 0, t2, t3, t4, t5, t6, t9, t12, t13, t14, t16, t17, t18;
     uint64_t v3 = 0, v7 = 0, v8 = 0, v18 = 0, v19 = 0, v20 = 0, v21 = 0, v22 = 0, v23 = 0, v26 = 0, v29 = 0, v30 = 0,
-        v31 = 0, v38 = 0, v39 = 0, v40 = 0, v41 = 0, v42 = 0, t9, t10, t12, t13, t18;
+        v31 = 0, v38 = 0, v40 = 0, v41 = 0, v42 = 0, v43 = 0, v44 = 0, v45 = 0, t7, t8, t10, t11, t19;
     v3 = aligned(frame_octets);
     v4 = 1;
     v5 = 0;
@@ -10919,8 +10088,8 @@ l2:;
     v6 = 255;
     if (event == 0) return 255;
     v17 = 0;
-    put16(v3 + 228, 0);
-    put32(v3 + 224, 0);
+    put16(v3 + 244, 0);
+    put32(v3 + 240, 0);
     switch (v13) {
     case 1:
         nodes_ground_node_Ground_bypass(v3 + 56, event, v12, v7, v8);
@@ -10934,12 +10103,12 @@ l2:;
         v22 = 0;
         goto l52;
     case 2:
-        put16(v3 + 530, v5);
-        put8(v3 + 529, v9);
-        put8(v3 + 528, v11);
+        put16(v3 + 698, v5);
+        put8(v3 + 697, v9);
+        put8(v3 + 696, v11);
         v6 = 0;
-        put16(v3 + 256, 0);
-        put8(v3 + 258, 0);
+        put16(v3 + 248, 0);
+        put8(v3 + 250, 0);
         if (v10 != 0) {
             v13 = 0;
             v12 = 0;
@@ -10952,22 +10121,22 @@ l2:;
         v12 = 0;
         goto l56;
     case 3:
-        put64(v3 + 528, 0);
-        put64(v3 + 536, 0);
-        put32(v3 + 256, 2);
+        put64(v3 + 696, 0);
+        put64(v3 + 704, 0);
+        put32(v3 + 248, 2);
         v6 = 0;
         if (get64(event + 752) == 0) v6 = get64(event + 792) == 0;
         v13 = simulated_link_world_World_is_idle(event);
-        nodes_ground_node_Ground_resume(v3 + 528, event, v12);
-        if (get8(v3 + 528) == 0) {
-            v7 = get64(v3 + 536);
-            simulated_link_world_World_begin(event, v3 + 256, v6, v13);
+        nodes_ground_node_Ground_resume(v3 + 696, event, v12);
+        if (get8(v3 + 696) == 0) {
+            v7 = get64(v3 + 704);
+            simulated_link_world_World_begin(event, v3 + 248, v6, v13);
             v24 = 0;
             v6 = 10;
         } else {
             v7 = 0;
             v6 = 3;
-            v24 = get8(v3 + 529);
+            v24 = get8(v3 + 697);
         }
         v26 = v7 & 0xffffffffff000000ULL;
         v25 = (uint32_t)(v7 >> 16);
@@ -10980,10 +10149,10 @@ l2:;
         goto l50;
     case 4:
         v26 = 0;
-        put64(v3 + 264, 0);
         put64(v3 + 256, 0);
-        nodes_ground_node_Ground_peek(v3 + 528, event);
-        if (get8(v3 + 528) != 1) {
+        put64(v3 + 248, 0);
+        nodes_ground_node_Ground_peek(v3 + 696, event);
+        if (get8(v3 + 696) != 1) {
             nodes_ground_node_Ground_advance(event);
             v28 = 0;
             v27 = 0;
@@ -10992,18 +10161,18 @@ l2:;
             v22 = 0;
             goto l48;
         }
-        v26 = get64(v3 + 560);
-        v11 = get8(v3 + 553);
-        v10 = get8(v3 + 552);
-        v6 = get8(v3 + 545);
-        v18 = get64(v3 + 568);
-        v13 = get8(v3 + 544);
+        v26 = get64(v3 + 728);
+        v11 = get8(v3 + 721);
+        v10 = get8(v3 + 720);
+        v6 = get8(v3 + 713);
+        v18 = get64(v3 + 736);
+        v13 = get8(v3 + 712);
         v7 = (v13 == 2) ? ((v6 != 0) ? 4ULL : 2ULL) : (v18 + 2);
         v29 = v7 + 6;
         v12 = v29 == 0;
         if (v12 != 0) {
             v7 = 0;
-            v19 = v3 + 0xa28;
+            v19 = v3 + 0xab8;
         } else {
             if (v29 > 0x7fffffffffffffffULL) goto l58;
             rattle_alloc_at(v3 + 96, v29, 1);
@@ -11017,15 +10186,15 @@ l2:;
             put8(v19 + v8, 0);
             v7 = v8 + 1;
         }
-        tc_frame_encoding_encode(v3 + 256, v3 + 536, v19, v7);
-        if (get8(v3 + 256) != 0) UNREACHABLE;
+        tc_frame_encoding_encode(v3 + 248, v3 + 704, v19, v7);
+        if (get8(v3 + 248) != 0) UNREACHABLE;
         v5 = v7 == 0;
         if (v5 != 0) {
-            v21 = v3 + 0xa28;
+            v21 = v3 + 0xab8;
         } else {
             rattle_alloc_at(v3 + 80, v7, 1);
             if (((uint32_t)get64(v3 + 80) & 1) == 0) {
-                if (v12 == 0) goto l120;
+                if (v12 == 0) goto l126;
                 goto l58;
             }
             v21 = get64(v3 + 88);
@@ -11045,7 +10214,7 @@ l2:;
                     put8(v8 + 3, get8(v20 + 3));
                     v22 = v22 + 4;
                 } while (v30 != v22);
-                if (v23 == 0) goto l125;
+                if (v23 == 0) goto l131;
             }
             v8 = v21 + v22;
             v22 = v19 + v22;
@@ -11056,17 +10225,17 @@ l2:;
                 v23 = v23 - 1;
             } while (v23 != 0);
         } else if (v5 == 0) copy(v21, v19, v7);
-    l125:;
+    l131:;
         v31 = 0;
         v23 = 0;
         v13 = v13 != 0 || (v6 & 255) != (get8(event + 74) & 255);
         if (v13 == 0) {
-            v23 = v3 + 0xa28;
+            v23 = v3 + 0xab8;
             v31 = v18 + 1;
             if (v31 != 0) {
-                if (v31 > 0x7fffffffffffffffULL) goto l121;
+                if (v31 > 0x7fffffffffffffffULL) goto l127;
                 rattle_alloc_at(v3 + 64, v31, 1);
-                if (((uint32_t)get64(v3 + 64) & 1) == 0) goto l121;
+                if (((uint32_t)get64(v3 + 64) & 1) == 0) goto l127;
                 v23 = get64(v3 + 72);
             }
             put8(v23, (v10 << 6) + v11);
@@ -11086,7 +10255,7 @@ l2:;
                         put8(v22 + 4, get8(v20 + 3));
                         v8 = v8 + 4;
                     } while (v18 != v8);
-                    if (v30 == 0) goto l130;
+                    if (v30 == 0) goto l136;
                 }
                 do {
                     put8(v23 + v8 + 1, get8(v26 + v8));
@@ -11095,28 +10264,28 @@ l2:;
                 } while (v30 != 0);
             } else if (v18 != 0) copy(v8, v26, v18);
         }
-    l130:;
+    l136:;
         if (get64(event + 760) == get64(event + 752)) {
             t2 = std_alloc_vec_deque_VecDeque_grow_1598ebf9113514c4(event + 744);
-            if (t2 == 0) goto l136;
+            if (t2 == 0) goto l142;
         }
-        if (get64(event + 0xf70) != get64(event + 0xf68)) goto l119;
+        if (get64(event + 0xf70) != get64(event + 0xf68)) goto l125;
         t3 = std_alloc_vec_Vec_grow_amortized_1598ebf9113514c4(event + 0xf60, 1);
-        if (t3 != 0) goto l119;
-    l136:;
+        if (t3 != 0) goto l125;
+    l142:;
         if (v12 == 0) rattle_dealloc_at(v19);
         if (v5 == 0) rattle_dealloc_at(v21);
         v6 = 0;
         if ((v13 | (uint32_t)(v31 == 0)) != 0) goto l51;
         rattle_dealloc_at(v23);
         goto l51;
-    l121:;
+    l127:;
         if (v5 == 0) rattle_dealloc_at(v21);
         if (v12 != 0) goto l58;
-    l120:;
+    l126:;
         rattle_dealloc_at(v19);
         goto l58;
-    l119:;
+    l125:;
         nodes_ground_node_Ground_advance(event);
         v8 = get64(event + 744);
         v22 = get64(event + 752);
@@ -11147,8 +10316,8 @@ l2:;
             put64(v22, v20 + 1);
         }
         v13 = 0;
-        put16(v3 + 532, 0);
-        put32(v3 + 528, 0);
+        put16(v3 + 700, 0);
+        put32(v3 + 696, 0);
         v26 = v21 & 0xffffffffff000000ULL;
         v25 = (uint32_t)(v21 >> 16);
         v27 = (uint32_t)(v21 >> 8);
@@ -11177,352 +10346,487 @@ l2:;
         v37 = 5;
         goto l30;
     case 5:
-        v26 = 0;
-        put64(v3 + 504, 0);
-        put64(v3 + 512, 0);
-        put64(v3 + 520, 0);
         v28 = 0;
-        fill(v3 + 528, 0, 232);
-        put64(v3 + 496, 0);
-        put64(v3 + 488, 0);
-        put64(v3 + 480, 0);
-        put64(v3 + 232, 0);
-        put64(v3 + 240, 0);
-        put64(v3 + 248, 0);
-        v13 = 1;
+        fill(v3 + 696, 0, 224);
+        put32(v3 + 443, 0);
+        put32(v3 + 440, 0);
+        v26 = 0;
+        put64(v3 + 416, 0);
+        put64(v3 + 424, 0);
+        put64(v3 + 432, 0);
+        put64(v3 + 392, 0);
+        put64(v3 + 400, 0);
+        put64(v3 + 408, 0);
+        put64(v3 + 368, 0);
+        put64(v3 + 376, 0);
+        put64(v3 + 384, 0);
         v8 = get64(event + 752);
         if (v8 == 0) {
+            v13 = 1;
             v6 = 1;
             goto l61;
         }
         v7 = get64(event + 744);
         if (v8 != get64(event + 776)) v7 = v7 + (get64(event + 768) * 24);
-        v31 = event + 400;
-        nodes_spacecraft_Spacecraft_prepare(v3 + 528, v31, get64(v7), get64(v7 + 8));
-        v6 = 0;
-        if (get8(v3 + 528) != 0) goto l62;
-        copy(v3 + 256, v3 + 528 + 8, 224);
-        v12 = get8(v3 + 304);
-        if (v12 != 1) {
-            v13 = 0;
-            v40 = 0;
-            v30 = 0;
-            v38 = 0;
-            v18 = 0;
-            v39 = 0;
-            goto l146;
+        v38 = event + 400;
+        v22 = get64(v7);
+        v9 = 0;
+        v12 = 0;
+        v11 = 0;
+        v23 = get64(v7 + 8);
+        if (v23 < 5) goto l152;
+        v6 = get8(v22);
+        if (v6 > 63) {
+            v11 = 1;
+            goto l153;
         }
-        v21 = get64(v3 + 352);
-        v5 = get8(v3 + 344);
-        v38 = get64((v5 != 0) ? (v3 + 360) : (v3 + 376));
-        v13 = get8(v3 + 313);
-        v23 = get64(v3 + 320);
-        v11 = get8(v3 + 312);
-        v7 = get64(v3 + 328);
-        v39 = v7 + 1;
-        v10 = v39 == 0;
-        if (v10 != 0) {
-            v18 = v3 + 0xa28;
-        } else {
-            if (v39 > 0x7fffffffffffffffULL) goto l151;
-            rattle_alloc_at(v3 + 144, v39, 1);
-            if (((uint32_t)get64(v3 + 144) & 1) == 0) goto l151;
-            v18 = get64(v3 + 152);
+        if ((v6 & 48) == 16) {
+            v11 = 2;
+            goto l153;
         }
-        put8(v18, (v11 << 6) + v13);
-        v8 = v18 + 1;
-        if ((v8 - v23) < v7) {
-            v20 = v7 & 3;
-            v8 = 0;
-            if (v7 >= 4) {
-                v19 = v7 & ~3ULL;
-                v8 = 0;
-                do {
-                    v7 = v18 + v8;
-                    v22 = v23 + v8;
-                    put8(v7 + 1, get8(v22));
-                    put8(v7 + 2, get8(v22 + 1));
-                    put8(v7 + 3, get8(v22 + 2));
-                    put8(v7 + 4, get8(v22 + 3));
-                    v8 = v8 + 4;
-                } while (v19 != v8);
-                if (v20 == 0) goto l154;
-            }
-            v7 = v23 + v8;
-            v8 = v8 + v18 + 1;
-            do {
-                put8(v8, get8(v7));
-                v8 = v8 + 1;
-                v7 = v7 + 1;
-                v20 = v20 - 1;
-            } while (v20 != 0);
-        } else if (v7 != 0) copy(v8, v23, v7);
-    l154:;
-        if (v38 == 0) {
-            v40 = v3 + 0xa28;
-            v38 = 0;
-            v30 = 0;
-            goto l163;
+        if ((v6 & 12) != 0) {
+            v11 = 3;
+            goto l153;
         }
-        if (v38 > 0x555555555555555ULL) goto l159;
-        rattle_alloc_at(v3 + 128, v38 * 24, 8);
-        if (((uint32_t)get64(v3 + 128) & 1) == 0) goto l159;
-        v41 = (v5 != 0) ? v21 : (v3 + 352);
-        v42 = get64(v3 + 136);
-        put64(v3 + 2592, v38);
-        put64(v3 + 2584, 0);
-        put64(v3 + 2576, v42);
-        v30 = 0;
-        v40 = 0;
-        do {
-            v7 = v41 + (v40 * 24);
-            v19 = get64(v7);
-            v29 = get64(v7 + 8);
-            v11 = v29 == 0;
-            if (v11 != 0) {
-                v23 = v3 + 0xa28;
-            } else {
-                if (v29 > 0x7fffffffffffffffULL) goto l162;
-                rattle_alloc_at(v3 + 112, v29, 1);
-                if (((uint32_t)get64(v3 + 112) & 1) == 0) goto l162;
-                v23 = get64(v3 + 120);
-            }
-            if ((v23 - v19) < v29) {
-                v20 = v29 & 3;
-                v8 = 0;
-                if (v29 >= 4) {
-                    v21 = v29 & ~3ULL;
-                    v8 = 0;
-                    do {
-                        v7 = v23 + v8;
-                        v22 = v19 + v8;
-                        put8(v7, get8(v22));
-                        put8(v7 + 1, get8(v22 + 1));
-                        put8(v7 + 2, get8(v22 + 2));
-                        put8(v7 + 3, get8(v22 + 3));
-                        v8 = v8 + 4;
-                    } while (v21 != v8);
-                    if (v20 == 0) goto l168;
+        v11 = 4;
+        v10 = get8(v22 + 2);
+        v13 = ((v10 << 8) & 768) | get8(v22 + 3);
+        if (v23 != (uint64_t)(v13 + 1)) goto l153;
+        v12 = 0;
+        if (v13 < 6) goto l152;
+        v4 = get8(v22 + 1);
+        v7 = v23 - 2;
+        v13 = get16(v22 + v7);
+        t4 = octets_frame_check_check(v22, v7);
+        if ((((v13 << 8) | (v13 >> 8)) & 0xffff) != (t4 & 0xffff)) {
+            v11 = 5;
+            goto l153;
+        }
+        v13 = get8(v22 + 4);
+        if (v6 >= 32 && (v13 & 255) != 0) {
+            v11 = 6;
+            goto l153;
+        }
+        if ((v6 & 16) != 0) {
+            v7 = v23 - 7;
+            if (v7 > 3) goto l159;
+            v11 = 7;
+            v12 = 0;
+            switch ((uint32_t)v7) {
+            case 1:
+                v12 = 0;
+                if (get8(v22 + 5) != 0) {
+                    v11 = 8;
+                    goto l152;
                 }
-                v7 = v23 + v8;
-                v8 = v19 + v8;
-                do {
-                    put8(v7, get8(v8));
-                    v7 = v7 + 1;
-                    v8 = v8 + 1;
-                    v20 = v20 - 1;
-                } while (v20 != 0);
-            } else if (v11 == 0) copy(v23, v19, v29);
-        l168:;
-            if (get64(v3 + 2592) == v30) {
-                t4 = std_alloc_vec_Vec_grow_amortized_1598ebf9113514c4(v3 + 0xa10, 1);
-                if (t4 == 0) goto l161;
-                v42 = get64(v3 + 2576);
-                v30 = get64(v3 + 2584);
-            }
-            v7 = v42 + (v30 * 24);
-            put64(v7 + 16, v29);
-            put64(v7 + 8, v29);
-            put64(v7, v23);
-            v30 = v30 + 1;
-            put64(v3 + 2584, v30);
-            v40 = v40 + 1;
-        } while (v40 != v38);
-        v38 = get64(v3 + 2592);
-        v40 = get64(v3 + 2576);
-    l163:;
-        if (get64(event + 0xf98) == get64(event + 0xf90)) {
-            t5 = std_alloc_vec_Vec_grow_amortized_1598ebf9113514c4(event + 0xf88, 1);
-            if (t5 == 0) goto l174;
-        }
-        v7 = event + 0x960 + (((uint64_t)v13 & 255) * 24);
-        if (v30 <= (get64(v7 + 16) - get64(v7 + 8))) goto l146;
-        t6 = std_alloc_vec_Vec_grow_amortized_1598ebf9113514c4(v7, v30);
-        if (t6 != 0) goto l146;
-    l174:;
-        if (v10 == 0) rattle_dealloc_at(v18);
-        put64(v3 + 496, v38);
-        put64(v3 + 488, v30);
-        put64(v3 + 480, v40);
-        std_alloc_vec_Vec_drop_b0c2e3ac61d256b1(v3 + 480);
-        v13 = 1;
-        if (get8(v3 + 304) != 1) goto l148;
-        v22 = get64(v3 + 408);
-        v20 = get64(v3 + 392);
-        v12 = get8(v3 + 384);
-        v7 = get64(v3 + 368);
-        v8 = get64(v3 + 352);
-        if (get8(v3 + 344) != 0) {
-            v23 = get64(v3 + 360);
-            put64(v3 + 248, v7);
-            put64(v3 + 240, v23);
-            put64(v3 + 232, v8);
-            std_alloc_vec_Vec_drop_b0c2e3ac61d256b1(v3 + 232);
-            goto l149;
-        }
-        if (v7 == 0) goto l149;
-        rattle_dealloc_at(v8);
-        goto l149;
-    l162:;
-        v8 = get64(v3 + 2592);
-        if (v30 != 0) {
-            v7 = v42;
-            do {
-                if (get64(v7 + 16) != 0) rattle_dealloc_at(get64(v7));
-                v7 = v7 + 24;
-                v30 = v30 - 1;
-            } while (v30 != 0);
-        }
-        if (v8 != 0) goto l160;
-        goto l159;
-    l161:;
-        if (v11 == 0) rattle_dealloc_at(v23);
-        v22 = get64(v3 + 2592);
-        v42 = get64(v3 + 2576);
-        v8 = get64(v3 + 2584);
-        if (v8 != 0) {
-            v7 = v42;
-            do {
-                if (get64(v7 + 16) != 0) rattle_dealloc_at(get64(v7));
-                v7 = v7 + 24;
-                v8 = v8 - 1;
-            } while (v8 != 0);
-        }
-        if (v22 == 0) goto l159;
-    l160:;
-        rattle_dealloc_at(v42);
-    l159:;
-        if (v10 == 0) rattle_dealloc_at(v18);
-    l151:;
-        v13 = 1;
-        if (get8(v3 + 304) != 1) goto l184;
-        v19 = get64(v3 + 432);
-        v8 = get64(v3 + 424);
-        v20 = get64(v3 + 416);
-        v30 = get64(v3 + 408);
-        v29 = get64(v3 + 392);
-        v12 = get8(v3 + 384);
-        v21 = get64(v3 + 368);
-        v23 = get64(v3 + 352);
-        if (get8(v3 + 344) == 0) {
-            if (v21 != 0) goto l186;
-            goto l185;
-        }
-        v22 = get64(v3 + 360);
-        if (v22 != 0) {
-            v7 = v23;
-            do {
-                if (get64(v7 + 16) != 0) rattle_dealloc_at(get64(v7));
-                v7 = v7 + 24;
-                v22 = v22 - 1;
-            } while (v22 != 0);
-        }
-        if (v21 == 0) goto l185;
-    l186:;
-        rattle_dealloc_at(v23);
-    l185:;
-        if ((v12 & 255) == 2 && v30 != 0) rattle_dealloc_at(v29);
-        if (v8 != 0) {
-            v7 = v20;
-            do {
-                if (get8(v7) != 0 && get64(v7 + 24) != 0) rattle_dealloc_at(get64(v7 + 8));
-                v7 = v7 + 32;
-                v8 = v8 - 1;
-            } while (v8 != 0);
-        }
-        if (v19 != 0) rattle_dealloc_at(v20);
-    l184:;
-        if (get8(v3 + 440) != 1 || get64(v3 + 472) == 0) goto l62;
-        rattle_dealloc_at(get64(v3 + 456));
-        v28 = 0;
-        goto l61;
-    l149:;
-        v7 = v3 + 416;
-        if ((v12 & 255) == 2 && v22 != 0) rattle_dealloc_at(v20);
-        std_alloc_vec_Vec_drop_555ceec2fcbf3849(v7);
-    l148:;
-        v7 = 0;
-        if (get8(v3 + 440) != 1 || get64(v3 + 472) == 0) goto l63;
-        rattle_dealloc_at(get64(v3 + 456));
-        goto l63;
-    l146:;
-        nodes_spacecraft_Spacecraft_commit(v3 + 504, v31, v3 + 256);
-        v7 = get64(event + 752);
-        if (v7 != 0) {
-            v22 = event + 776;
-            if (get64(v22) != v7) {
-                v8 = get64(event + 768);
-            } else {
+                v14 = 2;
+                v20 = 0;
+                v33 = 0;
                 v8 = 0;
-                put64(v22, 0);
+                v13 = 0;
+                v34 = 0;
+                v5 = 0;
+                goto l160;
+            case 2:
+                goto l159;
+            case 3:
+                v11 = 8;
+                if (get8(v22 + 5) != 130) goto l153;
+                v12 = 0;
+                if (get8(v22 + 6) != 0) goto l152;
+                v5 = get8(v22 + 7);
+                v34 = 1;
+                v14 = 2;
+                v20 = 0;
+                v33 = 0;
+                v8 = 0;
+                v13 = 0;
+                goto l160;
+            default:
+                goto l152;
             }
-            put64(event + 752, v7 - 1);
-            put64(event + 768, v8 + 1);
-            v7 = get64(event + 744) + (v8 * 24);
-            if (get64(v7 + 16) != 0) rattle_dealloc_at(get64(v7));
         }
-        if (v12 != 1) goto l199;
-        v8 = event + 0xf90;
-        v22 = get64(v8);
-        v7 = get64(event + 0xf88) + (v22 * 24);
-        put64(v7 + 16, v39);
-        put64(v7 + 8, v39);
-        put64(v7, v18);
-        put64(v8, v22 + 1);
-        if (v30 != 0) {
-            v23 = (event + (((uint64_t)v13 & 255) * 24)) + 0x960;
-            v19 = v23 + 8;
-            v18 = get64(v19);
-            v22 = 0;
-            if (v30 != 1) {
-                v39 = v30 & 1;
-                v8 = v18 * 24;
-                v31 = v30 & ~1ULL;
+        if ((v23 - 9) > ~2ULL) {
+            v11 = 7;
+            goto l153;
+        }
+        v5 = 0;
+        v34 = (v6 < 32) ? v13 : 0U;
+        v14 = v6 > 31;
+        v8 = v23 - 8;
+        v20 = v22 + 6;
+        v13 = get8(v22 + 5);
+        v33 = v13 & 63;
+        v13 = v13 >> 6;
+    l160:;
+        v12 = 1;
+        if (get32(v38) != (((v6 << 8) & 768) | v4)) {
+            v11 = 0;
+            goto l152;
+        }
+        v11 = 0;
+        if (get32(event + 404) != ((v10 & 252) >> 2)) goto l152;
+        switch (v14) {
+        case 1:
+            v6 = get8(event + 477);
+            v35 = 1;
+            v12 = 3;
+            v32 = get8(event + 476);
+            v14 = get8(event + 475);
+            v16 = get8(event + 474);
+            v4 = get8(event + 473);
+            v15 = get8(event + 472);
+            v29 = 0;
+            v5 = 0;
+            if (v13 != 3 || ((uint32_t)(get64(event + 440) >> ((uint64_t)v33 & 63)) & 1) == 0 || v8 >
+                (uint64_t)get32(event + 432)) {
+                v11 = 0;
+                v30 = 0;
+                goto l67;
+            }
+            v11 = 0;
+            v30 = 0;
+            v9 = 0;
+            v21 = 0;
+            v7 = 0;
+            if (v8 < 6) goto l66;
+            v13 = get8(v20);
+            if (v13 > 31 || (((v13 & 8) != 0 && (((v13 << 8) & 0x700) | get8(v20 + 1)) == 0x7ff) ||
+                ((((uint64_t)get8(v20 + 4) << 8) | (uint64_t)get8(v20 + 5)) + 7) != v8)) {
+                v30 = 0;
+                v11 = 0;
+                goto l67;
+            }
+            rattle_alloc_at(v3 + 160, v8, 1);
+            if (((uint32_t)get64(v3 + 160) & 1) == 0) {
+                v35 = 0;
+                put8(v3 + 668, 0);
+                put32(v3 + 664, 0);
+                put32(v3 + 656, 0);
+                put16(v3 + 660, 0);
+                v29 = 0;
+                put64(v3 + 672, 0);
+                put64(v3 + 680, 0);
+                put64(v3 + 688, 0);
+                put32(v3 + 648, 0);
+                put16(v3 + 652, 0);
+                put64(v3 + 632, 0);
+                put64(v3 + 639, 0);
+                put64(v3 + 576, 0);
+                put64(v3 + 584, 0);
+                put64(v3 + 592, 0);
+                put64(v3 + 600, 0);
+                put64(v3 + 608, 0);
+                put64(v3 + 616, 0);
+                put64(v3 + 624, 0);
+                put32(v3 + 571, 0);
+                put32(v3 + 568, 0);
                 v22 = 0;
-                v7 = v40;
-                do {
-                    v21 = get64(v7);
-                    v30 = get64(v7 + 8);
-                    v20 = get64(v23) + v8;
-                    put64(v20 + 16, get64(v7 + 16));
-                    put64(v20 + 8, v30);
-                    put64(v20, v21);
-                    v21 = v18 + v22;
-                    put64(v19, v21 + 1);
-                    v30 = get64(v7 + 24);
-                    v29 = get64(v7 + 32);
-                    v20 = get64(v23) + v8;
-                    put64(v20 + 40, get64(v7 + 40));
-                    put64(v20 + 32, v29);
-                    put64(v20 + 24, v30);
-                    put64(v19, v21 + 2);
-                    v7 = v7 + 48;
-                    v8 = v8 + 48;
-                    v22 = v22 + 2;
-                } while (v31 != v22);
-                if (v39 == 0) goto l200;
-                v18 = v18 + v22;
+                v23 = 0;
+                v12 = 0;
+                v11 = 0;
+                v5 = 0;
+                v6 = 0;
+                v13 = 0;
+                v15 = 0;
+                v4 = 0;
+                v16 = 0;
+                v14 = 0;
+                v32 = 0;
+                v33 = 0;
+                goto l167;
             }
-            v7 = v40 + (v22 * 24);
-            v22 = get64(v7);
-            v20 = get64(v7 + 8);
-            v8 = get64(v23) + (v18 * 24);
-            put64(v8 + 16, get64(v7 + 16));
-            put64(v8 + 8, v20);
-            put64(v8, v22);
-            put64(v19, v18 + 1);
+            v21 = get64(v3 + 168);
+            if ((v21 - v20) < v8) {
+                v18 = v8 & 3;
+                v7 = 0;
+                if (v8 >= 4) {
+                    v31 = v8 & ~3ULL;
+                    v7 = 0;
+                    do {
+                        v19 = v21 + v7;
+                        v30 = v20 + v7;
+                        put8(v19, get8(v30));
+                        put8(v19 + 1, get8(v30 + 1));
+                        put8(v19 + 2, get8(v30 + 2));
+                        put8(v19 + 3, get8(v30 + 3));
+                        v7 = v7 + 4;
+                    } while (v31 != v7);
+                    if (v18 == 0) goto l185;
+                }
+                do {
+                    put8(v21 + v7, get8(v20 + v7));
+                    v30 = 1;
+                    v7 = v7 + 1;
+                    v11 = 1;
+                    v18 = v18 - 1;
+                } while (v18 != 0);
+                goto l184;
+            }
+            if (v8 != 0) copy(v21, v20, v8);
+        l185:;
+            v30 = 1;
+            v11 = 1;
+        l184:;
+            v9 = v33;
+            v7 = v8;
+            goto l66;
+        case 2:
+            v13 = get8(event + 477);
+            v4 = get8(event + 473);
+            v7 = event + 472;
+            v6 = 0;
+            if ((v34 & 255) != 0) {
+                v16 = 1;
+                if ((get8(event + 474) & 1) != 0) {
+                    v14 = get8(event + 475);
+                    v32 = get8(event + 476);
+                    goto l190;
+                }
+                v4 = v5;
+            }
+            v16 = 0;
+            v14 = 0;
+            v32 = 0;
+        l190:;
+            v15 = get8(v7);
+            put8(v3 + 668, 0);
+            put32(v3 + 664, 0);
+            put32(v3 + 656, 0);
+            put16(v3 + 660, 0);
+            v29 = 0;
+            put64(v3 + 672, 0);
+            put64(v3 + 680, 0);
+            put64(v3 + 688, 0);
+            put32(v3 + 648, 0);
+            put16(v3 + 652, 0);
+            put64(v3 + 632, 0);
+            put64(v3 + 639, 0);
+            put64(v3 + 576, 0);
+            put64(v3 + 584, 0);
+            put64(v3 + 592, 0);
+            put64(v3 + 600, 0);
+            put64(v3 + 608, 0);
+            put64(v3 + 616, 0);
+            put64(v3 + 624, 0);
+            put32(v3 + 571, 0);
+            put32(v3 + 568, 0);
+            v35 = 1;
+            v33 = (v13 + 1) & 3;
+            v12 = 4;
+            v11 = v34;
+            v13 = 0;
+            goto l167;
+        default:
+            break;
         }
-    l200:;
-        if (v38 != 0) rattle_dealloc_at(v40);
-    l199:;
-        v6 = 7;
+        v6 = 0;
+        fill(v3 + 248, 0, 112);
+        put32(v3 + 450, 0);
+        put8(v3 + 449, v33);
+        put8(v3 + 448, v13);
+        put16(v3 + 454, 0);
+        put64(v3 + 464, v8);
+        put64(v3 + 456, v20);
+        v35 = 1;
+        v33 = get8(event + 477);
+        v32 = get8(event + 476);
+        v14 = get8(event + 475);
+        v4 = get8(event + 473);
+        v15 = get8(event + 472);
+        v5 = 5;
+        if ((get8(event + 474) & 1) != 0) {
+            v16 = 1;
+        } else if ((v34 & 255) == (v4 & 255)) {
+            v16 = 0;
+            if ((v14 & 1) != 0) {
+                v14 = 1;
+            } else {
+                if (get64(event + 568) < (uint64_t)get32(event + 448)) {
+                    map_service_assembler_Assembler_prepare(v3 + 248, event + 480, v3 + 448);
+                    if (get8(v3 + 248) == 0) {
+                        v5 = 0;
+                        put32(v3 + 664, 0);
+                        put8(v3 + 668, 0);
+                        put32(v3 + 656, 0);
+                        put16(v3 + 660, 0);
+                        put64(v3 + 672, get64(v3 + 448));
+                        put64(v3 + 680, get64(v3 + 456));
+                        put64(v3 + 688, get64(v3 + 464));
+                        put16(v3 + 652, get16(v3 + 262));
+                        put32(v3 + 648, get32(v3 + 258));
+                        v18 = get64(v3 + 288);
+                        v13 = get8(v3 + 257);
+                        v6 = get8(v3 + 256);
+                        v20 = get64(v3 + 296);
+                        v19 = get64(v3 + 280);
+                        v10 = get8(v3 + 264);
+                        put64(v3 + 639, get64(v3 + 272));
+                        put64(v3 + 632, get64(v3 + 265));
+                        put64(v3 + 576, get64(v3 + 304));
+                        put64(v3 + 584, get64(v3 + 312));
+                        put64(v3 + 592, get64(v3 + 320));
+                        put64(v3 + 600, get64(v3 + 328));
+                        put64(v3 + 608, get64(v3 + 336));
+                        put64(v3 + 616, get64(v3 + 344));
+                        put64(v3 + 624, get64(v3 + 352));
+                        v29 = (v10 != 0) ? v19 : v20;
+                        v35 = 1;
+                        v4 = v34 + 1;
+                        v8 = 1;
+                        v12 = 2;
+                        v16 = 0;
+                        v14 = 0;
+                        v32 = 0;
+                        goto l171;
+                    }
+                    v35 = 0;
+                    put8(v3 + 668, 0);
+                    put32(v3 + 664, 0);
+                    put32(v3 + 656, 0);
+                    put16(v3 + 660, 0);
+                    v22 = 0;
+                    put64(v3 + 672, 0);
+                    put64(v3 + 680, 0);
+                    put64(v3 + 688, 0);
+                    put32(v3 + 648, 0);
+                    put16(v3 + 652, 0);
+                    put64(v3 + 632, 0);
+                    put64(v3 + 639, 0);
+                    put64(v3 + 576, 0);
+                    put64(v3 + 584, 0);
+                    put64(v3 + 592, 0);
+                    put64(v3 + 600, 0);
+                    put64(v3 + 608, 0);
+                    put64(v3 + 616, 0);
+                    put64(v3 + 624, 0);
+                    v23 = 0;
+                    v12 = 0;
+                    v34 = 0;
+                    v5 = 0;
+                    v29 = 0;
+                    v6 = 0;
+                    v13 = 0;
+                    v15 = 0;
+                    v4 = 0;
+                    v16 = 0;
+                    v14 = 0;
+                    v32 = 0;
+                    v33 = 0;
+                    goto l172;
+                }
+                v5 = 2;
+                v14 = 1;
+                v32 = 1;
+            }
+        } else {
+            v16 = 1;
+            v13 = v34 - v4;
+            v12 = (v15 >> 1) & 127;
+            if ((v13 & 255) >= v12) {
+                if ((v13 & 255) > (~v12 & 255)) {
+                    v5 = ((v14 & 1) != 0) ? 5U : 3U;
+                    v16 = 0;
+                } else {
+                    v5 = 4;
+                }
+            } else if ((v14 & 1) != 0) {
+                v16 = 0;
+                v14 = 1;
+            } else {
+                v32 = 1;
+                v16 = 0;
+                v14 = 0;
+                v5 = 1;
+            }
+        }
+        put8(v3 + 668, 0);
+        put32(v3 + 664, 0);
+        put32(v3 + 656, 0);
+        put16(v3 + 660, 0);
+        v29 = 0;
+        put64(v3 + 672, 0);
+        put64(v3 + 680, 0);
+        put64(v3 + 688, 0);
+        put32(v3 + 648, 0);
+        put16(v3 + 652, 0);
+        put64(v3 + 632, 0);
+        put64(v3 + 639, 0);
+        put64(v3 + 576, 0);
+        put64(v3 + 584, 0);
+        put64(v3 + 592, 0);
+        put64(v3 + 600, 0);
+        put64(v3 + 608, 0);
+        put64(v3 + 616, 0);
+        put64(v3 + 624, 0);
+        v12 = 2;
         v13 = 0;
-        v22 = (uint64_t)get16(v3 + 520);
-        v7 = get64(v3 + 512);
-        v25 = get8(v3 + 506);
-        v27 = get8(v3 + 505);
-        v28 = get8(v3 + 504);
-        goto l60;
+    l172:;
+        v8 = 0;
+        v10 = 0;
+        v19 = 0;
+        v18 = 0;
+        v20 = 0;
+    l171:;
+        v9 = 0;
+        put32(v3 + 571, 0);
+        put32(v3 + 568, 0);
+        v30 = 0;
+        v11 = v34;
+        goto l65;
+    l167:;
+        v8 = 0;
+        v10 = 0;
+        v19 = 0;
+        v18 = 0;
+        v20 = 0;
+        v30 = 0;
+        v9 = 0;
+        goto l65;
+    l159:;
+        v11 = 8;
+    l153:;
+        v12 = 0;
+    l152:;
+        put32(v3 + 560, 0);
+        put8(v3 + 564, 0);
+        put32(v3 + 552, 0);
+        put16(v3 + 556, 0);
+        v7 = 0;
+        put64(v3 + 528, 0);
+        put64(v3 + 536, 0);
+        put64(v3 + 544, 0);
+        put32(v3 + 520, 0);
+        put16(v3 + 524, 0);
+        put64(v3 + 504, 0);
+        put64(v3 + 511, 0);
+        v33 = get8(event + 477);
+        v32 = get8(event + 476);
+        v14 = get8(event + 475);
+        v16 = get8(event + 474);
+        v4 = get8(event + 473);
+        v15 = get8(event + 472);
+        put64(v3 + 496, 0);
+        put64(v3 + 488, 0);
+        put64(v3 + 480, 0);
+        put64(v3 + 472, 0);
+        put64(v3 + 464, 0);
+        put64(v3 + 456, 0);
+        put64(v3 + 448, 0);
+        put32(v3 + 440, 0);
+        put32(v3 + 443, 0);
+        v21 = 0;
+        v30 = 0;
+        v20 = 0;
+        v18 = 0;
+        v19 = 0;
+        v10 = 0;
+        v13 = 0;
+        v6 = 0;
+        v8 = 0;
+        v29 = 0;
+        v5 = 0;
+        goto l63;
     case 6:
         v7 = get64(event + 752);
         if (v7 == 0) {
@@ -11539,8 +10843,8 @@ l2:;
         put64(event + 752, v7 - 1);
         put64(event + 768, v8 + 1);
         v7 = get64(event + 744) + (v8 * 24);
-        if (get64(v7 + 16) != 0) goto l82;
-        goto l64;
+        if (get64(v7 + 16) != 0) goto l88;
+        goto l70;
     case 7:
         v22 = get64(event + 752);
         if (v22 == 0) {
@@ -11549,34 +10853,34 @@ l2:;
         }
         if (v8 < 5) {
             v27 = 0;
-            goto l207;
+            goto l197;
         }
         v6 = get8(v7);
         if (v6 > 63) {
             v27 = 1;
-            goto l207;
+            goto l197;
         }
         if ((v6 & 48) == 16) {
             v27 = 2;
-            goto l207;
+            goto l197;
         }
         if ((v6 & 12) != 0) {
             v27 = 3;
-            goto l207;
+            goto l197;
         }
         v27 = 4;
         v20 = (((uint64_t)get8(v7 + 2) << 8) & 768) | (uint64_t)get8(v7 + 3);
-        if (v8 != (v20 + 1) || v20 < 6) goto l207;
+        if (v8 != (v20 + 1) || v20 < 6) goto l197;
         v20 = v8 - 2;
         v13 = get16(v7 + v20);
-        t7 = octets_frame_check_check(v7, v20);
-        if ((((v13 << 8) | (v13 >> 8)) & 0xffff) != (t7 & 0xffff)) {
+        t5 = octets_frame_check_check(v7, v20);
+        if ((((v13 << 8) | (v13 >> 8)) & 0xffff) != (t5 & 0xffff)) {
             v27 = 5;
-            goto l207;
+            goto l197;
         }
         if (v6 >= 32 && (get8(v7 + 4) & 255) != 0) {
             v27 = 6;
-            goto l207;
+            goto l197;
         }
         if ((v6 & 16) != 0) {
             v8 = v8 - 7;
@@ -11584,24 +10888,24 @@ l2:;
                 v27 = 7;
                 switch ((uint32_t)v8) {
                 case 1:
-                    if (get8(v7 + 5) == 0) goto l65;
+                    if (get8(v7 + 5) == 0) goto l71;
                     break;
                 case 2:
                     break;
                 case 3:
                     v27 = 8;
-                    if (get8(v7 + 5) != 130 || get8(v7 + 6) != 0) goto l207;
-                    goto l65;
+                    if (get8(v7 + 5) != 130 || get8(v7 + 6) != 0) goto l197;
+                    goto l71;
                 default:
-                    goto l207;
+                    goto l197;
                 }
             }
             v27 = 8;
         } else {
-            if ((v8 - 9) < ~1ULL) goto l65;
+            if ((v8 - 9) < ~1ULL) goto l71;
             v27 = 7;
         }
-    l207:;
+    l197:;
         v8 = event + 776;
         if (get64(v8) != v22) {
             v7 = get64(event + 768);
@@ -11614,50 +10918,50 @@ l2:;
         v7 = get64(event + 744) + (v7 * 24);
         if (get64(v7 + 16) != 0) rattle_dealloc_at(get64(v7));
         v25 = 0;
-        put16(v3 + 532, 0);
-        put32(v3 + 528, 0);
+        put16(v3 + 700, 0);
+        put32(v3 + 696, 0);
         v22 = 0;
         v7 = 0;
         v26 = 0;
         goto l35;
     case 8:
-        put64(v3 + 504, 0);
-        put64(v3 + 512, 0);
-        put64(v3 + 520, 0);
+        put64(v3 + 448, 0);
+        put64(v3 + 456, 0);
+        put64(v3 + 464, 0);
+        put64(v3 + 248, 0);
         put64(v3 + 256, 0);
         put64(v3 + 264, 0);
-        put64(v3 + 272, 0);
-        put16(v3 + 280, 0);
+        put16(v3 + 272, 0);
         v6 = get32(event + 460);
         v21 = (uint64_t)v6;
         if (v6 == 0) {
-            v18 = v3 + 0xa28;
+            v18 = v3 + 0xab8;
         } else {
-            rattle_alloc_at(v3 + 160, v21, 1);
+            rattle_alloc_at(v3 + 176, v21, 1);
             v13 = 1;
-            if (((uint32_t)get64(v3 + 160) & 1) == 0) {
+            if (((uint32_t)get64(v3 + 176) & 1) == 0) {
                 v8 = 0;
-                put64(v3 + 512, 0);
-                put64(v3 + 504, 0);
-                v7 = v3 + 504;
-                goto l67;
+                put64(v3 + 456, 0);
+                put64(v3 + 448, 0);
+                v7 = v3 + 448;
+                goto l73;
             }
-            v18 = get64(v3 + 168);
+            v18 = get64(v3 + 184);
         }
-        put64(v3 + 496, v21);
-        put64(v3 + 488, 0);
-        put64(v3 + 480, v18);
+        put64(v3 + 688, v21);
+        put64(v3 + 680, 0);
+        put64(v3 + 672, v18);
         if (get64(event + 800) == get64(event + 792)) {
-            t8 = std_alloc_vec_deque_VecDeque_grow_1598ebf9113514c4(event + 784);
-            if (t8 == 0) {
+            t6 = std_alloc_vec_deque_VecDeque_grow_1598ebf9113514c4(event + 784);
+            if (t6 == 0) {
                 v8 = 0;
-                put64(v3 + 512, 0);
-                put64(v3 + 504, 0);
-                v7 = v3 + 504;
+                put64(v3 + 456, 0);
+                put64(v3 + 448, 0);
+                v7 = v3 + 448;
                 v13 = 1;
-                if (v6 == 0) goto l67;
+                if (v6 == 0) goto l73;
                 rattle_dealloc_at(v18);
-                goto l67;
+                goto l73;
             }
         }
         v11 = get8(event + 473);
@@ -11666,33 +10970,33 @@ l2:;
         v6 = get8(event + 476);
         v10 = get8(event + 475);
         v5 = get8(event + 474);
-        fill(v3 + 528, 0, 0x800);
+        fill(v3 + 696, 0, 0x800);
         if ((v13 & 192) != 0 || (v12 & 255) > 3) UNREACHABLE;
-        put16(v3 + 2581, 0);
-        put8(v3 + 2583, 0);
-        put8(v3 + 2580, get8(event + 649));
-        put8(v3 + 2579, get8(event + 648));
-        put8(v3 + 2578, get8(event + 634));
-        put16(v3 + 2576, get16(event + 632));
-        put64(v3 + 2592, (uint64_t)get32(event + 696));
+        put16(v3 + 581, 0);
+        put8(v3 + 583, 0);
+        put8(v3 + 580, get8(event + 649));
+        put8(v3 + 579, get8(event + 648));
+        put8(v3 + 578, get8(event + 634));
+        put16(v3 + 576, get16(event + 632));
+        put64(v3 + 592, (uint64_t)get32(event + 696));
         v22 = event + 656;
-        put64(v3 + 2584, get64(v22));
+        put64(v3 + 584, get64(v22));
         v7 = event + 688;
         v8 = get64(v7);
         v20 = event + 672;
         v5 = v5 << 5;
         v10 = v10 << 4;
         v9 = v6 << 3;
-        t9 = get64(event + 664) + v8;
-        t10 = get64(v20) - v8;
+        t7 = get64(event + 664) + v8;
+        t8 = get64(v20) - v8;
         v8 = event + 640;
-        tm_link_turn_put_next(v3 + 0xa10, t9, t10, (((((((v5 | (v12 << 1)) | v10) | v9) & 255) << 16) | ((v13 << 10) &
-            0xfc00)) | (v11 << 24)) | 1, v3 + 528, get64(v8));
+        tm_link_turn_put_next(v3 + 576, t7, t8, (((((((v5 | (v12 << 1)) | v10) | v9) & 255) << 16) | ((v13 << 10) &
+            0xfc00)) | (v11 << 24)) | 1, v3 + 696, get64(v8));
         v26 = get64(v8);
         v7 = get64(v7);
         v8 = get64(v20);
         v22 = get64(v22);
-        if (v22 == 0 && v8 == v7) goto l224;
+        if (v22 == 0 && v8 == v7) goto l214;
         v20 = v8 - v7;
         v8 = v26 - 12;
         v19 = (v8 < v22) ? v8 : v22;
@@ -11717,7 +11021,7 @@ l2:;
             do {
                 if (v7 == 0) {
                     v6 = 0;
-                    goto l228;
+                    goto l218;
                 }
                 if (v7 != get64(v23)) {
                     v22 = get64(v19);
@@ -11735,9 +11039,9 @@ l2:;
             } while (v8 > v22);
         }
         v6 = v6 - (uint32_t)v8;
-    l228:;
+    l218:;
         put32(event + 696, v6);
-    l224:;
+    l214:;
         v6 = v10 | v5;
         v7 = event + 648;
         put8(v7, get8(v7) + 1);
@@ -11745,16 +11049,16 @@ l2:;
         put8(v7, get8(v7) + 1);
         v7 = 0;
         if (v26 > v21) {
-            t11 = std_alloc_vec_Vec_grow_amortized_49bbd27f022ae39a(v3 + 480, v26);
-            if (t11 == 0) goto l234;
-            v18 = get64(v3 + 480);
-            v21 = get64(v3 + 496);
-            v7 = get64(v3 + 488);
+            t9 = std_alloc_vec_Vec_grow_amortized_49bbd27f022ae39a(v3 + 672, v26);
+            if (t9 == 0) goto l224;
+            v18 = get64(v3 + 672);
+            v21 = get64(v3 + 688);
+            v7 = get64(v3 + 680);
         }
-        if (v26 != 0) copy(v18 + v7, v3 + 528, v26);
-        put64(v3 + 496, v21);
-        put64(v3 + 488, v7 + v26);
-    l234:;
+        if (v26 != 0) copy(v18 + v7, v3 + 696, v26);
+        put64(v3 + 688, v21);
+        put64(v3 + 680, v7 + v26);
+    l224:;
         v6 = v6 | v9;
         v7 = get64(event + 784);
         v8 = get64(event + 792);
@@ -11764,52 +11068,52 @@ l2:;
         v19 = get64(event + 808);
         if (v23 < (get64(event + 800) - v19)) {
             v7 = v7 + ((v19 + v23) * 24);
-            put64(v7 + 16, get64(v3 + 496));
-            put64(v7 + 8, get64(v3 + 488));
-            put64(v7, get64(v3 + 480));
+            put64(v7 + 16, get64(v3 + 688));
+            put64(v7 + 8, get64(v3 + 680));
+            put64(v7, get64(v3 + 672));
         } else {
             v7 = v7 + (v22 * 24);
-            put64(v7 + 16, get64(v3 + 496));
-            put64(v7 + 8, get64(v3 + 488));
-            put64(v7, get64(v3 + 480));
+            put64(v7 + 16, get64(v3 + 688));
+            put64(v7 + 8, get64(v3 + 680));
+            put64(v7, get64(v3 + 672));
             put64(v20, v22 + 1);
         }
         put64(event + 792, v8 + 1);
-        t12 = (((((uint64_t)v12 & 255) << 24) | (uint64_t)((v13 << 8) & 0x3f00)) | ((uint64_t)v11 << 32)) |
+        t10 = (((((uint64_t)v12 & 255) << 24) | (uint64_t)((v13 << 8) & 0x3f00)) | ((uint64_t)v11 << 32)) |
             (((uint64_t)v6 & 255) << 16);
-        v24 = (uint32_t)(t12 >> 8);
-        v7 = (v3 + 256) | 2;
+        v24 = (uint32_t)(t10 >> 8);
+        v7 = (v3 + 248) | 2;
         v6 = 6;
         v13 = 0;
-        v8 = get64(v3 + 258);
-        goto l66;
+        v8 = get64(v3 + 250);
+        goto l72;
     case 9:
         v26 = 0;
-        put64(v3 + 552, 0);
-        put64(v3 + 544, 0);
-        put64(v3 + 536, 0);
-        put64(v3 + 528, 0);
+        put64(v3 + 720, 0);
+        put64(v3 + 712, 0);
+        put64(v3 + 704, 0);
+        put64(v3 + 696, 0);
         v8 = get64(event + 792);
         if (v8 == 0) {
             v28 = 0;
             v6 = 1;
-            goto l68;
+            goto l74;
         }
         v7 = get64(event + 784);
         if (v8 != get64(event + 816)) v7 = v7 + (get64(event + 808) * 24);
         v6 = get8(event + 75);
         v13 = get8(event + 73);
-        nodes_ground_node_Ground_telemetry(v3 + 528, event, get64(v7), get64(v7 + 8));
-        if (get8(v3 + 528) != 0) {
+        nodes_ground_node_Ground_telemetry(v3 + 696, event, get64(v7), get64(v7 + 8));
+        if (get8(v3 + 696) != 0) {
             v6 = 0;
             v28 = 0;
-            goto l68;
+            goto l74;
         }
-        v22 = (uint64_t)get32(v3 + 552);
-        v7 = get64(v3 + 544);
-        v25 = get8(v3 + 538);
-        v27 = get8(v3 + 537);
-        v28 = get8(v3 + 536);
+        v22 = (uint64_t)get32(v3 + 720);
+        v7 = get64(v3 + 712);
+        v25 = get8(v3 + 706);
+        v27 = get8(v3 + 705);
+        v28 = get8(v3 + 704);
         v8 = get64(event + 792);
         if (v8 != 0) {
             v23 = event + 816;
@@ -11848,28 +11152,28 @@ l2:;
         put64(event + 792, v7 - 1);
         put64(event + 808, v8 + 1);
         v7 = get64(event + 784) + (v8 * 24);
-        if (get64(v7 + 16) == 0) goto l64;
-        goto l82;
+        if (get64(v7 + 16) == 0) goto l70;
+        goto l88;
     case 11:
-        put64(v3 + 568, 0);
-        put64(v3 + 560, 0);
-        put64(v3 + 552, 0);
-        put64(v3 + 544, 0);
-        put64(v3 + 536, 0);
-        put64(v3 + 528, 0);
+        put64(v3 + 736, 0);
+        put64(v3 + 728, 0);
+        put64(v3 + 720, 0);
+        put64(v3 + 712, 0);
+        put64(v3 + 704, 0);
+        put64(v3 + 696, 0);
         v27 = 0;
         if (get64(event + 792) == 0) {
             v13 = 1;
             v6 = 1;
         } else {
-            tm_link_decoding_decode(v3 + 528, v7, v8, (uint64_t)get32(event + 60));
+            tm_link_decoding_decode(v3 + 696, v7, v8, (uint64_t)get32(event + 60));
             v13 = 1;
-            if (get8(v3 + 528) != 1) {
+            if (get8(v3 + 696) != 1) {
                 v6 = 2;
             } else {
                 v6 = 8;
                 v13 = 0;
-                v27 = get8(v3 + 529);
+                v27 = get8(v3 + 697);
                 v7 = get64(event + 792);
                 if (v7 != 0) {
                     v22 = event + 816;
@@ -11894,12 +11198,12 @@ l2:;
         v28 = 0;
         goto l59;
     case 12:
-        put64(v3 + 568, 0);
-        put64(v3 + 560, 0);
-        put64(v3 + 552, 0);
-        put64(v3 + 544, 0);
-        put64(v3 + 536, 0);
-        put64(v3 + 528, 0);
+        put64(v3 + 736, 0);
+        put64(v3 + 728, 0);
+        put64(v3 + 720, 0);
+        put64(v3 + 712, 0);
+        put64(v3 + 704, 0);
+        put64(v3 + 696, 0);
         v8 = get64(event + 792);
         if (v8 == 0) {
             v17 = 0;
@@ -11908,14 +11212,14 @@ l2:;
             v24 = 0;
             v13 = 0;
             v27 = 0;
-            goto l254;
+            goto l244;
         }
         v7 = get64(event + 784);
         if (v8 != get64(event + 816)) v7 = v7 + (get64(event + 808) * 24);
-        tm_link_decoding_decode(v3 + 528, get64(v7), get64(v7 + 8), (uint64_t)get32(event + 60));
-        v27 = get8(v3 + 529);
-        v13 = get32(v3 + 568);
-        v6 = get8(v3 + 528);
+        tm_link_decoding_decode(v3 + 696, get64(v7), get64(v7 + 8), (uint64_t)get32(event + 60));
+        v27 = get8(v3 + 697);
+        v13 = get32(v3 + 736);
+        v6 = get8(v3 + 696);
         v7 = get64(event + 792);
         if (v7 != 0) {
             v22 = event + 816;
@@ -11935,40 +11239,40 @@ l2:;
             v6 = 8;
             v17 = 0;
             v24 = 0;
-            goto l260;
+            goto l250;
         }
         v6 = get8(event + 75);
         v11 = get8(event + 73);
-        put32(v3 + 2576, 0);
-        put32(v3 + 256, 0);
-        put16(v3 + 260, 0);
+        put32(v3 + 576, 0);
+        put32(v3 + 248, 0);
+        put16(v3 + 252, 0);
         if (extend32(v13, 0x80) > 0x7fffffffU) {
-            put32(v3 + 257, 0);
-            put8(v3 + 256, 1);
-            put8(v3 + 261, 0);
+            put32(v3 + 249, 0);
+            put8(v3 + 248, 1);
+            put8(v3 + 253, 0);
         } else if ((v13 & 255) >= 32) {
-            put16(v3 + 256, 257);
+            put16(v3 + 248, 257);
         } else if ((v13 & 3) != 1) {
-            put16(v3 + 256, 513);
+            put16(v3 + 248, 513);
         } else {
             v10 = v13 >> 8;
             if ((v10 & 3) != 0) {
-                put16(v3 + 256, 769);
+                put16(v3 + 248, 769);
             } else {
                 v5 = v13 >> 16;
                 if ((v5 & 1) != 0) {
-                    put16(v3 + 256, 769);
+                    put16(v3 + 248, 769);
                 } else {
-                    put8(v3 + 261, v13 >> 24);
-                    put8(v3 + 259, v5 & 248);
-                    put8(v3 + 260, (v5 >> 1) & 3);
-                    put8(v3 + 258, (v10 & 252) >> 2);
-                    put8(v3 + 257, (v13 & 252) >> 2);
+                    put8(v3 + 253, v13 >> 24);
+                    put8(v3 + 251, v5 & 248);
+                    put8(v3 + 252, (v5 >> 1) & 3);
+                    put8(v3 + 250, (v10 & 252) >> 2);
+                    put8(v3 + 249, (v13 & 252) >> 2);
                 }
             }
         }
-        nodes_ground_node_Ground_report(v3 + 0xa10, event, v3 + 256);
-        v17 = get32(v3 + 2576);
+        nodes_ground_node_Ground_report(v3 + 576, event, v3 + 248);
+        v17 = get32(v3 + 576);
         v7 = event + 0xf78;
         put64(v7, get64(v7) + ((uint64_t)(get8(event + 75) - v6) & 255));
         v6 = 1;
@@ -11978,9 +11282,9 @@ l2:;
         v24 = v17 >> 8;
         v27 = 0;
         v6 = 9;
-    l260:;
+    l250:;
         v13 = v24 & 0xffff00;
-    l254:;
+    l244:;
         if (v12 != 0) goto l51;
         v22 = 0;
         v25 = 0;
@@ -11989,12 +11293,12 @@ l2:;
         v28 = 0;
         goto l50;
     case 13:
-        nodes_ground_node_Ground_tick(v3 + 176, event);
-        if (get8(v3 + 176) == 0) goto l75;
-        v17 = get8(v3 + 177);
+        nodes_ground_node_Ground_tick(v3 + 192, event);
+        if (get8(v3 + 192) == 0) goto l81;
+        v17 = get8(v3 + 193);
         v28 = 0;
-        put16(v3 + 532, 0);
-        put32(v3 + 528, 0);
+        put16(v3 + 700, 0);
+        put32(v3 + 696, 0);
         v26 = 0;
         v27 = 0;
         v25 = 0;
@@ -12010,7 +11314,7 @@ l2:;
             v7 = 0;
             v22 = 0;
             v17 = 0;
-            goto l70;
+            goto l76;
         }
         v22 = event + 592;
         if (get64(v22) != v7) {
@@ -12029,19 +11333,19 @@ l2:;
         v17 = get8(v7);
         if (v23 < (uint64_t)get32(event + 448)) put8(event + 475, 0);
         v6 = 11;
-        if (v20 <= v22) goto l71;
+        if (v20 <= v22) goto l77;
         v7 = 0;
         if (v22 == 0) {
             rattle_dealloc_at(v8);
-            v8 = v3 + 0xa28;
+            v8 = v3 + 0xab8;
             v22 = 0;
-            goto l70;
+            goto l76;
         }
-        rattle_realloc_at(v3 + 184, v8, v22, v22, 1);
-        if (((uint32_t)get64(v3 + 184) & 1) == 0) goto l71;
-        v8 = get64(v3 + 192);
+        rattle_realloc_at(v3 + 200, v8, v22, v22, 1);
+        if (((uint32_t)get64(v3 + 200) & 1) == 0) goto l77;
+        v8 = get64(v3 + 208);
         v7 = v22;
-        goto l70;
+        goto l76;
     case 15:
         v7 = event + 616;
         v8 = get64(v7);
@@ -12053,11 +11357,11 @@ l2:;
         } else {
             put64(v7, v8 - 1);
             v7 = event + 624;
-            t13 = v7;
+            t11 = v7;
             v7 = get64(v7);
             v8 = v7 + 1;
             v22 = get64(event + 608);
-            put64(t13, v8 - ((v8 < v22) ? 0ULL : v22));
+            put64(t11, v8 - ((v8 < v22) ? 0ULL : v22));
             v7 = get64(event + 600) + (v7 << 5);
             v8 = get64(v7 + 8);
             v17 = get8(v7);
@@ -12068,12 +11372,12 @@ l2:;
                 if (v7 == 0) {
                     rattle_dealloc_at(v8);
                     v7 = 0;
-                    v8 = v3 + 0xa28;
+                    v8 = v3 + 0xab8;
                     v22 = 0;
                 } else {
-                    rattle_realloc_at(v3 + 200, v8, v7, v7, 1);
-                    if (((uint32_t)get64(v3 + 200) & 1) != 0) {
-                        v8 = get64(v3 + 208);
+                    rattle_realloc_at(v3 + 216, v8, v7, v7, 1);
+                    if (((uint32_t)get64(v3 + 216) & 1) != 0) {
+                        v8 = get64(v3 + 224);
                         v22 = v7;
                     }
                 }
@@ -12084,15 +11388,15 @@ l2:;
         v27 = (uint32_t)(v8 >> 8);
         v28 = (uint32_t)v8;
         v13 = 0;
-        goto l69;
+        goto l75;
     case 16:
-        nodes_spacecraft_Spacecraft_telemetry(v3 + 216, event + 400, v7, v8);
-        if (get8(v3 + 216) == 0) goto l75;
-        v43 = get8(v3 + 217);
-        if ((v43 & 255) == 6) goto l58;
+        nodes_spacecraft_Spacecraft_telemetry(v3 + 232, event + 400, v7, v8);
+        if (get8(v3 + 232) == 0) goto l81;
+        v39 = get8(v3 + 233);
+        if ((v39 & 255) == 6) goto l58;
         v25 = 0;
-        put16(v3 + 532, 0);
-        put32(v3 + 528, 0);
+        put16(v3 + 700, 0);
+        put32(v3 + 696, 0);
         v22 = 0;
         v7 = 0;
         v26 = 0;
@@ -12102,26 +11406,26 @@ l2:;
     default:
         break;
     }
-    fill(v3 + 528, 0, 128);
-    put64(v3 + 520, 0);
-    put64(v3 + 512, 0);
-    put64(v3 + 504, 0);
-    nodes_ground_node_Ground_prepare(v3 + 528, event, v12, v7, v8);
-    if (get8(v3 + 528) != 0) {
-        v6 = get8(v3 + 529);
+    fill(v3 + 696, 0, 128);
+    put64(v3 + 464, 0);
+    put64(v3 + 456, 0);
+    put64(v3 + 448, 0);
+    nodes_ground_node_Ground_prepare(v3 + 696, event, v12, v7, v8);
+    if (get8(v3 + 696) != 0) {
+        v6 = get8(v3 + 697);
         v13 = v6 == 5;
         v24 = (v13 != 0) ? 0U : v6;
         v6 = (v13 != 0) ? 0U : 3U;
         goto l53;
     }
-    copy(v3 + 256, v3 + 536, 120);
+    copy(v3 + 248, v3 + 704, 120);
     v13 = v8 == 0;
     if (v13 != 0) {
-        v18 = v3 + 0xa28;
+        v18 = v3 + 0xab8;
     } else {
-        if (v8 > 0x7fffffffffffffffULL) goto l94;
+        if (v8 > 0x7fffffffffffffffULL) goto l100;
         rattle_alloc_at(v3 + 40, v8, 1);
-        if (((uint32_t)get64(v3 + 40) & 1) == 0) goto l94;
+        if (((uint32_t)get64(v3 + 40) & 1) == 0) goto l100;
         v18 = get64(v3 + 48);
     }
     if ((v18 - v7) >= v8) {
@@ -12154,21 +11458,21 @@ l2:;
         v19 = v19 - 1;
     } while (v19 != 0);
     goto l55;
-l94:;
-    if (get8(v3 + 296) == 1 && get64(v3 + 320) != 0) rattle_dealloc_at(get64(v3 + 304));
-    v7 = get64(v3 + 360);
-    v22 = get64(v3 + 344);
-    if (get8(v3 + 328) == 0) {
+l100:;
+    if (get8(v3 + 288) == 1 && get64(v3 + 312) != 0) rattle_dealloc_at(get64(v3 + 296));
+    v7 = get64(v3 + 352);
+    v22 = get64(v3 + 336);
+    if (get8(v3 + 320) == 0) {
         if (v7 != 0) {
             v20 = v22;
-            goto l103;
+            goto l109;
         }
         goto l54;
     }
-    v23 = get64(v3 + 352);
-    v20 = get64(v3 + 336);
+    v23 = get64(v3 + 344);
+    v20 = get64(v3 + 328);
     if (v22 != 0) {
-        v8 = get64(v3 + 368);
+        v8 = get64(v3 + 360);
         v22 = v22 - v8;
         if (v7 < (v22 + v7)) {
             v7 = ((v7 << 5) + v20) + 24;
@@ -12188,13 +11492,13 @@ l94:;
         }
     }
     if (v23 == 0) goto l54;
-l103:;
+l109:;
     rattle_dealloc_at(v20);
     goto l54;
-l82:;
+l88:;
     rattle_dealloc_at(get64(v7));
-    goto l64;
-l75:;
+    goto l70;
+l81:;
     v26 = 0;
     v28 = 0;
     v27 = 0;
@@ -12202,27 +11506,27 @@ l75:;
     v7 = 0;
     v22 = 0;
     goto l49;
-l71:;
+l77:;
     v7 = v22;
     v22 = v20;
-l70:;
+l76:;
     v26 = v8 & 0xffffffffff000000ULL;
     v25 = (uint32_t)(v8 >> 16);
     v27 = (uint32_t)(v8 >> 8);
     v28 = (uint32_t)v8;
-l69:;
+l75:;
     v24 = 0;
     goto l50;
-l68:;
+l74:;
     v27 = 0;
     v25 = 0;
     v7 = 0;
     v22 = 0;
     goto l51;
-l67:;
+l73:;
     v6 = 0;
     v24 = 0;
-l66:;
+l72:;
     if (v13 != 0) goto l51;
     v26 = v8 & 0xffffffffff000000ULL;
     v13 = v24 & ~255U;
@@ -12233,10 +11537,10 @@ l66:;
     v28 = (uint32_t)v8;
     v17 = 0;
     goto l50;
-l65:;
+l71:;
     v6 = 2;
     goto l51;
-l64:;
+l70:;
     v26 = 0;
     v28 = 0;
     v27 = 0;
@@ -12244,7 +11548,501 @@ l64:;
     v7 = 0;
     v22 = 0;
     goto l31;
+l67:;
+    v9 = 0;
+    v21 = 0;
+    v7 = 0;
+l66:;
+    v33 = (v6 + 1) & 3;
+    put32(v3 + 571, 0);
+    put32(v3 + 568, 0);
+    put32(v3 + 664, 0);
+    put8(v3 + 668, 0);
+    put32(v3 + 656, 0);
+    put16(v3 + 660, 0);
+    put64(v3 + 672, 0);
+    put64(v3 + 680, 0);
+    put64(v3 + 688, 0);
+    put32(v3 + 648, 0);
+    put16(v3 + 652, 0);
+    put64(v3 + 632, 0);
+    put64(v3 + 639, 0);
+    put64(v3 + 624, 0);
+    put64(v3 + 616, 0);
+    put64(v3 + 608, 0);
+    put64(v3 + 600, 0);
+    put64(v3 + 592, 0);
+    put64(v3 + 584, 0);
+    put64(v3 + 576, 0);
+    v6 = 0;
+    v13 = 0;
+    v8 = 0;
+    v10 = 0;
+    v19 = 0;
+    v18 = 0;
+    v20 = 0;
+    goto l64;
+l65:;
+    v21 = 0;
+    v7 = 0;
+l64:;
+    put8(v3 + 564, get8(v3 + 668));
+    put32(v3 + 560, get32(v3 + 664));
+    put32(v3 + 552, get32(v3 + 656));
+    put16(v3 + 556, get16(v3 + 660));
+    put64(v3 + 528, get64(v3 + 672));
+    put64(v3 + 536, get64(v3 + 680));
+    put64(v3 + 544, get64(v3 + 688));
+    put32(v3 + 520, get32(v3 + 648));
+    put16(v3 + 524, get16(v3 + 652));
+    put64(v3 + 511, get64(v3 + 639));
+    put64(v3 + 504, get64(v3 + 632));
+    put64(v3 + 448, get64(v3 + 576));
+    put64(v3 + 456, get64(v3 + 584));
+    put64(v3 + 464, get64(v3 + 592));
+    put64(v3 + 472, get64(v3 + 600));
+    put64(v3 + 480, get64(v3 + 608));
+    put64(v3 + 488, get64(v3 + 616));
+    put64(v3 + 496, get64(v3 + 624));
+    put32(v3 + 443, get32(v3 + 571));
+    put32(v3 + 440, get32(v3 + 568));
+    if (v35 == 0) {
+        v6 = 0;
+        v13 = 1;
+        goto l62;
+    }
 l63:;
+    put8(v3 + 714, v5);
+    put8(v3 + 713, v11);
+    put8(v3 + 712, v12);
+    put64(v3 + 704, v23);
+    put64(v3 + 696, v22);
+    put32(v3 + 715, get32(v3 + 560));
+    put8(v3 + 719, get8(v3 + 564));
+    put8(v3 + 729, v13);
+    put8(v3 + 728, v6);
+    put64(v3 + 720, v29);
+    put32(v3 + 730, get32(v3 + 552));
+    put16(v3 + 734, get16(v3 + 556));
+    v12 = 0;
+    put16(v3 + 742, 0);
+    put8(v3 + 741, v33);
+    put8(v3 + 740, v32);
+    put8(v3 + 739, v14);
+    put8(v3 + 738, v16);
+    put8(v3 + 737, v4);
+    put8(v3 + 736, v15);
+    put64(v3 + 744, v8);
+    put8(v3 + 777, v13);
+    put8(v3 + 776, v6);
+    put8(v3 + 784, v10);
+    put64(v3 + 816, v20);
+    put64(v3 + 808, v18);
+    put64(v3 + 800, v19);
+    put64(v3 + 768, get64(v3 + 544));
+    put64(v3 + 760, get64(v3 + 536));
+    put64(v3 + 752, get64(v3 + 528));
+    put32(v3 + 778, get32(v3 + 520));
+    put16(v3 + 782, get16(v3 + 524));
+    put64(v3 + 785, get64(v3 + 504));
+    put64(v3 + 792, get64(v3 + 511));
+    put8(v3 + 888, v9);
+    put64(v3 + 880, v30);
+    put64(v3 + 872, get64(v3 + 496));
+    put64(v3 + 864, get64(v3 + 488));
+    put64(v3 + 856, get64(v3 + 480));
+    put64(v3 + 848, get64(v3 + 472));
+    put64(v3 + 840, get64(v3 + 464));
+    put64(v3 + 832, get64(v3 + 456));
+    put64(v3 + 824, get64(v3 + 448));
+    put32(v3 + 889, get32(v3 + 440));
+    put32(v3 + 892, get32(v3 + 443));
+    put64(v3 + 912, v7);
+    put64(v3 + 904, v7);
+    put64(v3 + 896, v21);
+    v6 = v8 == 0;
+    if (v6 != 0) {
+        v42 = 0;
+        v30 = 0;
+        v43 = 0;
+        v18 = 0;
+        v40 = 0;
+        goto l268;
+    }
+    v21 = get64(v3 + 792);
+    v12 = get8(v3 + 753);
+    v23 = get64(v3 + 760);
+    v13 = get8(v3 + 752);
+    v7 = get64(v3 + 768);
+    v40 = v7 + 1;
+    v11 = v40 == 0;
+    if (v11 != 0) {
+        v18 = v3 + 0xab8;
+    } else {
+        if (v40 > 0x7fffffffffffffffULL) goto l273;
+        rattle_alloc_at(v3 + 144, v40, 1);
+        if (((uint32_t)get64(v3 + 144) & 1) == 0) goto l273;
+        v18 = get64(v3 + 152);
+    }
+    v41 = (v10 != 0) ? v19 : v20;
+    put8(v18, (v13 << 6) + v12);
+    v8 = v18 + 1;
+    if ((v8 - v23) < v7) {
+        v20 = v7 & 3;
+        v8 = 0;
+        if (v7 >= 4) {
+            v19 = v7 & ~3ULL;
+            v8 = 0;
+            do {
+                v7 = v18 + v8;
+                v22 = v23 + v8;
+                put8(v7 + 1, get8(v22));
+                put8(v7 + 2, get8(v22 + 1));
+                put8(v7 + 3, get8(v22 + 2));
+                put8(v7 + 4, get8(v22 + 3));
+                v8 = v8 + 4;
+            } while (v19 != v8);
+            if (v20 == 0) goto l276;
+        }
+        v7 = v23 + v8;
+        v8 = v8 + v18 + 1;
+        do {
+            put8(v8, get8(v7));
+            v8 = v8 + 1;
+            v7 = v7 + 1;
+            v20 = v20 - 1;
+        } while (v20 != 0);
+    } else if (v7 != 0) copy(v8, v23, v7);
+l276:;
+    if (v41 == 0) {
+        v42 = v3 + 0xab8;
+        v43 = 0;
+        v30 = 0;
+        goto l285;
+    }
+    if (v41 > 0x555555555555555ULL) goto l281;
+    rattle_alloc_at(v3 + 128, v41 * 24, 8);
+    if (((uint32_t)get64(v3 + 128) & 1) == 0) goto l281;
+    v42 = (v10 != 0) ? v21 : (v3 + 792);
+    v44 = get64(v3 + 136);
+    put64(v3 + 264, v41);
+    put64(v3 + 256, 0);
+    put64(v3 + 248, v44);
+    v30 = 0;
+    v31 = 0;
+    do {
+        v7 = v42 + (v31 * 24);
+        v19 = get64(v7);
+        v29 = get64(v7 + 8);
+        v13 = v29 == 0;
+        if (v13 != 0) {
+            v23 = v3 + 0xab8;
+        } else {
+            if (v29 > 0x7fffffffffffffffULL) goto l284;
+            rattle_alloc_at(v3 + 112, v29, 1);
+            if (((uint32_t)get64(v3 + 112) & 1) == 0) goto l284;
+            v23 = get64(v3 + 120);
+        }
+        if ((v23 - v19) < v29) {
+            v20 = v29 & 3;
+            v8 = 0;
+            if (v29 >= 4) {
+                v21 = v29 & ~3ULL;
+                v8 = 0;
+                do {
+                    v7 = v23 + v8;
+                    v22 = v19 + v8;
+                    put8(v7, get8(v22));
+                    put8(v7 + 1, get8(v22 + 1));
+                    put8(v7 + 2, get8(v22 + 2));
+                    put8(v7 + 3, get8(v22 + 3));
+                    v8 = v8 + 4;
+                } while (v21 != v8);
+                if (v20 == 0) goto l290;
+            }
+            v7 = v23 + v8;
+            v8 = v19 + v8;
+            do {
+                put8(v7, get8(v8));
+                v7 = v7 + 1;
+                v8 = v8 + 1;
+                v20 = v20 - 1;
+            } while (v20 != 0);
+        } else if (v13 == 0) copy(v23, v19, v29);
+    l290:;
+        if (get64(v3 + 264) == v30) {
+            t12 = std_alloc_vec_Vec_grow_amortized_1598ebf9113514c4(v3 + 248, 1);
+            if (t12 == 0) goto l283;
+            v44 = get64(v3 + 248);
+            v30 = get64(v3 + 256);
+        }
+        v7 = v44 + (v30 * 24);
+        put64(v7 + 16, v29);
+        put64(v7 + 8, v29);
+        put64(v7, v23);
+        v30 = v30 + 1;
+        put64(v3 + 256, v30);
+        v31 = v31 + 1;
+    } while (v31 != v41);
+    v43 = get64(v3 + 264);
+    v42 = get64(v3 + 248);
+l285:;
+    if (get64(event + 0xf98) == get64(event + 0xf90)) {
+        t13 = std_alloc_vec_Vec_grow_amortized_1598ebf9113514c4(event + 0xf88, 1);
+        if (t13 == 0) goto l296;
+    }
+    v7 = event + 0x960 + (((uint64_t)v12 & 255) * 24);
+    if (v30 <= (get64(v7 + 16) - get64(v7 + 8))) goto l268;
+    t14 = std_alloc_vec_Vec_grow_amortized_1598ebf9113514c4(v7, v30);
+    if (t14 != 0) goto l268;
+l296:;
+    if (v11 == 0) rattle_dealloc_at(v18);
+    put64(v3 + 432, v43);
+    put64(v3 + 424, v30);
+    put64(v3 + 416, v42);
+    std_alloc_vec_Vec_drop_b0c2e3ac61d256b1(v3 + 416);
+    v13 = 1;
+    if (get8(v3 + 744) != 1) goto l270;
+    v22 = get64(v3 + 848);
+    v23 = get64(v3 + 832);
+    v6 = get8(v3 + 824);
+    v7 = get64(v3 + 808);
+    v20 = get64(v3 + 800);
+    v8 = get64(v3 + 792);
+    put64(v3 + 392, get64(v3 + 856));
+    put64(v3 + 400, get64(v3 + 864));
+    put64(v3 + 408, get64(v3 + 872));
+    if (get8(v3 + 784) != 0) {
+        put64(v3 + 384, v7);
+        put64(v3 + 376, v20);
+        put64(v3 + 368, v8);
+        std_alloc_vec_Vec_drop_b0c2e3ac61d256b1(v3 + 368);
+        goto l271;
+    }
+    if (v7 == 0) goto l271;
+    rattle_dealloc_at(v8);
+    goto l271;
+l284:;
+    v8 = get64(v3 + 264);
+    if (v30 != 0) {
+        v7 = v44;
+        do {
+            if (get64(v7 + 16) != 0) rattle_dealloc_at(get64(v7));
+            v7 = v7 + 24;
+            v30 = v30 - 1;
+        } while (v30 != 0);
+    }
+    if (v8 != 0) goto l282;
+    goto l281;
+l283:;
+    if (v13 == 0) rattle_dealloc_at(v23);
+    v22 = get64(v3 + 264);
+    v44 = get64(v3 + 248);
+    v8 = get64(v3 + 256);
+    if (v8 != 0) {
+        v7 = v44;
+        do {
+            if (get64(v7 + 16) != 0) rattle_dealloc_at(get64(v7));
+            v7 = v7 + 24;
+            v8 = v8 - 1;
+        } while (v8 != 0);
+    }
+    if (v22 == 0) goto l281;
+l282:;
+    rattle_dealloc_at(v44);
+l281:;
+    if (v11 == 0) rattle_dealloc_at(v18);
+l273:;
+    v13 = 1;
+    if (get8(v3 + 744) != 1) goto l306;
+    v19 = get64(v3 + 872);
+    v8 = get64(v3 + 864);
+    v20 = get64(v3 + 856);
+    v30 = get64(v3 + 848);
+    v29 = get64(v3 + 832);
+    v6 = get8(v3 + 824);
+    v21 = get64(v3 + 808);
+    v23 = get64(v3 + 792);
+    if (get8(v3 + 784) == 0) {
+        if (v21 != 0) goto l308;
+        goto l307;
+    }
+    v22 = get64(v3 + 800);
+    if (v22 != 0) {
+        v7 = v23;
+        do {
+            if (get64(v7 + 16) != 0) rattle_dealloc_at(get64(v7));
+            v7 = v7 + 24;
+            v22 = v22 - 1;
+        } while (v22 != 0);
+    }
+    if (v21 == 0) goto l307;
+l308:;
+    rattle_dealloc_at(v23);
+l307:;
+    if ((v6 & 255) == 2 && v30 != 0) rattle_dealloc_at(v29);
+    if (v8 != 0) {
+        v7 = v20;
+        do {
+            if (get8(v7) != 0 && get64(v7 + 24) != 0) rattle_dealloc_at(get64(v7 + 8));
+            v7 = v7 + 32;
+            v8 = v8 - 1;
+        } while (v8 != 0);
+    }
+    if (v19 != 0) rattle_dealloc_at(v20);
+l306:;
+    v6 = 0;
+    if (get8(v3 + 880) != 1 || get64(v3 + 912) == 0) goto l62;
+    rattle_dealloc_at(get64(v3 + 896));
+    goto l62;
+l271:;
+    if ((v6 & 255) == 2 && v22 != 0) rattle_dealloc_at(v23);
+    std_alloc_vec_Vec_drop_555ceec2fcbf3849(v3 + 392);
+l270:;
+    v7 = 0;
+    v6 = 0;
+    if (get8(v3 + 880) != 1 || get64(v3 + 912) == 0) goto l267;
+    rattle_dealloc_at(get64(v3 + 896));
+    goto l267;
+l268:;
+    v22 = get64(v3 + 912);
+    v23 = get64(v3 + 904);
+    v20 = get64(v3 + 896);
+    v19 = get64(v3 + 888);
+    v13 = get8(v3 + 880);
+    v41 = (uint64_t)get8(v3 + 729);
+    v44 = (uint64_t)get8(v3 + 728);
+    v7 = get64(v3 + 720);
+    v25 = get8(v3 + 714);
+    v27 = get8(v3 + 713);
+    v28 = get8(v3 + 712);
+    v11 = get8(v3 + 744);
+    v8 = v3 + 730;
+    put32(v3 + 680, get32(v8 + 8));
+    put64(v3 + 672, get64(v8));
+    if (v11 == 1) {
+        v8 = v3 + 752;
+        put64(v3 + 592, get64(v8 + 16));
+        put64(v3 + 584, get64(v8 + 8));
+        put64(v3 + 576, get64(v8));
+        copy(v3 + 248, v3 + 776, 104);
+        nodes_spacecraft_Spacecraft_hand_on(v38, v3 + 576, v3 + 248);
+    }
+    if ((v13 & 255) == 1) {
+        v8 = get64(event + 608);
+        if (v8 == 0) {
+            v8 = v22;
+            v19 = v20;
+        } else {
+            v38 = event + 624;
+            v29 = get64(v38);
+            v21 = event + 616;
+            v31 = get64(v21);
+            if (v8 > v31) {
+                v29 = v29 + v31;
+                v8 = get64(event + 600) + ((v29 - ((v29 < v8) ? 0ULL : v8)) << 5);
+                put64(v8 + 24, v22);
+                put64(v8 + 16, v23);
+                put64(v8 + 8, v20);
+                put64(v8, v19);
+                put64(v21, get64(v21) + 1);
+                goto l319;
+            }
+            v31 = v31 - 1;
+            put64(v21, v31);
+            v45 = v29 + 1;
+            v45 = v45 - ((v45 < v8) ? 0ULL : v8);
+            put64(v38, v45);
+            v38 = get64(event + 600);
+            v31 = v45 + v31;
+            v31 = v38 + ((v31 - ((v31 < v8) ? 0ULL : v8)) << 5);
+            put64(v31, v19);
+            v8 = v38 + (v29 << 5);
+            v19 = get64(v8 + 8);
+            put64(v31 + 8, v20);
+            put64(v31 + 16, v23);
+            v8 = get64(v8 + 24);
+            put64(v31 + 24, v22);
+            put64(v21, get64(v21) + 1);
+        }
+        if (v8 != 0) rattle_dealloc_at(v19);
+    }
+l319:;
+    put16(event + 476, get16(v3 + 682));
+    put32(event + 472, get32(v3 + 678));
+    v8 = get64(event + 752);
+    if (v8 != 0) {
+        v20 = event + 776;
+        if (get64(v20) != v8) {
+            v22 = get64(event + 768);
+        } else {
+            v22 = 0;
+            put64(v20, 0);
+        }
+        put64(event + 752, v8 - 1);
+        put64(event + 768, v22 + 1);
+        v8 = get64(event + 744) + (v22 * 24);
+        if (get64(v8 + 16) != 0) rattle_dealloc_at(get64(v8));
+    }
+    if (v6 != 0) goto l326;
+    v22 = event + 0xf90;
+    v20 = get64(v22);
+    v8 = get64(event + 0xf88) + (v20 * 24);
+    put64(v8 + 16, v40);
+    put64(v8 + 8, v40);
+    put64(v8, v18);
+    put64(v22, v20 + 1);
+    if (v30 != 0) {
+        v19 = (event + (((uint64_t)v12 & 255) * 24)) + 0x960;
+        v21 = v19 + 8;
+        v31 = get64(v21);
+        v20 = 0;
+        if (v30 != 1) {
+            v38 = v30 & 1;
+            v22 = v31 * 24;
+            v40 = v30 & ~1ULL;
+            v20 = 0;
+            v8 = v42;
+            do {
+                v30 = get64(v8);
+                v29 = get64(v8 + 8);
+                v23 = get64(v19) + v22;
+                put64(v23 + 16, get64(v8 + 16));
+                put64(v23 + 8, v29);
+                put64(v23, v30);
+                v30 = v31 + v20;
+                put64(v21, v30 + 1);
+                v29 = get64(v8 + 24);
+                v18 = get64(v8 + 32);
+                v23 = get64(v19) + v22;
+                put64(v23 + 40, get64(v8 + 40));
+                put64(v23 + 32, v18);
+                put64(v23 + 24, v29);
+                put64(v21, v30 + 2);
+                v8 = v8 + 48;
+                v22 = v22 + 48;
+                v20 = v20 + 2;
+            } while (v40 != v20);
+            if (v38 == 0) goto l327;
+            v31 = v31 + v20;
+        }
+        v8 = v42 + (v20 * 24);
+        v20 = get64(v8);
+        v23 = get64(v8 + 8);
+        v22 = get64(v19) + (v31 * 24);
+        put64(v22 + 16, get64(v8 + 16));
+        put64(v22 + 8, v23);
+        put64(v22, v20);
+        put64(v21, v31 + 1);
+    }
+l327:;
+    if (v43 != 0) rattle_dealloc_at(v42);
+l326:;
+    v22 = (v41 << 8) | v44;
+    v6 = 7;
+    v13 = 0;
+    goto l60;
+l267:;
     v28 = 0;
     v27 = 0;
     v25 = 0;
@@ -12280,14 +12078,14 @@ l57:;
     v6 = simulated_link_world_World_is_idle(event);
     v13 = v11;
 l56:;
-    nodes_ground_node_Ground_directive(v3 + 256, event, v3 + 528);
-    v24 = get8(v3 + 257);
-    if (get8(v3 + 256) != 0) {
+    nodes_ground_node_Ground_directive(v3 + 248, event, v3 + 696);
+    v24 = get8(v3 + 249);
+    if (get8(v3 + 248) != 0) {
         v17 = 1;
         v6 = 3;
     } else {
-        v11 = get8(v3 + 258);
-        if (v13 <= 3) simulated_link_world_World_begin(event, v3 + 528, v12, v6);
+        v11 = get8(v3 + 250);
+        if (v13 <= 3) simulated_link_world_World_begin(event, v3 + 696, v12, v6);
         v13 = v24 & 255;
         v24 = 0;
         v6 = (v13 != 0) ? 4U : 0U;
@@ -12302,23 +12100,23 @@ l56:;
     v13 = 0;
     goto l50;
 l55:;
-    v6 = get8(v3 + 296) == 1;
-    v40 = (v6 != 0) ? get64(v3 + 312) : 1ULL;
+    v6 = get8(v3 + 288) == 1;
+    v40 = (v6 != 0) ? get64(v3 + 304) : 1ULL;
     if (v40 == 0) {
-        v22 = v3 + 0xa28;
+        v22 = v3 + 0xab8;
         v20 = 0;
         v30 = 0;
-        goto l289;
+        goto l342;
     }
-    if (v40 > 0x555555555555555ULL) goto l282;
-    v7 = get64(v3 + 304);
+    if (v40 > 0x555555555555555ULL) goto l335;
+    v7 = get64(v3 + 296);
     rattle_alloc_at(v3 + 24, v40 * 24, 8);
-    if (((uint32_t)get64(v3 + 24) & 1) == 0) goto l282;
-    v38 = (v6 != 0) ? v7 : (v3 + 280);
-    v39 = get64(v3 + 32);
-    put64(v3 + 2592, v40);
-    put64(v3 + 2584, 0);
-    put64(v3 + 2576, v39);
+    if (((uint32_t)get64(v3 + 24) & 1) == 0) goto l335;
+    v38 = (v6 != 0) ? v7 : (v3 + 272);
+    v41 = get64(v3 + 32);
+    put64(v3 + 592, v40);
+    put64(v3 + 584, 0);
+    put64(v3 + 576, v41);
     v30 = 0;
     v31 = 0;
     do {
@@ -12327,11 +12125,11 @@ l55:;
         v29 = get64(v7 + 8);
         v6 = v29 == 0;
         if (v6 != 0) {
-            v19 = v3 + 0xa28;
+            v19 = v3 + 0xab8;
         } else {
-            if (v29 > 0x7fffffffffffffffULL) goto l288;
+            if (v29 > 0x7fffffffffffffffULL) goto l341;
             rattle_alloc_at(v3 + 8, v29, 1);
-            if (((uint32_t)get64(v3 + 8) & 1) == 0) goto l288;
+            if (((uint32_t)get64(v3 + 8) & 1) == 0) goto l341;
             v19 = get64(v3 + 16);
         }
         if ((v19 - v21) < v29) {
@@ -12349,7 +12147,7 @@ l55:;
                     put8(v7 + 3, get8(v20 + 3));
                     v22 = v22 + 4;
                 } while (v26 != v22);
-                if (v23 == 0) goto l294;
+                if (v23 == 0) goto l347;
             }
             v7 = v19 + v22;
             v22 = v21 + v22;
@@ -12360,38 +12158,38 @@ l55:;
                 v23 = v23 - 1;
             } while (v23 != 0);
         } else if (v6 == 0) copy(v19, v21, v29);
-    l294:;
-        if (get64(v3 + 2592) == v30) {
-            t15 = std_alloc_vec_Vec_grow_amortized_1598ebf9113514c4(v3 + 0xa10, 1);
-            if (t15 == 0) goto l287;
-            v39 = get64(v3 + 2576);
-            v30 = get64(v3 + 2584);
+    l347:;
+        if (get64(v3 + 592) == v30) {
+            t16 = std_alloc_vec_Vec_grow_amortized_1598ebf9113514c4(v3 + 576, 1);
+            if (t16 == 0) goto l340;
+            v41 = get64(v3 + 576);
+            v30 = get64(v3 + 584);
         }
-        v7 = v39 + (v30 * 24);
+        v7 = v41 + (v30 * 24);
         put64(v7 + 16, v29);
         put64(v7 + 8, v29);
         put64(v7, v19);
         v30 = v30 + 1;
-        put64(v3 + 2584, v30);
+        put64(v3 + 584, v30);
         v31 = v31 + 1;
     } while (v31 != v40);
-    v20 = get64(v3 + 2592);
-    v22 = get64(v3 + 2576);
-l289:;
+    v20 = get64(v3 + 592);
+    v22 = get64(v3 + 576);
+l342:;
     if (get64(event + 856) == get64(event + 848)) {
-        t16 = std_alloc_vec_Vec_grow_amortized_722da43a23cbcade(event + 840);
-        if (t16 == 0) {
-            if (v30 == 0) goto l284;
-            goto l285;
+        t17 = std_alloc_vec_Vec_grow_amortized_722da43a23cbcade(event + 840);
+        if (t17 == 0) {
+            if (v30 == 0) goto l337;
+            goto l338;
         }
     }
     v23 = event + 864;
     v7 = v23 + (((uint64_t)v12 & 255) * 24);
     if (v30 > (get64(v7 + 16) - get64(v7 + 8))) {
-        t17 = std_alloc_vec_Vec_grow_amortized_1598ebf9113514c4(v7, v30);
-        if (t17 == 0) goto l285;
+        t18 = std_alloc_vec_Vec_grow_amortized_1598ebf9113514c4(v7, v30);
+        if (t18 == 0) goto l338;
     }
-    nodes_ground_node_Ground_commit(event, v3 + 256);
+    nodes_ground_node_Ground_commit(event, v3 + 248);
     v13 = 0;
     v19 = event + 848;
     v21 = get64(v19);
@@ -12403,62 +12201,62 @@ l289:;
     put64(v7 + 16, v8);
     put64(v7 + 8, v18);
     put64(v19, v21 + 1);
-    put64(v3 + 520, v20);
-    put64(v3 + 512, v30);
-    put64(v3 + 504, v22);
-    simulated_link_map_lists_append_on(v23, v12, v3 + 504);
+    put64(v3 + 464, v20);
+    put64(v3 + 456, v30);
+    put64(v3 + 448, v22);
+    simulated_link_map_lists_append_on(v23, v12, v3 + 448);
     v6 = 0;
     v24 = 0;
     goto l53;
-l288:;
-    v8 = get64(v3 + 2592);
+l341:;
+    v8 = get64(v3 + 592);
     if (v30 != 0) {
-        v7 = v39;
+        v7 = v41;
         do {
             if (get64(v7 + 16) != 0) rattle_dealloc_at(get64(v7));
             v7 = v7 + 24;
             v30 = v30 - 1;
         } while (v30 != 0);
     }
-    if (v8 == 0) goto l282;
-    goto l283;
-l287:;
+    if (v8 == 0) goto l335;
+    goto l336;
+l340:;
     if (v6 == 0) rattle_dealloc_at(v19);
-    v22 = get64(v3 + 2592);
-    v39 = get64(v3 + 2576);
-    v8 = get64(v3 + 2584);
+    v22 = get64(v3 + 592);
+    v41 = get64(v3 + 576);
+    v8 = get64(v3 + 584);
     if (v8 != 0) {
-        v7 = v39;
+        v7 = v41;
         do {
             if (get64(v7 + 16) != 0) rattle_dealloc_at(get64(v7));
             v7 = v7 + 24;
             v8 = v8 - 1;
         } while (v8 != 0);
     }
-    if (v22 != 0) goto l283;
-    goto l282;
-l285:;
+    if (v22 != 0) goto l336;
+    goto l335;
+l338:;
     v7 = v22;
     do {
         if (get64(v7 + 16) != 0) rattle_dealloc_at(get64(v7));
         v7 = v7 + 24;
         v30 = v30 - 1;
     } while (v30 != 0);
-l284:;
+l337:;
     if (v20 != 0) rattle_dealloc_at(v22);
     if (v13 == 0) rattle_dealloc_at(v18);
-    if (get8(v3 + 296) == 1 && get64(v3 + 320) != 0) rattle_dealloc_at(get64(v3 + 304));
-    v7 = get64(v3 + 360);
-    v22 = get64(v3 + 344);
-    if (get8(v3 + 328) == 0) {
+    if (get8(v3 + 288) == 1 && get64(v3 + 312) != 0) rattle_dealloc_at(get64(v3 + 296));
+    v7 = get64(v3 + 352);
+    v22 = get64(v3 + 336);
+    if (get8(v3 + 320) == 0) {
         if (v7 == 0) goto l54;
         rattle_dealloc_at(v22);
         goto l54;
     }
-    v23 = get64(v3 + 352);
-    v20 = get64(v3 + 336);
+    v23 = get64(v3 + 344);
+    v20 = get64(v3 + 328);
     if (v22 != 0) {
-        v8 = get64(v3 + 368);
+        v8 = get64(v3 + 360);
         v22 = v22 - v8;
         if (v7 < (v22 + v7)) {
             v7 = ((v7 << 5) + v20) + 24;
@@ -12480,20 +12278,20 @@ l284:;
     if (v23 == 0) goto l54;
     rattle_dealloc_at(v20);
     goto l54;
-l283:;
-    rattle_dealloc_at(v39);
-l282:;
+l336:;
+    rattle_dealloc_at(v41);
+l335:;
     if (v13 == 0) rattle_dealloc_at(v18);
-    if (get8(v3 + 296) == 1 && get64(v3 + 320) != 0) rattle_dealloc_at(get64(v3 + 304));
-    v7 = get64(v3 + 360);
-    v22 = get64(v3 + 344);
-    if (get8(v3 + 328) == 0) {
+    if (get8(v3 + 288) == 1 && get64(v3 + 312) != 0) rattle_dealloc_at(get64(v3 + 296));
+    v7 = get64(v3 + 352);
+    v22 = get64(v3 + 336);
+    if (get8(v3 + 320) == 0) {
         if (v7 != 0) rattle_dealloc_at(v22);
     } else {
-        v23 = get64(v3 + 352);
-        v20 = get64(v3 + 336);
+        v23 = get64(v3 + 344);
+        v20 = get64(v3 + 328);
         if (v22 != 0) {
-            v8 = get64(v3 + 368);
+            v8 = get64(v3 + 360);
             v22 = v22 - v8;
             if (v7 < (v22 + v7)) {
                 v7 = ((v7 << 5) + v20) + 24;
@@ -12534,10 +12332,10 @@ l51:;
     v6 = v6 + 6;
     goto l27;
 l50:;
-    put16(v3 + 532, 0);
-    put32(v3 + 528, 0);
-    v43 = v13 | (v24 & 255);
-    v30 = (uint64_t)v43;
+    put16(v3 + 700, 0);
+    put32(v3 + 696, 0);
+    v39 = v13 | (v24 & 255);
+    v30 = (uint64_t)v39;
     v29 = v30 >> 16;
     v18 = v30 >> 8;
     v8 = 0;
@@ -12561,10 +12359,10 @@ l50:;
     v35 = 0;
     v36 = 0;
     v37 = v6;
-    v44 = 0;
-    v45 = 0;
     v46 = 0;
     v47 = 0;
+    v48 = 0;
+    v49 = 0;
     switch (v6) {
     case 1:
         goto l48;
@@ -12573,8 +12371,8 @@ l50:;
     case 3:
         switch ((uint32_t)((uint64_t)v17 & 255)) {
         case 1:
-            v45 = v43 + 1;
-            v44 = 2;
+            v47 = v39 + 1;
+            v46 = 2;
             v8 = 0;
             v6 = 3;
             goto l38;
@@ -12583,35 +12381,35 @@ l50:;
         default:
             break;
         }
-        v44 = 1;
+        v46 = 1;
         v8 = 0;
         v6 = 3;
         v20 = 0;
         v23 = 0;
         v19 = 0;
-        v13 = v43;
-        v12 = v43;
-        v11 = v43;
-        v10 = v43;
-        v5 = v43;
-        v9 = v43;
-        v4 = v43;
-        v14 = v43;
+        v13 = v39;
+        v12 = v39;
+        v11 = v39;
+        v10 = v39;
+        v5 = v39;
+        v9 = v39;
+        v4 = v39;
+        v14 = v39;
         v21 = 0;
-        v16 = v43;
-        v15 = v43;
-        v32 = v43;
-        v33 = v43;
-        v34 = v43;
-        v35 = v43;
-        v36 = v43;
+        v16 = v39;
+        v15 = v39;
+        v32 = v39;
+        v33 = v39;
+        v34 = v39;
+        v35 = v39;
+        v36 = v39;
         v37 = 3;
-        v45 = 1;
-        v46 = v43;
-        v47 = v43;
+        v47 = 1;
+        v48 = v39;
+        v49 = v39;
         switch ((uint32_t)(v30 & 255)) {
         case 1:
-            v45 = 2;
+            v47 = 2;
             goto l39;
         case 2:
             v8 = 0;
@@ -12636,19 +12434,19 @@ l50:;
             v35 = 0;
             v36 = 0;
             v37 = 3;
-            v45 = 3;
+            v47 = 3;
             goto l29;
         case 3:
-            v45 = 4;
+            v47 = 4;
             goto l39;
         case 4:
-            v45 = 5;
+            v47 = 5;
             goto l39;
         case 5:
-            v45 = 6;
+            v47 = 6;
             goto l39;
         case 6:
-            v45 = 10;
+            v47 = 10;
             goto l39;
         default:
             goto l28;
@@ -12658,9 +12456,9 @@ l50:;
     case 5:
         goto l28;
     case 6:
-        t18 = (((v30 << 8) & 0xff00000000ULL) | ((((uint64_t)v24 & 255) << 8) | ((uint64_t)v17 & 255))) | ((v29 << 24)
+        t19 = (((v30 << 8) & 0xff00000000ULL) | ((((uint64_t)v24 & 255) << 8) | ((uint64_t)v17 & 255))) | ((v29 << 24)
             & 0xff000000ULL);
-        v8 = t18 | ((v18 << 16) & 0xff0000);
+        v8 = t19 | ((v18 << 16) & 0xff0000);
         v20 = 0;
         v6 = 6;
         v23 = 0;
@@ -12706,10 +12504,10 @@ l50:;
         v35 = 0;
         v36 = 0;
         v37 = 7;
-        v44 = 0;
-        v45 = 0;
         v46 = 0;
         v47 = 0;
+        v48 = 0;
+        v49 = 0;
         switch ((uint32_t)((uint64_t)v28 & 255)) {
         case 1:
             goto l28;
@@ -12780,10 +12578,10 @@ l50:;
         v35 = 0;
         v36 = 0;
         v37 = 8;
-        v44 = 0;
-        v45 = 0;
         v46 = 0;
         v47 = 0;
+        v48 = 0;
+        v49 = 0;
         switch ((uint32_t)((uint64_t)v28 & 255)) {
         case 1:
             goto l28;
@@ -12838,7 +12636,7 @@ l50:;
     case 9:
         v13 = 0;
         v36 = (((uint32_t)v18 & 255) != 0) ? ((uint32_t)v29 + 1) : 0U;
-        v35 = ((v17 & 255) == 1) ? (v43 + 1) : 0U;
+        v35 = ((v17 & 255) == 1) ? (v39 + 1) : 0U;
         v37 = 10;
         v16 = 4;
         v8 = 0;
@@ -12905,18 +12703,18 @@ l50:;
         v34 = 0;
         v35 = 0;
         v36 = 0;
-        v44 = 0;
-        v45 = 0;
         v46 = 0;
-        v47 = v17;
+        v47 = 0;
+        v48 = 0;
+        v49 = v17;
         goto l28;
     default:
         break;
     }
 l49:;
     v6 = 0;
-    put16(v3 + 532, 0);
-    put32(v3 + 528, 0);
+    put16(v3 + 700, 0);
+    put32(v3 + 696, 0);
     v8 = 0;
     v20 = 0;
     v23 = 0;
@@ -12941,8 +12739,8 @@ l49:;
     goto l30;
 l48:;
     v13 = 0;
-    put16(v3 + 532, 0);
-    put32(v3 + 528, 0);
+    put16(v3 + 700, 0);
+    put32(v3 + 696, 0);
     v8 = 0;
     v6 = 1;
     v20 = 0;
@@ -12993,7 +12791,7 @@ l38:;
     v37 = 3;
     goto l29;
 l37:;
-    v45 = v43 + 1;
+    v47 = v39 + 1;
     v13 = 0;
     v8 = 0;
     v6 = 3;
@@ -13016,10 +12814,10 @@ l37:;
     v35 = 0;
     v36 = 0;
     v37 = 3;
-    v44 = 3;
+    v46 = 3;
     goto l29;
 l36:;
-    v46 = v17 + 1;
+    v48 = v17 + 1;
     v13 = 0;
     v8 = 0;
     v6 = 4;
@@ -13042,9 +12840,9 @@ l36:;
     v35 = 0;
     v36 = 0;
     v37 = 4;
-    v44 = 0;
-    v45 = 0;
+    v46 = 0;
     v47 = 0;
+    v49 = 0;
     goto l28;
 l35:;
     v13 = 1;
@@ -13076,8 +12874,8 @@ l32:;
     goto l30;
 l31:;
     v13 = 0;
-    put16(v3 + 532, 0);
-    put32(v3 + 528, 0);
+    put16(v3 + 700, 0);
+    put32(v3 + 696, 0);
     v8 = 0;
     v6 = 2;
     v20 = 0;
@@ -13100,20 +12898,20 @@ l31:;
     v36 = 0;
     v37 = 2;
 l30:;
-    v44 = 0;
-    v45 = 0;
-l29:;
     v46 = 0;
     v47 = 0;
+l29:;
+    v48 = 0;
+    v49 = 0;
 l28:;
-    put16(v3 + 228, get16(v3 + 532));
-    put32(v3 + 224, get32(v3 + 528));
+    put16(v3 + 244, get16(v3 + 700));
+    put32(v3 + 240, get32(v3 + 696));
     put8(reply + 52, (uint32_t)(v8 >> 32));
     put32(reply + 48, (uint32_t)v8);
-    put8(reply + 57, v47);
-    put8(reply + 56, v46);
-    put8(reply + 55, v45);
-    put8(reply + 54, v44);
+    put8(reply + 57, v49);
+    put8(reply + 56, v48);
+    put8(reply + 55, v47);
+    put8(reply + 54, v46);
     put8(reply + 53, v37);
     put8(reply + 47, 0);
     put8(reply + 46, v36);
@@ -13135,11 +12933,11 @@ l28:;
     put64(reply + 16, v19);
     put64(reply + 8, v23);
     put64(reply, v20);
-    put16(reply + 62, get16(v3 + 228));
-    put32(reply + 58, get32(v3 + 224));
+    put16(reply + 62, get16(v3 + 244));
+    put32(reply + 58, get32(v3 + 240));
     reply = (((((uint64_t)v27 & 255) << 8) | ((uint64_t)v28 & 255)) + v26) + (((uint64_t)v25 & 255) << 16);
     if (((1U << (v6 & 31)) & 0x7df) != 0) {
-        reply = v3 + 0xa28;
+        reply = v3 + 0xab8;
         v7 = 0;
         v22 = 0;
     }
@@ -13334,9 +13132,9 @@ static uint32_t sedge_spacecraft_read_at(uint64_t spacecraft, uint64_t read)
 /* sedge_spacecraft_receive, crates/sedgechisel_nodes/src/spacecraft.rt:103 */
 static uint32_t sedge_spacecraft_receive_at(uint64_t spacecraft, uint64_t octets, uint64_t count, uint64_t received)
 {
-    unsigned char frame_octets[256 + 15];
-    uint32_t v6 = 0, v7 = 0, v8 = 0, v9 = 0, v10 = 0, v11 = 0, v12 = 0, v13 = 0, v14 = 0, v15 = 0;
-    uint64_t v4 = 0, v5 = 0;
+    unsigned char frame_octets[272 + 15];
+    uint32_t v6 = 0, v7 = 0, v8 = 0, v9 = 0, v10 = 0, v11 = 0, v13 = 0, v14 = 0, t1;
+    uint64_t v4 = 0, v5 = 0, v12 = 0, v15 = 0, v16 = 0, v17 = 0, v18 = 0, v19 = 0, v20 = 0;
     v4 = aligned(frame_octets);
     v5 = get64(spacecraft /* node */);
     put64(spacecraft /* node */, 0);
@@ -13344,80 +13142,338 @@ static uint32_t sedge_spacecraft_receive_at(uint64_t spacecraft, uint64_t octets
         v6 = 255;
         return 255;
     }
-    v6 = 0;
-    fill(v4 + 24, 0, 232);
-    put64(v4 + 16, 0);
-    put64(v4 + 8, 0);
-    put64(v4, 0);
-    nodes_spacecraft_Spacecraft_prepare(v4 + 24, v5, some(octets), count);
-    if (get8(v4 + 24) != 0) {
-        v6 = 6;
-    } else {
-        nodes_spacecraft_Spacecraft_commit(v4, v5, v4 + 32);
-        v7 = get8(v4 + 2);
-        v8 = get8(v4 + 1);
-        octets = 0;
-        v9 = 2;
-        v10 = 0;
-        v11 = 0;
-        v12 = 0;
-        v13 = 0;
-        v14 = 0;
-        v15 = 0;
-        switch ((uint32_t)(uint64_t)get8(v4)) {
+    v7 = 1;
+    v6 = 1;
+    if (count < 5) goto l10;
+    octets = some(octets);
+    v8 = get8(octets);
+    if (v8 > 63) {
+        v6 = 2;
+        goto l10;
+    }
+    if ((v8 & 48) == 16) {
+        v6 = 3;
+        goto l10;
+    }
+    if ((v8 & 12) != 0) {
+        v6 = 4;
+        goto l10;
+    }
+    v6 = 5;
+    v9 = get8(octets + 2);
+    v10 = ((v9 << 8) & 768) | get8(octets + 3);
+    if (count != (uint64_t)(v10 + 1) || v10 < 6) goto l10;
+    v11 = get8(octets + 1);
+    v6 = 6;
+    v12 = count - 2;
+    v10 = get16(octets + v12);
+    t1 = octets_frame_check_check(octets, v12);
+    if ((((v10 << 8) | (v10 >> 8)) & 0xffff) != (t1 & 0xffff)) goto l10;
+    v6 = get8(octets + 4);
+    if (v8 >= 32 && (v6 & 255) != 0) {
+        v6 = 7;
+        goto l10;
+    }
+    if ((v8 & 16) != 0) {
+        count = count - 7;
+        if (count > 3) goto l15;
+        v6 = 8;
+        switch ((uint32_t)count) {
         case 1:
-            goto l5;
-        case 2:
-            octets = get64(v4 + 8);
-            v6 = 0;
-            v12 = ((get8(v4 + 16) & 255) != 0) ? (get8(v4 + 17) + 1) : 0U;
-            v9 = 3;
+            if (get8(octets + 5) != 0) goto l15;
             v10 = 0;
-            v11 = 0;
-            v13 = v7;
-            v14 = v8;
-            goto l6;
-        case 3:
-            v11 = v8 & 1;
-            v9 = 4;
-            v10 = 0;
-            v12 = 0;
             v13 = 0;
             break;
-        case 4:
-            v13 = 0;
-            v9 = v8 & 255;
-            v6 = (v9 != 0) ? v7 : 0U;
-            v10 = v9 != 0;
-            v9 = 5;
-            v11 = 0;
-            v12 = 0;
+        case 2:
+            goto l15;
+        case 3:
+            v6 = 9;
+            if (get8(octets + 5) != 130 || get8(octets + 6) != 0) goto l10;
+            v13 = get8(octets + 7);
+            v10 = 1;
             break;
         default:
-            v9 = 1;
-            v15 = v8 + 1;
-            v10 = 0;
-            v11 = 0;
-            v12 = 0;
-            v13 = 0;
-            v14 = 0;
-            goto l5;
+            goto l10;
         }
-        v14 = 0;
-    l6:;
-        v15 = 0;
-    l5:;
-        put8(received + 15 /* vr */, v6);
-        put8(received + 14 /* command */, v10);
-        put8(received + 13 /* kept */, v11);
-        put8(received + 12 /* dropped */, v12);
-        put8(received + 11 /* verdict */, v13);
-        put8(received + 10 /* n */, v14);
-        put8(received + 9 /* fault */, v15);
-        put8(received + 8 /* kind */, v9);
-        put64(received /* ready */, octets);
         v6 = 0;
+        put16(v4 + 52, 0);
+        put32(v4 + 48, 0);
+        v7 = 2;
+        v12 = 0;
+        v14 = 0;
+        count = 0;
+    } else {
+        if ((count - 9) > ~2ULL) {
+            v6 = 8;
+            goto l10;
+        }
+        v13 = 0;
+        put32(v4 + 48, 0);
+        put16(v4 + 52, 0);
+        v10 = (v8 < 32) ? v6 : 0U;
+        v7 = v8 > 31;
+        count = count - 8;
+        v12 = octets + 6;
+        v6 = get8(octets + 5);
+        v14 = v6 & 63;
+        v6 = v6 >> 6;
     }
+    if (get32(v5) != (((v8 << 8) & 768) | v11) || get32(v5 + 4) != ((v9 & 252) >> 2)) {
+        count = 0;
+        v7 = 2;
+        v9 = 0;
+        v14 = 0;
+        v11 = 0;
+        goto l6;
+    }
+    switch (v7) {
+    case 1:
+        if (v6 != 3) goto l8;
+        v15 = (uint64_t)v14;
+        if (((uint32_t)(get64(v5 + 40) >> (v15 & 63)) & 1) == 0 || count > (uint64_t)get32(v5 + 32) || count < 6) goto
+            l8;
+        v6 = get8(v12);
+        if (v6 > 31 || (((v6 & 8) != 0 && (((v6 << 8) & 0x700) | get8(v12 + 1)) == 0x7ff) || ((((uint64_t)get8(v12 +
+            4) << 8) | (uint64_t)get8(v12 + 5)) + 7) != count)) goto l8;
+        rattle_alloc_at(v4 + 8, count, 1);
+        if (((uint32_t)get64(v4 + 8) & 1) == 0) {
+            v6 = 6;
+            goto l3;
+        }
+        v16 = get64(v4 + 16);
+        if ((v16 - v12) < count) {
+            v17 = count & 3;
+            v18 = 0;
+            if (count >= 4) {
+                v19 = count & ~3ULL;
+                v18 = 0;
+                do {
+                    octets = v16 + v18;
+                    v20 = v12 + v18;
+                    put8(octets, get8(v20));
+                    put8(octets + 1, get8(v20 + 1));
+                    put8(octets + 2, get8(v20 + 2));
+                    put8(octets + 3, get8(v20 + 3));
+                    v18 = v18 + 4;
+                } while (v19 != v18);
+                if (v17 == 0) goto l35;
+            }
+            octets = v16 + v18;
+            v12 = v12 + v18;
+            do {
+                put8(octets, get8(v12));
+                octets = octets + 1;
+                v12 = v12 + 1;
+                v17 = v17 - 1;
+            } while (v17 != 0);
+        } else if (count != 0) copy(v16, v12, count);
+    l35:;
+        v11 = 1;
+        octets = v5 + 77;
+        put8(octets, (get8(octets) + 1) & 3);
+        octets = get64(v5 + 208);
+        if (octets != 0) {
+            v17 = v5 + 224;
+            v18 = get64(v17);
+            v12 = v5 + 216;
+            v20 = get64(v12);
+            if (octets > v20) {
+                v18 = v18 + v20;
+                octets = get64(v5 + 200) + ((v18 - ((v18 < octets) ? 0ULL : octets)) << 5);
+                put64(octets + 24, count);
+                put64(octets + 16, count);
+                put64(octets + 8, v16);
+                put64(octets, v15);
+                put64(v12, get64(v12) + 1);
+                v11 = 1;
+                goto l7;
+            }
+            v20 = v20 - 1;
+            put64(v12, v20);
+            v19 = v18 + 1;
+            v19 = v19 - ((v19 < octets) ? 0ULL : octets);
+            put64(v17, v19);
+            v17 = get64(v5 + 200);
+            v20 = v19 + v20;
+            octets = v17 + ((v20 - ((v20 < octets) ? 0ULL : octets)) << 5);
+            put64(octets, v15);
+            v18 = v17 + (v18 << 5);
+            v20 = get64(v18 + 8);
+            put64(octets + 8, v16);
+            put64(octets + 16, count);
+            v18 = get64(v18 + 24);
+            put64(octets + 24, count);
+            put64(v12, get64(v12) + 1);
+            if (v18 == 0) {
+                v11 = 1;
+                goto l7;
+            }
+            v16 = v20;
+        }
+        rattle_dealloc_at(v16);
+        goto l7;
+    case 2:
+        count = v5 + 77;
+        put8(count, (get8(count) + 1) & 3);
+        if ((v10 & 255) == 0) {
+            put8(v5 + 74, 0);
+        } else {
+            if (get8(v5 + 74) != 0) goto l43;
+            put8(v5 + 73, v13);
+        }
+        put16(v5 + 75, 0);
+    l43:;
+        v11 = 0;
+        v6 = v10 & 255;
+        v9 = (v6 != 0) ? v13 : 0U;
+        v14 = v6 != 0;
+        count = 0;
+        v7 = 5;
+        goto l6;
+    default:
+        break;
+    }
+    put8(v4 + 25, v14);
+    put8(v4 + 24, v6);
+    put32(v4 + 26, get32(v4 + 48));
+    put16(v4 + 30, get16(v4 + 52));
+    put64(v4 + 40, count);
+    put64(v4 + 32, v12);
+    v9 = 0;
+    fill(v4 + 160, 0, 112);
+    v7 = 1;
+    count = v5 + 76;
+    v11 = get8(count);
+    octets = v5 + 75;
+    v6 = get8(octets);
+    v8 = 5;
+    v12 = v5 + 74;
+    if ((get8(v12) & 1) == 0) {
+        v14 = get8(v5 + 72);
+        v13 = get8(v5 + 73);
+        if ((v10 & 255) == (v13 & 255)) {
+            v7 = 0;
+            if ((v6 & 1) != 0) {
+                v6 = 1;
+            } else {
+                if (get64(v5 + 168) < (uint64_t)get32(v5 + 48)) {
+                    v6 = get8(v5 + 77);
+                    map_service_assembler_Assembler_prepare(v4 + 160, v5 + 80, v4 + 24);
+                    if (get8(v4 + 160) != 0) {
+                        v6 = 6;
+                        goto l3;
+                    }
+                    v7 = get8(v4 + 169);
+                    put8(v4 + 57, v7);
+                    put32(v4 + 58, get32(v4 + 170));
+                    put16(v4 + 62, get16(v4 + 174));
+                    v8 = get8(v4 + 176);
+                    put8(v4 + 64, v8);
+                    put64(v4 + 65, get64(v4 + 177));
+                    put64(v4 + 72, get64(v4 + 184));
+                    v11 = get8(v4 + 168);
+                    put8(v4 + 56, v11);
+                    count = get64(v4 + 192);
+                    octets = get64(v4 + 200);
+                    v12 = get64(v4 + 208);
+                    put64(v4 + 96, v12);
+                    put64(v4 + 88, octets);
+                    put64(v4 + 80, count);
+                    put64(v4 + 104, get64(v4 + 216));
+                    put64(v4 + 112, get64(v4 + 224));
+                    put64(v4 + 120, get64(v4 + 232));
+                    put64(v4 + 128, get64(v4 + 240));
+                    put64(v4 + 136, get64(v4 + 248));
+                    put64(v4 + 144, get64(v4 + 256));
+                    put64(v4 + 152, get64(v4 + 264));
+                    nodes_spacecraft_Spacecraft_hand_on(v5, v4 + 24, v4 + 56);
+                    put8(v5 + 77, v6);
+                    v9 = 0;
+                    put8(v5 + 76, 0);
+                    put16(v5 + 74, 0);
+                    put8(v5 + 73, v10 + 1);
+                    put8(v5 + 72, v14);
+                    count = (v8 != 0) ? count : v12;
+                    v13 = ((v11 & 255) != 0) ? (v7 + 1) : 0U;
+                    v7 = 3;
+                    v14 = 0;
+                    v11 = 0;
+                    v8 = 0;
+                    goto l5;
+                }
+                v8 = 2;
+                v6 = 1;
+                v11 = 1;
+            }
+        } else {
+            v7 = 1;
+            v13 = v10 - v13;
+            v14 = (v14 >> 1) & 127;
+            if ((v13 & 255) >= v14) {
+                if ((v13 & 255) > (~v14 & 255)) {
+                    v8 = ((v6 & 1) != 0) ? 5U : 3U;
+                    v7 = 0;
+                } else {
+                    v8 = 4;
+                }
+            } else if ((v6 & 1) != 0) {
+                v7 = 0;
+                v6 = 1;
+            } else {
+                v8 = 1;
+                v7 = 0;
+                v6 = 0;
+                v11 = 1;
+            }
+        }
+    }
+    put8(count, v11);
+    put8(octets, v6);
+    put8(v12, v7);
+    count = 0;
+    v7 = 3;
+    v14 = 0;
+    v11 = 0;
+    v13 = 0;
+    goto l5;
+l15:;
+    v6 = 9;
+l10:;
+    count = 0;
+    v9 = 0;
+    v14 = 0;
+    v11 = 0;
+    v13 = 0;
+    v8 = 0;
+    v10 = 0;
+    goto l4;
+l8:;
+    count = v5 + 77;
+    put8(count, (get8(count) + 1) & 3);
+    v11 = 0;
+l7:;
+    count = 0;
+    v7 = 4;
+    v9 = 0;
+    v14 = 0;
+l6:;
+    v13 = 0;
+    v8 = 0;
+    v10 = 0;
+l5:;
+    v6 = 0;
+l4:;
+    put8(received + 15 /* vr */, v9);
+    put8(received + 14 /* command */, v14);
+    put8(received + 13 /* kept */, v11);
+    put8(received + 12 /* dropped */, v13);
+    put8(received + 11 /* verdict */, v8);
+    put8(received + 10 /* n */, v10);
+    put8(received + 9 /* fault */, v6);
+    put8(received + 8 /* kind */, v7);
+    put64(received /* ready */, count);
+    v6 = 0;
+l3:;
     put64(spacecraft /* node */, v5);
     return v6;
 }

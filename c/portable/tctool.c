@@ -2,7 +2,7 @@
  * 32 to 64 bits. It is made by tools/portable_c of the program's object for wasm64, and not edited: change the program,
  * and make this anew.
  *
- * tools/sources_sum of the code that it was made of: 3847291729-1226924
+ * tools/sources_sum of the code that it was made of: 1330839489-1235324
  *
  * What is proved is the code as the prover has it, for 64 bits: the program writes what the contracts of its crates say
  * (docs/PROMISES.md). LLVM, which compiles that for wasm64, tools/program_module and tools/portable_c, which write this
@@ -1357,9 +1357,6 @@ static const unsigned char constant_126[1] = {
 };
 #endif
 #if !defined PART || PART == 1 || PART == 4
-static const unsigned char constant_127[2] = {
-    10, 10
-};
 static const unsigned char constant_156[7] = {
     101, 114, 114, 111, 114, 58, 32
 };
@@ -1367,6 +1364,9 @@ static const unsigned char constant_156[7] = {
 #if !defined PART || PART == 1 || PART == 4 || PART == 5
 static const unsigned char constant_55[2] = {
     45, 45
+};
+static const unsigned char constant_127[2] = {
+    10, 10
 };
 #endif
 #if !defined PART || PART == 1 || PART == 5
@@ -1526,9 +1526,6 @@ static const unsigned char constant_106[32] = {
     80, 114, 105, 110, 116, 32, 104, 101, 108, 112, 32, 102, 111, 114, 32, 116, 104, 101, 32, 115, 117, 98, 99, 111,
     109, 109, 97, 110, 100, 40, 115, 41
 };
-static const unsigned char constant_110[1] = {
-    124
-};
 static const unsigned char constant_122[3] = {
     124, 45, 45
 };
@@ -1615,17 +1612,6 @@ static const unsigned char switch_table_tctool_noting_reason[336] = {
 static const unsigned char constant_105[7] = {
     67, 79, 77, 77, 65, 78, 68
 };
-static const unsigned char constant_109[1] = {
-    60
-};
-static const unsigned char constant_111[1] = {
-    62
-};
-#endif
-#if !defined PART || PART == 3 || PART == 4 || PART == 5
-static const unsigned char constant_141[2] = {
-    58, 32
-};
 #endif
 #if !defined PART || PART == 3 || PART == 4 || PART == 5 || PART == 6
 static const unsigned char constant_108[1] = {
@@ -1650,6 +1636,9 @@ static const unsigned char constant_124[1] = {
 };
 static const unsigned char constant_125[1] = {
     125
+};
+static const unsigned char constant_141[2] = {
+    58, 32
 };
 static const unsigned char constant_179[3] = {
     121, 101, 115
@@ -1685,6 +1674,15 @@ static const unsigned char constant_395[13] = {
 };
 #endif
 #if !defined PART || PART == 4
+static const unsigned char constant_109[1] = {
+    60
+};
+static const unsigned char constant_110[1] = {
+    124
+};
+static const unsigned char constant_111[1] = {
+    62
+};
 static const unsigned char constant_114[2] = {
     91, 61
 };
@@ -1720,15 +1718,6 @@ static const unsigned char constant_136[3] = {
 };
 static const unsigned char constant_137[4] = {
     44, 32, 45, 45
-};
-static const unsigned char constant_143[8] = {
-    32, 32, 32, 32, 32, 32, 32, 32
-};
-static const unsigned char constant_145[16] = {
-    80, 111, 115, 115, 105, 98, 108, 101, 32, 118, 97, 108, 117, 101, 115, 58
-};
-static const unsigned char constant_146[2] = {
-    45, 32
 };
 static const unsigned char constant_147[2] = {
     58, 10
@@ -1817,12 +1806,6 @@ static const unsigned char constant_119[1] = {
 static const unsigned char constant_138[2] = {
     32, 32
 };
-static const unsigned char constant_139[2] = {
-    101, 115
-};
-static const unsigned char constant_140[6] = {
-    91, 97, 108, 105, 97, 115
-};
 static const unsigned char constant_142[2] = {
     44, 32
 };
@@ -1851,8 +1834,23 @@ static const unsigned char constant_131[3] = {
 static const unsigned char constant_132[4] = {
     91, 45, 45, 32
 };
+static const unsigned char constant_139[2] = {
+    101, 115
+};
+static const unsigned char constant_140[6] = {
+    91, 97, 108, 105, 97, 115
+};
+static const unsigned char constant_143[8] = {
+    32, 32, 32, 32, 32, 32, 32, 32
+};
 static const unsigned char constant_144[3] = {
     123, 110, 125
+};
+static const unsigned char constant_145[16] = {
+    80, 111, 115, 115, 105, 98, 108, 101, 32, 118, 97, 108, 117, 101, 115, 58
+};
+static const unsigned char constant_146[2] = {
+    45, 32
 };
 static const unsigned char constant_148[10] = {
     91, 100, 101, 102, 97, 117, 108, 116, 58, 32
@@ -4057,12 +4055,11 @@ LOCAL uint32_t std_alloc_vec_Vec_try_reserve_1598ebf9113514c4(uint64_t p0, uint6
 LOCAL void nodes_ground_node_Ground_advance(uint64_t p0);
 LOCAL void std_alloc_vec_deque_VecDeque_push_back_reserved_1598ebf9113514c4(uint64_t p0, uint64_t p1);
 LOCAL void std_alloc_vec_deque_VecDeque_front_1598ebf9113514c4(uint64_t p0, uint64_t p1);
-LOCAL void nodes_spacecraft_Spacecraft_prepare(uint64_t p0, uint64_t p1, uint64_t p2, uint64_t p3);
-LOCAL void core_array_array_drop_ae445932defd1957(uint64_t p0);
-LOCAL void std_alloc_vec_Vec_drop_555ceec2fcbf3849(uint64_t p0);
-LOCAL void nodes_spacecraft_Spacecraft_commit(uint64_t p0, uint64_t p1, uint64_t p2);
-LOCAL void std_alloc_vec_deque_VecDeque_pop_front_1598ebf9113514c4(uint64_t p0, uint64_t p1);
 LOCAL uint32_t tc_frame_decoding_has_wrong_check(uint64_t p0, uint64_t p1, uint32_t p2);
+LOCAL void map_service_assembler_Assembler_prepare(uint64_t p0, uint64_t p1, uint64_t p2);
+LOCAL void nodes_spacecraft_Spacecraft_packet_to_keep(uint64_t p0, uint64_t p1, uint64_t p2);
+LOCAL void nodes_spacecraft_receive_obey(uint64_t p0, uint32_t p1, uint32_t p2);
+LOCAL void std_alloc_vec_deque_VecDeque_pop_front_1598ebf9113514c4(uint64_t p0, uint64_t p1);
 LOCAL void nodes_spacecraft_Spacecraft_control_word(uint64_t p0, uint64_t p1);
 LOCAL uint64_t nodes_spacecraft_Spacecraft_report(uint64_t p0, uint64_t p1);
 LOCAL uint32_t std_alloc_vec_Vec_extend_from_slice_d11456097a0b67cd(uint64_t p0, uint64_t p1, uint64_t p2);
@@ -4081,6 +4078,10 @@ LOCAL uint32_t std_alloc_fmt_undo_if_err_4e689c9ecf7a3082(uint64_t p0, uint64_t 
 LOCAL uint32_t core_fmt_formatter_Formatter_write_piece_745b124d0002a80d(uint64_t p0, uint64_t p1);
 LOCAL uint32_t script_show_push_count(uint64_t p0, uint64_t p1, uint64_t p2, uint64_t p3);
 LOCAL uint32_t std_alloc_vec_Vec_push_2a1d2754e95bb7cb(uint64_t p0);
+LOCAL void core_array_array_drop_ae445932defd1957(uint64_t p0);
+LOCAL void std_alloc_vec_Vec_drop_555ceec2fcbf3849(uint64_t p0);
+LOCAL void nodes_spacecraft_Spacecraft_hand_on(uint64_t p0, uint64_t p1, uint64_t p2);
+LOCAL void nodes_spacecraft_Spacecraft_keep(uint64_t p0, uint64_t p1);
 LOCAL uint32_t std_alloc_string_String_push_str_4e689c9ecf7a3082(uint64_t p0, uint64_t p1, uint64_t p2);
 LOCAL uint32_t nodes_fault_LinkFault_number(uint32_t p0);
 LOCAL void nodes_fault_LinkFault_name(uint64_t p0, uint32_t p1);
@@ -4115,11 +4116,12 @@ LOCAL void script_lines_line_byte_in(uint64_t p0, uint64_t p1, uint64_t p2);
 LOCAL void script_lines_line_carrying(uint64_t p0, uint64_t p1);
 LOCAL void nodes_parameter_Parameter_row(uint64_t p0, uint32_t p1);
 LOCAL void tm_link_extractor_Extractor_new(uint64_t p0);
-LOCAL uint32_t std_alloc_vec_Vec_move_to_ab161963403435e1(uint64_t p0, uint64_t p1);
+LOCAL void std_alloc_vec_deque_VecDeque_with_capacity_ab161963403435e1(uint64_t p0, uint64_t p1);
 LOCAL void circular_buffer_heap_HeapCircularBuffer_drop_695a0d5c0a17370d(uint64_t p0);
 LOCAL void std_alloc_vec_deque_VecDeque_drop_695a0d5c0a17370d(uint64_t p0);
-LOCAL void std_alloc_vec_Vec_destroy_empty_ab161963403435e1(uint64_t p0);
 LOCAL void std_alloc_vec_Vec_drop_030412a25431895c(uint64_t p0);
+LOCAL uint32_t std_alloc_vec_Vec_move_to_ab161963403435e1(uint64_t p0, uint64_t p1);
+LOCAL void std_alloc_vec_Vec_destroy_empty_ab161963403435e1(uint64_t p0);
 LOCAL void std_alloc_vec_resize_ab161963403435e1(uint64_t p0, uint64_t p1, uint64_t p2, uint64_t p3, uint64_t p4);
 LOCAL void std_heap_GlobalAllocator_grow_34_nodes_owned_segment_OwnedSegment(uint64_t p0, uint64_t p1, uint64_t p2,
     uint64_t p3);
@@ -4152,21 +4154,21 @@ LOCAL uint32_t nodes_ground_node_Ground_has_places(uint64_t p0, uint64_t p1);
 LOCAL void nodes_owned_segment_OwnedSegment_new(uint64_t p0, uint64_t p1);
 LOCAL uint64_t map_service_cutting_group_len(uint64_t p0, uint64_t p1, uint64_t p2);
 LOCAL uint32_t map_service_cutting_append(uint64_t p0, uint64_t p1);
-LOCAL uint32_t std_alloc_vec_deque_VecDeque_grow_ab161963403435e1(uint64_t p0, uint64_t p1);
-LOCAL void std_alloc_vec_deque_VecDeque_write_back_ab161963403435e1(uint64_t p0, uint64_t p1);
-LOCAL uint32_t nodes_ground_node_Ground_lack_of(uint64_t p0, uint64_t p1, uint64_t p2);
+LOCAL void std_alloc_vec_deque_VecDeque_push_back_reserved_ab161963403435e1(uint64_t p0, uint64_t p1);
 LOCAL void std_alloc_vec_Vec_drop_2f5d0285e11e35b2(uint64_t p0);
+LOCAL uint32_t nodes_ground_node_Ground_lack_of(uint64_t p0, uint64_t p1, uint64_t p2);
 LOCAL void std_alloc_vec_Vec_from_slice_8e16d1c3a9c68bc1(uint64_t p0, uint64_t p1, uint64_t p2);
 LOCAL void std_alloc_vec_Vec_with_capacity_2ad1318893ccf184(uint64_t p0, uint64_t p1);
 LOCAL uint32_t std_alloc_vec_Vec_extend_from_slice_8e16d1c3a9c68bc1(uint64_t p0, uint64_t p1, uint64_t p2);
 LOCAL uint32_t std_alloc_vec_Vec_move_to_2ad1318893ccf184(uint64_t p0, uint64_t p1);
-LOCAL uint64_t std_alloc_vec_copy_34_nodes_owned_segment_OwnedSegment(uint64_t p0, uint64_t p1, uint64_t p2);
+LOCAL void std_alloc_vec_deque_VecDeque_write_back_ab161963403435e1(uint64_t p0, uint64_t p1);
 LOCAL uint32_t space_packet_whole_is_packet(uint64_t p0, uint64_t p1);
 LOCAL uint32_t std_alloc_vec_Vec_move_to_49bbd27f022ae39a(uint64_t p0, uint64_t p1);
 LOCAL uint32_t std_alloc_vec_Vec_move_to_1598ebf9113514c4(uint64_t p0, uint64_t p1);
 LOCAL void std_alloc_vec_resize_1598ebf9113514c4(uint64_t p0, uint64_t p1, uint64_t p2, uint64_t p3, uint64_t p4);
 LOCAL void std_heap_GlobalAllocator_grow_2262cf5b90b10fda(uint64_t p0, uint64_t p1, uint64_t p2, uint64_t p3);
 LOCAL uint32_t std_alloc_vec_Vec_grow_1598ebf9113514c4(uint64_t p0, uint64_t p1);
+LOCAL uint64_t std_alloc_vec_copy_34_nodes_owned_segment_OwnedSegment(uint64_t p0, uint64_t p1, uint64_t p2);
 LOCAL void nodes_ground_node_Ground_refill(uint64_t p0);
 LOCAL void std_alloc_vec_deque_VecDeque_pop_front_nonempty_ab161963403435e1(uint64_t p0, uint64_t p1);
 LOCAL void std_alloc_vec_deque_VecDeque_head_slice_1598ebf9113514c4(uint64_t p0, uint64_t p1);
@@ -4183,21 +4185,21 @@ LOCAL uint32_t std_alloc_vec_Vec_extend_from_slice_672334860c861157(uint64_t p0,
 LOCAL uint32_t std_alloc_vec_Vec_move_to_a351ad16c7c032ee(uint64_t p0, uint64_t p1);
 LOCAL void smallvec_small_vec_SmallVec_push_reserved_ed127ccbaaf726c4(uint64_t p0, uint64_t p1);
 LOCAL void map_service_packets_fault_of_one(uint64_t p0, uint64_t p1, uint64_t p2, uint64_t p3);
-LOCAL uint32_t smallvec_small_vec_SmallVec_grow_444910b390f8755b(uint64_t p0, uint64_t p1);
-LOCAL void arrayvec_array_vec_ArrayVec_push_c655abd748d87263(uint64_t p0, uint64_t p1);
-LOCAL void std_alloc_vec_Vec_destroy_empty_451022adbeef254f(uint64_t p0);
-LOCAL void core_array_array_drop_1f1e24fac6b576de(uint64_t p0);
-LOCAL void std_alloc_vec_Vec_drop_d6ec2945c09a05c1(uint64_t p0);
 LOCAL uint32_t std_alloc_vec_Vec_reserve_exact_451022adbeef254f(uint64_t p0, uint64_t p1);
-LOCAL void std_alloc_vec_Vec_drop_78c991ce24189f90(uint64_t p0);
+LOCAL void std_alloc_vec_Vec_drop_d6ec2945c09a05c1(uint64_t p0);
+LOCAL void smallvec_small_vec_to_inline_444910b390f8755b(uint64_t p0, uint64_t p1);
+LOCAL void arrayvec_array_vec_ArrayVec_push_c655abd748d87263(uint64_t p0, uint64_t p1);
 LOCAL void std_alloc_vec_opened_drop_run_3ad31edc7f44ff50(uint64_t p0, uint64_t p1, uint64_t p2);
+LOCAL void std_alloc_vec_Vec_destroy_empty_451022adbeef254f(uint64_t p0);
+LOCAL void std_alloc_vec_Vec_drop_78c991ce24189f90(uint64_t p0);
+LOCAL void std_alloc_vec_Vec_destroy_empty_a351ad16c7c032ee(uint64_t p0);
 LOCAL void core_slots_raw_move_down_2262cf5b90b10fda(uint64_t p0, uint64_t p1, uint64_t p2);
 LOCAL void core_slots_raw_move_up_2262cf5b90b10fda(uint64_t p0, uint64_t p1, uint64_t p2);
-LOCAL void std_alloc_vec_Vec_destroy_empty_a351ad16c7c032ee(uint64_t p0);
 LOCAL void map_service_assembler_new_list(uint64_t p0, uint64_t p1);
 LOCAL void std_alloc_vec_Vec_destroy_empty_b92d73155746ed2e(uint64_t p0);
 LOCAL void std_alloc_vec_Vec_truncate_c4b493c3d24b93db(uint64_t p0, uint64_t p1);
 LOCAL void std_alloc_vec_Vec_drop_53a4c03472232ebd(uint64_t p0);
+LOCAL void cop1_farm_Farm_set_vr(uint64_t p0, uint32_t p1);
 LOCAL void std_alloc_vec_opened_drop_run_03d4c2b8051eaf83(uint64_t p0, uint64_t p1, uint64_t p2);
 LOCAL void std_alloc_vec_Vec_destroy_empty_9144b5853a75d9b2(uint64_t p0);
 LOCAL void circular_buffer_ring_Ring_take_front_0956fa20d2e9e8d8(uint64_t p0, uint64_t p1);
@@ -23061,15 +23063,17 @@ l1:;
 LOCAL void tctool_simulation_run_script_1002a7eb2e9facbe(uint64_t p0, uint64_t p1, uint64_t p2, uint64_t p3)
 {
     unsigned char frame_octets[31536 + 15];
-    uint32_t v10 = 0, v12 = 0, v13 = 0, v16 = 0, v20 = 0, v69 = 0, v70 = 0, v71 = 0, v72 = 0, v73 = 0, t4, t5, t6, t9,
-        t10, t11, t12, t13, t14, t18, t19, t20, t21, t22, t23, t24, t25, t26, t27, t28, t29, t30, t31, t32, t33, t34,
-        t35, t36, t38, t39, t40, t41, t42, t43, t44, t45, t46, t47, t48, t49, t50, t51, t53;
+    uint32_t v10 = 0, v12 = 0, v13 = 0, v16 = 0, v20 = 0, v85 = 0, v86 = 0, v87 = 0, v88 = 0, v89 = 0, v94 = 0,
+        v95 = 0, v96 = 0, v97 = 0, v98 = 0, v99 = 0, t4, t5, t6, t9, t10, t11, t12, t13, t17, t18, t19, t20, t21, t22,
+        t23, t24, t25, t26, t27, t28, t29, t30, t31, t32, t33, t34, t35, t36, t37, t39, t40, t41, t42, t43, t44, t45,
+        t46, t47, t48, t49, t50, t51, t52, t54;
     uint64_t v4 = 0, v5 = 0, v6 = 0, v7 = 0, v8 = 0, v9 = 0, v11 = 0, v14 = 0, v15 = 0, v17 = 0, v18 = 0, v19 = 0,
         v21 = 0, v22 = 0, v23 = 0, v24 = 0, v25 = 0, v26 = 0, v27 = 0, v28 = 0, v29 = 0, v30 = 0, v31 = 0, v32 = 0,
         v33 = 0, v34 = 0, v35 = 0, v36 = 0, v37 = 0, v38 = 0, v39 = 0, v40 = 0, v41 = 0, v42 = 0, v43 = 0, v44 = 0,
         v45 = 0, v46 = 0, v47 = 0, v48 = 0, v49 = 0, v50 = 0, v51 = 0, v52 = 0, v53 = 0, v54 = 0, v55 = 0, v56 = 0,
         v57 = 0, v58 = 0, v59 = 0, v60 = 0, v61 = 0, v62 = 0, v63 = 0, v64 = 0, v65 = 0, v66 = 0, v67 = 0, v68 = 0,
-        v74 = 0, v75 = 0, v76 = 0, v77 = 0, v78 = 0, t1, t2, t3, t15, t17;
+        v69 = 0, v70 = 0, v71 = 0, v72 = 0, v73 = 0, v74 = 0, v75 = 0, v76 = 0, v77 = 0, v78 = 0, v79 = 0, v80 = 0,
+        v81 = 0, v82 = 0, v83 = 0, v84 = 0, v90 = 0, v91 = 0, v92 = 0, v93 = 0, t1, t2, t3, t14, t16;
     v4 = aligned(frame_octets);
     fill(v4 + 216, 0, 0xf6e);
     fill(v4 + 0x1048, 0, 0xcb7);
@@ -23402,9 +23406,9 @@ l4:;
                 put64(v4 + 8176, v7);
                 put64(v4 + 8168, v14);
                 put64(v4 + 8160, v11);
-                v37 = v4 + 0x1f58 + 168;
+                v37 = v4 + 0x2000;
                 copy(v37, v4 + 0x1ec0, 40);
-                v38 = v4 + 0x1f58 + 208;
+                v38 = v4 + 0x2028;
                 copy(v38, v4 + 0x1e98, 40);
                 put64(v4 + 8296, p2);
                 put64(v4 + 8288, p3);
@@ -23481,40 +23485,56 @@ l4:;
                 put64(v4 + 12016, get64(v4 + 4288));
                 put64(v4 + 11960, v4 + 0x7b28);
                 put64(v4 + 12000, v4 + 0x7b28);
-                put64(v4 + 0x4c70, 0);
-                put64(v4 + 19552, v4 + 0x7b28);
+                put64(v4 + 0x67c8, 0);
+                put64(v4 + 26552, v4 + 0x7b28);
                 v18 = v4 + 0x7328 + 48;
                 p3 = v4 + 0x7328 + 28;
-                v21 = v4 + 0x6070 + 16;
-                v44 = v4 + 0x6079;
+                v21 = v4 + 0x5338 + 16;
+                v44 = v4 + 0x5341;
                 v45 = v4 + 0x35f0 + 7;
                 v46 = v4 + 0x4d38 + 8;
                 v47 = v4 + 0x4450 + 8;
-                v48 = v4 + 0x5338 + 8;
+                v48 = v4 + 0x5a70 + 8;
                 v49 = v4 + 0x6900 + 24;
                 v50 = v4 + 0x3e50 + 8;
-                v51 = v4 + 0x7328 + 96;
+                v51 = v4 + 0x7388;
                 v52 = v4 + 0x7380;
-                v53 = v4 + 0x7360;
+                v53 = v4 + 0x7328 + 56;
                 v54 = v4 + 0x7328 + 8;
                 v26 = v4 + 0x6900 + 16;
-                v55 = v4 + 0x7328 + 208;
-                v56 = v4 + 0x35f0 + 8;
-                v57 = v4 + 0x69c8;
-                v58 = v4 + 0x73b8;
-                v59 = v4 + 0x7328 + 104;
-                v60 = v4 + 0x7328 + 168;
-                v61 = v4 + 0x7368;
-                v62 = v4 + 0x6900 + 96;
-                v63 = v4 + 0x6900 + 8;
-                v64 = v4 + 0x6900 + 40;
+                v55 = v4 + 0x6738 + 7;
+                v56 = v4 + 0x2ff0 + 8;
+                v57 = v4 + 0x3e50 + 6;
+                v58 = v4 + 0x4d38 + 7;
+                v59 = v4 + 0x6070 + 8;
+                v60 = v4 + 0x73e1;
+                v61 = v4 + 0x73f0;
+                v62 = v4 + 0x6f00 + 7;
+                v63 = v4 + 0x73a9;
+                v64 = v4 + 0x73c8;
+                v65 = v4 + 0x73e8;
+                v66 = v4 + 0x7328 + 128;
+                v67 = v4 + 0x7381;
+                v68 = v4 + 0x737a;
+                v69 = v4 + 0x7378;
+                v70 = v4 + 0x734a;
+                v71 = v4 + 0x733b;
+                v72 = v4 + 0x6900 + 56;
+                v73 = v4 + 0x6911;
+                v74 = v4 + 0x6900 + 10;
+                v75 = v4 + 0x2138;
+                v76 = (v4 + 0x4450) | 2;
+                v77 = v4 + 0x2130;
+                v78 = v4 + 0x6900 + 8;
+                v79 = v4 + 0x6900 + 40;
                 v6 = v4 + 0x6900 + 48;
                 v19 = v4 + 0x6900 + 28;
-                v65 = v4 + 0x7378;
-                v66 = v4 + 0x7328 + 32;
+                v80 = v4 + 0x7328 + 104;
+                v81 = v4 + 0x7368;
+                v82 = v4 + 0x7328 + 32;
                 v22 = v4 + 0x7328 + 16;
                 v24 = v4 + 0x2ee0;
-                v67 = v4 + 0x2eb8;
+                v83 = v4 + 0x2eb8;
                 v32 = v4 + 0x2290;
                 v27 = v4 + 0x2268;
                 v31 = v4 + 0x2240;
@@ -23522,13 +23542,13 @@ l4:;
                 v33 = v4 + 0x2188;
                 v23 = v4 + 0x20d0;
                 v29 = v4 + 0x208a;
-                v68 = v4 + 0x2050;
+                v84 = v4 + 0x2050;
                 v25 = v4 + 0x1fe0;
-                v30 = v4 + 0x6070 + 13;
+                v30 = v4 + 0x5338 + 13;
                 p1 = v34;
                 v5 = v35;
                 do {
-                    put64(v4 + 0x4c68, 0);
+                    put64(v4 + 0x67c0, 0);
                     v17 = 0;
                     do {
                         v10 = v5 == 0;
@@ -23541,8 +23561,8 @@ l4:;
                         v11 = get64(p1 + 16);
                         v8 = get64(p1 + 8);
                         v9 = (uint64_t)get8(p1);
-                        fill(v4 + 0x2ff0, 0, 32);
-                        fill(v4 + 0x4cb0, 0, 24);
+                        fill(v4 + 0x6810, 0, 24);
+                        fill(v4 + 0x7060, 0, 32);
                         switch ((uint32_t)v9) {
                         case 2:
                             break;
@@ -23573,8 +23593,8 @@ l4:;
                             put64(v4 + 29568, address(constant_384));
                             put64(v4 + 29552, 11);
                             put64(v4 + 29544, address(constant_383));
-                            t17 = node_answers_answers_fop_state_word(v12);
-                            put64(v4 + 29528, t17);
+                            t16 = node_answers_answers_fop_state_word(v12);
+                            put64(v4 + 29528, t16);
                             put64(v4 + 29520, 7);
                             put64(v4 + 29512, address(constant_382));
                             v12 = 1;
@@ -23590,41 +23610,41 @@ l4:;
                             put64(v4 + 29560, v4 + 0x6070);
                             fill(v6, 0, 16);
                             fill(v19, 0, 12);
-                            put64(v4 + 26896, get64(v4 + 19568));
-                            put64(v4 + 26888, get64(v4 + 19560));
-                            put64(v4 + 26880, get64(v4 + 19552));
+                            put64(v4 + 26896, get64(v4 + 26568));
+                            put64(v4 + 26888, get64(v4 + 26560));
+                            put64(v4 + 26880, get64(v4 + 26552));
                             put32(v4 + 26904, 32);
                             put64(v4 + 26920, ~0ULL);
-                            t18 = core_fmt_formatter_Formatter_write_piece_cb7842e4872a5878(v4 + 0x6900, v4 + 0x7328);
-                            if ((t18 & 255) != 0) goto l168;
-                            t19 = core_fmt_formatter_Formatter_write_piece_cb7842e4872a5878(v4 + 0x6900, v22);
-                            if ((t19 & 255) != 0) goto l168;
-                            t20 = core_fmt_formatter_Formatter_write_piece_cb7842e4872a5878(v4 + 0x6900, v66);
-                            if ((t20 & 255) == 0) {
-                                t21 = core_fmt_formatter_Formatter_write_piece_cb7842e4872a5878(v4 + 0x6900, v18);
-                                if ((t21 & 255) == 0) {
-                                    t22 = core_fmt_formatter_Formatter_write_piece_cb7842e4872a5878(v4 + 0x6900, v61);
-                                    if ((t22 & 255) == 0) {
-                                        t23 = core_fmt_formatter_Formatter_write_piece_7e4666e335f83638(v4 + 0x6900,
-                                            v65);
-                                        if ((t23 & 255) == 0) {
-                                            t24 = core_fmt_formatter_Formatter_write_piece_cb7842e4872a5878(v4 +
+                            t17 = core_fmt_formatter_Formatter_write_piece_cb7842e4872a5878(v4 + 0x6900, v4 + 0x7328);
+                            if ((t17 & 255) != 0) goto l184;
+                            t18 = core_fmt_formatter_Formatter_write_piece_cb7842e4872a5878(v4 + 0x6900, v22);
+                            if ((t18 & 255) != 0) goto l184;
+                            t19 = core_fmt_formatter_Formatter_write_piece_cb7842e4872a5878(v4 + 0x6900, v82);
+                            if ((t19 & 255) == 0) {
+                                t20 = core_fmt_formatter_Formatter_write_piece_cb7842e4872a5878(v4 + 0x6900, v18);
+                                if ((t20 & 255) == 0) {
+                                    t21 = core_fmt_formatter_Formatter_write_piece_cb7842e4872a5878(v4 + 0x6900, v81);
+                                    if ((t21 & 255) == 0) {
+                                        t22 = core_fmt_formatter_Formatter_write_piece_7e4666e335f83638(v4 + 0x6900,
+                                            v69);
+                                        if ((t22 & 255) == 0) {
+                                            t23 = core_fmt_formatter_Formatter_write_piece_cb7842e4872a5878(v4 +
                                                 0x6900, v52);
-                                            if ((t24 & 255) == 0) {
-                                                t25 = core_fmt_formatter_Formatter_write_piece_7e4666e335f83638(v4 +
-                                                    0x6900, v59);
-                                                v12 = t25 & 255;
+                                            if ((t23 & 255) == 0) {
+                                                t24 = core_fmt_formatter_Formatter_write_piece_7e4666e335f83638(v4 +
+                                                    0x6900, v80);
+                                                v12 = t24 & 255;
                                             }
                                         }
                                     }
                                 }
                             }
-                        l168:;
-                            put64(v4 + 19552, get64(v4 + 26880));
-                            put64(v4 + 19560, get64(v4 + 26888));
-                            put64(v4 + 19568, get64(v4 + 26896));
-                            t26 = std_alloc_fmt_undo_if_err_4e689c9ecf7a3082(v4 + 0x4c60, v17, v12);
-                            if ((t26 & 255) != 0) goto l37;
+                        l184:;
+                            put64(v4 + 26552, get64(v4 + 26880));
+                            put64(v4 + 26560, get64(v4 + 26888));
+                            put64(v4 + 26568, get64(v4 + 26896));
+                            t25 = std_alloc_fmt_undo_if_err_4e689c9ecf7a3082(v4 + 0x67b8, v17, v12);
+                            if ((t25 & 255) != 0) goto l37;
                             put64(v4 + 24688, get64(v4 + 11968));
                             put64(v4 + 23152, get64(v4 + 12008) - get64(v4 + 11992));
                             put64(v4 + 26912, 10);
@@ -23633,86 +23653,86 @@ l4:;
                             put64(v4 + 26880, address(constant_392));
                             put64(v4 + 26920, v4 + 0x5a70);
                             put64(v4 + 26896, v4 + 0x6070);
-                            v8 = get64(v4 + 19560);
+                            v8 = get64(v4 + 26560);
                             fill(v18, 0, 16);
                             fill(p3, 0, 12);
-                            put64(v4 + 29496, get64(v4 + 19568));
+                            put64(v4 + 29496, get64(v4 + 26568));
                             put64(v4 + 29488, v8);
-                            put64(v4 + 29480, get64(v4 + 19552));
+                            put64(v4 + 29480, get64(v4 + 26552));
                             put32(v4 + 29504, 32);
                             put64(v4 + 29520, ~0ULL);
                             v12 = 1;
-                            t27 = core_fmt_formatter_Formatter_write_piece_cb7842e4872a5878(v4 + 0x7328, v4 + 0x6900);
-                            if ((t27 & 255) == 0) {
-                                t28 = core_fmt_formatter_Formatter_write_piece_745b124d0002a80d(v4 + 0x7328, v26);
-                                if ((t28 & 255) == 0) {
-                                    t29 = core_fmt_formatter_Formatter_write_piece_cb7842e4872a5878(v4 + 0x7328, v49);
-                                    if ((t29 & 255) == 0) {
-                                        t30 = core_fmt_formatter_Formatter_write_piece_745b124d0002a80d(v4 + 0x7328,
-                                            v64);
-                                        v12 = t30 & 255;
+                            t26 = core_fmt_formatter_Formatter_write_piece_cb7842e4872a5878(v4 + 0x7328, v4 + 0x6900);
+                            if ((t26 & 255) == 0) {
+                                t27 = core_fmt_formatter_Formatter_write_piece_745b124d0002a80d(v4 + 0x7328, v26);
+                                if ((t27 & 255) == 0) {
+                                    t28 = core_fmt_formatter_Formatter_write_piece_cb7842e4872a5878(v4 + 0x7328, v49);
+                                    if ((t28 & 255) == 0) {
+                                        t29 = core_fmt_formatter_Formatter_write_piece_745b124d0002a80d(v4 + 0x7328,
+                                            v79);
+                                        v12 = t29 & 255;
                                     }
                                 }
                             }
-                            put64(v4 + 19552, get64(v4 + 29480));
-                            put64(v4 + 19560, get64(v4 + 29488));
-                            put64(v4 + 19568, get64(v4 + 29496));
-                            t31 = std_alloc_fmt_undo_if_err_4e689c9ecf7a3082(v4 + 0x4c60, v8, v12);
+                            put64(v4 + 26552, get64(v4 + 29480));
+                            put64(v4 + 26560, get64(v4 + 29488));
+                            put64(v4 + 26568, get64(v4 + 29496));
+                            t30 = std_alloc_fmt_undo_if_err_4e689c9ecf7a3082(v4 + 0x67b8, v8, v12);
+                            if ((t30 & 255) != 0) goto l37;
+                            t31 = script_show_push_count(v4 + 0x67b8, address(constant_394), 14, get64(v4 + 11984));
                             if ((t31 & 255) != 0) goto l37;
-                            t32 = script_show_push_count(v4 + 0x4c60, address(constant_394), 14, get64(v4 + 11984));
-                            if ((t32 & 255) != 0) goto l37;
-                            t33 = script_show_push_count(v4 + 0x4c60, address(constant_395), 13, get64(v4 + 8240) +
+                            t32 = script_show_push_count(v4 + 0x67b8, address(constant_395), 13, get64(v4 + 8240) +
                                 get64(v4 + 8176) + (uint64_t)(uint32_t)(get8(v4 + 8120) == 1));
-                            if ((t33 & 255) != 0) goto l37;
-                            t34 = std_alloc_vec_Vec_push_2a1d2754e95bb7cb(v4 + 0x4c60);
-                            if ((t34 & 1) == 0) goto l42;
+                            if ((t32 & 255) != 0) goto l37;
+                            t33 = std_alloc_vec_Vec_push_2a1d2754e95bb7cb(v4 + 0x67b8);
+                            if ((t33 & 1) == 0) goto l42;
                             goto l37;
                         default:
                             goto l42;
                         }
-                        v69 = (uint32_t)(v8 >> 32);
-                        v70 = (uint32_t)(v8 >> 24);
-                        v71 = (uint32_t)(v8 >> 16);
-                        v72 = (uint32_t)(v8 >> 8);
+                        v85 = (uint32_t)(v8 >> 32);
+                        v86 = (uint32_t)(v8 >> 24);
+                        v87 = (uint32_t)(v8 >> 16);
+                        v88 = (uint32_t)(v8 >> 8);
                         v9 = 0;
                         v14 = address(constant_56);
                         v16 = (uint32_t)v8;
-                        v73 = 1U << ((v16 & 255) & 31);
-                        v20 = v73 & 0xf77c;
+                        v89 = 1U << ((v16 & 255) & 31);
+                        v20 = v89 & 0xf77c;
                         if (v20 == 0) {
                             v14 = v11;
                             v9 = v7;
                         }
-                        script_lines_words_octets_of_digits(v4 + 0x2ff0, v14, v9);
-                        if (get8(v4 + 12272) != 0) goto l37;
+                        script_lines_words_octets_of_digits(v4 + 0x7060, v14, v9);
+                        if (get8(v4 + 28768) != 0) goto l37;
                         v12 = 0;
                         v13 = 0;
-                        v14 = get64(v4 + 12296);
-                        v8 = get64(v4 + 12288);
-                        v9 = get64(v4 + 12280);
+                        v14 = get64(v4 + 28792);
+                        v8 = get64(v4 + 28784);
+                        v9 = get64(v4 + 28776);
                         if (v20 != 0) {
-                            v13 = v69;
-                            v12 = v71;
+                            v13 = v85;
+                            v12 = v87;
                         } else {
                             v11 = v9;
                             v7 = v8;
-                            v70 = 0;
-                            if ((v73 & 0x10880) != 0) {
+                            v86 = 0;
+                            if ((v89 & 0x10880) != 0) {
                                 v13 = 0;
                                 v11 = v9;
                                 v7 = v8;
-                                v72 = 0;
+                                v88 = 0;
                                 v12 = 0;
-                                v70 = 0;
+                                v86 = 0;
                             }
                         }
-                        fill(v4 + 0x3cb8, 0, 24);
-                        fill(v4 + 0x4ac8, 0, 24);
-                        fill(v4 + 0x6070, 0, 40);
+                        fill(v4 + 0x5338, 0, 40);
+                        fill(v4 + 0x6838, 0, 24);
+                        fill(v4 + 0x7210, 0, 24);
                         switch ((uint32_t)((uint64_t)v16 & 255)) {
                         case 1:
-                            nodes_ground_node_Ground_bypass(v4 + 96, v4 + 0x1f58, v72, v11, v7);
-                            v69 = 0;
+                            nodes_ground_node_Ground_bypass(v4 + 96, v4 + 0x1f58, v88, v11, v7);
+                            v87 = 0;
                             v20 = get8(v4 + 97);
                             v12 = v20 == 5;
                             v16 = get8(v4 + 96);
@@ -23723,12 +23743,12 @@ l4:;
                             goto l49;
                         case 2:
                             put16(v4 + 26882, v13);
-                            put8(v4 + 26881, v70);
+                            put8(v4 + 26881, v86);
                             put8(v4 + 26880, v12);
-                            v69 = 0;
-                            fill(v4 + 0x5a70, 0, 3);
+                            v85 = 0;
+                            fill(v4 + 0x6070, 0, 3);
                             put16(v4 + 29482, v13);
-                            put8(v4 + 29481, v70);
+                            put8(v4 + 29481, v86);
                             put8(v4 + 29480, v12);
                             v16 = 0;
                             t5 = simulated_link_world_World_may_begin(v4 + 0x1f58, v4 + 0x7328);
@@ -23737,25 +23757,25 @@ l4:;
                                 if (get64(v4 + 8776) == 0) v16 = get64(v4 + 8816) == 0;
                             }
                             put16(v4 + 29482, v13);
-                            put8(v4 + 29481, v70);
+                            put8(v4 + 29481, v86);
                             put8(v4 + 29480, v12);
                             t6 = simulated_link_world_World_may_begin(v4 + 0x1f58, v4 + 0x7328);
-                            if (t6 != 0) v69 = simulated_link_world_World_is_idle(v4 + 0x1f58);
-                            nodes_ground_node_Ground_directive(v4 + 0x5a70, v4 + 0x1f58, v4 + 0x6900);
-                            v20 = get8(v4 + 23153);
-                            if (get8(v4 + 23152) != 0) {
-                                v69 = 1;
+                            if (t6 != 0) v85 = simulated_link_world_World_is_idle(v4 + 0x1f58);
+                            nodes_ground_node_Ground_directive(v4 + 0x6070, v4 + 0x1f58, v4 + 0x6900);
+                            v20 = get8(v4 + 24689);
+                            if (get8(v4 + 24688) != 0) {
+                                v87 = 1;
                                 v12 = 3;
                             } else {
-                                v71 = get8(v4 + 23154);
+                                v87 = get8(v4 + 24690);
                                 if ((v12 & 255) <= 3) simulated_link_world_World_begin(v4 + 0x1f58, v4 + 0x6900, v16,
-                                    v69);
+                                    v85);
                                 v13 = v20 & 255;
                                 v20 = 0;
                                 v12 = (v13 != 0) ? 4U : 0U;
-                                v69 = (v13 != 0) ? v71 : 0U;
+                                v87 = (v13 != 0) ? v87 : 0U;
                             }
-                            v72 = 0;
+                            v88 = 0;
                             v11 = 0;
                             goto l54;
                         case 3:
@@ -23764,7 +23784,7 @@ l4:;
                             v11 = get64(v4 + 8776);
                             v15 = get64(v4 + 8816);
                             v12 = simulated_link_world_World_is_idle(v4 + 0x1f58);
-                            nodes_ground_node_Ground_resume(v4 + 0x7328, v4 + 0x1f58, v72);
+                            nodes_ground_node_Ground_resume(v4 + 0x7328, v4 + 0x1f58, v88);
                             if (get8(v4 + 29480) == 0) {
                                 v7 = get64(v4 + 29488);
                                 simulated_link_world_World_begin(v4 + 0x1f58, v4 + 0x6900, (v11 | v15) == 0, v12);
@@ -23776,29 +23796,29 @@ l4:;
                                 v20 = get8(v4 + 29481);
                             }
                             v15 = v7 & 0xffffffffff000000ULL;
-                            v72 = (uint32_t)(v7 >> 16);
-                            v71 = (uint32_t)(v7 >> 8);
-                            v70 = (uint32_t)v7;
+                            v88 = (uint32_t)(v7 >> 16);
+                            v85 = (uint32_t)(v7 >> 8);
+                            v86 = (uint32_t)v7;
                             v16 = 0;
                             v11 = 0;
                             v7 = 0;
-                            v69 = 0;
+                            v87 = 0;
                             v13 = 0;
                             goto l46;
                         case 4:
+                            fill(v4 + 0x2ff0, 0, 24);
                             fill(v4 + 0x35f0, 0, 24);
                             fill(v4 + 0x3e50, 0, 24);
-                            fill(v4 + 0x5338, 0, 32);
+                            fill(v4 + 0x5a70, 0, 32);
                             fill(v4 + 0x6738, 0, 16);
                             fill(v4 + 0x6f00, 0, 24);
-                            fill(v4 + 0x7060, 0, 24);
                             nodes_ground_node_Ground_peek(v4 + 0x7328, v4 + 0x1f58);
                             if (get8(v4 + 29480) != 1) {
                                 nodes_ground_node_Ground_advance(v4 + 0x1f58);
                                 v15 = 0;
                                 v12 = 1;
                                 v13 = 0;
-                                goto l114;
+                                goto l121;
                             }
                             copy(v4 + 0x6900, v54, 40);
                             v12 = get8(v4 + 26888);
@@ -23807,13 +23827,13 @@ l4:;
                             } else {
                                 v7 = get64(v4 + 26912) + 2;
                             }
-                            fill(v4 + 0x5a70, 0, 32);
+                            fill(v4 + 0x6070, 0, 32);
                             v11 = v7 + 6;
-                            std_alloc_vec_Vec_with_capacity_49bbd27f022ae39a(v4 + 0x5a70, v11);
-                            if (get8(v4 + 23152) != 0) goto l118;
-                            v74 = get64(v4 + 23176);
-                            v15 = get64(v4 + 23168);
-                            p2 = get64(v4 + 23160);
+                            std_alloc_vec_Vec_with_capacity_49bbd27f022ae39a(v4 + 0x6070, v11);
+                            if (get8(v4 + 24688) != 0) goto l125;
+                            v17 = get64(v4 + 24712);
+                            v15 = get64(v4 + 24704);
+                            p2 = get64(v4 + 24696);
                             if (v11 != 0) {
                                 v7 = v7 + 5;
                                 for (;;) {
@@ -23826,37 +23846,37 @@ l4:;
                             }
                             tc_frame_encoding_encode(v4 + 0x6738, v54, 0, p2, v15);
                             if (get8(v4 + 26424) != 0) UNREACHABLE;
-                            std_alloc_vec_Vec_from_slice_d11456097a0b67cd(v4 + 0x5338, p2, v15);
-                            if (get8(v4 + 21304) == 0) {
+                            std_alloc_vec_Vec_from_slice_d11456097a0b67cd(v4 + 0x5a70, p2, v15);
+                            if (get8(v4 + 23152) == 0) {
                                 v13 = get8(v4 + 8098);
-                                v76 = 0;
-                                fill(v4 + 0x5a70, 0, 32);
-                                v77 = 0;
-                                v78 = 0;
+                                v91 = 0;
+                                fill(v4 + 0x6070, 0, 32);
+                                v92 = 0;
+                                v93 = 0;
                                 v16 = v12 == 0 && (get8(v4 + 26889) & 255) == (v13 & 255);
                                 if (v16 == 1) {
-                                    nodes_data_field_data_field_of(v4 + 0x5a70, v26);
-                                    if (get8(v4 + 23152) != 0) {
+                                    nodes_data_field_data_field_of(v4 + 0x6070, v26);
+                                    if (get8(v4 + 24688) != 0) {
                                         std_alloc_vec_Vec_drop_4e50c14c2e726a6c(v48);
-                                        put64(v4 + 17504, v74);
+                                        put64(v4 + 17504, v17);
                                         put64(v4 + 17496, v15);
                                         put64(v4 + 17488, p2);
                                         std_alloc_vec_Vec_drop_4e50c14c2e726a6c(v4 + 0x4450);
-                                        goto l118;
+                                        goto l125;
                                     }
-                                    v78 = get64(v4 + 23176);
-                                    v77 = get64(v4 + 23168);
-                                    v76 = get64(v4 + 23160);
+                                    v93 = get64(v4 + 24712);
+                                    v92 = get64(v4 + 24704);
+                                    v91 = get64(v4 + 24696);
                                 }
-                                v75 = get64(v4 + 21312);
-                                v7 = get64(v4 + 21320);
-                                v11 = get64(v4 + 21328);
+                                v90 = get64(v4 + 23160);
+                                v7 = get64(v4 + 23168);
+                                v11 = get64(v4 + 23176);
                                 t9 = std_alloc_vec_deque_VecDeque_try_reserve_1598ebf9113514c4(v31);
                                 if ((t9 & 255) == 0) {
-                                    t10 = std_alloc_vec_Vec_try_reserve_1598ebf9113514c4(v67, 1);
+                                    t10 = std_alloc_vec_Vec_try_reserve_1598ebf9113514c4(v83, 1);
                                     if ((t10 & 255) == 0) {
                                         nodes_ground_node_Ground_advance(v4 + 0x1f58);
-                                        put64(v4 + 15968, v74);
+                                        put64(v4 + 15968, v17);
                                         put64(v4 + 15960, v15);
                                         put64(v4 + 15952, p2);
                                         std_alloc_vec_deque_VecDeque_push_back_reserved_1598ebf9113514c4(v31, v4 +
@@ -23864,387 +23884,568 @@ l4:;
                                         if (v16 != 0) {
                                             p2 = get64(v4 + 11968);
                                             v15 = get64(v4 + 11960) + (p2 * 24);
-                                            put64(v15 + 16, v78);
-                                            put64(v15 + 8, v77);
-                                            put64(v15, v76);
+                                            put64(v15 + 16, v93);
+                                            put64(v15 + 8, v92);
+                                            put64(v15, v91);
                                             put64(v4 + 11968, p2 + 1);
                                         }
-                                        v15 = v75 & 0xffffffffff000000ULL;
-                                        v72 = (uint32_t)(v75 >> 16);
-                                        v71 = (uint32_t)(v75 >> 8);
-                                        v70 = (uint32_t)v75;
+                                        v15 = v90 & 0xffffffffff000000ULL;
+                                        v88 = (uint32_t)(v90 >> 16);
+                                        v85 = (uint32_t)(v90 >> 8);
+                                        v86 = (uint32_t)v90;
                                         v12 = 5;
                                         v13 = 0;
-                                        goto l112;
+                                        goto l119;
                                     }
                                 }
-                                put64(v4 + 13824, v74);
+                                put64(v4 + 13824, v17);
                                 put64(v4 + 13816, v15);
                                 put64(v4 + 13808, p2);
                                 std_alloc_vec_Vec_drop_4e50c14c2e726a6c(v4 + 0x35f0);
-                                put64(v4 + 28784, v11);
-                                put64(v4 + 28776, v7);
-                                put64(v4 + 28768, v75);
-                                std_alloc_vec_Vec_drop_4e50c14c2e726a6c(v4 + 0x7060);
+                                put64(v4 + 12288, v11);
+                                put64(v4 + 12280, v7);
+                                put64(v4 + 12272, v90);
+                                std_alloc_vec_Vec_drop_4e50c14c2e726a6c(v4 + 0x2ff0);
                                 v15 = 0;
                                 v12 = 0;
                                 v13 = 1;
-                                if (v16 == 0) goto l114;
-                                put64(v4 + 28432, v78);
-                                put64(v4 + 28424, v77);
-                                put64(v4 + 28416, v76);
+                                if (v16 == 0) goto l121;
+                                put64(v4 + 28432, v93);
+                                put64(v4 + 28424, v92);
+                                put64(v4 + 28416, v91);
                                 std_alloc_vec_Vec_drop_4e50c14c2e726a6c(v4 + 0x6f00);
-                                goto l114;
+                                goto l121;
                             }
-                            put64(v4 + 19784, v74);
+                            put64(v4 + 19784, v17);
                             put64(v4 + 19776, v15);
                             put64(v4 + 19768, p2);
                             std_alloc_vec_Vec_drop_4e50c14c2e726a6c(v4 + 0x4d38);
-                        l118:;
+                        l125:;
                             v15 = 0;
                             v12 = 0;
                             v13 = 1;
-                        l114:;
-                            v70 = 0;
-                            v71 = 0;
-                            v72 = 0;
+                        l121:;
+                            v86 = 0;
+                            v85 = 0;
+                            v88 = 0;
                             v7 = 0;
                             v11 = 0;
-                        l112:;
-                            v69 = 0;
+                        l119:;
+                            v87 = 0;
                             goto l55;
                         case 5:
+                            v87 = 0;
+                            fill(v4 + 0x7328, 0, 224);
                             v15 = 0;
-                            fill(v4 + 0x6f00, 0, 24);
-                            v69 = 0;
-                            fill(v4 + 0x6738, 0, 24);
-                            fill(v4 + 0x7328, 0, 232);
+                            fill(v4 + 0x2f50, 0, 5);
+                            fill(v4 + 0x2ff0, 0, 32);
+                            fill(v4 + 0x35f0, 0, 32);
+                            fill(v4 + 0x3c50, 0, 24);
+                            fill(v4 + 0x3cb8, 0, 24);
+                            fill(v4 + 0x3d90, 0, 6);
+                            fill(v4 + 0x3db8, 0, 6);
+                            fill(v4 + 0x3e08, 0, 24);
+                            fill(v4 + 0x4a60, 0, 24);
+                            fill(v4 + 0x4bc8, 0, 15);
+                            fill(v4 + 0x4c18, 0, 24);
+                            fill(v4 + 0x4c60, 0, 24);
+                            fill(v4 + 0x4cb0, 0, 24);
+                            fill(v4 + 0x5978, 0, 24);
+                            fill(v4 + 0x59f8, 0, 24);
+                            fill(v4 + 0x5a70, 0, 56);
+                            fill(v4 + 0x66d0, 0, 24);
+                            fill(v4 + 0x6738, 0, 31);
+                            fill(v4 + 0x6888, 0, 24);
+                            fill(v4 + 0x6f00, 0, 31);
+                            fill(v4 + 0x7268, 0, 24);
+                            fill(v4 + 0x7290, 0, 24);
+                            fill(v4 + 0x72e0, 0, 24);
                             std_alloc_vec_deque_VecDeque_front_1598ebf9113514c4(v4 + 104, v31);
                             v13 = 1;
-                            if (get8(v4 + 104) != 1) goto l57;
+                            v12 = 1;
+                            v86 = 0;
+                            v85 = 0;
+                            v88 = 0;
+                            v7 = 0;
+                            v11 = 0;
+                            if (get8(v4 + 104) != 1) goto l55;
                             v7 = get64(v4 + 112);
-                            nodes_spacecraft_Spacecraft_prepare(v4 + 0x7328, v40, get64(v7), get64(v7 + 8));
-                            v12 = 0;
-                            if (get8(v4 + 29480) != 0) goto l56;
-                            copy(v4 + 0x6900, v54, 224);
-                            fill(v4 + 0x3e50, 0, 32);
-                            v13 = get8(v4 + 26928) != 1;
-                            if (v13 != 0) {
-                                v11 = 0;
-                                fill(v4 + 0x5338, 0, 24);
-                                v16 = 0;
-                                v7 = 0;
-                                p2 = 0;
-                                goto l127;
+                            p2 = get64(v7);
+                            v16 = 0;
+                            v86 = 0;
+                            v85 = 0;
+                            v92 = get64(v7 + 8);
+                            if (v92 < 5) goto l59;
+                            v12 = get8(p2);
+                            if (v12 > 63) {
+                                v85 = 1;
+                            } else if ((v12 & 48) == 16) {
+                                v85 = 2;
+                            } else if ((v12 & 12) != 0) {
+                                v85 = 3;
+                            } else {
+                                v85 = 4;
+                                v20 = get8(p2 + 2);
+                                v13 = ((v20 << 8) & 768) | get8(p2 + 3);
+                                if (v92 == (uint64_t)(v13 + 1)) {
+                                    v86 = 0;
+                                    if (v13 < 6) goto l59;
+                                    v13 = get8(p2 + 1);
+                                    v86 = 0;
+                                    t11 = tc_frame_decoding_has_wrong_check(p2, v92, 0);
+                                    if (t11 != 0) {
+                                        v85 = 5;
+                                        goto l59;
+                                    }
+                                    v85 = get8(p2 + 4);
+                                    v89 = v12 < 32;
+                                    if (v89 == 0 && (v85 & 255) != 0) {
+                                        v85 = 6;
+                                        goto l59;
+                                    }
+                                    if ((v12 & 16) != 0) {
+                                        v7 = v92 - 7;
+                                        if (v7 <= 3) {
+                                            v85 = 7;
+                                            switch ((uint32_t)v7) {
+                                            case 1:
+                                                v86 = 0;
+                                                if (get8(p2 + 5) == 0) {
+                                                    v89 = 2;
+                                                    v7 = 0;
+                                                    v94 = 0;
+                                                    v95 = 0;
+                                                    v11 = 0;
+                                                    v96 = 0;
+                                                    v88 = 0;
+                                                    goto l141;
+                                                }
+                                                break;
+                                            case 2:
+                                                break;
+                                            case 3:
+                                                v85 = 8;
+                                                if (get8(p2 + 5) != 130 || get8(p2 + 6) != 0) goto l59;
+                                                v88 = get8(p2 + 7);
+                                                v96 = 1;
+                                                v89 = 2;
+                                                v7 = 0;
+                                                v94 = 0;
+                                                v95 = 0;
+                                                v11 = 0;
+                                                goto l141;
+                                            default:
+                                                goto l59;
+                                            }
+                                        }
+                                        v85 = 8;
+                                        goto l59;
+                                    }
+                                    if ((v92 - 9) > ~2ULL) {
+                                        v85 = 7;
+                                        goto l59;
+                                    }
+                                    v88 = 0;
+                                    v96 = (v89 != 0) ? v85 : 0U;
+                                    v89 = v12 > 31;
+                                    v11 = v92 - 8;
+                                    v7 = p2 + 6;
+                                    v85 = get8(p2 + 5);
+                                    v95 = v85 & 63;
+                                    v94 = v85 >> 6;
+                                l141:;
+                                    v85 = 0;
+                                    v86 = 1;
+                                    if (get32(v4 + 8424) != (((v12 << 8) & 768) | v13) || get32(v4 + 8428) != ((v20 &
+                                        252) >> 2)) goto l59;
+                                    switch (v89) {
+                                    case 1:
+                                        fill(v4 + 0x6900, 0, 48);
+                                        fill(v76, 0, 6);
+                                        put8(v4 + 17489, v95);
+                                        put8(v4 + 17488, v94);
+                                        put64(v4 + 17504, v11);
+                                        put64(v4 + 17496, v7);
+                                        v12 = get8(v4 + 8501);
+                                        v95 = get8(v4 + 8496);
+                                        v89 = get8(v4 + 8497);
+                                        v94 = get8(v4 + 8498);
+                                        v20 = get8(v4 + 8499);
+                                        v98 = get8(v4 + 8500);
+                                        nodes_spacecraft_Spacecraft_packet_to_keep(v4 + 0x6900, v40, v4 + 0x4450);
+                                        if (get8(v4 + 26880) == 0) {
+                                            v99 = 0;
+                                            fill(v4 + 0x3d38, 0, 5);
+                                            fill(v4 + 0x3e50, 0, 24);
+                                            fill(v4 + 0x4ac8, 0, 15);
+                                            fill(v4 + 0x4b48, 0, 6);
+                                            fill(v4 + 0x4ba0, 0, 6);
+                                            v17 = (uint64_t)get8(v4 + 26888);
+                                            fill(v4 + 0x6070, 0, 56);
+                                            put64(v4 + 19792, get64(v26 + 24));
+                                            put64(v4 + 19784, get64(v26 + 16));
+                                            put64(v4 + 19776, get64(v26 + 8));
+                                            put64(v4 + 19768, get64(v26));
+                                            v85 = v17 == 1;
+                                            v86 = 3;
+                                            v97 = (v12 + 1) & 3;
+                                        } else {
+                                            v86 = 0;
+                                            fill(v4 + 0x4ba0, 0, 6);
+                                            v17 = 0;
+                                            fill(v4 + 0x3d38, 0, 5);
+                                            fill(v4 + 0x3e50, 0, 24);
+                                            fill(v4 + 0x4ac8, 0, 15);
+                                            fill(v4 + 0x4b48, 0, 6);
+                                            fill(v4 + 0x4d38, 0, 32);
+                                            fill(v4 + 0x6070, 0, 56);
+                                            v99 = 1;
+                                            p2 = 0;
+                                            v92 = 0;
+                                            v85 = 0;
+                                            v95 = 0;
+                                            v89 = 0;
+                                            v94 = 0;
+                                            v20 = 0;
+                                            v98 = 0;
+                                            v97 = 0;
+                                        }
+                                        v7 = 0;
+                                        v88 = 0;
+                                        v13 = 0;
+                                        v12 = 0;
+                                        v11 = 0;
+                                        v16 = 0;
+                                        v91 = 0;
+                                        v93 = 0;
+                                        v90 = 0;
+                                        goto l60;
+                                    case 2:
+                                        put16(v4 + 26884, get16(v77 + 4));
+                                        put32(v4 + 26880, get32(v77));
+                                        nodes_spacecraft_receive_obey(v4 + 0x6900, v96, v88);
+                                        v13 = 0;
+                                        fill(v4 + 0x3d38, 0, 5);
+                                        fill(v4 + 0x4ba0, 0, 6);
+                                        v7 = 0;
+                                        fill(v4 + 0x3e50, 0, 24);
+                                        fill(v4 + 0x4ac8, 0, 15);
+                                        fill(v4 + 0x4b48, 0, 6);
+                                        v97 = get8(v4 + 26885);
+                                        v98 = get8(v4 + 26884);
+                                        v20 = get8(v4 + 26883);
+                                        v94 = get8(v4 + 26882);
+                                        v89 = get8(v4 + 26881);
+                                        v95 = get8(v4 + 26880);
+                                        fill(v4 + 0x4d38, 0, 32);
+                                        fill(v4 + 0x6070, 0, 56);
+                                        v86 = 4;
+                                        v99 = 0;
+                                        v85 = v96;
+                                        v12 = 0;
+                                        v11 = 0;
+                                        v16 = 0;
+                                        v91 = 0;
+                                        v93 = 0;
+                                        v90 = 0;
+                                        v17 = 0;
+                                        goto l60;
+                                    default:
+                                        break;
+                                    }
+                                    fill(v4 + 0x6900, 0, 112);
+                                    fill(v76, 0, 6);
+                                    put8(v4 + 17489, v95);
+                                    put8(v4 + 17488, v94);
+                                    put64(v4 + 17504, v11);
+                                    put64(v4 + 17496, v7);
+                                    v94 = 1;
+                                    v88 = 5;
+                                    v97 = get8(v4 + 8501);
+                                    v98 = get8(v4 + 8500);
+                                    v20 = get8(v4 + 8499);
+                                    v89 = get8(v4 + 8497);
+                                    v95 = get8(v4 + 8496);
+                                    if ((get8(v4 + 8498) & 1) != 0) goto l63;
+                                    if ((v96 & 255) != (v89 & 255)) {
+                                        v12 = (v96 - v89) & 255;
+                                        v13 = (v95 >> 1) & 127;
+                                        if (v12 >= v13) {
+                                            if (v12 > (~v13 & 255)) {
+                                                v88 = ((v20 & 1) != 0) ? 5U : 3U;
+                                                v94 = 0;
+                                                goto l63;
+                                            }
+                                            v88 = 4;
+                                            goto l63;
+                                        }
+                                        if ((v20 & 1) != 0) {
+                                            v94 = 0;
+                                            goto l64;
+                                        }
+                                        v98 = 1;
+                                        v94 = 0;
+                                        v20 = 0;
+                                        v88 = 1;
+                                        goto l63;
+                                    }
+                                    v94 = 0;
+                                    if ((v20 & 1) != 0) goto l64;
+                                    if (get64(v4 + 8592) >= (uint64_t)get32(v4 + 8472)) {
+                                        v88 = 2;
+                                        v20 = 1;
+                                        v98 = 1;
+                                        goto l63;
+                                    }
+                                    map_service_assembler_Assembler_prepare(v4 + 0x6900, v75, v4 + 0x4450);
+                                    if (get8(v4 + 26880) == 0) {
+                                        v99 = 0;
+                                        fill(v4 + 0x3d38, 0, 5);
+                                        fill(v4 + 0x4ba0, 0, 6);
+                                        put64(v4 + 15952, get64(v4 + 17488));
+                                        put64(v4 + 15960, get64(v4 + 17496));
+                                        put64(v4 + 15968, get64(v4 + 17504));
+                                        put16(v4 + 19276, get16(v74 + 4));
+                                        put32(v4 + 19272, get32(v74));
+                                        v93 = get64(v4 + 26920);
+                                        v12 = get8(v4 + 26889);
+                                        v13 = get8(v4 + 26888);
+                                        v90 = get64(v4 + 26928);
+                                        v91 = get64(v4 + 26912);
+                                        v16 = get8(v4 + 26896);
+                                        put64(v4 + 19151, get64(v73 + 7));
+                                        put64(v4 + 19144, get64(v73));
+                                        copy(v4 + 0x6070, v72, 56);
+                                        v7 = (v16 != 0) ? v91 : v90;
+                                        v89 = v96 + 1;
+                                        v11 = 1;
+                                        v86 = 2;
+                                        v88 = 0;
+                                        v94 = 0;
+                                        v20 = 0;
+                                        v98 = 0;
+                                        goto l61;
+                                    }
+                                    v86 = 0;
+                                    fill(v4 + 0x3d38, 0, 5);
+                                    fill(v4 + 0x4ba0, 0, 6);
+                                    p2 = 0;
+                                    fill(v4 + 0x3e50, 0, 24);
+                                    fill(v4 + 0x4ac8, 0, 15);
+                                    fill(v4 + 0x4b48, 0, 6);
+                                    fill(v4 + 0x6070, 0, 56);
+                                    v99 = 1;
+                                    v92 = 0;
+                                    v96 = 0;
+                                    v88 = 0;
+                                    v7 = 0;
+                                    v13 = 0;
+                                    v12 = 0;
+                                    v95 = 0;
+                                    v89 = 0;
+                                    v94 = 0;
+                                    v20 = 0;
+                                    v98 = 0;
+                                    v97 = 0;
+                                    goto l62;
+                                }
                             }
-                            v20 = get8(v4 + 26968);
-                            v11 = get64(v4 + 0x6900 + ((v20 != 0) ? 104ULL : 120ULL));
-                            v16 = get8(v4 + 29545);
-                            v7 = get64(v4 + 26976);
-                            nodes_data_field_data_field_of(v4 + 0x3e50, v61);
-                            if (get8(v4 + 15952) != 0) goto l135;
-                            fill(v4 + 0x4450, 0, 32);
-                            fill(v4 + 0x4d38, 0, 32);
-                            fill(v4 + 0x5338, 0, 32);
-                            fill(v4 + 0x5a70, 0, 32);
-                            std_alloc_vec_Vec_with_capacity_1598ebf9113514c4(v4 + 0x5338, v11);
-                            if (get8(v4 + 21304) == 0) {
-                                v7 = (v20 != 0) ? v7 : v62;
-                                put64(v4 + 28784, get64(v48 + 16));
-                                put64(v4 + 28776, get64(v48 + 8));
-                                put64(v4 + 28768, get64(v48));
-                                v11 = v11 + 1;
-                                do {
-                                    v11 = v11 - 1;
-                                    if (v11 == 0) goto l134;
-                                    std_alloc_vec_Vec_from_slice_d11456097a0b67cd(v4 + 0x4450, get64(v7), get64(v7 +
-                                        8));
-                                    if (get8(v4 + 17488) != 0) goto l137;
-                                    v7 = v7 + 24;
-                                    std_alloc_vec_Vec_push_1598ebf9113514c4(v4 + 0x4d38, v4 + 0x7060, v47);
-                                } while (get8(v4 + 19768) == 0);
-                                core_result_ResultFromResidualErrResidual_from_residual_8f02ee2a013f019c(v4 + 0x5a70,
-                                    v46);
-                                std_alloc_vec_Vec_drop_b0c2e3ac61d256b1(v4 + 0x7060);
-                                if (get8(v4 + 23152) != 0) goto l136;
-                                v11 = get64(v4 + 23176);
-                                v7 = get64(v4 + 23168);
-                                p2 = get64(v4 + 23160);
-                                goto l133;
-                            l137:;
-                                std_alloc_vec_Vec_drop_b0c2e3ac61d256b1(v4 + 0x7060);
-                            }
-                        l136:;
-                            std_alloc_vec_Vec_drop_4e50c14c2e726a6c(v50);
-                        l135:;
-                            v13 = get8(v4 + 27008);
-                            if (v20 != 0) {
-                                std_alloc_vec_Vec_drop_b0c2e3ac61d256b1(v59);
-                                goto l131;
-                            }
-                            core_array_array_drop_ae445932defd1957(v59);
-                            goto l131;
-                        l134:;
-                            v11 = get64(v4 + 28784);
-                            v7 = get64(v4 + 28776);
-                            p2 = get64(v4 + 28768);
-                        l133:;
-                            v74 = get64(v50 + 16);
-                            put64(v4 + 19784, v74);
-                            v75 = get64(v50 + 8);
-                            put64(v4 + 19776, v75);
-                            v76 = get64(v50);
-                            put64(v4 + 19768, v76);
-                            put64(v4 + 21304, v76);
-                            put64(v4 + 21312, v75);
-                            put64(v4 + 21320, v74);
-                            t11 = std_alloc_vec_Vec_try_reserve_1598ebf9113514c4(v24, 1);
-                            if ((t11 & 255) == 0) {
-                                t12 = simulated_link_map_lists_make_room(v43, v16, v7);
-                                if ((t12 & 255) == 0) goto l127;
-                            }
-                            std_alloc_vec_Vec_drop_4e50c14c2e726a6c(v4 + 0x4d38);
-                            put64(v4 + 26440, v11);
-                            put64(v4 + 26432, v7);
-                            put64(v4 + 26424, p2);
-                            std_alloc_vec_Vec_drop_b0c2e3ac61d256b1(v4 + 0x6738);
-                            v13 = get8(v4 + 27008);
-                            if (v20 != 0) {
-                                std_alloc_vec_Vec_drop_b0c2e3ac61d256b1(v59);
-                                goto l129;
-                            }
-                            core_array_array_drop_ae445932defd1957(v59);
-                            goto l129;
-                        l131:;
-                            if ((v13 & 255) == 2) std_alloc_vec_Vec_drop_4e50c14c2e726a6c(v58);
-                            std_alloc_vec_Vec_drop_555ceec2fcbf3849(v60);
-                            v13 = 1;
-                            if (get8(v4 + 27064) != 1) goto l56;
-                            std_alloc_vec_Vec_drop_4e50c14c2e726a6c(v57);
-                            goto l56;
-                        l129:;
-                            if ((v13 & 255) == 2) std_alloc_vec_Vec_drop_4e50c14c2e726a6c(v58);
-                            std_alloc_vec_Vec_drop_555ceec2fcbf3849(v60);
-                            v13 = 1;
-                            if (get8(v4 + 27064) != 1) goto l56;
-                            std_alloc_vec_Vec_drop_4e50c14c2e726a6c(v55);
-                            goto l56;
-                        l127:;
-                            nodes_spacecraft_Spacecraft_commit(v4 + 0x6f00, v40, v54);
-                            std_alloc_vec_deque_VecDeque_pop_front_1598ebf9113514c4(v4 + 0x35f0, v31);
-                            if (get8(v4 + 13808) == 1) std_alloc_vec_Vec_drop_4e50c14c2e726a6c(v56);
-                            if (v13 == 0) {
-                                v75 = get64(v4 + 12008);
-                                v74 = get64(v4 + 12000) + (v75 * 24);
-                                put64(v74 + 16, get64(v4 + 21320));
-                                put64(v74 + 8, get64(v4 + 21312));
-                                put64(v74, get64(v4 + 21304));
-                                put64(v4 + 23168, v11);
-                                put64(v4 + 23160, v7);
-                                put64(v4 + 23152, p2);
-                                put64(v4 + 12008, v75 + 1);
-                                simulated_link_map_lists_append_on(v43, v16, v4 + 0x5a70);
-                            }
-                            v12 = 7;
-                            v13 = 0;
-                            v11 = (uint64_t)get16(v4 + 28432);
-                            v7 = get64(v4 + 28424);
-                            v72 = get8(v4 + 28418);
-                            v71 = get8(v4 + 28417);
-                            v70 = get8(v4 + 28416);
-                            goto l55;
+                            v86 = 0;
+                            goto l59;
                         case 6:
                             std_alloc_vec_deque_VecDeque_pop_front_1598ebf9113514c4(v4 + 0x7328, v31);
                             v12 = 1;
                             v13 = 1;
-                            if (get8(v4 + 29480) != 1) goto l59;
-                            goto l60;
+                            if (get8(v4 + 29480) != 1) goto l66;
+                            goto l67;
                         case 7:
-                            v72 = 0;
-                            if (get64(v4 + 8776) == 0) goto l62;
+                            v88 = 0;
+                            if (get64(v4 + 8776) == 0) goto l69;
                             v13 = 0;
-                            v71 = 0;
-                            if (v7 < 5) goto l144;
+                            v85 = 0;
+                            if (v7 < 5) goto l159;
                             v12 = get8(v11);
                             if (v12 > 63) {
-                                v71 = 1;
-                                goto l144;
+                                v85 = 1;
+                                goto l159;
                             }
                             if ((v12 & 48) == 16) {
-                                v71 = 2;
-                                goto l144;
+                                v85 = 2;
+                                goto l159;
                             }
                             if ((v12 & 12) != 0) {
-                                v71 = 3;
-                                goto l144;
+                                v85 = 3;
+                                goto l159;
                             }
-                            v71 = 4;
+                            v85 = 4;
                             v15 = (((uint64_t)get8(v11 + 2) << 8) & 768) | (uint64_t)get8(v11 + 3);
-                            if (v7 != (v15 + 1) || v15 < 6) goto l144;
-                            t13 = tc_frame_decoding_has_wrong_check(v11, v7, 0);
-                            if (t13 != 0) {
-                                v71 = 5;
-                                goto l144;
+                            if (v7 != (v15 + 1) || v15 < 6) goto l159;
+                            t12 = tc_frame_decoding_has_wrong_check(v11, v7, 0);
+                            if (t12 != 0) {
+                                v85 = 5;
+                                goto l159;
                             }
                             if (v12 >= 32 && (get8(v11 + 4) & 255) != 0) {
-                                v71 = 6;
-                                goto l144;
+                                v85 = 6;
+                                goto l159;
                             }
                             if ((v12 & 16) != 0) {
                                 v7 = v7 - 7;
                                 if (v7 <= 3) {
-                                    v71 = 7;
+                                    v85 = 7;
                                     switch ((uint32_t)v7) {
                                     case 1:
-                                        if (get8(v11 + 5) == 0) goto l151;
+                                        if (get8(v11 + 5) == 0) goto l166;
                                         break;
                                     case 2:
                                         break;
                                     case 3:
-                                        v71 = 8;
-                                        if (get8(v11 + 5) != 130) goto l144;
-                                        if (get8(v11 + 6) == 0) goto l151;
-                                        goto l144;
+                                        v85 = 8;
+                                        if (get8(v11 + 5) != 130) goto l159;
+                                        if (get8(v11 + 6) == 0) goto l166;
+                                        goto l159;
                                     default:
-                                        goto l144;
+                                        goto l159;
                                     }
                                 }
-                                v71 = 8;
-                                goto l144;
+                                v85 = 8;
+                                goto l159;
                             }
                             if ((v7 - 7) <= 1) {
-                                v71 = 7;
-                                goto l144;
+                                v85 = 7;
+                                goto l159;
                             }
-                        l151:;
-                            v71 = 0;
+                        l166:;
+                            v85 = 0;
                             v12 = 2;
                             v13 = 1;
-                            goto l61;
-                        l144:;
+                            goto l68;
+                        l159:;
                             std_alloc_vec_deque_VecDeque_pop_front_1598ebf9113514c4(v4 + 0x7328, v31);
                             v12 = 7;
-                            if (get8(v4 + 29480) != 1) goto l61;
+                            if (get8(v4 + 29480) != 1) goto l68;
                             std_alloc_vec_Vec_drop_4e50c14c2e726a6c(v54);
-                            goto l61;
+                            goto l68;
                         case 8:
                             fill(v4 + 0x6900, 0, 32);
                             std_alloc_vec_Vec_with_capacity_49bbd27f022ae39a(v4 + 0x6900, (uint64_t)get32(v4 + 8484));
-                            v70 = 0;
+                            v86 = 0;
                             v13 = 1;
-                            if (get8(v4 + 26880) != 0) goto l64;
-                            put64(v4 + 23168, get64(v63 + 16));
-                            put64(v4 + 23160, get64(v63 + 8));
-                            put64(v4 + 23152, get64(v63));
-                            t14 = std_alloc_vec_deque_VecDeque_try_reserve_1598ebf9113514c4(v27);
-                            if ((t14 & 255) != 0) {
-                                std_alloc_vec_Vec_drop_4e50c14c2e726a6c(v63);
-                                goto l64;
+                            if (get8(v4 + 26880) != 0) goto l71;
+                            put64(v4 + 24704, get64(v78 + 16));
+                            put64(v4 + 24696, get64(v78 + 8));
+                            put64(v4 + 24688, get64(v78));
+                            t13 = std_alloc_vec_deque_VecDeque_try_reserve_1598ebf9113514c4(v27);
+                            if ((t13 & 255) != 0) {
+                                std_alloc_vec_Vec_drop_4e50c14c2e726a6c(v78);
+                                goto l71;
                             }
-                            nodes_spacecraft_Spacecraft_control_word(v4 + 0x5338, v40);
+                            nodes_spacecraft_Spacecraft_control_word(v4 + 0x5a70, v40);
                             v13 = 0;
                             fill(v4 + 0x7328, 0, 0x800);
-                            t15 = nodes_spacecraft_Spacecraft_report(v40, v4 + 0x7328);
-                            std_alloc_vec_Vec_extend_from_slice_d11456097a0b67cd(v4 + 0x5a70, v4 + 0x7328, t15);
-                            std_alloc_vec_deque_VecDeque_push_back_reserved_1598ebf9113514c4(v27, v4 + 0x5a70);
-                            v7 = (uint64_t)get32(v4 + 21304);
-                            v11 = v7 | ((uint64_t)get8(v4 + 21308) << 32);
+                            t14 = nodes_spacecraft_Spacecraft_report(v40, v4 + 0x7328);
+                            std_alloc_vec_Vec_extend_from_slice_d11456097a0b67cd(v4 + 0x6070, v4 + 0x7328, t14);
+                            std_alloc_vec_deque_VecDeque_push_back_reserved_1598ebf9113514c4(v27, v4 + 0x6070);
+                            v7 = (uint64_t)get32(v4 + 23152);
+                            v11 = v7 | ((uint64_t)get8(v4 + 23156) << 32);
                             v16 = (uint32_t)(v11 >> 16);
                             v20 = (uint32_t)(v11 >> 8);
-                            v69 = (uint32_t)v7;
+                            v87 = (uint32_t)v7;
                             v12 = 6;
-                            goto l63;
+                            goto l70;
                         case 9:
                             std_alloc_vec_deque_VecDeque_front_1598ebf9113514c4(v4 + 120, v27);
                             v13 = 1;
                             v15 = 0;
-                            v69 = 0;
-                            if (get8(v4 + 120) != 1) goto l57;
+                            v87 = 0;
+                            if (get8(v4 + 120) != 1) {
+                                v12 = 1;
+                                goto l56;
+                            }
                             v16 = get8(v4 + 8099);
                             v20 = get8(v4 + 8097);
                             v7 = get64(v4 + 128);
                             nodes_ground_node_Ground_telemetry(v4 + 0x7328, v4 + 0x1f58, get64(v7), get64(v7 + 8));
                             v12 = 0;
-                            v70 = 0;
-                            v71 = 0;
-                            v72 = 0;
+                            v86 = 0;
+                            v85 = 0;
+                            v88 = 0;
                             v7 = 0;
                             v11 = 0;
                             if (get8(v4 + 29480) != 0) goto l55;
                             v11 = (uint64_t)get32(v4 + 29504);
                             v7 = get64(v4 + 29496);
-                            v72 = get8(v4 + 29490);
-                            v71 = get8(v4 + 29489);
-                            v70 = get8(v4 + 29488);
+                            v88 = get8(v4 + 29490);
+                            v85 = get8(v4 + 29489);
+                            v86 = get8(v4 + 29488);
                             std_alloc_vec_deque_VecDeque_pop_front_1598ebf9113514c4(v4 + 0x6900, v27);
-                            if (get8(v4 + 26880) == 1) std_alloc_vec_Vec_drop_4e50c14c2e726a6c(v63);
+                            if (get8(v4 + 26880) == 1) std_alloc_vec_Vec_drop_4e50c14c2e726a6c(v78);
                             put64(v4 + 11984, get64(v4 + 11984) + ((uint64_t)(get8(v4 + 8099) - v16) & 255));
                             v12 = 1;
                             if (get8(v4 + 8856) == 0) v12 = ((v20 - 3) & 255) < 2 && get8(v4 + 8097) == 0;
                             put8(v4 + 8856, v12);
                             v12 = 8;
-                            v13 = 0;
-                            goto l55;
+                            goto l57;
                         case 10:
                             std_alloc_vec_deque_VecDeque_pop_front_1598ebf9113514c4(v4 + 0x7328, v27);
                             v12 = 1;
                             v13 = 1;
-                            if (get8(v4 + 29480) == 1) goto l60;
-                            goto l59;
+                            if (get8(v4 + 29480) == 1) goto l67;
+                            goto l66;
                         case 11:
-                            v72 = 0;
+                            v88 = 0;
                             fill(v4 + 0x7328, 0, 48);
-                            if (get64(v4 + 8816) == 0) goto l62;
+                            if (get64(v4 + 8816) == 0) goto l69;
                             tm_link_decoding_decode(v4 + 0x7328, v11, v7, (uint64_t)get32(v4 + 8084));
                             v13 = 1;
                             if (get8(v4 + 29480) != 1) {
                                 v12 = 2;
-                                v71 = 0;
-                                goto l61;
+                                v85 = 0;
+                                goto l68;
                             }
-                            v71 = get8(v4 + 29481);
+                            v85 = get8(v4 + 29481);
                             std_alloc_vec_deque_VecDeque_pop_front_1598ebf9113514c4(v4 + 0x6900, v27);
                             v12 = 8;
                             v13 = 0;
-                            if (get8(v4 + 26880) != 1) goto l61;
-                            std_alloc_vec_Vec_drop_4e50c14c2e726a6c(v63);
-                            goto l61;
+                            if (get8(v4 + 26880) != 1) goto l68;
+                            std_alloc_vec_Vec_drop_4e50c14c2e726a6c(v78);
+                            goto l68;
                         case 12:
-                            v72 = 0;
+                            v88 = 0;
                             fill(v4 + 0x7328, 0, 48);
                             std_alloc_vec_deque_VecDeque_front_1598ebf9113514c4(v4 + 136, v27);
                             v13 = 1;
                             v12 = 1;
-                            v69 = 0;
+                            v87 = 0;
                             v20 = 0;
                             v16 = 0;
-                            v71 = 0;
+                            v85 = 0;
                             if (get8(v4 + 136) == 1) {
                                 v7 = get64(v4 + 144);
                                 tm_link_decoding_decode(v4 + 0x7328, get64(v7), get64(v7 + 8), (uint64_t)get32(v4 +
                                     8084));
-                                v71 = get8(v4 + 29481);
+                                v85 = get8(v4 + 29481);
                                 v16 = get32(v4 + 29520);
                                 v12 = get8(v4 + 29480);
                                 std_alloc_vec_deque_VecDeque_pop_front_1598ebf9113514c4(v4 + 0x6900, v27);
-                                if (get8(v4 + 26880) == 1) std_alloc_vec_Vec_drop_4e50c14c2e726a6c(v63);
+                                if (get8(v4 + 26880) == 1) std_alloc_vec_Vec_drop_4e50c14c2e726a6c(v78);
                                 v13 = 0;
                                 if ((v12 & 255) != 0) {
                                     v12 = 8;
-                                    v69 = 0;
+                                    v87 = 0;
                                     v20 = 0;
                                 } else {
-                                    put32(v4 + 23152, v16);
+                                    put32(v4 + 24688, v16);
                                     v16 = get8(v4 + 8097);
                                     v12 = get8(v4 + 8099);
-                                    nodes_ground_node_Ground_clcw(v4 + 0x5338, v4 + 0x1f58, v4 + 0x5a70);
+                                    nodes_ground_node_Ground_clcw(v4 + 0x5a70, v4 + 0x1f58, v4 + 0x6070);
                                     put64(v4 + 11984, get64(v4 + 11984) + ((uint64_t)(get8(v4 + 8099) - v12) & 255));
                                     v12 = 1;
                                     if (get8(v4 + 8856) == 0) v12 = ((v16 - 3) & 255) < 2 && get8(v4 + 8097) == 0;
                                     put8(v4 + 8856, v12);
-                                    v69 = get32(v4 + 21304);
-                                    v20 = v69 >> 8;
-                                    v71 = 0;
+                                    v87 = get32(v4 + 23152);
+                                    v20 = v87 >> 8;
+                                    v85 = 0;
                                     v12 = 9;
                                 }
                                 v16 = v20 >> 8;
@@ -24252,19 +24453,19 @@ l4:;
                             v11 = 0;
                             v7 = 0;
                             v15 = 0;
-                            v70 = 0;
+                            v86 = 0;
                             goto l46;
                         case 13:
                             nodes_ground_node_Ground_tick(v4 + 152, v4 + 0x1f58);
-                            v72 = 0;
+                            v88 = 0;
                             v13 = get8(v4 + 152);
                             v12 = (v13 != 0) ? 4U : 0U;
-                            v69 = (v13 != 0) ? get8(v4 + 153) : 0U;
+                            v87 = (v13 != 0) ? get8(v4 + 153) : 0U;
                             v11 = 0;
                             v7 = 0;
                             v15 = 0;
-                            v71 = 0;
-                            v70 = 0;
+                            v85 = 0;
+                            v86 = 0;
                             v16 = 0;
                             v20 = 0;
                             v13 = 0;
@@ -24275,17 +24476,17 @@ l4:;
                             simulated_link_world_calls_reply_to_taking(v4 + 0x6900, v4 + 0x7328);
                             p2 = get64(v4 + 26888);
                             v15 = p2 & 0xffffffffff000000ULL;
-                            v72 = (uint32_t)(p2 >> 16);
-                            v71 = (uint32_t)(p2 >> 8);
-                            v74 = (uint64_t)get32(v4 + 26881);
-                            v7 = v74 | ((uint64_t)get8(v4 + 26885) << 32);
+                            v88 = (uint32_t)(p2 >> 16);
+                            v85 = (uint32_t)(p2 >> 8);
+                            v17 = (uint64_t)get32(v4 + 26881);
+                            v7 = v17 | ((uint64_t)get8(v4 + 26885) << 32);
                             v16 = (uint32_t)(v7 >> 16);
                             v20 = (uint32_t)(v7 >> 8);
                             v11 = get64(v4 + 26904);
                             v7 = get64(v4 + 26896);
                             v12 = get8(v4 + 26880);
-                            v70 = (uint32_t)p2;
-                            v69 = (uint32_t)v74;
+                            v86 = (uint32_t)p2;
+                            v87 = (uint32_t)v17;
                             v13 = 0;
                             goto l46;
                         case 15:
@@ -24294,50 +24495,50 @@ l4:;
                             simulated_link_world_calls_reply_to_taking(v4 + 0x6900, v4 + 0x7328);
                             p2 = get64(v4 + 26888);
                             v15 = p2 & 0xffffffffff000000ULL;
-                            v72 = (uint32_t)(p2 >> 16);
-                            v71 = (uint32_t)(p2 >> 8);
-                            v74 = (uint64_t)get32(v4 + 26881);
-                            v7 = v74 | ((uint64_t)get8(v4 + 26885) << 32);
+                            v88 = (uint32_t)(p2 >> 16);
+                            v85 = (uint32_t)(p2 >> 8);
+                            v17 = (uint64_t)get32(v4 + 26881);
+                            v7 = v17 | ((uint64_t)get8(v4 + 26885) << 32);
                             v16 = (uint32_t)(v7 >> 16);
                             v20 = (uint32_t)(v7 >> 8);
                             v11 = get64(v4 + 26904);
                             v7 = get64(v4 + 26896);
                             v12 = get8(v4 + 26880);
-                            v70 = (uint32_t)p2;
-                            v69 = (uint32_t)v74;
+                            v86 = (uint32_t)p2;
+                            v87 = (uint32_t)v17;
                             v13 = 0;
                             goto l46;
                         case 16:
                             nodes_spacecraft_Spacecraft_telemetry(v4 + 160, v40, v11, v7);
                             if (get8(v4 + 160) == 0) {
-                                v72 = 0;
+                                v88 = 0;
                                 v11 = 0;
                                 v7 = 0;
                                 v15 = 0;
-                                v71 = 0;
-                                v70 = 0;
+                                v85 = 0;
+                                v86 = 0;
                                 v16 = 0;
                                 v20 = 0;
-                                v69 = 0;
+                                v87 = 0;
                                 v12 = 0;
                                 v13 = 0;
                                 goto l46;
                             }
                             v11 = 0;
-                            v72 = 0;
+                            v88 = 0;
                             v13 = 1;
                             v20 = get8(v4 + 161);
                             if ((v20 & 255) != 6) {
                                 v12 = 3;
-                                v69 = 2;
+                                v87 = 2;
                                 goto l54;
                             }
                             v12 = 0;
-                            v69 = 0;
+                            v87 = 0;
                             v20 = 0;
                             v16 = 0;
-                            v70 = 0;
-                            v71 = 0;
+                            v86 = 0;
+                            v85 = 0;
                             v15 = 0;
                             v7 = 0;
                             goto l47;
@@ -24349,7 +24550,7 @@ l4:;
                         fill(v4 + 0x6738, 0, 24);
                         fill(v4 + 0x6f00, 0, 24);
                         fill(v4 + 0x7328, 0, 128);
-                        nodes_ground_node_Ground_prepare(v4 + 0x7328, v4 + 0x1f58, v72, v11, v7);
+                        nodes_ground_node_Ground_prepare(v4 + 0x7328, v4 + 0x1f58, v88, v11, v7);
                         if (get8(v4 + 29480) != 0) {
                             v12 = get8(v4 + 29481);
                             v13 = v12 == 5;
@@ -24362,96 +24563,96 @@ l4:;
                         v12 = get8(v4 + 26920);
                         if (get8(v4 + 15952) != 0) {
                             if ((v12 & 255) == 1) std_alloc_vec_Vec_drop_f77a36813af3c848(v53);
-                            if (get8(v4 + 26952) != 0) goto l91;
+                            if (get8(v4 + 26952) != 0) goto l98;
                             goto l53;
                         }
                         v11 = get64(v4 + 26928);
                         v7 = get64(v4 + 26936);
                         fill(v4 + 0x4450, 0, 32);
                         fill(v4 + 0x4d38, 0, 32);
-                        fill(v4 + 0x5338, 0, 32);
                         fill(v4 + 0x5a70, 0, 32);
+                        fill(v4 + 0x6070, 0, 32);
                         v12 = v12 & 255;
                         v13 = v12 == 1;
                         v15 = (v13 != 0) ? v7 : 1ULL;
-                        std_alloc_vec_Vec_with_capacity_1598ebf9113514c4(v4 + 0x5338, v15);
-                        if (get8(v4 + 21304) == 0) {
+                        std_alloc_vec_Vec_with_capacity_1598ebf9113514c4(v4 + 0x5a70, v15);
+                        if (get8(v4 + 23152) == 0) {
                             v7 = (v13 != 0) ? v11 : v49;
-                            put64(v4 + 28784, get64(v48 + 16));
-                            put64(v4 + 28776, get64(v48 + 8));
-                            put64(v4 + 28768, get64(v48));
+                            put64(v4 + 12288, get64(v48 + 16));
+                            put64(v4 + 12280, get64(v48 + 8));
+                            put64(v4 + 12272, get64(v48));
                             v11 = v15 + 1;
                             do {
                                 v11 = v11 - 1;
-                                if (v11 == 0) goto l93;
+                                if (v11 == 0) goto l100;
                                 std_alloc_vec_Vec_from_slice_d11456097a0b67cd(v4 + 0x4450, get64(v7), get64(v7 + 8));
-                                if (get8(v4 + 17488) != 0) goto l96;
+                                if (get8(v4 + 17488) != 0) goto l103;
                                 v7 = v7 + 16;
-                                std_alloc_vec_Vec_push_1598ebf9113514c4(v4 + 0x4d38, v4 + 0x7060, v47);
+                                std_alloc_vec_Vec_push_1598ebf9113514c4(v4 + 0x4d38, v4 + 0x2ff0, v47);
                             } while (get8(v4 + 19768) == 0);
-                            core_result_ResultFromResidualErrResidual_from_residual_8f02ee2a013f019c(v4 + 0x5a70,
+                            core_result_ResultFromResidualErrResidual_from_residual_8f02ee2a013f019c(v4 + 0x6070,
                                 v46);
-                            std_alloc_vec_Vec_drop_b0c2e3ac61d256b1(v4 + 0x7060);
-                            if (get8(v4 + 23152) != 0) goto l95;
-                            v15 = get64(v4 + 23176);
-                            v11 = get64(v4 + 23168);
-                            p2 = get64(v4 + 23160);
-                            goto l92;
-                        l96:;
-                            std_alloc_vec_Vec_drop_b0c2e3ac61d256b1(v4 + 0x7060);
+                            std_alloc_vec_Vec_drop_b0c2e3ac61d256b1(v4 + 0x2ff0);
+                            if (get8(v4 + 24688) != 0) goto l102;
+                            v15 = get64(v4 + 24712);
+                            v11 = get64(v4 + 24704);
+                            p2 = get64(v4 + 24696);
+                            goto l99;
+                        l103:;
+                            std_alloc_vec_Vec_drop_b0c2e3ac61d256b1(v4 + 0x2ff0);
                         }
-                    l95:;
+                    l102:;
                         std_alloc_vec_Vec_drop_4e50c14c2e726a6c(v50);
                         if (v12 == 1) std_alloc_vec_Vec_drop_f77a36813af3c848(v53);
                         if (get8(v4 + 26952) == 0) goto l53;
-                        goto l91;
-                    l93:;
-                        v15 = get64(v4 + 28784);
-                        v11 = get64(v4 + 28776);
-                        p2 = get64(v4 + 28768);
-                    l92:;
+                        goto l98;
+                    l100:;
+                        v15 = get64(v4 + 12288);
+                        v11 = get64(v4 + 12280);
+                        p2 = get64(v4 + 12272);
+                    l99:;
                         v7 = get64(v4 + 8880);
                         if (v7 == get64(v4 + 8872)) {
-                            if (v7 == ~0ULL) goto l100;
-                            v74 = ((v7 > 3) ? v7 : 3ULL) + 1;
-                            v75 = v7 << 1;
-                            v74 = (v7 < 0x4000000000000000ULL) ? ((v74 > v75) ? v74 : v75) : v74;
-                            if (v74 > 0x3ffffffffffffffULL) goto l100;
+                            if (v7 == ~0ULL) goto l107;
+                            v17 = ((v7 > 3) ? v7 : 3ULL) + 1;
+                            v90 = v7 << 1;
+                            v17 = (v7 < 0x4000000000000000ULL) ? ((v17 > v90) ? v17 : v90) : v17;
+                            if (v17 > 0x3ffffffffffffffULL) goto l107;
                             if (v7 != 0) {
-                                rattle_realloc_at(v4 + 80, get64(v4 + 8864), v7 << 5, v74 << 5, 8);
-                                if ((get32(v4 + 80) & 1) == 0) goto l100;
+                                rattle_realloc_at(v4 + 80, get64(v4 + 8864), v7 << 5, v17 << 5, 8);
+                                if ((get32(v4 + 80) & 1) == 0) goto l107;
                                 v7 = get64(v4 + 88);
                             } else {
                                 std_heap_GlobalAllocator_allocate(v4 + 64, 128, 8);
-                                if (get8(v4 + 64) != 0) goto l100;
+                                if (get8(v4 + 64) != 0) goto l107;
                                 v7 = get64(v4 + 72);
                             }
-                            put64(v4 + 8880, v74);
+                            put64(v4 + 8880, v17);
                             put64(v4 + 8864, v7);
                         }
-                        t4 = simulated_link_map_lists_make_room(v42, v72, v11);
+                        t4 = simulated_link_map_lists_make_room(v42, v88, v11);
                         if ((t4 & 255) == 0) {
                             nodes_ground_node_Ground_commit(v4 + 0x1f58, v54);
                             put64(v45 + 16, get64(v50 + 16));
                             put64(v45 + 8, get64(v50 + 8));
                             put64(v45, get64(v50));
-                            v74 = get64(v4 + 8872);
-                            v7 = get64(v4 + 8864) + (v74 << 5);
-                            put8(v7, v72);
+                            v17 = get64(v4 + 8872);
+                            v7 = get64(v4 + 8864) + (v17 << 5);
+                            put8(v7, v88);
                             put64(v7 + 1, get64(v4 + 13808));
                             put64(v7 + 9, get64(v4 + 13816));
                             put64(v7 + 17, get64(v4 + 13824));
                             put64(v7 + 24, get64(v4 + 13831));
-                            put64(v4 + 8872, v74 + 1);
+                            put64(v4 + 8872, v17 + 1);
                             put64(v4 + 28432, v15);
                             put64(v4 + 28424, v11);
                             put64(v4 + 28416, p2);
-                            simulated_link_map_lists_append_on(v42, v72, v4 + 0x6f00);
+                            simulated_link_map_lists_append_on(v42, v88, v4 + 0x6f00);
                             v13 = 0;
                             v12 = 0;
                             goto l51;
                         }
-                    l100:;
+                    l107:;
                         put64(v4 + 26440, v15);
                         put64(v4 + 26432, v11);
                         put64(v4 + 26424, p2);
@@ -24459,48 +24660,349 @@ l4:;
                         std_alloc_vec_Vec_drop_4e50c14c2e726a6c(v50);
                         if (v12 == 1) std_alloc_vec_Vec_drop_f77a36813af3c848(v53);
                         if (get8(v4 + 26952) == 0) goto l53;
-                    l91:;
+                    l98:;
                         std_alloc_vec_deque_VecDeque_drop_5dac71050cb8dba4(v52);
                         goto l52;
-                    l64:;
+                    l71:;
                         v12 = 0;
-                        v69 = 0;
+                        v87 = 0;
                         v20 = 0;
                         v16 = 0;
-                    l63:;
+                    l70:;
                         v15 = 0;
                         goto l48;
-                    l62:;
+                    l69:;
                         v13 = 1;
                         v12 = 1;
-                        v71 = 0;
-                    l61:;
+                        v85 = 0;
+                    l68:;
                         v11 = 0;
                         v7 = 0;
                         v15 = 0;
-                        goto l58;
-                    l60:;
+                        goto l65;
+                    l67:;
                         std_alloc_vec_Vec_drop_4e50c14c2e726a6c(v54);
                         v13 = 0;
                         v12 = 2;
-                    l59:;
-                        v72 = 0;
+                    l66:;
+                        v88 = 0;
                         v11 = 0;
                         v7 = 0;
                         v15 = 0;
-                        v71 = 0;
-                    l58:;
-                        v70 = 0;
+                        v85 = 0;
+                    l65:;
+                        v86 = 0;
                         v16 = 0;
                         v20 = 0;
-                        v69 = 0;
+                        v87 = 0;
                         goto l46;
+                    l64:;
+                        v20 = 1;
+                    l63:;
+                        v99 = 0;
+                        fill(v4 + 0x3d38, 0, 5);
+                        fill(v4 + 0x4ba0, 0, 6);
+                        v7 = 0;
+                        fill(v4 + 0x3e50, 0, 24);
+                        fill(v4 + 0x4ac8, 0, 15);
+                        fill(v4 + 0x4b48, 0, 6);
+                        fill(v4 + 0x6070, 0, 56);
+                        v86 = 2;
+                        v13 = 0;
+                        v12 = 0;
+                    l62:;
+                        v11 = 0;
+                        v16 = 0;
+                        v91 = 0;
+                        v93 = 0;
+                        v90 = 0;
+                    l61:;
+                        v17 = 0;
+                        fill(v4 + 0x4d38, 0, 32);
+                        v85 = v96;
+                    l60:;
+                        put8(v4 + 12116, get8(v4 + 15676));
+                        put32(v4 + 12112, get32(v4 + 15672));
+                        put32(v4 + 15800, get32(v4 + 19360));
+                        put16(v4 + 15804, get16(v4 + 19364));
+                        put64(v4 + 19632, get64(v4 + 15952));
+                        put64(v4 + 19640, get64(v4 + 15960));
+                        put64(v4 + 19648, get64(v4 + 15968));
+                        put32(v4 + 15760, get32(v4 + 19272));
+                        put16(v4 + 15764, get16(v4 + 19276));
+                        put64(v4 + 19407, get64(v4 + 19151));
+                        put64(v4 + 19400, get64(v4 + 19144));
+                        copy(v4 + 0x5a70, v4 + 0x6070, 56);
+                        put64(v4 + 13832, get64(v4 + 19792));
+                        put64(v4 + 13824, get64(v4 + 19784));
+                        put64(v4 + 13816, get64(v4 + 19776));
+                        put64(v4 + 13808, get64(v4 + 19768));
+                        if (v99 == 0) goto l58;
+                        v12 = 0;
+                        v13 = 1;
+                        goto l56;
+                    l59:;
+                        fill(v4 + 0x2f50, 0, 5);
+                        fill(v4 + 0x3db8, 0, 6);
+                        v17 = 0;
+                        fill(v4 + 0x3d90, 0, 6);
+                        fill(v4 + 0x4bc8, 0, 15);
+                        fill(v4 + 0x4cb0, 0, 24);
+                        v97 = get8(v4 + 8501);
+                        v98 = get8(v4 + 8500);
+                        v20 = get8(v4 + 8499);
+                        v94 = get8(v4 + 8498);
+                        v89 = get8(v4 + 8497);
+                        v95 = get8(v4 + 8496);
+                        fill(v4 + 0x35f0, 0, 32);
+                        fill(v4 + 0x5a70, 0, 56);
+                        v90 = 0;
+                        v93 = 0;
+                        v91 = 0;
+                        v12 = 0;
+                        v13 = 0;
+                        v11 = 0;
+                        v7 = 0;
+                        v88 = 0;
+                    l58:;
+                        put32(v71, get32(v4 + 12112));
+                        put8(v71 + 4, get8(v4 + 12116));
+                        put32(v70, get32(v4 + 15800));
+                        put16(v70 + 4, get16(v4 + 15804));
+                        put8(v4 + 29498, v88);
+                        put8(v4 + 29497, v85);
+                        put8(v4 + 29496, v86);
+                        put64(v4 + 29488, v92);
+                        put64(v4 + 29480, p2);
+                        put8(v4 + 29513, v12);
+                        put8(v4 + 29512, v13);
+                        put64(v4 + 29504, v7);
+                        put16(v4 + 0x7356, 0);
+                        put8(v4 + 29525, v97);
+                        put8(v4 + 29524, v98);
+                        put8(v4 + 29523, v20);
+                        put8(v4 + 29522, v94);
+                        put8(v4 + 29521, v89);
+                        put8(v4 + 29520, v95);
+                        put64(v4 + 29528, v11);
+                        put64(v53 + 16, get64(v4 + 19648));
+                        put64(v53 + 8, get64(v4 + 19640));
+                        put64(v53, get64(v4 + 19632));
+                        put32(v68, get32(v4 + 15760));
+                        put16(v68 + 4, get16(v4 + 15764));
+                        put64(v67, get64(v4 + 19400));
+                        put64(v67 + 7, get64(v4 + 19407));
+                        put8(v4 + 29561, v12);
+                        put8(v4 + 29560, v13);
+                        put8(v4 + 29568, v16);
+                        put64(v4 + 29600, v90);
+                        put64(v4 + 29592, v93);
+                        put64(v4 + 29584, v91);
+                        copy(v66, v4 + 0x5a70, 56);
+                        put64(v65, get64(v4 + 13808));
+                        put64(v65 + 8, get64(v4 + 13816));
+                        put64(v65 + 16, get64(v4 + 13824));
+                        put64(v65 + 24, get64(v4 + 13832));
+                        put64(v4 + 29664, v17);
+                        fill(v4 + 0x3e50, 0, 32);
+                        v20 = v11 == 0;
+                        if (v20 != 0) {
+                            p2 = 0;
+                            fill(v4 + 0x3cb8, 0, 24);
+                            v94 = (uint32_t)v17;
+                            v16 = 0;
+                            v89 = 0;
+                            v11 = 0;
+                            v17 = 0;
+                            goto l186;
+                        }
+                        v7 = get64(v4 + 29576);
+                        v89 = get8(v4 + 19633);
+                        nodes_data_field_data_field_of(v4 + 0x3e50, v4 + 0x4cb0);
+                        if (get8(v4 + 15952) != 0) goto l194;
+                        fill(v4 + 0x4450, 0, 32);
+                        fill(v4 + 0x4d38, 0, 32);
+                        fill(v4 + 0x6070, 0, 32);
+                        fill(v4 + 0x6900, 0, 32);
+                        v11 = (v16 != 0) ? v91 : v90;
+                        std_alloc_vec_Vec_with_capacity_1598ebf9113514c4(v4 + 0x6070, v11);
+                        if (get8(v4 + 24688) == 0) {
+                            v7 = (v16 != 0) ? v7 : v51;
+                            put64(v4 + 19160, get64(v59 + 16));
+                            put64(v4 + 19152, get64(v59 + 8));
+                            put64(v4 + 19144, get64(v59));
+                            v11 = v11 + 1;
+                            do {
+                                v11 = v11 - 1;
+                                if (v11 == 0) goto l193;
+                                std_alloc_vec_Vec_from_slice_d11456097a0b67cd(v4 + 0x4450, get64(v7), get64(v7 + 8));
+                                if (get8(v4 + 17488) != 0) goto l196;
+                                v7 = v7 + 24;
+                                std_alloc_vec_Vec_push_1598ebf9113514c4(v4 + 0x4d38, v4 + 0x4ac8, v47);
+                            } while (get8(v4 + 19768) == 0);
+                            core_result_ResultFromResidualErrResidual_from_residual_8f02ee2a013f019c(v4 + 0x6900,
+                                v46);
+                            std_alloc_vec_Vec_drop_b0c2e3ac61d256b1(v4 + 0x4ac8);
+                            if (get8(v4 + 26880) != 0) goto l195;
+                            p2 = get64(v4 + 26904);
+                            v11 = get64(v4 + 26896);
+                            v17 = get64(v4 + 26888);
+                            goto l192;
+                        l196:;
+                            std_alloc_vec_Vec_drop_b0c2e3ac61d256b1(v4 + 0x4ac8);
+                        }
+                    l195:;
+                        std_alloc_vec_Vec_drop_4e50c14c2e726a6c(v50);
+                    l194:;
+                        if (get8(v4 + 29528) != 1) goto l189;
+                        v12 = get8(v4 + 29608);
+                        put64(v4 + 28416, get64(v63));
+                        put64(v4 + 28424, get64(v63 + 8));
+                        put64(v4 + 28432, get64(v63 + 16));
+                        put64(v4 + 28439, get64(v63 + 23));
+                        put64(v4 + 29408, get64(v64));
+                        put64(v4 + 29416, get64(v64 + 8));
+                        put64(v4 + 29424, get64(v64 + 16));
+                        if (get8(v4 + 29568) != 0) {
+                            put64(v4 + 26336, get64(v51 + 16));
+                            put64(v4 + 26328, get64(v51 + 8));
+                            put64(v4 + 26320, get64(v51));
+                            std_alloc_vec_Vec_drop_b0c2e3ac61d256b1(v4 + 0x66d0);
+                            goto l190;
+                        }
+                        put64(v4 + 26776, get64(v51 + 16));
+                        put64(v4 + 26768, get64(v51 + 8));
+                        put64(v4 + 26760, get64(v51));
+                        core_array_array_drop_ae445932defd1957(v4 + 0x6888);
+                        goto l190;
+                    l193:;
+                        p2 = get64(v4 + 19160);
+                        v11 = get64(v4 + 19152);
+                        v17 = get64(v4 + 19144);
+                    l192:;
+                        v7 = get64(v50 + 16);
+                        put64(v4 + 19568, v7);
+                        v90 = get64(v50 + 8);
+                        put64(v4 + 19560, v90);
+                        v91 = get64(v50);
+                        put64(v4 + 19552, v91);
+                        put64(v4 + 15544, v91);
+                        put64(v4 + 15552, v90);
+                        put64(v4 + 15560, v7);
+                        t34 = std_alloc_vec_Vec_try_reserve_1598ebf9113514c4(v24, 1);
+                        if ((t34 & 255) != 0) goto l188;
+                        t35 = simulated_link_map_lists_make_room(v43, v89, v11);
+                        if ((t35 & 255) != 0) goto l188;
+                        v16 = get8(v4 + 29528) == 1;
+                        v94 = get8(v4 + 29664);
+                        v12 = get8(v4 + 29513);
+                        v13 = get8(v4 + 29512);
+                        v7 = get64(v4 + 29504);
+                        v88 = get8(v4 + 29498);
+                        v85 = get8(v4 + 29497);
+                        v86 = get8(v4 + 29496);
+                        goto l186;
+                    l190:;
+                        if ((v12 & 255) == 2) {
+                            put64(v4 + 23048, get64(v62 + 16));
+                            put64(v4 + 23040, get64(v62 + 8));
+                            put64(v4 + 23032, get64(v62));
+                            std_alloc_vec_Vec_drop_4e50c14c2e726a6c(v4 + 0x59f8);
+                        }
+                        std_alloc_vec_Vec_drop_555ceec2fcbf3849(v4 + 0x72e0);
+                    l189:;
+                        v13 = 1;
+                        v12 = 0;
+                        if (get8(v4 + 29664) != 1) goto l56;
+                        put64(v4 + 22920, get64(v61 + 16));
+                        put64(v4 + 22912, get64(v61 + 8));
+                        put64(v4 + 22904, get64(v61));
+                        std_alloc_vec_Vec_drop_4e50c14c2e726a6c(v4 + 0x5978);
+                        goto l56;
+                    l188:;
+                        std_alloc_vec_Vec_drop_4e50c14c2e726a6c(v4 + 0x4c60);
+                        put64(v4 + 19496, p2);
+                        put64(v4 + 19488, v11);
+                        put64(v4 + 19480, v17);
+                        std_alloc_vec_Vec_drop_b0c2e3ac61d256b1(v4 + 0x4c18);
+                        if (get8(v4 + 29528) == 1) {
+                            v12 = get8(v4 + 29608);
+                            put64(v4 + 26424, get64(v63));
+                            put64(v4 + 26432, get64(v63 + 8));
+                            put64(v4 + 26440, get64(v63 + 16));
+                            put64(v4 + 26447, get64(v63 + 23));
+                            put64(v4 + 19040, get64(v64));
+                            put64(v4 + 19048, get64(v64 + 8));
+                            put64(v4 + 19056, get64(v64 + 16));
+                            if (get8(v4 + 29568) == 0) {
+                                put64(v4 + 15896, get64(v51 + 16));
+                                put64(v4 + 15888, get64(v51 + 8));
+                                put64(v4 + 15880, get64(v51));
+                                core_array_array_drop_ae445932defd1957(v4 + 0x3e08);
+                            } else {
+                                put64(v4 + 15456, get64(v51 + 16));
+                                put64(v4 + 15448, get64(v51 + 8));
+                                put64(v4 + 15440, get64(v51));
+                                std_alloc_vec_Vec_drop_b0c2e3ac61d256b1(v4 + 0x3c50);
+                            }
+                            if ((v12 & 255) == 2) {
+                                put64(v4 + 29344, get64(v55 + 16));
+                                put64(v4 + 29336, get64(v55 + 8));
+                                put64(v4 + 29328, get64(v55));
+                                std_alloc_vec_Vec_drop_4e50c14c2e726a6c(v4 + 0x7290);
+                            }
+                            std_alloc_vec_Vec_drop_555ceec2fcbf3849(v4 + 0x4a60);
+                        }
+                        v13 = 1;
+                        v12 = 0;
+                        if (get8(v4 + 29664) != 1) goto l56;
+                        put64(v4 + 29304, get64(v61 + 16));
+                        put64(v4 + 29296, get64(v61 + 8));
+                        put64(v4 + 29288, get64(v61));
+                        std_alloc_vec_Vec_drop_4e50c14c2e726a6c(v4 + 0x7268);
+                        goto l56;
+                    l186:;
+                        put64(v4 + 15952, get64(v70));
+                        put32(v4 + 15960, get32(v70 + 8));
+                        copy(v4 + 0x4d38, v60, 39);
+                        if (v16 != 0) {
+                            put64(v4 + 17504, get64(v53 + 16));
+                            put64(v4 + 17496, get64(v53 + 8));
+                            put64(v4 + 17488, get64(v53));
+                            copy(v4 + 0x6900, v69, 104);
+                            nodes_spacecraft_Spacecraft_hand_on(v40, v4 + 0x4450, v4 + 0x6900);
+                        }
+                        put64(v59, get64(v58));
+                        put64(v59 + 8, get64(v58 + 8));
+                        put64(v59 + 16, get64(v58 + 16));
+                        put64(v59 + 24, get64(v58 + 24));
+                        put64(v4 + 24688, (uint64_t)v94 & 255);
+                        nodes_spacecraft_Spacecraft_keep(v40, v4 + 0x6070);
+                        put16(v77 + 4, get16(v57 + 4));
+                        put32(v77, get32(v57));
+                        std_alloc_vec_deque_VecDeque_pop_front_1598ebf9113514c4(v4 + 0x2ff0, v31);
+                        if (get8(v4 + 12272) == 1) std_alloc_vec_Vec_drop_4e50c14c2e726a6c(v56);
+                        if (v20 == 0) {
+                            v91 = get64(v4 + 12008);
+                            v90 = get64(v4 + 12000) + (v91 * 24);
+                            put64(v90 + 16, get64(v4 + 15560));
+                            put64(v90 + 8, get64(v4 + 15552));
+                            put64(v90, get64(v4 + 15544));
+                            put64(v4 + 26896, p2);
+                            put64(v4 + 26888, v11);
+                            put64(v4 + 26880, v17);
+                            put64(v4 + 12008, v91 + 1);
+                            simulated_link_map_lists_append_on(v43, v89, v4 + 0x6900);
+                        }
+                        v11 = (((uint64_t)v12 & 255) << 8) | ((uint64_t)v13 & 255);
+                        v12 = 7;
                     l57:;
-                        v12 = 1;
+                        v13 = 0;
+                        goto l55;
                     l56:;
-                        v70 = 0;
-                        v71 = 0;
-                        v72 = 0;
+                        v86 = 0;
+                        v85 = 0;
+                        v88 = 0;
                         v7 = 0;
                         v11 = 0;
                     l55:;
@@ -24510,8 +25012,8 @@ l4:;
                     l54:;
                         v7 = 0;
                         v15 = 0;
-                        v71 = 0;
-                        v70 = 0;
+                        v85 = 0;
+                        v86 = 0;
                         v16 = 0;
                         v13 = 0;
                         goto l46;
@@ -24524,52 +25026,52 @@ l4:;
                         v20 = 0;
                     l50:;
                         v15 = 0;
-                        v69 = 0;
+                        v87 = 0;
                     l49:;
                         v16 = 0;
-                        v70 = 0;
+                        v86 = 0;
                     l48:;
-                        v71 = 0;
-                        v72 = 0;
+                        v85 = 0;
+                        v88 = 0;
                         v7 = 0;
                         v11 = 0;
                     l47:;
                         if (v13 != 0 && v12 == 0) {
-                            put64(v4 + 19648, v14);
-                            put64(v4 + 19640, v8);
-                            put64(v4 + 19632, v9);
-                            std_alloc_vec_Vec_drop_cf0198d8b37205d8(v4 + 0x4cb0);
+                            put64(v4 + 26656, v14);
+                            put64(v4 + 26648, v8);
+                            put64(v4 + 26640, v9);
+                            std_alloc_vec_Vec_drop_cf0198d8b37205d8(v4 + 0x6810);
                             goto l37;
                         }
                     l46:;
                         put8(v30, (uint32_t)(uint64_t)(v16 >> 16));
-                        put64(v4 + 24720, v11);
-                        put64(v4 + 24712, v7);
-                        put8(v4 + 24696, v12);
-                        put64(v4 + 24688, (uint64_t)v13);
-                        p2 = (uint64_t)v69 & 255;
-                        put32(v4 + 24697, (uint32_t)((uint64_t)((v16 << 16) | ((v20 & 255) << 8)) | p2));
-                        v11 = (((((uint64_t)v72 & 255) << 16) | v15) | ((uint64_t)v70 & 255)) | (((uint64_t)v71 & 255)
+                        put64(v4 + 21336, v11);
+                        put64(v4 + 21328, v7);
+                        put8(v4 + 21312, v12);
+                        put64(v4 + 21304, (uint64_t)v13);
+                        p2 = (uint64_t)v87 & 255;
+                        put32(v4 + 21313, (uint32_t)((uint64_t)((v16 << 16) | ((v20 & 255) << 8)) | p2));
+                        v11 = (((((uint64_t)v88 & 255) << 16) | v15) | ((uint64_t)v86 & 255)) | (((uint64_t)v85 & 255)
                             << 8);
-                        put64(v4 + 24704, v11);
+                        put64(v4 + 21320, v11);
                         if (v13 != 0) {
                             v7 = ((uint64_t)v12 & 255) << 3;
-                            t50 = node_answers_answers_push_fault(v4 + 0x4c60, address(constant_312), v12 + 6,
+                            t51 = node_answers_answers_push_fault(v4 + 0x67b8, address(constant_312), v12 + 6,
                                 get64(v7 + aligned(switch_table_tctool_simulation_run_script_1002a7eb2e9facbe_3)),
                                 get64(v7 + address(switch_table_tctool_simulation_run_script_1002a7eb2e9facbe_)));
-                            if ((t50 & 255) != 0) goto l44;
+                            if ((t51 & 255) != 0) goto l44;
                         } else {
                             switch ((uint32_t)((uint64_t)v12 & 255)) {
                             case 1:
-                                t49 = std_alloc_string_String_push_str_4e689c9ecf7a3082(v4 + 0x4c60,
+                                t50 = std_alloc_string_String_push_str_4e689c9ecf7a3082(v4 + 0x67b8,
                                     address(constant_314), 7);
-                                if ((t49 & 255) != 0) goto l44;
-                                goto l170;
+                                if ((t50 & 255) != 0) goto l44;
+                                goto l206;
                             case 2:
-                                t36 = std_alloc_string_String_push_str_4e689c9ecf7a3082(v4 + 0x4c60,
+                                t37 = std_alloc_string_String_push_str_4e689c9ecf7a3082(v4 + 0x67b8,
                                     address(constant_315), 4);
-                                if ((t36 & 255) != 0) goto l44;
-                                goto l170;
+                                if ((t37 & 255) != 0) goto l44;
+                                goto l206;
                             case 3:
                                 switch ((uint32_t)p2) {
                                 case 1:
@@ -24591,118 +25093,119 @@ l4:;
                                     v11 = get64(v4);
                                     break;
                                 }
-                                t38 = node_answers_answers_push_fault(v4 + 0x4c60, address(constant_312), v12, v11,
+                                t39 = node_answers_answers_push_fault(v4 + 0x67b8, address(constant_312), v12, v11,
                                     v7);
-                                if ((t38 & 255) != 0) goto l44;
-                                goto l170;
+                                if ((t39 & 255) != 0) goto l44;
+                                goto l206;
                             case 4:
                                 v12 = 1;
-                                t51 = node_answers_answers_push_alert(v4 + 0x4c60, 1, v69);
-                                if ((t51 & 255) != 0) goto l43;
-                                goto l170;
+                                t52 = node_answers_answers_push_alert(v4 + 0x67b8, 1, v87);
+                                if ((t52 & 255) != 0) goto l43;
+                                goto l206;
                             case 5:
-                                t39 = node_answers_answers_push_sent(v4 + 0x4c60, v11, v7);
-                                if ((t39 & 255) != 0) goto l44;
-                                goto l170;
-                            case 6:
-                                t40 = node_answers_answers_push_report(v4 + 0x4c60, v44);
+                                t40 = node_answers_answers_push_sent(v4 + 0x67b8, v11, v7);
                                 if ((t40 & 255) != 0) goto l44;
-                                goto l170;
-                            case 7:
-                                t41 = node_answers_answers_push_received(v4 + 0x4c60, v21);
+                                goto l206;
+                            case 6:
+                                t41 = node_answers_answers_push_report(v4 + 0x67b8, v44);
                                 if ((t41 & 255) != 0) goto l44;
-                                goto l170;
-                            case 8:
-                                t42 = node_answers_answers_push_heard(v4 + 0x4c60, v21);
+                                goto l206;
+                            case 7:
+                                t42 = node_answers_answers_push_received(v4 + 0x67b8, v21);
                                 if ((t42 & 255) != 0) goto l44;
-                                goto l170;
+                                goto l206;
+                            case 8:
+                                t43 = node_answers_answers_push_heard(v4 + 0x67b8, v21);
+                                if ((t43 & 255) != 0) goto l44;
+                                goto l206;
                             case 9:
                                 put8(v4 + 19771, v16 >> 8);
                                 put8(v4 + 19770, v16);
                                 put8(v4 + 19769, v20);
-                                put8(v4 + 19768, v69);
-                                t43 = node_answers_answers_push_reported(v4 + 0x4c60, v4 + 0x4d38);
-                                if ((t43 & 255) != 0) goto l44;
-                                goto l170;
+                                put8(v4 + 19768, v87);
+                                t44 = node_answers_answers_push_reported(v4 + 0x67b8, v4 + 0x4d38);
+                                if ((t44 & 255) != 0) goto l44;
+                                goto l206;
                             case 10:
                                 break;
                             case 11:
-                                t48 = node_answers_answers_push_packet(v4 + 0x4c60, v69, v11, v7);
-                                if ((t48 & 255) != 0) goto l44;
-                                goto l170;
+                                t49 = node_answers_answers_push_packet(v4 + 0x67b8, v87, v11, v7);
+                                if ((t49 & 255) != 0) goto l44;
+                                goto l206;
                             default:
-                                t35 = std_alloc_string_String_push_str_4e689c9ecf7a3082(v4 + 0x4c60,
+                                t36 = std_alloc_string_String_push_str_4e689c9ecf7a3082(v4 + 0x67b8,
                                     address(constant_313), 2);
-                                if ((t35 & 255) == 0) goto l170;
+                                if ((t36 & 255) == 0) goto l206;
                                 goto l44;
                             }
-                            put64(v4 + 21304, v11);
-                            put64(v4 + 23160, 8);
-                            put64(v4 + 23152, address(constant_376));
-                            put64(v4 + 23168, v4 + 0x5338);
+                            put64(v4 + 23152, v11);
+                            put64(v4 + 24696, 8);
+                            put64(v4 + 24688, address(constant_376));
+                            put64(v4 + 24704, v4 + 0x5a70);
+                            v7 = get64(v4 + 26560);
                             fill(v18, 0, 16);
                             fill(p3, 0, 12);
-                            put64(v4 + 29496, get64(v4 + 19568));
-                            put64(v4 + 29488, get64(v4 + 19560));
-                            put64(v4 + 29480, get64(v4 + 19552));
+                            put64(v4 + 29496, get64(v4 + 26568));
+                            put64(v4 + 29488, v7);
+                            put64(v4 + 29480, get64(v4 + 26552));
                             put32(v4 + 29504, 32);
                             put64(v4 + 29520, ~0ULL);
                             v12 = 1;
                             v13 = 1;
-                            t44 = core_fmt_formatter_Formatter_write_piece_cb7842e4872a5878(v4 + 0x7328, v4 + 0x5a70);
-                            if ((t44 & 255) == 0) {
+                            t45 = core_fmt_formatter_Formatter_write_piece_cb7842e4872a5878(v4 + 0x7328, v4 + 0x6070);
+                            if ((t45 & 255) == 0) {
                                 fill(p3, 0, 12);
                                 put32(v4 + 29504, 32);
                                 put64(v4 + 29520, ~0ULL);
-                                v7 = get64(v4 + 21304);
+                                v11 = get64(v4 + 23152);
                                 fill(v4 + 0x6900, 0, 24);
-                                core_fmt_int_decimal_text(v4 + 48, 0, v7, v4 + 0x6900);
-                                v7 = get64(v4 + 56);
-                                v11 = get64(v4 + 48);
+                                core_fmt_int_decimal_text(v4 + 48, 0, v11, v4 + 0x6900);
+                                v11 = get64(v4 + 56);
+                                v15 = get64(v4 + 48);
                                 if (get64(v4 + 29528) == 0) {
-                                    t45 = std_alloc_string_String_push_str_4e689c9ecf7a3082(v4 + 0x7328, v11, v7);
-                                    v13 = t45 & 255;
-                                } else {
-                                    t46 = core_fmt_formatter_Formatter_write_indented_1f312fa7d02b8b91(v4 + 0x7328,
-                                        v11, v7);
+                                    t46 = std_alloc_string_String_push_str_4e689c9ecf7a3082(v4 + 0x7328, v15, v11);
                                     v13 = t46 & 255;
+                                } else {
+                                    t47 = core_fmt_formatter_Formatter_write_indented_1f312fa7d02b8b91(v4 + 0x7328,
+                                        v15, v11);
+                                    v13 = t47 & 255;
                                 }
                             }
-                            put64(v4 + 19552, get64(v4 + 29480));
-                            put64(v4 + 19560, get64(v4 + 29488));
-                            put64(v4 + 19568, get64(v4 + 29496));
-                            t47 = std_alloc_fmt_undo_if_err_4e689c9ecf7a3082(v4 + 0x4c60, v17, v13);
-                            if ((t47 & 255) != 0) goto l43;
+                            put64(v4 + 26552, get64(v4 + 29480));
+                            put64(v4 + 26560, get64(v4 + 29488));
+                            put64(v4 + 26568, get64(v4 + 29496));
+                            t48 = std_alloc_fmt_undo_if_err_4e689c9ecf7a3082(v4 + 0x67b8, v7, v13);
+                            if ((t48 & 255) != 0) goto l43;
                         }
-                    l170:;
-                        v12 = std_alloc_vec_Vec_push_2a1d2754e95bb7cb(v4 + 0x4c60);
+                    l206:;
+                        v12 = std_alloc_vec_Vec_push_2a1d2754e95bb7cb(v4 + 0x67b8);
                         goto l43;
                     l44:;
                         v12 = 1;
                     l43:;
-                        if (get8(v4 + 24688) == 0) {
-                            v7 = v4 + 0x4ac8;
-                            v13 = get8(v4 + 24696);
+                        if (get8(v4 + 21304) == 0) {
+                            v7 = v4 + 0x7210;
+                            v13 = get8(v4 + 21312);
                             if (((1U << (v13 & 31)) & 0x7df) == 0) {
-                                if (v13 != 5) v7 = v4 + 0x3cb8;
+                                if (v13 != 5) v7 = v4 + 0x6838;
                                 put64(v7 + 16, get64(v21 + 16));
                                 put64(v7 + 8, get64(v21 + 8));
                                 put64(v7, get64(v21));
                                 std_alloc_vec_Vec_drop_cf0198d8b37205d8(v7);
                             }
                         }
-                        put64(v4 + 19648, v14);
-                        put64(v4 + 19640, v8);
-                        put64(v4 + 19632, v9);
-                        std_alloc_vec_Vec_drop_cf0198d8b37205d8(v4 + 0x4cb0);
+                        put64(v4 + 26656, v14);
+                        put64(v4 + 26648, v8);
+                        put64(v4 + 26640, v9);
+                        std_alloc_vec_Vec_drop_cf0198d8b37205d8(v4 + 0x6810);
                         if ((v12 & 1) != 0) goto l37;
                     l42:;
                         v5 = v5 - 1;
                         p1 = p1 + 32;
-                        v17 = get64(v4 + 19560);
+                        v17 = get64(v4 + 26560);
                     } while (v17 < 0x1000);
-                    t53 = listings_output_write_all_1002a7eb2e9facbe(get64(v4 + 19552), v17);
-                    v12 = t53 & 255;
+                    t54 = listings_output_write_all_1002a7eb2e9facbe(get64(v4 + 26552), v17);
+                    v12 = t54 & 255;
                 } while (v10 == 0 && v12 == 0);
                 v10 = v12 == 0;
                 goto l36;
@@ -24710,7 +25213,7 @@ l4:;
                 v10 = 0;
                 v12 = 2;
             l36:;
-                std_alloc_vec_Vec_drop_4fab8b3b1d9c6e88(v4 + 0x4c60);
+                std_alloc_vec_Vec_drop_4fab8b3b1d9c6e88(v4 + 0x67b8);
                 if (v10 != 0) {
                     put64(v4 + 4272, v36);
                     put64(v4 + 4264, v35);
@@ -24718,7 +25221,7 @@ l4:;
                     std_alloc_vec_Vec_drop_f7049efef2023334(v4 + 0x10a0);
                     v10 = get8(v4 + 8120);
                     copy(v4 + 0x1078, v38, 40);
-                    copy(v4 + 0x1048, v68, 48);
+                    copy(v4 + 0x1048, v84, 48);
                     put64(v4 + 4158, get64(v29 + 22));
                     put64(v4 + 4152, get64(v29 + 16));
                     put64(v4 + 4144, get64(v29 + 8));
@@ -24793,7 +25296,7 @@ l4:;
                 std_alloc_vec_Vec_drop_f7049efef2023334(v4 + 416);
                 v10 = get8(v4 + 8120);
                 copy(v4 + 0x1078, v38, 40);
-                copy(v4 + 0x1048, v68, 48);
+                copy(v4 + 0x1048, v84, 48);
                 put64(v4 + 4158, get64(v29 + 22));
                 put64(v4 + 4152, get64(v29 + 16));
                 put64(v4 + 4144, get64(v29 + 8));
@@ -30867,6 +31370,9 @@ LOCAL uint32_t std_alloc_string_String_write_fmt_b77c81cbf5ad7277(uint64_t p0, u
     return v4 & 255;
 }
 
+#endif
+
+#if !defined PART || PART == 4
 LOCAL void std_alloc_string_String_format_605efbca80f73881(uint64_t p0, uint64_t p1)
 {
     unsigned char frame_octets[176 + 15];
@@ -31621,9 +32127,6 @@ l2:;
     return v11;
 }
 
-#endif
-
-#if !defined PART || PART == 4
 LOCAL void std_alloc_vec_Vec_drop_1a1580c2cfb41205(uint64_t p0)
 {
     unsigned char frame_octets[48 + 15];
@@ -39720,6 +40223,9 @@ l3:;
     return;
 }
 
+#endif
+
+#if !defined PART || PART == 5
 LOCAL void clap_output_help_subcommand_spec_vals(uint64_t p0, uint64_t p1)
 {
     unsigned char frame_octets[240 + 15];
@@ -40156,9 +40662,6 @@ l4:;
     return p7;
 }
 
-#endif
-
-#if !defined PART || PART == 5
 LOCAL void core_result_ResultFromResidualErrResidual_from_residual_62cd35cc755b46b8(uint64_t p0)
 {
     unsigned char frame_octets[32 + 15];
@@ -49110,59 +49613,50 @@ l1:;
 
 LOCAL void nodes_ground_node_Ground_of(uint64_t p0, uint64_t p1)
 {
-    unsigned char frame_octets[720 + 15];
-    uint32_t v3 = 0, v4 = 0, v5 = 0, v6 = 0, v9 = 0, v10 = 0, t1;
-    uint64_t v2 = 0, v7 = 0, v8 = 0, v11 = 0, v12 = 0, v13 = 0, v14 = 0, v15 = 0, v16 = 0;
+    unsigned char frame_octets[704 + 15];
+    uint32_t v3 = 0, v4 = 0, v5 = 0, v6 = 0, v9 = 0;
+    uint64_t v2 = 0, v7 = 0, v8 = 0, v10 = 0, v11 = 0, v12 = 0, v13 = 0, v14 = 0;
     v2 = aligned(frame_octets);
     fill(v2 + 40, 0, 246);
-    fill(v2 + 288, 0, 158);
-    fill(v2 + 448, 0, 104);
-    fill(v2 + 557, 0, 46);
-    fill(v2 + 604, 0, 5);
-    fill(v2 + 610, 0, 78);
+    fill(v2 + 288, 0, 166);
+    fill(v2 + 456, 0, 104);
+    fill(v2 + 565, 0, 46);
+    fill(v2 + 612, 0, 5);
+    fill(v2 + 618, 0, 78);
     v3 = get32(p1 + 16);
     if ((v3 & 255) == 0) goto l2;
     v4 = get32(p1 + 12);
     if ((v4 & 255) == 0 || (v4 & 1) != 0) goto l2;
     v4 = (v4 >> 1) & 127;
-    if (v4 < (v3 & 255)) goto l2;
-    v5 = get32(p1 + 20);
-    if ((v5 & 255) != 0) {
-        v6 = get32(p1 + 24);
-        if ((v6 & 0xffff) != 0) {
-            v7 = (uint64_t)v4;
-            rattle_alloc_at(v2 + 24, v7 << 5, 8);
-            if (((uint32_t)get64(v2 + 24) & 1) != 0) {
-                v8 = get64(v2 + 32);
-                tm_link_extractor_Extractor_new(v2 + 288);
-                if (get8(v2 + 288) != 0) {
-                    put64(v2 + 240, 0);
-                    put64(v2 + 232, v7);
-                    put64(v2 + 224, v8);
-                    put64(v2 + 248, 0);
-                    circular_buffer_heap_HeapCircularBuffer_drop_695a0d5c0a17370d(v2 + 224);
-                    fill(v2 + 192, 0, 32);
-                    put64(v2 + 184, v2 + 712);
-                    std_alloc_vec_deque_VecDeque_drop_695a0d5c0a17370d(v2 + 184);
-                    put16(p0, 0x501);
-                    fill(p0 + 8, 0, 400);
-                    return;
-                }
-                v9 = get32(p1 + 56);
-                v10 = get8(v2 + 297);
-                v11 = (uint64_t)get8(v2 + 296);
-                fill(v2 + 696, 0, 16);
-                put64(v2 + 688, v2 + 712);
-                v12 = v2 + 304;
-                if (v9 == 0) {
-                    v13 = v2 + 712;
-                    v14 = 127;
-                    v15 = 0;
-                    v16 = 0;
-                } else {
-                    t1 = std_alloc_vec_Vec_move_to_ab161963403435e1(v2 + 688, (uint64_t)v9);
-                    if (t1 == 0) {
-                        std_alloc_vec_Vec_destroy_empty_ab161963403435e1(v2 + 688);
+    if (v4 >= (v3 & 255)) {
+        v5 = get32(p1 + 20);
+        if ((v5 & 255) != 0) {
+            v6 = get32(p1 + 24);
+            if ((v6 & 0xffff) != 0) {
+                v7 = (uint64_t)v4;
+                rattle_alloc_at(v2 + 24, v7 << 5, 8);
+                if (((uint32_t)get64(v2 + 24) & 1) != 0) {
+                    v8 = get64(v2 + 32);
+                    tm_link_extractor_Extractor_new(v2 + 336);
+                    if (get8(v2 + 336) != 0) {
+                        put64(v2 + 240, 0);
+                        put64(v2 + 232, v7);
+                        put64(v2 + 224, v8);
+                        put64(v2 + 248, 0);
+                        circular_buffer_heap_HeapCircularBuffer_drop_695a0d5c0a17370d(v2 + 224);
+                        fill(v2 + 192, 0, 32);
+                        put64(v2 + 184, v2 + 696);
+                        std_alloc_vec_deque_VecDeque_drop_695a0d5c0a17370d(v2 + 184);
+                        put16(p0, 0x501);
+                        fill(p0 + 8, 0, 400);
+                        return;
+                    }
+                    v9 = get8(v2 + 345);
+                    v10 = (uint64_t)get8(v2 + 344);
+                    v11 = p1 + 56;
+                    std_alloc_vec_deque_VecDeque_with_capacity_ab161963403435e1(v2 + 288, (uint64_t)get32(v11));
+                    v12 = v2 + 352;
+                    if (get8(v2 + 288) != 0) {
                         std_alloc_vec_Vec_drop_030412a25431895c(v12);
                         put64(v2 + 168, 0);
                         put64(v2 + 160, v7);
@@ -49170,29 +49664,35 @@ LOCAL void nodes_ground_node_Ground_of(uint64_t p0, uint64_t p1)
                         put64(v2 + 176, 0);
                         circular_buffer_heap_HeapCircularBuffer_drop_695a0d5c0a17370d(v2 + 152);
                         fill(v2 + 120, 0, 32);
-                        put64(v2 + 112, v2 + 712);
+                        put64(v2 + 112, v2 + 696);
                         std_alloc_vec_deque_VecDeque_drop_695a0d5c0a17370d(v2 + 112);
                         put16(p0, 0x501);
                         fill(p0 + 8, 0, 400);
                         return;
                     }
-                    v14 = (uint64_t)get32(p1 + 56) + 127;
-                    v15 = get64(v2 + 704);
-                    v16 = get64(v2 + 696);
-                    v13 = get64(v2 + 688);
-                }
-                put64(v2 + 352, 0);
-                put64(v2 + 344, v15);
-                put64(v2 + 336, v16);
-                put64(v2 + 328, v13);
-                put64(v2 + 360, 0);
-                std_heap_GlobalAllocator_allocate(v2 + 8, v14 << 3, 8);
-                if (get8(v2 + 8) == 0) {
-                    v13 = get64(v2 + 16);
+                    v13 = (uint64_t)get32(v11) + 127;
+                    std_heap_GlobalAllocator_allocate(v2 + 8, v13 << 3, 8);
+                    v11 = v2 + 288 + 8;
+                    if (get8(v2 + 8) != 0) {
+                        std_alloc_vec_deque_VecDeque_drop_695a0d5c0a17370d(v11);
+                        std_alloc_vec_Vec_drop_030412a25431895c(v12);
+                        put64(v2 + 96, 0);
+                        put64(v2 + 88, v7);
+                        put64(v2 + 80, v8);
+                        put64(v2 + 104, 0);
+                        circular_buffer_heap_HeapCircularBuffer_drop_695a0d5c0a17370d(v2 + 80);
+                        fill(v2 + 48, 0, 32);
+                        put64(v2 + 40, v2 + 696);
+                        std_alloc_vec_deque_VecDeque_drop_695a0d5c0a17370d(v2 + 40);
+                        put16(p0, 0x501);
+                        fill(p0 + 8, 0, 400);
+                        return;
+                    }
+                    v14 = get64(v2 + 16);
                     put64(v2 + 278, get64(v12 + 16));
                     put64(v2 + 270, get64(v12 + 8));
                     put64(v2 + 262, get64(v12));
-                    v12 = v2 + 616;
+                    v12 = v2 + 624;
                     copy(v12, p1, 72);
                     put16(p0, 0);
                     copy(p0 + 8, v12, 72);
@@ -49212,122 +49712,78 @@ LOCAL void nodes_ground_node_Ground_of(uint64_t p0, uint64_t p1)
                     put64(p0 + 144, v8);
                     put64(p0 + 168, 0);
                     fill(p0 + 184, 0, 32);
-                    put64(p0 + 176, v2 + 712);
-                    copy(p0 + 216, v2 + 328, 40);
+                    put64(p0 + 176, v2 + 696);
+                    copy(p0 + 216, v11, 40);
                     put64(p0 + 288, 0);
-                    put64(p0 + 280, v14);
+                    put64(p0 + 280, v13);
                     put64(p0 + 272, 0);
-                    put64(p0 + 264, v13);
+                    put64(p0 + 264, v14);
                     put64(p0 + 256, 0);
                     fill(p0 + 296, 0, 9);
-                    put8(p0 + 313, v10);
-                    put64(p0 + 305, v11 << 56);
+                    put8(p0 + 313, v9);
+                    put64(p0 + 305, v10 << 56);
                     fill(p0 + 352, 0, 32);
                     put64(p0 + 314, get64(v2 + 256));
                     put64(p0 + 322, get64(v2 + 264));
                     put64(p0 + 330, get64(v2 + 272));
                     put64(p0 + 336, get64(v2 + 278));
-                    put64(p0 + 344, v2 + 712);
+                    put64(p0 + 344, v2 + 696);
                     fill(p0 + 392, 0, 16);
-                    put64(p0 + 384, v2 + 712);
+                    put64(p0 + 384, v2 + 696);
                     return;
                 }
-                std_alloc_vec_deque_VecDeque_drop_695a0d5c0a17370d(v2 + 328);
-                std_alloc_vec_Vec_drop_030412a25431895c(v12);
-                put64(v2 + 96, 0);
-                put64(v2 + 88, v7);
-                put64(v2 + 80, v8);
-                put64(v2 + 104, 0);
-                circular_buffer_heap_HeapCircularBuffer_drop_695a0d5c0a17370d(v2 + 80);
-                fill(v2 + 48, 0, 32);
-                put64(v2 + 40, v2 + 712);
-                std_alloc_vec_deque_VecDeque_drop_695a0d5c0a17370d(v2 + 40);
-                put16(p0, 0x501);
-                copy(p0 + 8, v2 + 616, 72);
-                put16(p0 + 80, 0);
-                fill(p0 + 87, 0, 10);
-                put8(p0 + 104, 0);
-                put32(p0 + 82, get32(v2 + 604));
-                put8(p0 + 86, get8(v2 + 608));
-                put32(p0 + 97, get32(v2 + 596));
-                put32(p0 + 100, get32(v2 + 599));
-                copy(p0 + 105, v2 + 557, 39);
-                fill(p0 + 144, 0, 16);
-                put64(p0 + 176, 0);
-                put64(p0 + 160, get64(v2 + 536));
-                put64(p0 + 168, get64(v2 + 544));
-                put64(p0 + 184, get64(v2 + 504));
-                put64(p0 + 192, get64(v2 + 512));
-                put64(p0 + 200, get64(v2 + 520));
-                put64(p0 + 208, get64(v2 + 528));
-                copy(p0 + 216, v2 + 464, 40);
-                fill(p0 + 256, 0, 32);
-                fill(p0 + 304, 0, 10);
-                put64(p0 + 288, get64(v2 + 448));
-                put64(p0 + 296, get64(v2 + 456));
-                put64(p0 + 314, get64(v2 + 416));
-                put64(p0 + 322, get64(v2 + 424));
-                put64(p0 + 330, get64(v2 + 432));
-                put64(p0 + 336, get64(v2 + 438));
-                put64(p0 + 344, 0);
-                put64(p0 + 384, 0);
-                put64(p0 + 352, get64(v2 + 384));
-                put64(p0 + 360, get64(v2 + 392));
-                put64(p0 + 368, get64(v2 + 400));
-                put64(p0 + 376, get64(v2 + 408));
-                put64(p0 + 392, get64(v2 + 368));
-                put64(p0 + 400, get64(v2 + 376));
-                return;
             }
         }
     }
 l2:;
     put16(p0, 0x501);
-    copy(p0 + 8, v2 + 616, 72);
+    copy(p0 + 8, v2 + 624, 72);
     put16(p0 + 80, 0);
     fill(p0 + 87, 0, 10);
     put8(p0 + 104, 0);
-    put32(p0 + 82, get32(v2 + 604));
-    put8(p0 + 86, get8(v2 + 608));
-    put32(p0 + 97, get32(v2 + 596));
-    put32(p0 + 100, get32(v2 + 599));
-    copy(p0 + 105, v2 + 557, 39);
+    put32(p0 + 82, get32(v2 + 612));
+    put8(p0 + 86, get8(v2 + 616));
+    put32(p0 + 97, get32(v2 + 604));
+    put32(p0 + 100, get32(v2 + 607));
+    copy(p0 + 105, v2 + 565, 39);
     fill(p0 + 144, 0, 16);
     put64(p0 + 176, 0);
-    put64(p0 + 160, get64(v2 + 536));
-    put64(p0 + 168, get64(v2 + 544));
-    put64(p0 + 184, get64(v2 + 504));
-    put64(p0 + 192, get64(v2 + 512));
-    put64(p0 + 200, get64(v2 + 520));
-    put64(p0 + 208, get64(v2 + 528));
-    copy(p0 + 216, v2 + 464, 40);
+    put64(p0 + 160, get64(v2 + 544));
+    put64(p0 + 168, get64(v2 + 552));
+    put64(p0 + 184, get64(v2 + 512));
+    put64(p0 + 192, get64(v2 + 520));
+    put64(p0 + 200, get64(v2 + 528));
+    put64(p0 + 208, get64(v2 + 536));
+    copy(p0 + 216, v2 + 472, 40);
     fill(p0 + 256, 0, 32);
     fill(p0 + 304, 0, 10);
-    put64(p0 + 288, get64(v2 + 448));
-    put64(p0 + 296, get64(v2 + 456));
-    put64(p0 + 314, get64(v2 + 416));
-    put64(p0 + 322, get64(v2 + 424));
-    put64(p0 + 330, get64(v2 + 432));
-    put64(p0 + 336, get64(v2 + 438));
+    put64(p0 + 288, get64(v2 + 456));
+    put64(p0 + 296, get64(v2 + 464));
+    put64(p0 + 314, get64(v2 + 424));
+    put64(p0 + 322, get64(v2 + 432));
+    put64(p0 + 330, get64(v2 + 440));
+    put64(p0 + 336, get64(v2 + 446));
     put64(p0 + 344, 0);
     put64(p0 + 384, 0);
-    put64(p0 + 352, get64(v2 + 384));
-    put64(p0 + 360, get64(v2 + 392));
-    put64(p0 + 368, get64(v2 + 400));
-    put64(p0 + 376, get64(v2 + 408));
-    put64(p0 + 392, get64(v2 + 368));
-    put64(p0 + 400, get64(v2 + 376));
+    put64(p0 + 352, get64(v2 + 392));
+    put64(p0 + 360, get64(v2 + 400));
+    put64(p0 + 368, get64(v2 + 408));
+    put64(p0 + 376, get64(v2 + 416));
+    put64(p0 + 392, get64(v2 + 376));
+    put64(p0 + 400, get64(v2 + 384));
     return;
 }
 
 LOCAL void nodes_spacecraft_Spacecraft_of(uint64_t p0, uint64_t p1)
 {
-    unsigned char frame_octets[368 + 15];
-    uint32_t v3 = 0, v4 = 0, v5 = 0, v6 = 0, v13 = 0, v14 = 0, v15 = 0, v16 = 0;
-    uint64_t v2 = 0, v7 = 0, v8 = 0, v9 = 0, v10 = 0, v11 = 0, v12 = 0;
+    unsigned char frame_octets[352 + 15];
+    uint32_t v3 = 0, v4 = 0, v5 = 0, v6 = 0, v8 = 0, v14 = 0, v15 = 0, v16 = 0;
+    uint64_t v2 = 0, v7 = 0, v9 = 0, v10 = 0, v11 = 0, v12 = 0, v13 = 0;
     v2 = aligned(frame_octets);
-    fill(v2 + 144, 0, 71);
-    fill(v2 + 218, 0, 78);
+    fill(v2 + 40, 0, 70);
+    fill(v2 + 112, 0, 5);
+    fill(v2 + 120, 0, 79);
+    fill(v2 + 202, 0, 78);
     v3 = get32(p1 + 12);
     if ((v3 & 255) == 0 || (v3 & 1) != 0) UNREACHABLE;
     v4 = get32(p1);
@@ -49337,118 +49793,130 @@ LOCAL void nodes_spacecraft_Spacecraft_of(uint64_t p0, uint64_t p1)
     v6 = get32(p1 + 60);
     if ((v6 - 16) > 0x7f0) UNREACHABLE;
     v7 = (uint64_t)get32(p1 + 48);
-    v8 = 0;
-    fill(v2 + 304, 0, 16);
-    put64(v2 + 296, v2 + 360);
-    v7 = v7 + 145;
-    std_heap_GlobalAllocator_allocate(v2 + 24, v7 << 5, 8);
-    if (get8(v2 + 24) != 0) {
-        std_alloc_vec_Vec_destroy_empty_0956fa20d2e9e8d8(v2 + 296);
-        fill(v2 + 344, 0, 16);
-        put64(v2 + 336, v2 + 360);
-        std_alloc_vec_Vec_drop_030412a25431895c(v2 + 336);
-        fill(v2 + 304, 0, 32);
-        put64(v2 + 296, v2 + 360);
-        std_alloc_vec_deque_VecDeque_drop_54ecb467e50d9ac7(v2 + 296);
-        v13 = 0;
-        fill(v2 + 224, 0, 72);
-        v16 = 1;
-        v15 = 5;
-        v6 = 0;
-        v14 = 0;
-        p1 = 0;
-        v9 = 0;
-        v7 = 0;
-        v12 = 0;
-        v10 = 0;
-        v4 = 0;
-        v5 = 0;
+    v8 = get32(p1 + 64);
+    fill(v2 + 288, 0, 16);
+    put64(v2 + 280, v2 + 344);
+    v7 = (v8 == 1) ? (v7 + 144) : v7;
+    if (v7 == 0) {
+        v9 = v2 + 344;
     } else {
-        v9 = get64(v2 + 32);
-        v10 = (uint64_t)get32(p1 + 52);
-        std_heap_GlobalAllocator_allocate(v2 + 8, v10 << 5, 8);
-        if (get8(v2 + 8) == 0) {
-            v11 = (uint64_t)v6;
-            v12 = get64(v2 + 16);
-            v8 = get64(p1 + 40);
-            v6 = get32(p1 + 32);
-            v13 = get32(p1 + 28);
-            v14 = get32(p1 + 64);
-            copy(v2 + 224, p1, 72);
-            v14 = v14 == 1;
-            v15 = 0;
-            p1 = v2 + 360;
-            v16 = 0;
-            goto l1;
+        std_heap_GlobalAllocator_allocate(v2 + 24, v7 << 5, 8);
+        if (get8(v2 + 24) != 0) {
+            std_alloc_vec_Vec_destroy_empty_0956fa20d2e9e8d8(v2 + 280);
+            v13 = 0;
+            fill(v2 + 328, 0, 16);
+            put64(v2 + 320, v2 + 344);
+            std_alloc_vec_Vec_drop_030412a25431895c(v2 + 320);
+            fill(v2 + 288, 0, 32);
+            put64(v2 + 280, v2 + 344);
+            std_alloc_vec_deque_VecDeque_drop_54ecb467e50d9ac7(v2 + 280);
+            v6 = 0;
+            fill(v2 + 208, 0, 72);
+            v16 = 1;
+            v15 = 5;
+            v8 = 0;
+            v14 = 0;
+            p1 = 0;
+            v9 = 0;
+            v7 = 0;
+            v12 = 0;
+            v10 = 0;
+            v4 = 0;
+            v5 = 0;
+            goto l2;
         }
-        put64(v2 + 312, v7);
-        v7 = 0;
-        put64(v2 + 304, 0);
-        put64(v2 + 296, v9);
-        std_alloc_vec_Vec_destroy_empty_0956fa20d2e9e8d8(v2 + 296);
-        fill(v2 + 344, 0, 16);
-        put64(v2 + 336, v2 + 360);
-        std_alloc_vec_Vec_drop_030412a25431895c(v2 + 336);
-        fill(v2 + 304, 0, 32);
-        put64(v2 + 296, v2 + 360);
-        std_alloc_vec_deque_VecDeque_drop_54ecb467e50d9ac7(v2 + 296);
-        v5 = 0;
-        fill(v2 + 224, 0, 72);
-        v16 = 1;
-        v15 = 5;
-        v13 = 0;
-        v6 = 0;
-        v8 = 0;
-        v14 = 0;
-        p1 = 0;
-        v9 = 0;
-        v12 = 0;
-        v10 = 0;
-        v4 = 0;
+        v9 = get64(v2 + 32);
     }
+    v10 = (uint64_t)get32(p1 + 52);
+    std_heap_GlobalAllocator_allocate(v2 + 8, v10 << 5, 8);
+    if (get8(v2 + 8) == 0) {
+        v11 = (uint64_t)v6;
+        v12 = get64(v2 + 16);
+        v13 = get64(p1 + 40);
+        v8 = get32(p1 + 32);
+        v6 = get32(p1 + 28);
+        v14 = get32(p1 + 64);
+        copy(v2 + 208, p1, 72);
+        v14 = v14 == 1;
+        v15 = 0;
+        p1 = v2 + 344;
+        v16 = 0;
+        goto l1;
+    }
+    put64(v2 + 296, v7);
+    v7 = 0;
+    put64(v2 + 288, 0);
+    put64(v2 + 280, v9);
+    std_alloc_vec_Vec_destroy_empty_0956fa20d2e9e8d8(v2 + 280);
+    fill(v2 + 328, 0, 16);
+    put64(v2 + 320, v2 + 344);
+    std_alloc_vec_Vec_drop_030412a25431895c(v2 + 320);
+    fill(v2 + 288, 0, 32);
+    put64(v2 + 280, v2 + 344);
+    std_alloc_vec_deque_VecDeque_drop_54ecb467e50d9ac7(v2 + 280);
+    v5 = 0;
+    fill(v2 + 208, 0, 72);
+    v16 = 1;
+    v15 = 5;
+    v6 = 0;
+    v8 = 0;
+    v13 = 0;
+    v14 = 0;
+    p1 = 0;
+    v9 = 0;
+    v12 = 0;
+    v10 = 0;
+    v4 = 0;
+l2:;
     v11 = 0;
     v3 = 0;
 l1:;
-    fill(v2 + 40, 0, 78);
-    fill(v2 + 120, 0, 5);
-    fill(v2 + 128, 0, 87);
+    fill(v2 + 40, 0, 70);
+    fill(v2 + 112, 0, 5);
+    fill(v2 + 120, 0, 79);
     put8(p0 + 1, v15);
     put8(p0, v16);
-    copy(p0 + 8, v2 + 224, 72);
+    copy(p0 + 8, v2 + 208, 72);
     put32(p0 + 81, 0);
     put8(p0 + 80, v3);
     put32(p0 + 84, 0);
     put8(p0 + 104, v14);
-    put64(p0 + 96, v8);
-    put32(p0 + 92, v6);
-    put32(p0 + 88, v13);
+    put64(p0 + 96, v13);
+    put32(p0 + 92, v8);
+    put32(p0 + 88, v6);
     put64(p0 + 112, p1);
-    put32(p0 + 105, get32(v2 + 208));
-    put32(p0 + 108, get32(v2 + 211));
-    copy(p0 + 120, v2 + 160, 48);
+    put64(p0 + 136, 0);
+    put32(p0 + 105, get32(v2 + 192));
+    put32(p0 + 108, get32(v2 + 195));
+    put64(p0 + 120, get64(v2 + 176));
+    put64(p0 + 128, get64(v2 + 184));
+    put64(p0 + 144, get64(v2 + 152));
+    put64(p0 + 152, get64(v2 + 160));
+    put64(p0 + 160, get64(v2 + 168));
     put64(p0 + 184, v7);
     put64(p0 + 176, 0);
     put64(p0 + 168, v9);
-    put64(p0 + 216, v10);
     put64(p0 + 208, v12);
+    put64(p0 + 216, v10);
     put8(p0 + 242, v5);
     put16(p0 + 240, v4);
-    put64(p0 + 192, get64(v2 + 144));
-    put64(p0 + 200, get64(v2 + 152));
-    put64(p0 + 224, get64(v2 + 128));
-    put64(p0 + 232, get64(v2 + 136));
-    put32(p0 + 243, get32(v2 + 120));
-    put8(p0 + 247, get8(v2 + 124));
+    put64(p0 + 192, get64(v2 + 136));
+    put64(p0 + 200, get64(v2 + 144));
+    put64(p0 + 224, get64(v2 + 120));
+    put64(p0 + 232, get64(v2 + 128));
+    put32(p0 + 243, get32(v2 + 112));
+    put8(p0 + 247, get8(v2 + 116));
     put16(p0 + 256, 0);
     put64(p0 + 248, v11);
     put64(p0 + 272, p1);
+    put64(p0 + 264, 0);
     put64(p0 + 312, p1);
-    put64(p0 + 264, get64(v2 + 110));
-    put64(p0 + 258, get64(v2 + 104));
-    put64(p0 + 304, get64(v2 + 96));
-    put64(p0 + 296, get64(v2 + 88));
-    put64(p0 + 288, get64(v2 + 80));
+    put16(p0 + 262, get16(v2 + 108));
+    put32(p0 + 258, get32(v2 + 104));
     put64(p0 + 280, get64(v2 + 72));
+    put64(p0 + 288, get64(v2 + 80));
+    put64(p0 + 296, get64(v2 + 88));
+    put64(p0 + 304, get64(v2 + 96));
     put64(p0 + 344, get64(v2 + 64));
     put64(p0 + 336, get64(v2 + 56));
     put64(p0 + 328, get64(v2 + 48));
@@ -49737,15 +50205,18 @@ LOCAL void script_lines_words_octets_of_digits(uint64_t p0, uint64_t p1, uint64_
     return;
 }
 
+#endif
+
+#if !defined PART || PART == 6
 LOCAL void nodes_ground_node_Ground_prepare(uint64_t p0, uint64_t p1, uint32_t p2, uint64_t p3, uint64_t p4)
 {
-    unsigned char frame_octets[432 + 15];
-    uint32_t v6 = 0, v7 = 0, v8 = 0, v18 = 0, t1, t2, t4, t5, t6, t7, t8;
+    unsigned char frame_octets[448 + 15];
+    uint32_t v6 = 0, v7 = 0, v8 = 0, v18 = 0, t1, t2, t4, t5, t6, t7;
     uint64_t v5 = 0, v9 = 0, v10 = 0, v11 = 0, v12 = 0, v13 = 0, v14 = 0, v15 = 0, v16 = 0, v17 = 0, v19 = 0, v20 = 0,
         v21 = 0;
     v5 = aligned(frame_octets);
-    fill(v5 + 40, 0, 7);
-    fill(v5 + 48, 0, 143);
+    fill(v5 + 32, 0, 7);
+    fill(v5 + 40, 0, 143);
     if (get8(p1 + 73) == 5) {
         put16(p0, 1);
         fill(p0 + 8, 0, 120);
@@ -49758,15 +50229,15 @@ LOCAL void nodes_ground_node_Ground_prepare(uint64_t p0, uint64_t p1, uint32_t p
     }
     v6 = get32(p1 + 64);
     v7 = get32(p1 + 32);
-    fill(v5 + 296, 0, 24);
-    fill(v5 + 344, 0, 31);
+    fill(v5 + 288, 0, 24);
+    fill(v5 + 400, 0, 31);
     if (v6 != 1) {
         t1 = nodes_command_packets_is_one_command(p3, p4);
         if (t1 == 0) {
             v7 = 2;
         } else {
             if (p4 <= (uint64_t)v7) {
-                fill(v5 + 80, 0, 24);
+                fill(v5 + 72, 0, 24);
                 v8 = 0;
                 v6 = 1;
                 v20 = p3;
@@ -49777,14 +50248,14 @@ LOCAL void nodes_ground_node_Ground_prepare(uint64_t p0, uint64_t p1, uint32_t p
         }
         goto l7;
     }
-    fill(v5 + 232, 0, 24);
+    fill(v5 + 312, 0, 24);
     v8 = 0;
-    fill(v5 + 200, 0, 16);
-    fill(v5 + 320, 0, 24);
-    fill(v5 + 384, 0, 40);
-    put64(v5 + 192, v5 + 424);
+    fill(v5 + 184, 0, 24);
+    fill(v5 + 232, 0, 16);
+    fill(v5 + 352, 0, 40);
+    put64(v5 + 224, v5 + 440);
     v9 = (uint64_t)v7;
-    v10 = v5 + 424;
+    v10 = v5 + 440;
     v11 = 0;
     v12 = p3;
     v13 = p4;
@@ -49797,24 +50268,24 @@ LOCAL void nodes_ground_node_Ground_prepare(uint64_t p0, uint64_t p1, uint32_t p
             v16 = (v11 < 0x4000000000000000ULL) ? ((v14 > v15) ? v14 : v15) : v14;
             for (;;) {
                 v15 = v12;
-                space_packet_decoding_decode(v5 + 384, v15, v13);
-                if (get8(v5 + 384) != 0) goto l13;
-                if (get8(v5 + 392) != 1 || (get16(v5 + 394) & 0xffff) == 0x7ff) {
-                    put64(v5 + 192, v10);
-                    put64(v5 + 200, v11);
-                    v13 = v5 + 232;
+                space_packet_decoding_decode(v5 + 352, v15, v13);
+                if (get8(v5 + 352) != 0) goto l13;
+                if (get8(v5 + 360) != 1 || (get16(v5 + 362) & 0xffff) == 0x7ff) {
+                    put64(v5 + 224, v10);
+                    put64(v5 + 232, v11);
+                    v13 = v5 + 312;
                     v7 = 2;
                     v8 = 0;
                     goto l11;
                 }
-                v14 = get64(v5 + 416);
+                v14 = get64(v5 + 384);
                 v13 = v13 - v14;
                 v12 = v15 + v14;
                 v8 = v8 | (uint32_t)(v14 > v9);
                 v7 = v6 & 1;
                 v6 = 0;
                 if (v7 != 0) {
-                    if (get64(v5 + 208) != v11) goto l14;
+                    if (get64(v5 + 240) != v11) goto l14;
                     if (v11 == ~0ULL) {
                         v6 = 0;
                         v11 = ~0ULL;
@@ -49823,13 +50294,13 @@ LOCAL void nodes_ground_node_Ground_prepare(uint64_t p0, uint64_t p1, uint32_t p
                     v6 = 0;
                     if (v16 <= 0x7ffffffffffffffULL) {
                         if (v11 != 0) {
-                            std_heap_GlobalAllocator_grow_3_i64(v5 + 24, v10, v11, v16);
-                            v17 = get64(v5 + 32);
-                            v7 = get8(v5 + 24);
+                            std_heap_GlobalAllocator_grow_3_i64(v5 + 16, v10, v11, v16);
+                            v17 = get64(v5 + 24);
+                            v7 = get8(v5 + 16);
                         } else {
-                            std_heap_GlobalAllocator_allocate(v5 + 8, 64, 8);
-                            v7 = get8(v5 + 8);
-                            v17 = (v7 != 0) ? 0ULL : get64(v5 + 16);
+                            std_heap_GlobalAllocator_allocate(v5, 64, 8);
+                            v7 = get8(v5);
+                            v17 = (v7 != 0) ? 0ULL : get64(v5 + 8);
                         }
                         if ((v7 & 255) == 0) break;
                     }
@@ -49837,7 +50308,7 @@ LOCAL void nodes_ground_node_Ground_prepare(uint64_t p0, uint64_t p1, uint32_t p
             }
             break;
         }
-        put64(v5 + 208, v16);
+        put64(v5 + 240, v16);
         v10 = v17;
     l14:;
         v16 = v10 + (v11 << 4);
@@ -49848,19 +50319,19 @@ LOCAL void nodes_ground_node_Ground_prepare(uint64_t p0, uint64_t p1, uint32_t p
     l13:;
         break;
     }
-    put64(v5 + 192, v10);
-    put64(v5 + 200, v11);
+    put64(v5 + 224, v10);
+    put64(v5 + 232, v11);
     v18 = p4 == 0 || v13 != 0;
     v7 = (v18 != 0) ? 2U : (((v8 & 1) != 0) ? 3U : 0U);
     v18 = v18 | v8;
     v8 = v18 ^ 1;
     v18 = v18 & 1;
-    v13 = (v18 != 0) ? (v5 + 232) : (v5 + 320);
+    v13 = (v18 != 0) ? (v5 + 312) : (v5 + 184);
     if (v18 == 0 && ((v6 ^ 1) & 1) == 0) {
-        put64(v5 + 312, get64(v5 + 208));
-        put64(v5 + 304, get64(v5 + 200));
-        put64(v5 + 296, get64(v5 + 192));
-        v13 = v5 + 296;
+        put64(v5 + 304, get64(v5 + 240));
+        put64(v5 + 296, get64(v5 + 232));
+        put64(v5 + 288, get64(v5 + 224));
+        v13 = v5 + 288;
         v6 = 1;
         v19 = p4;
         v8 = 1;
@@ -49868,20 +50339,20 @@ LOCAL void nodes_ground_node_Ground_prepare(uint64_t p0, uint64_t p1, uint32_t p
         goto l9;
     }
 l11:;
-    std_alloc_vec_Vec_drop_d19b46f36dc3024a(v5 + 192);
-    put64(v5 + 312, get64(v13 + 16));
-    put64(v5 + 304, get64(v13 + 8));
-    put64(v5 + 296, get64(v13));
+    std_alloc_vec_Vec_drop_d19b46f36dc3024a(v5 + 224);
+    put64(v5 + 304, get64(v13 + 16));
+    put64(v5 + 296, get64(v13 + 8));
+    put64(v5 + 288, get64(v13));
     if ((v8 & 1) == 0) goto l7;
-    v13 = (v5 + 344) | 7;
+    v13 = (v5 + 400) | 7;
     v19 = 0;
     v6 = 0;
     v8 = 0;
     v20 = 0;
 l9:;
-    put64(v5 + 96, get64(v13 + 16));
-    put64(v5 + 88, get64(v13 + 8));
-    put64(v5 + 80, get64(v13));
+    put64(v5 + 88, get64(v13 + 16));
+    put64(v5 + 80, get64(v13 + 8));
+    put64(v5 + 72, get64(v13));
     goto l5;
 l7:;
     put8(p0 + 1, v7);
@@ -49894,47 +50365,47 @@ l5:;
         put8(p0 + 8, 0);
         put8(p0 + 1, v6);
         put8(p0, 1);
-        put32(p0 + 9, get32(v5 + 184));
-        put32(p0 + 12, get32(v5 + 187));
+        put32(p0 + 9, get32(v5 + 176));
+        put32(p0 + 12, get32(v5 + 179));
         fill(p0 + 16, 0, 40);
         put64(p0 + 80, 0);
         put64(p0 + 120, 0);
-        put64(p0 + 72, get64(v5 + 176));
-        put64(p0 + 64, get64(v5 + 168));
-        put64(p0 + 56, get64(v5 + 160));
-        put64(p0 + 88, get64(v5 + 128));
-        put64(p0 + 96, get64(v5 + 136));
-        put64(p0 + 104, get64(v5 + 144));
-        put64(p0 + 112, get64(v5 + 152));
+        put64(p0 + 72, get64(v5 + 168));
+        put64(p0 + 64, get64(v5 + 160));
+        put64(p0 + 56, get64(v5 + 152));
+        put64(p0 + 88, get64(v5 + 120));
+        put64(p0 + 96, get64(v5 + 128));
+        put64(p0 + 104, get64(v5 + 136));
+        put64(p0 + 112, get64(v5 + 144));
         return;
     }
-    put64(v5 + 120, get64(v5 + 96));
     put64(v5 + 112, get64(v5 + 88));
     put64(v5 + 104, get64(v5 + 80));
-    fill(v5 + 232, 0, 40);
+    put64(v5 + 96, get64(v5 + 72));
+    fill(v5 + 224, 0, 40);
     v13 = (uint64_t)get32(p1 + 28);
     if (p4 <= v13) {
-        put32(v5 + 298, 0);
-        put8(v5 + 297, p2);
-        put8(v5 + 296, 3);
-        put16(v5 + 302, 0);
-        put64(v5 + 312, p4);
-        put64(v5 + 304, p3);
+        put32(v5 + 290, 0);
+        put8(v5 + 289, p2);
+        put8(v5 + 288, 3);
+        put16(v5 + 294, 0);
+        put64(v5 + 304, p4);
+        put64(v5 + 296, p3);
         t2 = nodes_ground_node_Ground_has_places(p1, 1);
-        if (t2 == 0) goto l23;
-        nodes_owned_segment_OwnedSegment_new(v5 + 232, v5 + 296);
-        if (get8(v5 + 232) != 0) goto l23;
-        v13 = v5 + 240;
+        if (t2 == 0) goto l26;
+        nodes_owned_segment_OwnedSegment_new(v5 + 224, v5 + 288);
+        if (get8(v5 + 224) != 0) goto l26;
+        v13 = v5 + 232;
         v14 = 0;
         p1 = 0;
-        goto l25;
+        goto l23;
     }
-    fill(v5 + 280, 0, 16);
+    fill(v5 + 272, 0, 16);
     v21 = 0 - v13;
-    put64(v5 + 272, v5 + 424);
-    v15 = (v5 + 320) | 2;
-    v10 = (v5 + 344) | 2;
-    v17 = (v5 + 384) | 2;
+    put64(v5 + 264, v5 + 440);
+    v15 = (v5 + 312) | 2;
+    v10 = (v5 + 400) | 2;
+    v17 = (v5 + 352) | 2;
     v11 = p3;
     v9 = p4;
     for (;;) {
@@ -49942,131 +50413,124 @@ l5:;
         v16 = map_service_cutting_group_len(v11, v9, v13);
         if (v16 <= v13) {
             fill(v17, 0, 6);
-            put8(v5 + 385, p2);
-            put8(v5 + 384, 3);
-            put64(v5 + 400, v16);
-            put64(v5 + 392, v11);
-            v14 = v5 + 384;
+            put8(v5 + 353, p2);
+            put8(v5 + 352, 3);
+            put64(v5 + 368, v16);
+            put64(v5 + 360, v11);
+            v14 = v5 + 352;
         } else {
             fill(v10, 0, 6);
-            put8(v5 + 345, p2);
-            put8(v5 + 344, 1);
-            put64(v5 + 360, v13);
-            put64(v5 + 352, v11);
-            t4 = map_service_cutting_append(v5 + 344, v5 + 272);
+            put8(v5 + 401, p2);
+            put8(v5 + 400, 1);
+            put64(v5 + 416, v13);
+            put64(v5 + 408, v11);
+            t4 = map_service_cutting_append(v5 + 400, v5 + 264);
             if ((t4 & 255) != 0) goto l31;
             v14 = v21 + v16;
             v12 = v11 + v13;
             while (v14 > v13) {
                 fill(v15, 0, 6);
-                put8(v5 + 321, p2);
-                put8(v5 + 320, 0);
-                put64(v5 + 336, v13);
+                put8(v5 + 313, p2);
+                put8(v5 + 312, 0);
+                put64(v5 + 328, v13);
                 v14 = v14 - v13;
-                put64(v5 + 328, v12);
+                put64(v5 + 320, v12);
                 v12 = v12 + v13;
-                t5 = map_service_cutting_append(v5 + 320, v5 + 272);
+                t5 = map_service_cutting_append(v5 + 312, v5 + 264);
                 if ((t5 & 255) != 0) goto l31;
             }
             fill(v10, 0, 6);
-            put8(v5 + 345, p2);
-            put8(v5 + 344, 2);
-            put64(v5 + 360, v14);
-            put64(v5 + 352, v12);
-            v14 = v5 + 344;
+            put8(v5 + 401, p2);
+            put8(v5 + 400, 2);
+            put64(v5 + 416, v14);
+            put64(v5 + 408, v12);
+            v14 = v5 + 400;
         }
         v9 = v9 - v16;
         v11 = v11 + v16;
-        t6 = map_service_cutting_append(v14, v5 + 272);
+        t6 = map_service_cutting_append(v14, v5 + 264);
         if ((t6 & 255) == 0) continue;
     l31:;
         break;
     }
-    put64(v5 + 280, 0);
-    goto l24;
+    put64(v5 + 272, 0);
+    goto l28;
 l29:;
-    v13 = get64(v5 + 280);
+    v13 = get64(v5 + 272);
     t7 = nodes_ground_node_Ground_has_places(p1, v13);
-    if (t7 == 0) goto l24;
-    v14 = get64(v5 + 272);
-    fill(v5 + 344, 0, 40);
-    fill(v5 + 392, 0, 32);
-    put64(v5 + 384, v5 + 424);
-    v12 = v5 + 352;
-    for (;;) {
-        if (v13 == 0) break;
-        nodes_owned_segment_OwnedSegment_new(v5 + 344, v14);
-        if (get8(v5 + 344) == 0) {
-            if (get64(v5 + 392) < get64(v5 + 400)) goto l37;
-            t8 = std_alloc_vec_deque_VecDeque_grow_ab161963403435e1(v5 + 384, 1);
-            if (t8 != 0) goto l37;
-            std_alloc_vec_Vec_drop_030412a25431895c(v5 + 360);
+    if (t7 == 0) goto l28;
+    v14 = get64(v5 + 264);
+    fill(v5 + 312, 0, 88);
+    std_alloc_vec_deque_VecDeque_with_capacity_ab161963403435e1(v5 + 352, v13);
+    if (get8(v5 + 352) == 0) {
+        copy(v5 + 400, v5 + 352 + 8, 40);
+        v12 = v5 + 312 + 8;
+        for (;;) {
+            if (v13 == 0) goto l24;
+            nodes_owned_segment_OwnedSegment_new(v5 + 312, v14);
+            if (get8(v5 + 312) != 0) break;
+            std_alloc_vec_deque_VecDeque_push_back_reserved_ab161963403435e1(v5 + 400, v12);
+            v13 = v13 - 1;
+            v14 = v14 + 24;
         }
-        std_alloc_vec_deque_VecDeque_drop_695a0d5c0a17370d(v5 + 384);
-        goto l24;
-    l37:;
-        std_alloc_vec_deque_VecDeque_write_back_ab161963403435e1(v5 + 384, v12);
-        v13 = v13 - 1;
-        v14 = v14 + 24;
+        std_alloc_vec_deque_VecDeque_drop_695a0d5c0a17370d(v5 + 400);
     }
-    put64(v5 + 222, get64(v5 + 408));
-    put64(v5 + 214, get64(v5 + 400));
-    put64(v5 + 206, get64(v5 + 392));
-    put64(v5 + 198, get64(v5 + 384));
-    p1 = get64(v5 + 416);
-    v13 = v5 + 198;
-    std_alloc_vec_Vec_drop_2f5d0285e11e35b2(v5 + 272);
+l28:;
+    std_alloc_vec_Vec_drop_2f5d0285e11e35b2(v5 + 264);
+l26:;
+    v6 = nodes_ground_node_Ground_lack_of(p1, p3, p4);
+    if (v8 != 0) std_alloc_vec_Vec_drop_d19b46f36dc3024a(v5 + 96);
+    put8(p0, 1);
+    put8(p0 + 8, 0);
+    put8(p0 + 1, v6);
+    put32(p0 + 9, get32(v5 + 176));
+    put32(p0 + 12, get32(v5 + 179));
+    fill(p0 + 16, 0, 40);
+    put64(p0 + 80, 0);
+    put64(p0 + 120, 0);
+    put64(p0 + 72, get64(v5 + 168));
+    put64(p0 + 64, get64(v5 + 160));
+    put64(p0 + 56, get64(v5 + 152));
+    put64(p0 + 88, get64(v5 + 120));
+    put64(p0 + 96, get64(v5 + 128));
+    put64(p0 + 104, get64(v5 + 136));
+    put64(p0 + 112, get64(v5 + 144));
+    return;
+l24:;
+    put64(v5 + 214, get64(v5 + 424));
+    put64(v5 + 206, get64(v5 + 416));
+    put64(v5 + 198, get64(v5 + 408));
+    put64(v5 + 190, get64(v5 + 400));
+    p1 = get64(v5 + 432);
+    v13 = v5 + 190;
+    std_alloc_vec_Vec_drop_2f5d0285e11e35b2(v5 + 264);
     v14 = 1;
-l25:;
-    put64(v5 + 72, get64(v13 + 24));
-    put64(v5 + 64, get64(v13 + 16));
-    put64(v5 + 56, get64(v13 + 8));
-    put64(v5 + 48, get64(v13));
+l23:;
+    put64(v5 + 64, get64(v13 + 24));
+    put64(v5 + 56, get64(v13 + 16));
+    put64(v5 + 48, get64(v13 + 8));
+    put64(v5 + 40, get64(v13));
     put8(p0 + 8, p2);
     put16(p0, 0);
-    put32(p0 + 9, get32(v5 + 40));
-    put32(p0 + 12, get32(v5 + 43));
+    put32(p0 + 9, get32(v5 + 32));
+    put32(p0 + 12, get32(v5 + 35));
     put64(p0 + 48, (uint64_t)v8);
     put64(p0 + 40, v19);
     put64(p0 + 32, v20);
     put64(p0 + 24, p4);
     put64(p0 + 16, p3);
-    put64(p0 + 56, get64(v5 + 104));
-    put64(p0 + 64, get64(v5 + 112));
-    put64(p0 + 72, get64(v5 + 120));
+    put64(p0 + 56, get64(v5 + 96));
+    put64(p0 + 64, get64(v5 + 104));
+    put64(p0 + 72, get64(v5 + 112));
     put64(p0 + 80, v14);
-    put64(p0 + 112, get64(v5 + 72));
-    put64(p0 + 104, get64(v5 + 64));
-    put64(p0 + 96, get64(v5 + 56));
-    put64(p0 + 88, get64(v5 + 48));
+    put64(p0 + 112, get64(v5 + 64));
+    put64(p0 + 104, get64(v5 + 56));
+    put64(p0 + 96, get64(v5 + 48));
+    put64(p0 + 88, get64(v5 + 40));
     put64(p0 + 120, p1);
-    return;
-l24:;
-    std_alloc_vec_Vec_drop_2f5d0285e11e35b2(v5 + 272);
-l23:;
-    v6 = nodes_ground_node_Ground_lack_of(p1, p3, p4);
-    if (v8 != 0) std_alloc_vec_Vec_drop_d19b46f36dc3024a(v5 + 104);
-    put8(p0, 1);
-    put8(p0 + 8, 0);
-    put8(p0 + 1, v6);
-    put32(p0 + 9, get32(v5 + 184));
-    put32(p0 + 12, get32(v5 + 187));
-    fill(p0 + 16, 0, 40);
-    put64(p0 + 80, 0);
-    put64(p0 + 120, 0);
-    put64(p0 + 72, get64(v5 + 176));
-    put64(p0 + 64, get64(v5 + 168));
-    put64(p0 + 56, get64(v5 + 160));
-    put64(p0 + 88, get64(v5 + 128));
-    put64(p0 + 96, get64(v5 + 136));
-    put64(p0 + 104, get64(v5 + 144));
-    put64(p0 + 112, get64(v5 + 152));
     return;
 }
 
-#endif
-
-#if !defined PART || PART == 6
 LOCAL void std_alloc_vec_Vec_from_slice_d11456097a0b67cd(uint64_t p0, uint64_t p1, uint64_t p2)
 {
     unsigned char frame_octets[112 + 15];
@@ -50191,23 +50655,23 @@ LOCAL uint32_t simulated_link_map_lists_make_room(uint64_t p0, uint32_t p1, uint
 
 LOCAL void nodes_ground_node_Ground_commit(uint64_t p0, uint64_t p1)
 {
-    unsigned char frame_octets[128 + 15];
-    uint32_t v3 = 0, v9 = 0, t1;
-    uint64_t v2 = 0, v4 = 0, v5 = 0, v6 = 0, v7 = 0, v8 = 0, v10 = 0, v11 = 0, v12 = 0, v13 = 0, v14 = 0, v15 = 0;
+    unsigned char frame_octets[192 + 15];
+    uint32_t v3 = 0, v8 = 0;
+    uint64_t v2 = 0, v4 = 0, v5 = 0, v6 = 0, v7 = 0, v9 = 0, v10 = 0, v11 = 0, v12 = 0, v13 = 0, v14 = 0, v15 = 0;
     v2 = aligned(frame_octets);
-    fill(v2, 0, 24);
-    put64(v2 + 64, get64(p1 + 41));
-    put64(v2 + 72, get64(p1 + 49));
-    put64(v2 + 80, get64(p1 + 57));
-    put64(v2 + 87, get64(p1 + 64));
+    put64(v2 + 128, get64(p1 + 41));
+    put64(v2 + 136, get64(p1 + 49));
+    put64(v2 + 144, get64(p1 + 57));
+    put64(v2 + 151, get64(p1 + 64));
     v3 = get8(p1 + 40);
     v4 = get64(p1 + 80);
     v5 = get64(p1 + 96);
     v6 = get64(p1 + 104);
     v7 = get64(p1 + 112);
-    v8 = get64(p1 + 88);
-    v9 = get8(p1 + 72);
-    p1 = (v9 != 0) ? v8 : 1ULL;
+    v8 = get8(p1 + 72);
+    p1 = get64(p1 + 88);
+    fill(v2 + 32, 0, 64);
+    v9 = (v8 != 0) ? p1 : 1ULL;
     v10 = get64(p0 + 256);
     v11 = get64(p0 + 264);
     v12 = p0 + 288;
@@ -50215,55 +50679,111 @@ LOCAL void nodes_ground_node_Ground_commit(uint64_t p0, uint64_t p1)
     v14 = v11 - v13;
     v15 = get64(p0 + 280);
     if (v14 < (get64(p0 + 272) - v15)) {
-        put64(v10 + ((v15 + v14) << 3), p1);
+        put64(v10 + ((v15 + v14) << 3), v9);
     } else {
-        put64(v10 + (v13 << 3), p1);
+        put64(v10 + (v13 << 3), v9);
         put64(v12, v13 + 1);
     }
     put64(p0 + 264, v11 + 1);
     v10 = p0 + 208;
-    if (v9 == 0) {
+    if (v8 == 0) {
         put64(v2 + 120, v6);
         put64(v2 + 112, v5);
-        put64(v2 + 104, v8);
+        put64(v2 + 104, p1);
         put64(v2 + 96, v4);
-        std_alloc_vec_deque_VecDeque_write_back_ab161963403435e1(v10, v2 + 96);
-    } else {
-        if (v8 > (get64(p0 + 224) - get64(p0 + 216))) {
-            t1 = std_alloc_vec_deque_VecDeque_grow_ab161963403435e1(v10, v8);
-            if (t1 == 0) goto l5;
-        }
-        for (;;) {
-            if (v8 == 0) {
-                v8 = 0;
-                break;
-            }
-            v9 = v8 == v7;
-            p1 = (v9 != 0) ? 0ULL : v6;
-            v6 = v4 + (p1 << 5);
-            put64(v2 + 120, get64(v6 + 24));
-            put64(v2 + 112, get64(v6 + 16));
-            put64(v2 + 104, get64(v6 + 8));
-            put64(v2 + 96, get64(v6));
-            std_alloc_vec_deque_VecDeque_write_back_ab161963403435e1(v10, v2 + 96);
-            v7 = (v9 != 0) ? 0ULL : v7;
-            v8 = v8 - 1;
-            v6 = p1 + 1;
-        }
-    l5:;
-        put64(v2 + 56, v7);
-        put64(v2 + 48, v6);
-        put64(v2 + 40, v5);
-        put64(v2 + 32, v8);
-        put64(v2 + 24, v4);
-        std_alloc_vec_deque_VecDeque_drop_695a0d5c0a17370d(v2 + 24);
+        std_alloc_vec_deque_VecDeque_push_back_reserved_ab161963403435e1(v10, v2 + 96);
+        goto l3;
     }
+    v11 = get64(p0 + 224);
+    v9 = get64(p0 + 216);
+    if (p1 > (v11 - v9)) {
+        v13 = p0 + 232;
+        if (get64(v13) == 0) {
+            v12 = get64(v10);
+            put64(v2 + 176, v11);
+            put64(v2 + 160, v12);
+            put64(v2 + 168, v9);
+            if (p1 > ~v9) {
+                fill(v13, 0, 16);
+                goto l5;
+            }
+            v9 = v9 + p1;
+            v9 = (v9 > 4) ? v9 : 4ULL;
+            v12 = v11 << 1;
+            v8 = std_alloc_vec_Vec_move_to_ab161963403435e1(v2 + 160, (v11 < 0x4000000000000000ULL) ? ((v9 > v12) ? v9
+                : v12) : v9);
+            v9 = get64(v2 + 160);
+            v11 = get64(v2 + 168);
+            put64(p0 + 224, get64(v2 + 176));
+            put64(p0 + 216, v11);
+            put64(p0 + 208, v9);
+            fill(v13, 0, 16);
+            if (v8 != 0) goto l7;
+            goto l5;
+        }
+        if (p1 > ~v9) goto l5;
+        v12 = v9 + p1;
+        v12 = (v12 > 4) ? v12 : 4ULL;
+        v14 = v9 << 1;
+        v12 = (v9 < 0x4000000000000000ULL) ? ((v12 > v14) ? v12 : v14) : v12;
+        if (v11 == v9 && get64(p0 + 240) <= (v12 - v11)) {
+            if (v12 > 0x3ffffffffffffffULL) goto l5;
+            std_alloc_vec_resize_ab161963403435e1(v2 + 16, get64(v10), v11, v11, v12);
+            if (get8(v2 + 16) != 0) goto l5;
+            v9 = get64(v2 + 24);
+            v11 = p0 + 240;
+            std_alloc_vec_copy_34_nodes_owned_segment_OwnedSegment(v9 + (get64(p0 + 216) << 5), v9, get64(v11));
+            put64(v11, 0);
+            put64(p0 + 224, v12);
+            put64(p0 + 208, v9);
+        } else {
+            if (v12 > 0x3ffffffffffffffULL) goto l5;
+            std_heap_GlobalAllocator_allocate(v2, v12 << 5, 8);
+            if (get8(v2) != 0) goto l5;
+            v9 = p0 + 208;
+            v11 = p0 + 240;
+            v14 = get64(p0 + 216) - get64(v11);
+            v15 = std_alloc_vec_copy_34_nodes_owned_segment_OwnedSegment(get64(v2 + 8), get64(v9) + (get64(p0 + 232)
+                << 5), v14);
+            std_alloc_vec_copy_34_nodes_owned_segment_OwnedSegment(v15 + (v14 << 5), get64(v9), get64(v11));
+            rattle_dealloc_at(get64(v9));
+            put64(p0 + 224, v12);
+            put64(v9, v15);
+            fill(v13, 0, 16);
+        }
+    }
+l7:;
+    for (;;) {
+        if (p1 == 0) {
+            p1 = 0;
+            break;
+        }
+        v8 = p1 == v7;
+        v9 = (v8 != 0) ? 0ULL : v6;
+        v6 = v4 + (v9 << 5);
+        put64(v2 + 184, get64(v6 + 24));
+        put64(v2 + 176, get64(v6 + 16));
+        put64(v2 + 168, get64(v6 + 8));
+        put64(v2 + 160, get64(v6));
+        std_alloc_vec_deque_VecDeque_write_back_ab161963403435e1(v10, v2 + 160);
+        v7 = (v8 != 0) ? 0ULL : v7;
+        p1 = p1 - 1;
+        v6 = v9 + 1;
+    }
+l5:;
+    put64(v2 + 88, v7);
+    put64(v2 + 80, v6);
+    put64(v2 + 72, v5);
+    put64(v2 + 64, p1);
+    put64(v2 + 56, v4);
+    std_alloc_vec_deque_VecDeque_drop_695a0d5c0a17370d(v2 + 56);
+l3:;
     nodes_ground_node_Ground_refill(p0);
     if ((v3 & 255) != 1) return;
-    put64(v2 + 16, get64(v2 + 87));
-    put64(v2 + 8, get64(v2 + 79));
-    put64(v2, get64(v2 + 71));
-    std_alloc_vec_Vec_drop_d19b46f36dc3024a(v2);
+    put64(v2 + 48, get64(v2 + 151));
+    put64(v2 + 40, get64(v2 + 143));
+    put64(v2 + 32, get64(v2 + 135));
+    std_alloc_vec_Vec_drop_d19b46f36dc3024a(v2 + 32);
     return;
 }
 
@@ -51234,1118 +51754,501 @@ LOCAL void std_alloc_vec_deque_VecDeque_front_1598ebf9113514c4(uint64_t p0, uint
     return;
 }
 
-LOCAL void nodes_spacecraft_Spacecraft_prepare(uint64_t p0, uint64_t p1, uint64_t p2, uint64_t p3)
+LOCAL uint32_t tc_frame_decoding_has_wrong_check(uint64_t p0, uint64_t p1, uint32_t p2)
 {
-    unsigned char frame_octets[528 + 15];
-    uint32_t v5 = 0, v6 = 0, v7 = 0, v8 = 0, v9 = 0, v11 = 0, v12 = 0, v14 = 0, v15 = 0, v17 = 0, v18 = 0, v19 = 0,
-        v20 = 0, v30 = 0, v31 = 0, v32 = 0, t1, t2, t5;
-    uint64_t v4 = 0, v10 = 0, v13 = 0, v16 = 0, v21 = 0, v22 = 0, v23 = 0, v24 = 0, v25 = 0, v26 = 0, v27 = 0,
-        v28 = 0, v29 = 0, v33 = 0;
-    v4 = aligned(frame_octets);
-    fill(v4 + 40, 0, 31);
-    fill(v4 + 72, 0, 30);
-    fill(v4 + 104, 0, 6);
-    fill(v4 + 112, 0, 5);
-    fill(v4 + 120, 0, 6);
-    v5 = 0;
-    if (p3 < 5) goto l2;
-    v6 = get8(p2);
-    if (v6 > 63) {
-        v5 = 1;
-        goto l2;
-    }
-    if ((v6 & 48) == 16) {
-        v5 = 2;
-        goto l2;
-    }
-    if ((v6 & 12) != 0) {
-        v5 = 3;
-        goto l2;
-    }
-    v5 = 4;
-    v7 = get8(p2 + 2);
-    v8 = ((v7 << 8) & 768) | get8(p2 + 3);
-    if (p3 != (uint64_t)(v8 + 1) || v8 < 6) goto l2;
-    v8 = get8(p2 + 1);
-    t1 = tc_frame_decoding_has_wrong_check(p2, p3, 0);
-    if (t1 != 0) {
-        v5 = 5;
-        goto l2;
-    }
-    v9 = get8(p2 + 4);
-    if (v6 >= 32 && (v9 & 255) != 0) {
-        v5 = 6;
-        goto l2;
-    }
-    if ((v6 & 16) == 0) {
-        v14 = 0;
-        fill(v4 + 320, 0, 6);
-        v11 = (p3 - 9) > ~2ULL;
-        if (v11 != 0) {
-            v5 = 7;
-            v13 = 0;
-            v10 = 0;
-            v12 = 0;
-        } else {
-            v10 = p3 - 8;
-            v13 = p2 + 6;
-            v5 = get8(p2 + 5);
-            v12 = v5 & 63;
-            v14 = v5 >> 6;
-            v5 = 0;
-        }
-        put16(v4 + 452, get16(v4 + 324));
-        put32(v4 + 448, get32(v4 + 320));
-        if (v11 != 0) goto l2;
-        v5 = get16(v4 + 452);
-        put16(v4 + 396, v5);
-        v11 = get32(v4 + 448);
-        put32(v4 + 392, v11);
-        put32(v4 + 288, v11);
-        put16(v4 + 292, v5);
-        v11 = 0;
-        v5 = (v6 < 32) ? v9 : 0U;
-        v9 = v6 > 31;
-        goto l8;
-    }
-    v10 = p3 - 7;
-    if (v10 <= 3) {
-        v5 = 7;
-        switch ((uint32_t)v10) {
-        case 1:
-            if (get8(p2 + 5) == 0) {
-                v5 = 0;
-                v11 = 0;
-                goto l10;
-            }
-            break;
-        case 2:
-            break;
-        case 3:
-            v5 = 8;
-            if (get8(p2 + 5) != 130 || get8(p2 + 6) != 0) goto l2;
-            v11 = get8(p2 + 7);
-            v5 = 1;
-            goto l10;
-        default:
-            goto l2;
-        }
-    }
-    v5 = 8;
-    goto l2;
-l10:;
-    v12 = 0;
-    fill(v4 + 288, 0, 6);
-    v9 = 2;
-    v13 = 0;
-    v10 = 0;
-    v14 = 0;
-l8:;
-    put32(v4 + 120, get32(v4 + 288));
-    put16(v4 + 124, get16(v4 + 292));
-    if (get32(p1) != (((v6 << 8) & 768) | v8) || get32(p1 + 4) != ((v7 & 252) >> 2)) {
-        v5 = get32(p1 + 72);
-        v6 = get16(p1 + 76);
-        put64(p0 + 25, 0);
-        put8(p0 + 24, 1);
-        put64(p0 + 16, p3);
-        put64(p0 + 8, p2);
-        put16(p0, 0);
-        fill(p0 + 33, 0, 15);
-        put16(p0 + 52, v6);
-        put32(p0 + 48, v5);
-        fill(p0 + 54, 0, 178);
-        return;
-    }
-    switch (v9) {
-    case 1:
-        fill(v4 + 320, 0, 32);
-        fill(v4 + 448, 0, 31);
-        v15 = 0;
-        fill(v4 + 392, 0, 6);
-        v6 = get8(p1 + 77);
-        v30 = 3;
-        v18 = get8(p1 + 76);
-        v19 = get8(p1 + 75);
-        v9 = get8(p1 + 74);
-        v7 = get8(p1 + 73);
-        v20 = get8(p1 + 72);
-        if (v14 != 3 || ((uint32_t)(get64(p1 + 40) >> ((uint64_t)v12 & 63)) & 1) == 0) {
-            v5 = 0;
-            v23 = 0;
-            v31 = 0;
-            goto l34;
-        }
-        v5 = 0;
-        v23 = 0;
-        v31 = 0;
-        if (v10 > (uint64_t)get32(p1 + 32)) goto l34;
-        v5 = 0;
-        v23 = 0;
-        v31 = 0;
-        t5 = space_packet_whole_is_packet(v13, v10);
-        if (t5 == 0) goto l34;
-        std_alloc_vec_Vec_from_slice_8e16d1c3a9c68bc1(v4 + 320, v13, v10);
-        if (get8(v4 + 320) == 0) {
-            put64(v4 + 495, get64(v4 + 328));
-            fill(v4 + 488, 0, 7);
-            put64(v4 + 503, get64(v4 + 336));
-            p1 = get64(v4 + 344);
-            put64(v4 + 511, p1);
-            put64(v4 + 471, p1);
-            put64(v4 + 448, get64(v4 + 488));
-            put64(v4 + 456, get64(v4 + 496));
-            put64(v4 + 464, get64(v4 + 504));
-            v23 = 1;
-            v5 = 1;
-            v31 = v12;
-            goto l34;
-        }
-        v5 = 0;
-        fill(v4 + 96, 0, 6);
-        fill(v4 + 104, 0, 6);
-        fill(v4 + 112, 0, 5);
-        v23 = 0;
-        fill(v4 + 40, 0, 31);
-        fill(v4 + 72, 0, 24);
-        v32 = 5;
-        v15 = 1;
-        p2 = 0;
-        p3 = 0;
-        v30 = 0;
-        v20 = 0;
-        v7 = 0;
-        v9 = 0;
-        v19 = 0;
-        v18 = 0;
-        v17 = 0;
-        v31 = 0;
-        goto l33;
-    case 2:
-        v6 = get8(p1 + 77);
-        v7 = get8(p1 + 73);
-        v10 = p1 + 72;
-        v15 = 0;
-        if ((v5 & 255) != 0) {
-            v9 = 1;
-            if ((get8(p1 + 74) & 1) != 0) {
-                v19 = get8(p1 + 75);
-                v18 = get8(p1 + 76);
-                goto l79;
-            }
-            v7 = v11;
-        }
-        v9 = 0;
-        v19 = 0;
-        v18 = 0;
-    l79:;
-        v20 = get8(v10);
-        fill(v4 + 96, 0, 6);
-        fill(v4 + 104, 0, 6);
-        fill(v4 + 112, 0, 5);
-        v16 = 0;
-        fill(v4 + 40, 0, 31);
-        fill(v4 + 72, 0, 24);
-        v17 = (v6 + 1) & 3;
-        v30 = 4;
-        v32 = 0;
-        v6 = 0;
-        v8 = 0;
-        v33 = 0;
-        v14 = 0;
-        v12 = 0;
-        v13 = 0;
-        v10 = 0;
-        v28 = 0;
-        p1 = 0;
-        v24 = 0;
-        v25 = 0;
-        v21 = 0;
-        v29 = 0;
-        v27 = 0;
-        v22 = 0;
-        v26 = 0;
-        v23 = 0;
-        v31 = 0;
-        goto l19;
-    default:
-        break;
-    }
-    v15 = 0;
-    fill(v4 + 264, 0, 6);
-    fill(v4 + 272, 0, 6);
-    fill(v4 + 280, 0, 5);
-    v16 = 0;
-    fill(v4 + 128, 0, 6);
-    fill(v4 + 136, 0, 5);
-    fill(v4 + 144, 0, 31);
-    fill(v4 + 176, 0, 24);
-    fill(v4 + 208, 0, 31);
-    fill(v4 + 240, 0, 24);
-    put16(v4 + 204, get16(v4 + 124));
-    put32(v4 + 200, get32(v4 + 120));
-    v9 = 1;
-    v17 = get8(p1 + 77);
-    v18 = get8(p1 + 76);
-    v19 = get8(p1 + 75);
-    v7 = get8(p1 + 73);
-    v20 = get8(p1 + 72);
-    v11 = 5;
-    if ((get8(p1 + 74) & 1) != 0) goto l22;
-    if ((v5 & 255) != (v7 & 255)) {
-        v9 = 1;
-        v6 = v5 - v7;
-        v8 = (v20 >> 1) & 127;
-        if ((v6 & 255) >= v8) {
-            if ((v6 & 255) > (~v8 & 255)) {
-                v11 = ((v19 & 1) != 0) ? 5U : 3U;
-                v9 = 0;
-                goto l22;
-            }
-            v11 = 4;
-            goto l22;
-        }
-        if ((v19 & 1) != 0) {
-            v9 = 0;
-            goto l23;
-        }
-        v18 = 1;
-        v9 = 0;
-        v19 = 0;
-        v11 = 1;
-        goto l22;
-    }
-    v9 = 0;
-    if ((v19 & 1) != 0) goto l23;
-    if (get64(p1 + 168) >= (uint64_t)get32(p1 + 48)) {
-        v11 = 2;
-        v19 = 1;
-        v18 = 1;
-        goto l22;
-    }
-    v21 = get64(p1 + 104);
-    v16 = get64(p1 + 112);
-    if (v16 == 0) {
-        v8 = 0;
-    } else {
-        v22 = v16 - 1;
-        v23 = v21;
-        do {
-            v8 = get8(v23) == 1;
-            if (v8 != 0) break;
-            v23 = v23 + 32;
-            v6 = v22 != 0;
-            v22 = v22 - 1;
-        } while (v6 != 0);
-    }
-    v24 = get64(p1 + 88);
-    v23 = (uint64_t)v12;
-    if (((uint32_t)(v24 >> (v23 & 63)) & 1) == 0) {
-        v21 = 0;
-        fill(v4 + 176, 0, 24);
-        v8 = 0;
-        v6 = 1;
-        v25 = 0;
-        v24 = 0;
-        v22 = 0;
-        v26 = 0;
-        p1 = v4 + 520;
-        v27 = p1;
-        v28 = 0;
-        v29 = 0;
-        v16 = 0;
-        goto l25;
-    }
-    if (v16 <= v23) {
-        v22 = 0;
-        v7 = 1;
-        v6 = 0;
-        v16 = 0;
-    } else {
-        v7 = 1;
-        v22 = 0;
-        v6 = 0;
-        v16 = 0;
-        v23 = v21 + (v23 << 5);
-        if (get8(v23) == 1) {
-            v16 = get64(v23 + 16);
-            v22 = get64(v23 + 8);
-            v6 = 1;
-            v7 = 0;
-        }
-    }
-    fill(v4 + 288, 0, 7);
-    fill(v4 + 320, 0, 48);
-    switch (v14) {
-    case 1:
-        v23 = (uint64_t)get32(p1 + 84);
-        if (v10 <= v23) {
-            v27 = v4 + 520;
-            if (v8 != 0) {
-                v22 = 0;
-                v26 = 0;
-                goto l53;
-            }
-            v22 = 0;
-            v26 = 0;
-            if (v24 != 0) {
-                v26 = 64 - clz64(v24);
-                rattle_alloc_at(v4 + 8, v26 << 5, 8);
-                if (((uint32_t)get64(v4 + 8) & 1) == 0) goto l24;
-                v27 = get64(v4 + 16);
-                v22 = (v26 > 1) ? v26 : 1ULL;
-                v23 = v22 << 5;
-                if (v23 != 0) fill(v27, 0, v23);
-                v23 = (uint64_t)get32(p1 + 84);
-            }
-            goto l53;
-        }
-        break;
-    case 2:
-        if (v7 != 0) goto l29;
-        v21 = v16 + v10;
-        if (v21 <= (uint64_t)get32(p1 + 84)) {
-            fill(v4 + 448, 0, 40);
-            v23 = 0;
-            fill(v4 + 424, 0, 24);
-            if (v21 == 0) {
-                v28 = v4 + 520;
-            } else {
-                rattle_alloc_at(v4 + 24, v21, 1);
-                if (((uint32_t)get64(v4 + 24) & 1) == 0) {
-                    v21 = 0;
-                    fill(v4 + 368, 0, 24);
-                    v6 = 0;
-                    v25 = 0;
-                    v24 = 0;
-                    v7 = 0;
-                    v8 = 0;
-                    v28 = 0;
-                    p1 = 0;
-                    v29 = 0;
-                    v27 = 0;
-                    goto l30;
-                }
-                v28 = get64(v4 + 32);
-            }
-            put64(v4 + 400, 0);
-            put64(v4 + 392, v28);
-            put64(v4 + 408, v21);
-            if (v16 > v21) {
-                v23 = v21 << 1;
-                v23 = (v16 > v23) ? v16 : v23;
-                v6 = std_alloc_vec_Vec_move_to_a351ad16c7c032ee(v4 + 392, (v23 > 8) ? v23 : 8ULL);
-                v23 = get64(v4 + 400);
-                v21 = get64(v4 + 408);
-                if (v6 == 0) {
-                    v24 = v23;
-                    goto l68;
-                }
-                v28 = get64(v4 + 392);
-            }
-            v24 = v23 + v16;
-            v23 = v28 + v23;
-            if ((v23 - v22) < v16) {
-                do {
-                    put8(v23, get8(v22));
-                    v23 = v23 + 1;
-                    v22 = v22 + 1;
-                    v16 = v16 - 1;
-                } while (v16 != 0);
-            } else if (v16 != 0) copy(v23, v22, v16);
-            put64(v4 + 408, v21);
-            put64(v4 + 400, v24);
-        l68:;
-            if (v10 > (v21 - v24)) {
-                if (v10 > ~v24) goto l32;
-                v23 = v24 + v10;
-                v23 = (v23 > 8) ? v23 : 8ULL;
-                v22 = v21 << 1;
-                v6 = std_alloc_vec_Vec_move_to_a351ad16c7c032ee(v4 + 392, (v21 < 0x4000000000000000ULL) ? ((v23 > v22)
-                    ? v23 : v22) : v23);
-                v24 = get64(v4 + 400);
-                if (v6 == 0) goto l32;
-                v21 = get64(v4 + 408);
-            }
-            v28 = v24 + v10;
-            v26 = get64(v4 + 392);
-            v23 = v26 + v24;
-            if ((v23 - v13) < v10) {
-                v22 = v13;
-                v16 = v10;
-                do {
-                    put8(v23, get8(v22));
-                    v23 = v23 + 1;
-                    v22 = v22 + 1;
-                    v16 = v16 - 1;
-                } while (v16 != 0);
-            } else if (v10 != 0) copy(v23, v13, v10);
-            put64(v4 + 408, v21);
-            put64(v4 + 400, v28);
-            goto l31;
-        }
-        break;
-    case 3:
-        p1 = p1 + 80;
-        map_service_packets_fault_of_alone(v4, p1, v13, v10);
-        if (get8(v4) == 1) {
-            v8 = get8(v4 + 1);
-            goto l28;
-        }
-        map_service_packets_copied_packets(v4 + 320, p1, v13, v10);
-        if (get8(v4 + 320) != 0) goto l24;
-        v22 = 0;
-        fill(v4 + 368, 0, 24);
-        v27 = v4 + 520;
-        v29 = 1;
-        v7 = 1;
-        v21 = get64(v4 + 360);
-        v25 = get64(v4 + 352);
-        v24 = get64(v4 + 344);
-        p1 = get64(v4 + 336);
-        v28 = (uint64_t)get8(v4 + 328);
-        v26 = 0;
-        v8 = v6;
-        goto l26;
-    default:
-        if (v7 != 0) goto l29;
-        if ((v16 + v10) <= (uint64_t)get32(p1 + 84)) {
-            v21 = 0;
-            fill(v4 + 368, 0, 24);
-            p1 = v4 + 520;
-            v29 = 3;
-            v6 = 0;
-            v7 = 1;
-            v25 = 0;
-            v24 = 0;
-            v22 = 0;
-            v26 = 0;
-            v8 = 0;
-            goto l27;
-        }
-        break;
-    }
-    v8 = 4;
-    goto l28;
-l53:;
-    fill(v4 + 448, 0, 32);
-    std_alloc_vec_Vec_with_capacity_a351ad16c7c032ee(v4 + 448, v23);
-    put64(v4 + 399, get64(v4 + 456));
-    put64(v4 + 407, get64(v4 + 464));
-    put64(v4 + 415, get64(v4 + 472));
-    if (get8(v4 + 448) == 0) {
-        p1 = v4 + 399;
-        put64(v4 + 440, get64(p1 + 16));
-        put64(v4 + 432, get64(p1 + 8));
-        put64(v4 + 424, get64(p1));
-        t2 = std_alloc_vec_Vec_extend_from_slice_672334860c861157(v4 + 424, v13, v10);
-        if ((t2 & 255) == 0) {
-            p1 = get64(v4 + 440);
-            put64(v4 + 311, p1);
-            v23 = get64(v4 + 432);
-            put64(v4 + 303, v23);
-            v16 = get64(v4 + 424);
-            put64(v4 + 295, v16);
-            put64(v4 + 368, v16);
-            put64(v4 + 376, v23);
-            put64(v4 + 384, p1);
-            v29 = 2;
-            p1 = v4 + 520;
-            v7 = 1;
-            v21 = 0;
-            v25 = 0;
-            v24 = 0;
-            v8 = v6;
-            v28 = 0;
-            goto l26;
-        }
-        if (get64(v4 + 440) != 0) rattle_dealloc_at(get64(v4 + 424));
-    }
-    if (v22 != 0) {
-        p3 = v27;
-        do {
-            if (get8(p3) != 0 && get64(p3 + 24) != 0) rattle_dealloc_at(get64(p3 + 8));
-            p3 = p3 + 32;
-            v22 = v22 - 1;
-        } while (v22 != 0);
-    }
-    if (v26 == 0) goto l24;
-    rattle_dealloc_at(v27);
-    goto l24;
-l34:;
-    v17 = (v6 + 1) & 3;
-    fill(v4 + 112, 0, 5);
-    put32(v4 + 104, get32(v4 + 392));
-    put16(v4 + 108, get16(v4 + 396));
-    fill(v4 + 72, 0, 30);
-    put64(v4 + 40, get64(v4 + 448));
-    put64(v4 + 48, get64(v4 + 456));
-    put64(v4 + 56, get64(v4 + 464));
-    put64(v4 + 63, get64(v4 + 471));
-    v32 = 0;
-l33:;
-    v16 = 0;
-    v11 = 0;
-    v6 = 0;
-    v8 = 0;
-    v33 = 0;
-    v14 = 0;
-    v12 = 0;
-    v13 = 0;
-    v10 = 0;
-    v28 = 0;
-    p1 = 0;
-    v24 = 0;
-    v25 = 0;
-    v21 = 0;
-    v29 = 0;
-    v27 = 0;
-    v22 = 0;
-    v26 = 0;
-    goto l19;
-l32:;
-    v28 = v24;
-    v26 = get64(v4 + 392);
-l31:;
-    if (v28 > (uint64_t)get32(p1 + 84)) {
-        v6 = 1;
-        v8 = 4;
-        goto l82;
-    }
-    p1 = 0;
-    if (v28 >= 6) {
-        v8 = get8(v26);
-        if (v8 <= 31) {
-            if ((v8 & 8) != 0) {
-                v6 = 0;
-                if ((((v8 << 8) & 0x700) | get8(v26 + 1)) == 0x7ff) goto l84;
-            }
-            p1 = (((uint64_t)get8(v26 + 4) << 8) | (uint64_t)get8(v26 + 5)) + 7;
-            v6 = v28 >= p1;
-            p1 = (v6 != 0) ? p1 : 0ULL;
-            goto l84;
-        }
-    }
-    v6 = 0;
-l84:;
-    v6 = v6 & (uint32_t)(p1 == v28);
-    v8 = (v6 != 0) ? 0U : 3U;
-    v6 = v6 ^ 1;
-l82:;
-    v21 = 0;
-    put64(v4 + 448, 0);
-    fill(v4 + 464, 0, 24);
-    put64(v4 + 456, v4 + 520);
-    if (v6 == 0) {
-        smallvec_small_vec_SmallVec_push_reserved_ed127ccbaaf726c4(v4 + 448, v4 + 392);
-        v21 = get64(v4 + 480);
-        v25 = get64(v4 + 472);
-        v24 = get64(v4 + 464);
-        v28 = (uint64_t)get8(v4 + 448);
-        p1 = get64(v4 + 456);
-    } else {
-        p1 = v4 + 520;
-        if (get64(v4 + 408) != 0) rattle_dealloc_at(v26);
-        v25 = 0;
-        v24 = 0;
-        v28 = 0;
-    }
-    put64(v4 + 384, get64(v4 + 440));
-    put64(v4 + 376, get64(v4 + 432));
-    put64(v4 + 368, get64(v4 + 424));
-    v27 = v4 + 520;
-    v29 = 1;
-    v7 = 1;
-l30:;
-    v22 = 0;
-    v26 = 0;
-    goto l26;
-l29:;
-    v8 = 2;
-l28:;
-    v21 = 0;
-    fill(v4 + 368, 0, 24);
-    p1 = v4 + 520;
-    v29 = 1;
-    v7 = 1;
-    v25 = 0;
-    v24 = 0;
-    v22 = 0;
-    v26 = 0;
-    v6 = 1;
-l27:;
-    v28 = 0;
-    v27 = p1;
-l26:;
-    if (v7 == 0) goto l24;
-    put64(v4 + 192, get64(v4 + 384));
-    put64(v4 + 184, get64(v4 + 376));
-    put64(v4 + 176, get64(v4 + 368));
-    v16 = (v28 == 0) ? v21 : v24;
-l25:;
-    v7 = v5 + 1;
-    put8(v4 + 116, get8(v4 + 140));
-    put32(v4 + 112, get32(v4 + 136));
-    put32(v4 + 104, get32(v4 + 128));
-    put16(v4 + 108, get16(v4 + 132));
-    put32(v4 + 96, get32(v4 + 200));
-    put16(v4 + 100, get16(v4 + 204));
-    put64(v4 + 72, get64(v4 + 176));
-    put64(v4 + 80, get64(v4 + 184));
-    put64(v4 + 88, get64(v4 + 192));
-    put64(v4 + 63, get64(v4 + 167));
-    put64(v4 + 56, get64(v4 + 160));
-    put64(v4 + 48, get64(v4 + 152));
-    put64(v4 + 40, get64(v4 + 144));
-    v33 = 1;
-    v30 = 2;
-    v15 = 0;
-    v32 = 0;
-    v11 = 0;
-    v9 = 0;
-    v19 = 0;
-    v18 = 0;
-    goto l20;
-l24:;
-    put8(v4 + 116, get8(v4 + 284));
-    put32(v4 + 112, get32(v4 + 280));
-    put32(v4 + 104, get32(v4 + 272));
-    put16(v4 + 108, get16(v4 + 276));
-    put32(v4 + 96, get32(v4 + 264));
-    put16(v4 + 100, get16(v4 + 268));
-    put64(v4 + 72, get64(v4 + 240));
-    put64(v4 + 80, get64(v4 + 248));
-    put64(v4 + 88, get64(v4 + 256));
-    put64(v4 + 63, get64(v4 + 231));
-    put64(v4 + 56, get64(v4 + 224));
-    put64(v4 + 48, get64(v4 + 216));
-    put64(v4 + 40, get64(v4 + 208));
-    v30 = 0;
-    p2 = 0;
-    v32 = 5;
-    v15 = 1;
-    p3 = 0;
-    v5 = 0;
-    v11 = 0;
-    v16 = 0;
-    v6 = 0;
-    v8 = 0;
-    v20 = 0;
-    v7 = 0;
-    v9 = 0;
-    v19 = 0;
-    v18 = 0;
-    v17 = 0;
-    goto l21;
-l23:;
-    v19 = 1;
-l22:;
-    fill(v4 + 40, 0, 31);
-    fill(v4 + 72, 0, 30);
-    fill(v4 + 104, 0, 6);
-    fill(v4 + 112, 0, 5);
-    v30 = 2;
-    v32 = 0;
-    v6 = 0;
-    v8 = 0;
-l21:;
-    v33 = 0;
-    v14 = 0;
-    v12 = 0;
-    v13 = 0;
-    v10 = 0;
-    v28 = 0;
-    p1 = 0;
-    v24 = 0;
-    v25 = 0;
-    v21 = 0;
-    v29 = 0;
-    v27 = 0;
-    v22 = 0;
-    v26 = 0;
-l20:;
-    v31 = 0;
-    v23 = 0;
-l19:;
-    put8(p0, v15);
-    put8(p0 + 26, v11);
-    put8(p0 + 25, v5);
-    put8(p0 + 24, v30);
-    put64(p0 + 16, p3);
-    put64(p0 + 8, p2);
-    put8(p0 + 1, v32);
-    put32(p0 + 27, get32(v4 + 112));
-    put8(p0 + 31, get8(v4 + 116));
-    put8(p0 + 41, v8);
-    put8(p0 + 40, v6);
-    put64(p0 + 32, v16);
-    put32(p0 + 42, get32(v4 + 104));
-    put16(p0 + 46, get16(v4 + 108));
-    fill(p0 + 90, 0, 6);
-    put8(p0 + 65, v12);
-    put8(p0 + 64, v14);
-    put64(p0 + 56, v33);
-    put16(p0 + 54, 0);
-    put8(p0 + 53, v17);
-    put8(p0 + 52, v18);
-    put8(p0 + 51, v19);
-    put8(p0 + 50, v9);
-    put8(p0 + 49, v7);
-    put8(p0 + 48, v20);
-    put64(p0 + 72, v13);
-    put64(p0 + 80, v10);
-    put64(p0 + 96, v28);
-    put64(p0 + 104, p1);
-    put64(p0 + 112, v24);
-    put64(p0 + 120, v25);
-    put64(p0 + 128, v21);
-    put64(p0 + 136, v29);
-    put8(p0 + 89, v8);
-    put8(p0 + 88, v6);
-    put32(p0 + 66, get32(v4 + 96));
-    put16(p0 + 70, get16(v4 + 100));
-    put8(p0 + 200, v31);
-    put64(p0 + 192, v23);
-    put64(p0 + 184, v26);
-    put64(p0 + 176, v22);
-    put64(p0 + 168, v27);
-    put64(p0 + 160, get64(v4 + 88));
-    put64(p0 + 152, get64(v4 + 80));
-    put64(p0 + 144, get64(v4 + 72));
-    put64(p0 + 201, get64(v4 + 40));
-    put64(p0 + 209, get64(v4 + 48));
-    put64(p0 + 217, get64(v4 + 56));
-    put64(p0 + 224, get64(v4 + 63));
-    return;
-l2:;
-    v6 = get32(p1 + 72);
-    v8 = get16(p1 + 76);
-    put64(p0 + 26, 0);
-    put8(p0 + 25, v5);
-    put8(p0 + 24, 0);
-    put64(p0 + 16, p3);
-    put64(p0 + 8, p2);
-    put16(p0, 0);
-    fill(p0 + 34, 0, 14);
-    put16(p0 + 52, v8);
-    put32(p0 + 48, v6);
-    fill(p0 + 54, 0, 178);
-    return;
+    uint32_t v3 = 0, t1;
+    v3 = 0;
+    if ((p2 & 1) != 0) return v3;
+    p1 = p1 - 2;
+    v3 = get16(p0 + p1);
+    t1 = octets_frame_check_check(p0, p1);
+    v3 = (((v3 << 8) | (v3 >> 8)) & 0xffff) != (t1 & 0xffff);
+    return v3;
 }
 
-LOCAL void core_array_array_drop_ae445932defd1957(uint64_t p0)
+LOCAL void map_service_assembler_Assembler_prepare(uint64_t p0, uint64_t p1, uint64_t p2)
 {
-    unsigned char frame_octets[32 + 15];
-    uint64_t v1 = 0;
-    v1 = aligned(frame_octets);
-    put64(v1 + 24, get64(p0 + 16));
-    put64(v1 + 16, get64(p0 + 8));
-    put64(v1 + 8, get64(p0));
-    std_alloc_vec_Vec_drop_4e50c14c2e726a6c(v1 + 8);
-    return;
-}
-
-LOCAL void std_alloc_vec_Vec_drop_555ceec2fcbf3849(uint64_t p0)
-{
-    unsigned char frame_octets[32 + 15];
-    uint64_t v1 = 0, v2 = 0, v3 = 0, v4 = 0;
-    v1 = aligned(frame_octets);
-    v2 = get64(p0 + 16);
-    v3 = get64(p0);
-    v4 = get64(p0 + 8);
-    if (v4 != 0) {
-        p0 = v3;
-        while (v4 != 0) {
-            if (get8(p0) != 0) {
-                put64(v1 + 24, get64(p0 + 24));
-                put64(v1 + 16, get64(p0 + 16));
-                put64(v1 + 8, get64(p0 + 8));
-                std_alloc_vec_Vec_drop_4e50c14c2e726a6c(v1 + 8);
-            }
-            v4 = v4 - 1;
-            p0 = p0 + 32;
-        }
-    }
-    if (v2 == 0) return;
-    rattle_dealloc_at(v3);
-    return;
-}
-
-LOCAL void nodes_spacecraft_Spacecraft_commit(uint64_t p0, uint64_t p1, uint64_t p2)
-{
-    unsigned char frame_octets[240 + 15];
-    uint32_t v4 = 0, v5 = 0, v7 = 0, v8 = 0, v9 = 0, v12 = 0, v19 = 0, v20 = 0, v21 = 0, v22 = 0, t1;
-    uint64_t v3 = 0, v6 = 0, v10 = 0, v11 = 0, v13 = 0, v14 = 0, v15 = 0, v16 = 0, v17 = 0, v18 = 0, v23 = 0, v24 = 0,
-        v25 = 0;
+    unsigned char frame_octets[416 + 15];
+    uint32_t v6 = 0, v9 = 0, v10 = 0, v11 = 0, t1;
+    uint64_t v3 = 0, v4 = 0, v5 = 0, v7 = 0, v8 = 0, v12 = 0, v13 = 0, v14 = 0, v15 = 0, v16 = 0, v17 = 0, v18 = 0,
+        v19 = 0;
     v3 = aligned(frame_octets);
-    put64(v3 + 40, get64(p2 + 34));
-    put32(v3 + 48, get32(p2 + 42));
-    v4 = get8(p2 + 33);
-    v5 = get8(p2 + 32);
-    v6 = get64(p2 + 24);
-    v7 = get8(p2 + 18);
-    v8 = get8(p2 + 17);
-    v9 = get8(p2 + 16);
-    v10 = get64(p2 + 64);
-    v11 = get64(p2 + 72);
-    v12 = get8(p2 + 128);
-    v13 = get64(p2 + 136);
-    v14 = get64(p2 + 144);
-    v15 = get64(p2 + 152);
-    v16 = get64(p2 + 160);
-    v17 = get64(p2 + 168);
-    v18 = get64(p2 + 176);
-    v19 = get8(p2 + 184);
-    v20 = get8(p2 + 48);
-    v21 = get8(p2 + 57);
-    v22 = get8(p2 + 88);
-    copy(v3 + 1, p2 + 185, 39);
-    if (v20 != 1) goto l1;
-    v23 = (uint64_t)v22 & 255;
-    fill(v3 + 200, 0, 32);
-    copy(v3 + 56, p2 + 89, 39);
-    if ((v21 & 255) <= 63) {
-        v24 = (uint64_t)v21 & 255;
-        if (((uint32_t)(get64(p1 + 88) >> (v24 & 63)) & 1) != 0) {
-            p2 = p1 + 112;
-            if (get64(p2) == 0) {
-                put64(p2, v17);
-                p2 = p1 + 120;
-                v17 = get64(p2);
-                put64(p2, v18);
-                p2 = p1 + 104;
-                v18 = get64(p2);
-                put64(p2, v16);
-                v16 = v18;
-                if (v17 != 0) goto l11;
-                goto l10;
+    fill(v3 + 40, 0, 48);
+    v4 = get64(p1 + 24);
+    v5 = get64(p1 + 32);
+    if (v5 == 0) {
+        v6 = 0;
+    } else {
+        v7 = v5 - 1;
+        v8 = v4;
+        do {
+            v6 = get8(v8) == 1;
+            if (v6 != 0) break;
+            v8 = v8 + 32;
+            v9 = v7 != 0;
+            v7 = v7 - 1;
+        } while (v9 != 0);
+    }
+    fill(v3 + 88, 0, 48);
+    v8 = (uint64_t)get8(p2 + 1);
+    if (v8 <= 63) {
+        v10 = 1;
+        v7 = get64(p1 + 8);
+        if (((uint32_t)(v7 >> (v8 & 63)) & 1) != 0) {
+            v9 = 0;
+            if (v5 <= v8) {
+                v12 = 0;
+                v5 = 0;
+            } else {
+                v10 = 1;
+                v12 = 0;
+                v5 = 0;
+                v8 = v4 + (v8 << 5);
+                if (get8(v8) == 1) {
+                    v5 = get64(v8 + 16);
+                    v12 = get64(v8 + 8);
+                    v9 = 1;
+                    v10 = 0;
+                }
             }
-            if (v17 != 0) {
-                p2 = v16;
-                do {
-                    if (get8(p2) != 0 && get64(p2 + 24) != 0) rattle_dealloc_at(get64(p2 + 8));
-                    p2 = p2 + 32;
-                    v17 = v17 - 1;
-                } while (v17 != 0);
-            }
-            if (v18 == 0) goto l10;
-        l11:;
-            rattle_dealloc_at(v16);
-        l10:;
-            if (get64(p1 + 112) <= v24) {
-                if (v12 != 2) goto l2;
-                if (v15 != 0) goto l3;
-                goto l2;
-            }
-            p2 = get64(p1 + 104) + (v24 << 5);
-            switch (v12) {
+            fill(v3 + 136, 0, 31);
+            fill(v3 + 168, 0, 144);
+            v4 = get64(p2 + 16);
+            v13 = get64(p2 + 8);
+            switch ((uint32_t)(uint64_t)get8(p2)) {
             case 1:
-                put64(p2 + 16, 0);
-                v20 = get8(p2);
-                put64(p2, 0);
-                v17 = p2 + 8;
-                v16 = get64(v17);
-                put64(v17, 0);
-                p2 = p2 + 24;
-                v17 = get64(p2);
-                put64(p2, 0);
+                v12 = (uint64_t)get32(p1 + 4);
+                if (v4 <= v12) {
+                    v5 = v3 + 408;
+                    if (v6 != 0) {
+                        v8 = 0;
+                        p2 = 0;
+                        goto l16;
+                    }
+                    v8 = 0;
+                    p2 = 0;
+                    if (v7 != 0) {
+                        p2 = 64 - clz64(v7);
+                        rattle_alloc_at(v3 + 8, p2 << 5, 8);
+                        v6 = 1;
+                        if (((uint32_t)get64(v3 + 8) & 1) == 0) {
+                            v8 = 0;
+                            fill(v3 + 88, 0, 48);
+                            v9 = 0;
+                            v11 = 2;
+                            goto l14;
+                        }
+                        v5 = get64(v3 + 16);
+                        v8 = (p2 > 1) ? p2 : 1ULL;
+                        v7 = v8 << 5;
+                        if (v7 != 0) fill(v5, 0, v7);
+                        v12 = (uint64_t)get32(p1 + 4);
+                    }
+                    goto l16;
+                }
                 break;
             case 2:
-                put64(p2 + 16, v14);
-                v20 = get8(p2);
-                put64(p2, 1);
-                v16 = p2 + 24;
-                v17 = get64(v16);
-                put64(v16, v15);
-                p2 = p2 + 8;
-                v16 = get64(p2);
-                put64(p2, v13);
+                if (v10 != 0) {
+                    v10 = 2;
+                    goto l20;
+                }
+                v14 = v4 + v5;
+                if (v14 <= (uint64_t)get32(p1 + 4)) {
+                    v15 = 0;
+                    fill(v3 + 344, 0, 64);
+                    if (v14 == 0) {
+                        v16 = v3 + 408;
+                    } else {
+                        rattle_alloc_at(v3 + 24, v14, 1);
+                        v6 = 1;
+                        if (((uint32_t)get64(v3 + 24) & 1) == 0) {
+                            p1 = 0;
+                            fill(v3 + 216, 0, 48);
+                            v9 = 0;
+                            v11 = 2;
+                            v10 = 0;
+                            v7 = 0;
+                            v4 = 0;
+                            v5 = 0;
+                            goto l35;
+                        }
+                        v16 = get64(v3 + 32);
+                    }
+                    put64(v3 + 320, 0);
+                    put64(v3 + 312, v16);
+                    put64(v3 + 328, v14);
+                    if (v5 > v14) {
+                        v8 = v14 << 1;
+                        v8 = (v5 > v8) ? v5 : v8;
+                        v9 = std_alloc_vec_Vec_move_to_a351ad16c7c032ee(v3 + 312, (v8 > 8) ? v8 : 8ULL);
+                        v15 = get64(v3 + 320);
+                        v14 = get64(v3 + 328);
+                        if (v9 == 0) {
+                            v17 = v15;
+                            goto l41;
+                        }
+                        v16 = get64(v3 + 312);
+                    }
+                    v17 = v15 + v5;
+                    v18 = v16 + v15;
+                    if ((v18 - v12) < v5) {
+                        v19 = v5 & 3;
+                        v7 = 0;
+                        if (v5 >= 4) {
+                            v5 = v5 & ~3ULL;
+                            v7 = 0;
+                            do {
+                                v8 = v18 + v7;
+                                p2 = v12 + v7;
+                                put8(v8, get8(p2));
+                                put8(v8 + 1, get8(p2 + 1));
+                                put8(v8 + 2, get8(p2 + 2));
+                                put8(v8 + 3, get8(p2 + 3));
+                                v7 = v7 + 4;
+                            } while (v5 != v7);
+                            if (v19 == 0) goto l44;
+                        }
+                        v8 = v12 + v7;
+                        v7 = v16 + (v15 + v7);
+                        do {
+                            put8(v7, get8(v8));
+                            v7 = v7 + 1;
+                            v8 = v8 + 1;
+                            v19 = v19 - 1;
+                        } while (v19 != 0);
+                    } else if (v5 != 0) copy(v18, v12, v5);
+                l44:;
+                    put64(v3 + 328, v14);
+                    put64(v3 + 320, v17);
+                l41:;
+                    if (v4 > (v14 - v17)) {
+                        if (v4 > ~v17) goto l37;
+                        v8 = v17 + v4;
+                        v8 = (v8 > 8) ? v8 : 8ULL;
+                        v7 = v14 << 1;
+                        v9 = std_alloc_vec_Vec_move_to_a351ad16c7c032ee(v3 + 312, (v14 < 0x4000000000000000ULL) ? ((v8
+                            > v7) ? v8 : v7) : v8);
+                        v17 = get64(v3 + 320);
+                        if (v9 == 0) goto l37;
+                        v14 = get64(v3 + 328);
+                    }
+                    v19 = v17 + v4;
+                    v18 = get64(v3 + 312);
+                    v12 = v18 + v17;
+                    if ((v12 - v13) < v4) {
+                        v5 = v4 & 3;
+                        v7 = 0;
+                        if (v4 >= 4) {
+                            v4 = v4 & ~3ULL;
+                            v7 = 0;
+                            do {
+                                v8 = v12 + v7;
+                                p2 = v13 + v7;
+                                put8(v8, get8(p2));
+                                put8(v8 + 1, get8(p2 + 1));
+                                put8(v8 + 2, get8(p2 + 2));
+                                put8(v8 + 3, get8(p2 + 3));
+                                v7 = v7 + 4;
+                            } while (v4 != v7);
+                            if (v5 == 0) goto l50;
+                        }
+                        v8 = v13 + v7;
+                        v7 = v18 + (v17 + v7);
+                        do {
+                            put8(v7, get8(v8));
+                            v7 = v7 + 1;
+                            v8 = v8 + 1;
+                            v5 = v5 - 1;
+                        } while (v5 != 0);
+                    } else if (v4 != 0) copy(v12, v13, v4);
+                l50:;
+                    put64(v3 + 328, v14);
+                    put64(v3 + 320, v19);
+                    goto l36;
+                l37:;
+                    v19 = v17;
+                    v18 = get64(v3 + 312);
+                l36:;
+                    if (v19 > (uint64_t)get32(p1 + 4)) {
+                        v9 = 1;
+                        v10 = 4;
+                        goto l55;
+                    }
+                    v8 = 0;
+                    if (v19 < 6) {
+                        v9 = 0;
+                    } else {
+                        v6 = get8(v18);
+                        if (v6 > 31) {
+                            v9 = 0;
+                        } else {
+                            if ((v6 & 8) != 0) {
+                                v9 = 0;
+                                if ((((v6 << 8) & 0x700) | get8(v18 + 1)) == 0x7ff) goto l57;
+                            }
+                            v8 = (((uint64_t)get8(v18 + 4) << 8) | (uint64_t)get8(v18 + 5)) + 7;
+                            v9 = v19 >= v8;
+                            v8 = (v9 != 0) ? v8 : 0ULL;
+                        }
+                    }
+                l57:;
+                    v9 = v9 & (uint32_t)(v8 == v19);
+                    v10 = (v9 != 0) ? 0U : 3U;
+                    v9 = v9 ^ 1;
+                l55:;
+                    p1 = 0;
+                    put64(v3 + 368, 0);
+                    fill(v3 + 384, 0, 24);
+                    put64(v3 + 376, v3 + 408);
+                    v7 = v3 + 408;
+                    if (v9 == 0) {
+                        smallvec_small_vec_SmallVec_push_reserved_ed127ccbaaf726c4(v3 + 368, v3 + 312);
+                        p1 = (uint64_t)get8(v3 + 368);
+                        v7 = get64(v3 + 376);
+                    }
+                    v8 = v3 + 384;
+                    if (v9 != 0 && get64(v3 + 328) != 0) rattle_dealloc_at(v18);
+                    put64(v3 + 216, get64(v3 + 344));
+                    put64(v3 + 224, get64(v3 + 352));
+                    put64(v3 + 232, get64(v3 + 360));
+                    put64(v3 + 256, get64(v8 + 16));
+                    put64(v3 + 248, get64(v8 + 8));
+                    put64(v3 + 240, get64(v8));
+                    v5 = v3 + 408;
+                    v4 = 1;
+                    v6 = 0;
+                    v11 = 0;
+                l35:;
+                    v8 = 0;
+                    p2 = 0;
+                    goto l10;
+                }
                 break;
             case 3:
-                if (get8(p2) != 1) goto l2;
-                v15 = p2 + 8;
-                v16 = get64(p2 + 24);
-                v18 = p2 + 16;
-                v17 = get64(v18);
-                if (v11 > (v16 - v17)) {
-                    if (v11 > ~v17) goto l2;
-                    v17 = v17 + v11;
-                    v17 = (v17 > 8) ? v17 : 8ULL;
-                    v13 = v16 << 1;
-                    t1 = std_alloc_vec_Vec_move_to_a351ad16c7c032ee(v15, (v16 < 0x4000000000000000ULL) ? ((v17 > v13)
-                        ? v17 : v13) : v17);
-                    if (t1 == 0) goto l2;
-                    v16 = get64(p2 + 24);
-                    v17 = get64(p2 + 16);
+                map_service_packets_fault_of_alone(v3, p1, v13, v4);
+                if (get8(v3) == 1) {
+                    v10 = get8(v3 + 1);
+                    goto l20;
                 }
-                fill(v18, 0, 16);
-                v18 = v17 + v11;
-                v15 = get64(v15);
-                v17 = v15 + v17;
-                if ((v17 - v10) < v11) {
-                    do {
-                        put8(v17, get8(v10));
-                        v17 = v17 + 1;
-                        v10 = v10 + 1;
-                        v11 = v11 - 1;
-                    } while (v11 != 0);
-                } else if (v11 != 0) copy(v17, v10, v11);
-                put64(p2 + 24, v16);
-                put64(p2 + 16, v18);
-                put64(p2 + 8, v15);
-                goto l2;
+                map_service_packets_copied_packets(v3 + 168, p1, v13, v4);
+                if (get8(v3 + 168) == 0) {
+                    put64(v3 + 240, get64(v3 + 192));
+                    put64(v3 + 248, get64(v3 + 200));
+                    put64(v3 + 256, get64(v3 + 208));
+                    v8 = 0;
+                    fill(v3 + 216, 0, 24);
+                    v5 = v3 + 408;
+                    v4 = 1;
+                    v6 = 0;
+                    v7 = get64(v3 + 184);
+                    p1 = (uint64_t)get8(v3 + 176);
+                    p2 = 0;
+                    goto l11;
+                }
+                v8 = 0;
+                fill(v3 + 88, 0, 48);
+                v9 = 0;
+                v11 = 2;
+                v6 = 1;
+                goto l14;
             default:
-                goto l2;
+                if (v10 != 0) {
+                    v10 = 2;
+                    goto l20;
+                }
+                if ((v4 + v5) <= (uint64_t)get32(p1 + 4)) {
+                    v8 = 0;
+                    fill(v3 + 216, 0, 48);
+                    v7 = v3 + 408;
+                    v4 = 3;
+                    v6 = 0;
+                    p2 = 0;
+                    v11 = 0;
+                    v9 = 0;
+                    v10 = 0;
+                    goto l19;
+                }
+                break;
             }
-            if ((v20 & 255) != 1 || v17 == 0) goto l2;
-            rattle_dealloc_at(v16);
-            goto l2;
+            v10 = 4;
+        l20:;
+            v8 = 0;
+            fill(v3 + 216, 0, 48);
+            v7 = v3 + 408;
+            v4 = 1;
+            v9 = 1;
+            v6 = 0;
+            p2 = 0;
+            v11 = 0;
+        l19:;
+            p1 = 0;
+            v5 = v7;
+            goto l10;
+        l16:;
+            fill(v3 + 368, 0, 32);
+            std_alloc_vec_Vec_with_capacity_a351ad16c7c032ee(v3 + 368, v12);
+            put64(v3 + 319, get64(v3 + 376));
+            put64(v3 + 327, get64(v3 + 384));
+            put64(v3 + 335, get64(v3 + 392));
+            if (get8(v3 + 368) == 0) {
+                v7 = v3 + 319;
+                put64(v3 + 360, get64(v7 + 16));
+                put64(v3 + 352, get64(v7 + 8));
+                put64(v3 + 344, get64(v7));
+                t1 = std_alloc_vec_Vec_extend_from_slice_672334860c861157(v3 + 344, v13, v4);
+                if ((t1 & 255) == 0) {
+                    v7 = get64(v3 + 360);
+                    put64(v3 + 159, v7);
+                    v4 = get64(v3 + 352);
+                    put64(v3 + 151, v4);
+                    v13 = get64(v3 + 344);
+                    put64(v3 + 143, v13);
+                    p1 = 0;
+                    fill(v3 + 240, 0, 24);
+                    put64(v3 + 216, v13);
+                    put64(v3 + 224, v4);
+                    put64(v3 + 232, v7);
+                    v4 = 2;
+                    v7 = v3 + 408;
+                    v6 = 0;
+                    goto l11;
+                }
+                if (get64(v3 + 360) != 0) rattle_dealloc_at(get64(v3 + 344));
+            }
+            if (v8 != 0) {
+                v7 = v5;
+                do {
+                    if (get8(v7) != 0 && get64(v7 + 24) != 0) rattle_dealloc_at(get64(v7 + 8));
+                    v7 = v7 + 32;
+                    v8 = v8 - 1;
+                } while (v8 != 0);
+            }
+            if (p2 != 0) rattle_dealloc_at(v5);
+            put64(v3 + 128, get64(v3 + 304));
+            put64(v3 + 120, get64(v3 + 296));
+            put64(v3 + 112, get64(v3 + 288));
+            put64(v3 + 88, get64(v3 + 264));
+            put64(v3 + 96, get64(v3 + 272));
+            put64(v3 + 104, get64(v3 + 280));
+            v9 = 0;
+            v11 = 2;
+            v6 = 1;
+            v8 = 0;
+        l14:;
+            p2 = 0;
+            v7 = 0;
+            v5 = 0;
+            v10 = 0;
+            p1 = 0;
+            v4 = 0;
+            goto l9;
+        l11:;
+            v11 = 0;
+            v10 = v9;
+        l10:;
+            put64(v3 + 128, get64(v3 + 256));
+            put64(v3 + 120, get64(v3 + 248));
+            put64(v3 + 112, get64(v3 + 240));
+            put64(v3 + 88, get64(v3 + 216));
+            put64(v3 + 96, get64(v3 + 224));
+            put64(v3 + 104, get64(v3 + 232));
+        l9:;
+            put64(v3 + 64, get64(v3 + 112));
+            put64(v3 + 72, get64(v3 + 120));
+            put64(v3 + 80, get64(v3 + 128));
+            put64(v3 + 40, get64(v3 + 88));
+            put64(v3 + 48, get64(v3 + 96));
+            put64(v3 + 56, get64(v3 + 104));
+            goto l4;
         }
     }
-    if (v17 != 0) {
-        p2 = v16;
-        do {
-            if (get8(p2) != 0 && get64(p2 + 24) != 0) rattle_dealloc_at(get64(p2 + 8));
-            p2 = p2 + 32;
-            v17 = v17 - 1;
-        } while (v17 != 0);
-    }
-    if (v18 != 0) rattle_dealloc_at(v16);
-    if (v12 != 2 || v15 == 0) goto l2;
-l3:;
-    rattle_dealloc_at(v13);
-l2:;
-    p2 = get64(v3 + 87);
-    put64(v3 + 224, p2);
-    v17 = get64(v3 + 79);
-    put64(v3 + 216, v17);
-    v16 = get64(v3 + 71);
-    put64(v3 + 208, v16);
-    v18 = get64(v3 + 63);
-    put64(v3 + 200, v18);
-    put64(v3 + 72, v18);
-    put64(v3 + 80, v16);
-    put64(v3 + 88, v17);
-    put64(v3 + 96, p2);
-    put64(v3 + 64, v23);
-    v17 = v3 + 175;
-    v14 = v3 + 72;
-    v23 = p1 + 184;
-    v24 = p1 + 176;
-    v13 = p1 + 192;
-    v15 = p1 + 168;
-    v25 = p1 + 160;
+    v8 = 0;
+    fill(v3 + 40, 0, 48);
+    v10 = 0;
+    v9 = 1;
     p2 = 0;
-    for (;;) {
-        v16 = get64(v3 + 80);
-        v20 = v22 & 255;
-        if (p2 == ((v20 != 0) ? v16 : get64(v3 + 96))) break;
-        put64(v3 + 56, p2 + 1);
-        p2 = ((v20 != 0) ? get64(v3 + 72) : v14) + (p2 * 24);
-        v16 = get64(p2 + 16);
-        put64(p2 + 16, 0);
-        v18 = get64(p2 + 8);
-        put64(p2 + 8, 0);
-        v10 = get64(p2);
-        put64(v3 + 104, v10);
-        put64(v3 + 112, v18);
-        put64(v3 + 120, v16);
-        put64(p2, v3 + 239);
-        put64(v17 + 16, v16);
-        put64(v17 + 8, v18);
-        put64(v17, v10);
-        fill(v3 + 168, 0, 7);
-        put64(v3 + 159, get64(v3 + 191));
-        put64(v3 + 152, get64(v3 + 184));
-        put64(v3 + 144, get64(v3 + 176));
-        put64(v3 + 136, get64(v3 + 168));
-        p2 = get64(v25);
-        v16 = get64(v15);
-        v18 = get64(v13);
-        v10 = v16 - v18;
-        v11 = get64(v23);
-        if (v10 < (get64(v24) - v11)) {
-            p2 = p2 + ((v11 + v10) << 5);
-            put8(p2, v21);
-            put64(p2 + 1, get64(v3 + 136));
-            put64(p2 + 9, get64(v3 + 144));
-            put64(p2 + 17, get64(v3 + 152));
-            put64(p2 + 24, get64(v3 + 159));
-        } else {
-            p2 = p2 + (v18 << 5);
-            put64(p2 + 1, get64(v3 + 136));
-            put8(p2, v21);
-            put64(p2 + 9, get64(v3 + 144));
-            put64(p2 + 17, get64(v3 + 152));
-            put64(p2 + 24, get64(v3 + 159));
-            put64(v13, v18 + 1);
-        }
-        put64(v15, v16 + 1);
-        v22 = get8(v3 + 64);
-        p2 = get64(v3 + 56);
-    }
-    v17 = get64(v3 + 88);
-    p2 = get64(v3 + 72);
-    if ((v22 & 255) == 0) {
-        put64(v3 + 184, v17);
-        put64(v3 + 176, v16);
-        put64(v3 + 168, p2);
-        std_alloc_vec_Vec_drop_030412a25431895c(v3 + 168);
-    } else {
-        if (v16 != 0) {
-            put64(v3 + 176, v16);
-            put64(v3 + 168, p2);
-            std_alloc_vec_opened_drop_run_03d4c2b8051eaf83(v3 + 168, 0, v16);
-        }
-        put64(v3 + 184, v17);
-        put64(v3 + 176, 0);
-        put64(v3 + 168, p2);
-        std_alloc_vec_Vec_destroy_empty_9144b5853a75d9b2(v3 + 168);
-    }
-l1:;
-    if ((v19 & 255) == 1) {
-        fill(v3 + 168, 0, 32);
-        p2 = v3 + 8;
-        put64(v3 + 200, get64(p2));
-        put64(v3 + 208, get64(p2 + 8));
-        put64(v3 + 216, get64(p2 + 16));
-        put64(v3 + 224, get64(p2 + 24));
-        v17 = get64(p1 + 208);
-        if (v17 == 0) {
-            put64(v3 + 80, get64(p2 + 24));
-            put64(v3 + 72, get64(p2 + 16));
-            put64(v3 + 64, get64(p2 + 8));
-            put64(v3 + 56, get64(p2));
-            p2 = v3 + 56;
-        } else {
-            v16 = p1 + 200;
-            if (v17 > get64(p1 + 216)) {
-                put64(v3 + 160, get64(p2 + 24));
-                put64(v3 + 152, get64(p2 + 16));
-                put64(v3 + 144, get64(p2 + 8));
-                put64(v3 + 136, get64(p2));
-                circular_buffer_ring_Ring_put_back_0956fa20d2e9e8d8(v16, v3 + 136);
-                goto l31;
+    v7 = v3 + 408;
+    v5 = v7;
+    p1 = 0;
+    v4 = 0;
+    v6 = 0;
+    v11 = 0;
+l4:;
+    fill(p0 + 10, 0, 6);
+    put64(p0 + 24, v7);
+    put64(p0 + 16, p1);
+    put8(p0 + 9, v10);
+    put8(p0 + 8, v9);
+    put8(p0 + 1, v11);
+    put8(p0, v6);
+    put64(p0 + 32, get64(v3 + 64));
+    put64(p0 + 40, get64(v3 + 72));
+    put64(p0 + 48, get64(v3 + 80));
+    put64(p0 + 56, v4);
+    put64(p0 + 64, get64(v3 + 40));
+    put64(p0 + 72, get64(v3 + 48));
+    put64(p0 + 80, get64(v3 + 56));
+    put64(p0 + 104, p2);
+    put64(p0 + 96, v8);
+    put64(p0 + 88, v5);
+    return;
+}
+
+LOCAL void nodes_spacecraft_Spacecraft_packet_to_keep(uint64_t p0, uint64_t p1, uint64_t p2)
+{
+    unsigned char frame_octets[96 + 15];
+    uint32_t v5 = 0, t1;
+    uint64_t v3 = 0, v4 = 0;
+    v3 = aligned(frame_octets);
+    fill(v3 + 32, 0, 32);
+    v4 = (uint64_t)get8(p2 + 1);
+    if (v4 <= 63 && ((uint32_t)(get64(p1 + 40) >> (v4 & 63)) & 1) != 0 && get8(p2) == 3) {
+        v4 = get64(p2 + 16);
+        if (v4 <= (uint64_t)get32(p1 + 32)) {
+            p1 = get64(p2 + 8);
+            t1 = space_packet_whole_is_packet(p1, v4);
+            if (t1 != 0) {
+                std_alloc_vec_Vec_from_slice_8e16d1c3a9c68bc1(v3 + 32, p1, v4);
+                if (get8(v3 + 32) != 0) {
+                    put16(p0, 0x501);
+                    fill(p0 + 8, 0, 40);
+                    return;
+                }
+                v5 = get8(p2 + 1);
+                put64(v3 + 71, get64(v3 + 40));
+                fill(v3 + 64, 0, 7);
+                put64(v3 + 79, get64(v3 + 48));
+                p2 = get64(v3 + 56);
+                put64(v3 + 87, p2);
+                put64(v3 + 23, p2);
+                put64(v3, get64(v3 + 64));
+                put64(v3 + 8, get64(v3 + 72));
+                put64(v3 + 16, get64(v3 + 80));
+                put8(p0 + 16, v5);
+                put64(p0 + 8, 1);
+                put16(p0, 0);
+                put64(p0 + 17, get64(v3));
+                put64(p0 + 25, get64(v3 + 8));
+                put64(p0 + 33, get64(v3 + 16));
+                put64(p0 + 40, get64(v3 + 23));
+                return;
             }
-            circular_buffer_ring_Ring_take_front_0956fa20d2e9e8d8(v3 + 168, v16);
-            circular_buffer_ring_Ring_put_back_0956fa20d2e9e8d8(v16, v3 + 200);
-            p2 = v3 + 168;
         }
-        put64(v3 + 128, get64(p2 + 24));
-        put64(v3 + 120, get64(p2 + 16));
-        put64(v3 + 112, get64(p2 + 8));
-        put64(v3 + 104, get64(p2));
-        std_alloc_vec_Vec_drop_030412a25431895c(v3 + 112);
     }
-l31:;
-    put16(p1 + 76, get16(v3 + 50));
-    put32(p1 + 72, get32(v3 + 46));
-    put8(p0 + 17, v4);
-    put8(p0 + 16, v5);
-    put64(p0 + 8, v6);
-    put8(p0 + 2, v7);
-    put8(p0 + 1, v8);
-    put8(p0, v9);
+    put16(p0, 0);
+    fill(p0 + 8, 0, 40);
+    return;
+}
+
+LOCAL void nodes_spacecraft_receive_obey(uint64_t p0, uint32_t p1, uint32_t p2)
+{
+    if ((p1 & 255) == 0) {
+        fill(p0 + 2, 0, 3);
+        p0 = p0 + 5;
+        put8(p0, (get8(p0) + 1) & 3);
+        return;
+    }
+    cop1_farm_Farm_set_vr(p0, p2);
     return;
 }
 
@@ -52380,18 +52283,6 @@ LOCAL void std_alloc_vec_deque_VecDeque_pop_front_1598ebf9113514c4(uint64_t p0, 
     put64(v2 + 16, v5);
     put64(v2 + 24, v3);
     return;
-}
-
-LOCAL uint32_t tc_frame_decoding_has_wrong_check(uint64_t p0, uint64_t p1, uint32_t p2)
-{
-    uint32_t v3 = 0, t1;
-    v3 = 0;
-    if ((p2 & 1) != 0) return v3;
-    p1 = p1 - 2;
-    v3 = get16(p0 + p1);
-    t1 = octets_frame_check_check(p0, p1);
-    v3 = (((v3 << 8) | (v3 >> 8)) & 0xffff) != (t1 & 0xffff);
-    return v3;
 }
 
 LOCAL void nodes_spacecraft_Spacecraft_control_word(uint64_t p0, uint64_t p1)
@@ -53308,6 +53199,306 @@ LOCAL uint32_t std_alloc_vec_Vec_push_2a1d2754e95bb7cb(uint64_t p0)
     return v1;
 }
 
+LOCAL void core_array_array_drop_ae445932defd1957(uint64_t p0)
+{
+    unsigned char frame_octets[32 + 15];
+    uint64_t v1 = 0;
+    v1 = aligned(frame_octets);
+    put64(v1 + 24, get64(p0 + 16));
+    put64(v1 + 16, get64(p0 + 8));
+    put64(v1 + 8, get64(p0));
+    std_alloc_vec_Vec_drop_4e50c14c2e726a6c(v1 + 8);
+    return;
+}
+
+LOCAL void std_alloc_vec_Vec_drop_555ceec2fcbf3849(uint64_t p0)
+{
+    unsigned char frame_octets[32 + 15];
+    uint64_t v1 = 0, v2 = 0, v3 = 0, v4 = 0;
+    v1 = aligned(frame_octets);
+    v2 = get64(p0 + 16);
+    v3 = get64(p0);
+    v4 = get64(p0 + 8);
+    if (v4 != 0) {
+        p0 = v3;
+        while (v4 != 0) {
+            if (get8(p0) != 0) {
+                put64(v1 + 24, get64(p0 + 24));
+                put64(v1 + 16, get64(p0 + 16));
+                put64(v1 + 8, get64(p0 + 8));
+                std_alloc_vec_Vec_drop_4e50c14c2e726a6c(v1 + 8);
+            }
+            v4 = v4 - 1;
+            p0 = p0 + 32;
+        }
+    }
+    if (v2 == 0) return;
+    rattle_dealloc_at(v3);
+    return;
+}
+
+LOCAL void nodes_spacecraft_Spacecraft_hand_on(uint64_t p0, uint64_t p1, uint64_t p2)
+{
+    unsigned char frame_octets[176 + 15];
+    uint32_t v10 = 0, v11 = 0, v14 = 0, t1;
+    uint64_t v3 = 0, v4 = 0, v5 = 0, v6 = 0, v7 = 0, v8 = 0, v9 = 0, v12 = 0, v13 = 0, v15 = 0;
+    v3 = aligned(frame_octets);
+    fill(v3 + 8, 0, 32);
+    v4 = get64(p2 + 96);
+    v5 = get64(p2 + 88);
+    v6 = get64(p2 + 80);
+    v7 = get64(p2 + 72);
+    v8 = get64(p2 + 64);
+    v9 = get64(p2 + 56);
+    v10 = get8(p2 + 48);
+    v11 = get8(p2 + 8);
+    copy(v3 + 96, p2 + 9, 39);
+    v12 = (uint64_t)v11 & 255;
+    v13 = (uint64_t)get8(p1 + 1);
+    if (v13 > 63 || ((uint32_t)(get64(p0 + 88) >> (v13 & 63)) & 1) == 0) {
+        if (v5 != 0) {
+            p2 = v6;
+            do {
+                if (get8(p2) != 0 && get64(p2 + 24) != 0) rattle_dealloc_at(get64(p2 + 8));
+                p2 = p2 + 32;
+                v5 = v5 - 1;
+            } while (v5 != 0);
+        }
+        if (v4 != 0) rattle_dealloc_at(v6);
+        if (v10 != 2 || v7 == 0) goto l1;
+        goto l2;
+    }
+    p2 = p0 + 112;
+    if (get64(p2) == 0) {
+        put64(p2, v5);
+        p2 = p0 + 120;
+        v5 = get64(p2);
+        put64(p2, v4);
+        p2 = p0 + 104;
+        v4 = get64(p2);
+        put64(p2, v6);
+        v6 = v4;
+        if (v5 != 0) goto l10;
+        goto l9;
+    }
+    if (v5 != 0) {
+        p2 = v6;
+        do {
+            if (get8(p2) != 0 && get64(p2 + 24) != 0) rattle_dealloc_at(get64(p2 + 8));
+            p2 = p2 + 32;
+            v5 = v5 - 1;
+        } while (v5 != 0);
+    }
+    if (v4 == 0) goto l9;
+l10:;
+    rattle_dealloc_at(v6);
+l9:;
+    if (get64(p0 + 112) <= v13) {
+        if (v10 != 2) goto l1;
+        if (v7 != 0) goto l2;
+        goto l1;
+    }
+    p2 = get64(p0 + 104) + (v13 << 5);
+    switch (v10) {
+    case 1:
+        break;
+    case 2:
+        put64(p2 + 16, v8);
+        v10 = get8(p2);
+        put64(p2, 1);
+        v6 = p2 + 24;
+        v5 = get64(v6);
+        put64(v6, v7);
+        p2 = p2 + 8;
+        v6 = get64(p2);
+        put64(p2, v9);
+        goto l16;
+    case 3:
+        if (get8(p2) != 1) goto l1;
+        v5 = get64(p1 + 8);
+        v9 = p2 + 8;
+        v4 = get64(p1 + 16);
+        v13 = get64(p2 + 24);
+        v7 = p2 + 16;
+        v6 = get64(v7);
+        if (v4 > (v13 - v6)) {
+            if (v4 > ~v6) goto l1;
+            v6 = v6 + v4;
+            v6 = (v6 > 8) ? v6 : 8ULL;
+            v8 = v13 << 1;
+            t1 = std_alloc_vec_Vec_move_to_a351ad16c7c032ee(v9, (v13 < 0x4000000000000000ULL) ? ((v6 > v8) ? v6 : v8)
+                : v6);
+            if (t1 == 0) goto l1;
+            v13 = get64(p2 + 24);
+            v6 = get64(p2 + 16);
+        }
+        fill(v7, 0, 16);
+        v7 = v6 + v4;
+        v9 = get64(v9);
+        v6 = v9 + v6;
+        if ((v6 - v5) < v4) {
+            do {
+                put8(v6, get8(v5));
+                v6 = v6 + 1;
+                v5 = v5 + 1;
+                v4 = v4 - 1;
+            } while (v4 != 0);
+        } else if (v4 != 0) copy(v6, v5, v4);
+        put64(p2 + 24, v13);
+        put64(p2 + 16, v7);
+        put64(p2 + 8, v9);
+        goto l1;
+    default:
+        goto l1;
+    }
+    put64(p2 + 16, 0);
+    v10 = get8(p2);
+    put64(p2, 0);
+    v5 = p2 + 8;
+    v6 = get64(v5);
+    put64(v5, 0);
+    p2 = p2 + 24;
+    v5 = get64(p2);
+    put64(p2, 0);
+l16:;
+    if ((v10 & 255) != 1 || v5 == 0) goto l1;
+    rattle_dealloc_at(v6);
+    goto l1;
+l2:;
+    rattle_dealloc_at(v9);
+l1:;
+    p2 = get64(v3 + 127);
+    put64(v3 + 32, p2);
+    v5 = get64(v3 + 119);
+    put64(v3 + 24, v5);
+    v6 = get64(v3 + 111);
+    put64(v3 + 16, v6);
+    v4 = get64(v3 + 103);
+    put64(v3 + 8, v4);
+    v14 = get8(p1 + 1);
+    put64(v3 + 112, v4);
+    put64(v3 + 120, v6);
+    put64(v3 + 128, v5);
+    put64(v3 + 136, p2);
+    put64(v3 + 104, v12);
+    v5 = v3 + 151;
+    v7 = v3 + 112;
+    v9 = p0 + 184;
+    v8 = p0 + 176;
+    v12 = p0 + 192;
+    v6 = p0 + 168;
+    v15 = p0 + 160;
+    p2 = 0;
+    for (;;) {
+        p0 = get64(v3 + 120);
+        v10 = v11 & 255;
+        if (p2 == ((v10 != 0) ? p0 : get64(v3 + 136))) break;
+        put64(v3 + 96, p2 + 1);
+        p2 = ((v10 != 0) ? get64(v3 + 112) : v7) + (p2 * 24);
+        p0 = get64(p2 + 16);
+        put64(p2 + 16, 0);
+        p1 = get64(p2 + 8);
+        put64(p2 + 8, 0);
+        v4 = get64(p2);
+        put64(v3 + 72, v4);
+        put64(v3 + 80, p1);
+        put64(v3 + 88, p0);
+        put64(p2, v3 + 175);
+        put64(v5 + 16, p0);
+        put64(v5 + 8, p1);
+        put64(v5, v4);
+        fill(v3 + 144, 0, 7);
+        put64(v3 + 63, get64(v3 + 167));
+        put64(v3 + 56, get64(v3 + 160));
+        put64(v3 + 48, get64(v3 + 152));
+        put64(v3 + 40, get64(v3 + 144));
+        p2 = get64(v15);
+        p0 = get64(v6);
+        p1 = get64(v12);
+        v4 = p0 - p1;
+        v13 = get64(v9);
+        if (v4 < (get64(v8) - v13)) {
+            p2 = p2 + ((v13 + v4) << 5);
+            put8(p2, v14);
+            put64(p2 + 1, get64(v3 + 40));
+            put64(p2 + 9, get64(v3 + 48));
+            put64(p2 + 17, get64(v3 + 56));
+            put64(p2 + 24, get64(v3 + 63));
+        } else {
+            p2 = p2 + (p1 << 5);
+            put64(p2 + 1, get64(v3 + 40));
+            put8(p2, v14);
+            put64(p2 + 9, get64(v3 + 48));
+            put64(p2 + 17, get64(v3 + 56));
+            put64(p2 + 24, get64(v3 + 63));
+            put64(v12, p1 + 1);
+        }
+        put64(v6, p0 + 1);
+        v11 = get8(v3 + 104);
+        p2 = get64(v3 + 96);
+    }
+    v5 = get64(v3 + 128);
+    p2 = get64(v3 + 112);
+    if ((v11 & 255) == 0) {
+        put64(v3 + 160, v5);
+        put64(v3 + 152, p0);
+        put64(v3 + 144, p2);
+        std_alloc_vec_Vec_drop_030412a25431895c(v3 + 144);
+        return;
+    }
+    if (p0 != 0) {
+        put64(v3 + 152, p0);
+        put64(v3 + 144, p2);
+        std_alloc_vec_opened_drop_run_03d4c2b8051eaf83(v3 + 144, 0, p0);
+    }
+    put64(v3 + 160, v5);
+    put64(v3 + 152, 0);
+    put64(v3 + 144, p2);
+    std_alloc_vec_Vec_destroy_empty_9144b5853a75d9b2(v3 + 144);
+    return;
+}
+
+LOCAL void nodes_spacecraft_Spacecraft_keep(uint64_t p0, uint64_t p1)
+{
+    unsigned char frame_octets[160 + 15];
+    uint64_t v2 = 0, v3 = 0, v4 = 0;
+    v2 = aligned(frame_octets);
+    if (get8(p1) != 1) return;
+    fill(v2 + 64, 0, 32);
+    p1 = p1 + 8;
+    put64(v2 + 96, get64(p1));
+    put64(v2 + 104, get64(p1 + 8));
+    put64(v2 + 112, get64(p1 + 16));
+    put64(v2 + 120, get64(p1 + 24));
+    v3 = get64(p0 + 208);
+    if (v3 == 0) {
+        put64(v2 + 152, get64(p1 + 24));
+        put64(v2 + 144, get64(p1 + 16));
+        put64(v2 + 136, get64(p1 + 8));
+        put64(v2 + 128, get64(p1));
+        p1 = v2 + 128;
+    } else {
+        v4 = p0 + 200;
+        if (v3 > get64(p0 + 216)) {
+            put64(v2 + 56, get64(p1 + 24));
+            put64(v2 + 48, get64(p1 + 16));
+            put64(v2 + 40, get64(p1 + 8));
+            put64(v2 + 32, get64(p1));
+            circular_buffer_ring_Ring_put_back_0956fa20d2e9e8d8(v4, v2 + 32);
+            return;
+        }
+        circular_buffer_ring_Ring_take_front_0956fa20d2e9e8d8(v2 + 64, v4);
+        circular_buffer_ring_Ring_put_back_0956fa20d2e9e8d8(v4, v2 + 96);
+        p1 = v2 + 64;
+    }
+    put64(v2 + 24, get64(p1 + 24));
+    put64(v2 + 16, get64(p1 + 16));
+    put64(v2 + 8, get64(p1 + 8));
+    put64(v2, get64(p1));
+    std_alloc_vec_Vec_drop_030412a25431895c(v2 + 8);
+    return;
+}
+
 LOCAL uint32_t std_alloc_string_String_push_str_4e689c9ecf7a3082(uint64_t p0, uint64_t p1, uint64_t p2)
 {
     unsigned char frame_octets[16 + 15];
@@ -54154,22 +54345,37 @@ LOCAL void tm_link_extractor_Extractor_new(uint64_t p0)
     return;
 }
 
-LOCAL uint32_t std_alloc_vec_Vec_move_to_ab161963403435e1(uint64_t p0, uint64_t p1)
+LOCAL void std_alloc_vec_deque_VecDeque_with_capacity_ab161963403435e1(uint64_t p0, uint64_t p1)
 {
-    unsigned char frame_octets[16 + 15];
-    uint32_t v3 = 0;
-    uint64_t v2 = 0, v4 = 0, v5 = 0;
+    unsigned char frame_octets[32 + 15];
+    uint32_t t1;
+    uint64_t v2 = 0, v3 = 0, v4 = 0;
     v2 = aligned(frame_octets);
-    v3 = 0;
-    if (p1 >= 0x400000000000000ULL) return v3;
-    v4 = p0 + 16;
-    std_alloc_vec_resize_ab161963403435e1(v2, get64(p0), get64(p0 + 8), get64(v4), p1);
-    if (get8(v2) != 0) return v3;
-    v5 = get64(v2 + 8);
-    put64(v4, p1);
-    put64(p0, v5);
-    v3 = 1;
-    return v3;
+    fill(v2 + 8, 0, 16);
+    put64(v2, v2 + 24);
+    if (p1 == 0) {
+        p1 = v2 + 24;
+        v3 = 0;
+        v4 = 0;
+    } else {
+        t1 = std_alloc_vec_Vec_move_to_ab161963403435e1(v2, p1);
+        if (t1 == 0) {
+            std_alloc_vec_Vec_destroy_empty_ab161963403435e1(v2);
+            put8(p0, 1);
+            fill(p0 + 8, 0, 40);
+            return;
+        }
+        v3 = get64(v2 + 16);
+        v4 = get64(v2 + 8);
+        p1 = get64(v2);
+    }
+    put8(p0, 0);
+    put64(p0 + 32, 0);
+    put64(p0 + 24, v3);
+    put64(p0 + 16, v4);
+    put64(p0 + 8, p1);
+    put64(p0 + 40, 0);
+    return;
 }
 
 LOCAL void circular_buffer_heap_HeapCircularBuffer_drop_695a0d5c0a17370d(uint64_t p0)
@@ -54201,13 +54407,6 @@ LOCAL void std_alloc_vec_deque_VecDeque_drop_695a0d5c0a17370d(uint64_t p0)
     return;
 }
 
-LOCAL void std_alloc_vec_Vec_destroy_empty_ab161963403435e1(uint64_t p0)
-{
-    if (get64(p0 + 16) == 0) return;
-    rattle_dealloc_at(get64(p0));
-    return;
-}
-
 LOCAL void std_alloc_vec_Vec_drop_030412a25431895c(uint64_t p0)
 {
     unsigned char frame_octets[32 + 15];
@@ -54217,6 +54416,31 @@ LOCAL void std_alloc_vec_Vec_drop_030412a25431895c(uint64_t p0)
     put64(v1 + 24, get64(p0 + 16));
     put64(v1 + 8, get64(p0));
     std_alloc_vec_Vec_destroy_empty_2ad1318893ccf184(v1 + 8);
+    return;
+}
+
+LOCAL uint32_t std_alloc_vec_Vec_move_to_ab161963403435e1(uint64_t p0, uint64_t p1)
+{
+    unsigned char frame_octets[16 + 15];
+    uint32_t v3 = 0;
+    uint64_t v2 = 0, v4 = 0, v5 = 0;
+    v2 = aligned(frame_octets);
+    v3 = 0;
+    if (p1 >= 0x400000000000000ULL) return v3;
+    v4 = p0 + 16;
+    std_alloc_vec_resize_ab161963403435e1(v2, get64(p0), get64(p0 + 8), get64(v4), p1);
+    if (get8(v2) != 0) return v3;
+    v5 = get64(v2 + 8);
+    put64(v4, p1);
+    put64(p0, v5);
+    v3 = 1;
+    return v3;
+}
+
+LOCAL void std_alloc_vec_Vec_destroy_empty_ab161963403435e1(uint64_t p0)
+{
+    if (get64(p0 + 16) == 0) return;
+    rattle_dealloc_at(get64(p0));
     return;
 }
 
@@ -54758,103 +54982,23 @@ LOCAL uint32_t map_service_cutting_append(uint64_t p0, uint64_t p1)
     return v4;
 }
 
-LOCAL uint32_t std_alloc_vec_deque_VecDeque_grow_ab161963403435e1(uint64_t p0, uint64_t p1)
+LOCAL void std_alloc_vec_deque_VecDeque_push_back_reserved_ab161963403435e1(uint64_t p0, uint64_t p1)
 {
-    unsigned char frame_octets[64 + 15];
-    uint32_t v3 = 0;
-    uint64_t v2 = 0, v4 = 0, v5 = 0, v6 = 0, v7 = 0;
+    unsigned char frame_octets[32 + 15];
+    uint64_t v2 = 0;
     v2 = aligned(frame_octets);
-    v3 = 1;
-    v4 = get64(p0 + 16);
-    v5 = get64(p0 + 8);
-    if (p1 <= (v4 - v5)) return v3;
-    v6 = p0 + 24;
-    if (get64(v6) == 0) {
-        v7 = get64(p0);
-        put64(v2 + 56, v4);
-        put64(v2 + 40, v7);
-        put64(v2 + 48, v5);
-        v3 = 0;
-        if (p1 <= ~v5) {
-            v5 = v5 + p1;
-            v5 = (v5 > 4) ? v5 : 4ULL;
-            p1 = v4 << 1;
-            v3 = std_alloc_vec_Vec_move_to_ab161963403435e1(v2 + 40, (v4 < 0x4000000000000000ULL) ? ((v5 > p1) ? v5 :
-                p1) : v5);
-            v4 = get64(v2 + 56);
-            v5 = get64(v2 + 48);
-            v7 = get64(v2 + 40);
-        }
-        put64(p0, v7);
-        fill(v6, 0, 16);
-        put64(p0 + 16, v4);
-        put64(p0 + 8, v5);
-        return v3;
-    }
-    v3 = 0;
-    if (p1 > ~v5) return v3;
-    p1 = v5 + p1;
-    p1 = (p1 > 4) ? p1 : 4ULL;
-    v7 = v5 << 1;
-    p1 = (v5 < 0x4000000000000000ULL) ? ((p1 > v7) ? p1 : v7) : p1;
-    if (v4 == v5 && get64(p0 + 32) <= (p1 - v5)) {
-        if (p1 > 0x3ffffffffffffffULL) return v3;
-        std_alloc_vec_resize_ab161963403435e1(v2 + 24, get64(p0), v5, v5, p1);
-        if (get8(v2 + 24) != 0) return v3;
-        v5 = get64(v2 + 32);
-        v4 = p0 + 32;
-        std_alloc_vec_copy_34_nodes_owned_segment_OwnedSegment(v5 + (get64(p0 + 8) << 5), v5, get64(v4));
-        put64(v4, 0);
-        put64(p0 + 16, p1);
-        put64(p0, v5);
-    } else {
-        if (p1 > 0x3ffffffffffffffULL) return v3;
-        std_heap_GlobalAllocator_allocate(v2 + 8, p1 << 5, 8);
-        if (get8(v2 + 8) != 0) return v3;
-        v5 = p0 + 32;
-        v4 = get64(p0 + 8) - get64(v5);
-        v7 = std_alloc_vec_copy_34_nodes_owned_segment_OwnedSegment(get64(v2 + 16), get64(p0) + (get64(p0 + 24) << 5),
-            v4);
-        std_alloc_vec_copy_34_nodes_owned_segment_OwnedSegment(v7 + (v4 << 5), get64(p0), get64(v5));
-        rattle_dealloc_at(get64(p0));
-        put64(p0 + 16, p1);
-        put64(p0, v7);
-        fill(v6, 0, 16);
-    }
-    v3 = 1;
-    return v3;
+    put64(v2 + 24, get64(p1 + 24));
+    put64(v2 + 16, get64(p1 + 16));
+    put64(v2 + 8, get64(p1 + 8));
+    put64(v2, get64(p1));
+    std_alloc_vec_deque_VecDeque_write_back_ab161963403435e1(p0, v2);
+    return;
 }
 
-LOCAL void std_alloc_vec_deque_VecDeque_write_back_ab161963403435e1(uint64_t p0, uint64_t p1)
+LOCAL void std_alloc_vec_Vec_drop_2f5d0285e11e35b2(uint64_t p0)
 {
-    uint64_t v2 = 0, v3 = 0, v4 = 0, v5 = 0, v6 = 0, v7 = 0, v8 = 0;
-    v2 = get64(p0);
-    v3 = get64(p0 + 8);
-    v4 = p0 + 32;
-    v5 = get64(v4);
-    v6 = v3 - v5;
-    v7 = get64(p0 + 24);
-    if (v6 < (get64(p0 + 16) - v7)) {
-        v5 = get64(p1);
-        v4 = get64(p1 + 8);
-        v8 = get64(p1 + 16);
-        v2 = v2 + ((v6 + v7) << 5);
-        put64(v2 + 24, get64(p1 + 24));
-        put64(v2 + 16, v8);
-        put64(v2 + 8, v4);
-        put64(v2, v5);
-    } else {
-        v6 = get64(p1);
-        v7 = get64(p1 + 8);
-        v8 = get64(p1 + 16);
-        v2 = v2 + (v5 << 5);
-        put64(v2 + 24, get64(p1 + 24));
-        put64(v2 + 16, v8);
-        put64(v2 + 8, v7);
-        put64(v2, v6);
-        put64(v4, v5 + 1);
-    }
-    put64(p0 + 8, v3 + 1);
+    if (get64(p0 + 16) == 0) return;
+    rattle_dealloc_at(get64(p0));
     return;
 }
 
@@ -54904,13 +55048,6 @@ l4:;
 l3:;
     v3 = 4;
     return v3;
-}
-
-LOCAL void std_alloc_vec_Vec_drop_2f5d0285e11e35b2(uint64_t p0)
-{
-    if (get64(p0 + 16) == 0) return;
-    rattle_dealloc_at(get64(p0));
-    return;
 }
 
 LOCAL void std_alloc_vec_Vec_from_slice_8e16d1c3a9c68bc1(uint64_t p0, uint64_t p1, uint64_t p2)
@@ -55034,29 +55171,37 @@ LOCAL uint32_t std_alloc_vec_Vec_move_to_2ad1318893ccf184(uint64_t p0, uint64_t 
     return v3;
 }
 
-LOCAL uint64_t std_alloc_vec_copy_34_nodes_owned_segment_OwnedSegment(uint64_t p0, uint64_t p1, uint64_t p2)
+LOCAL void std_alloc_vec_deque_VecDeque_write_back_ab161963403435e1(uint64_t p0, uint64_t p1)
 {
-    uint64_t v3 = 0, v4 = 0, v5 = 0, v6 = 0;
-    v3 = p2 << 5;
-    if ((p0 - p1) < v3) {
-        v3 = p0;
-        for (;;) {
-            if (p2 == 0) return p0;
-            v4 = get64(p1);
-            v5 = get64(p1 + 8);
-            v6 = get64(p1 + 16);
-            put64(v3 + 24, get64(p1 + 24));
-            put64(v3 + 16, v6);
-            put64(v3 + 8, v5);
-            put64(v3, v4);
-            p2 = p2 - 1;
-            v3 = v3 + 32;
-            p1 = p1 + 32;
-        }
+    uint64_t v2 = 0, v3 = 0, v4 = 0, v5 = 0, v6 = 0, v7 = 0, v8 = 0;
+    v2 = get64(p0);
+    v3 = get64(p0 + 8);
+    v4 = p0 + 32;
+    v5 = get64(v4);
+    v6 = v3 - v5;
+    v7 = get64(p0 + 24);
+    if (v6 < (get64(p0 + 16) - v7)) {
+        v5 = get64(p1);
+        v4 = get64(p1 + 8);
+        v8 = get64(p1 + 16);
+        v2 = v2 + ((v6 + v7) << 5);
+        put64(v2 + 24, get64(p1 + 24));
+        put64(v2 + 16, v8);
+        put64(v2 + 8, v4);
+        put64(v2, v5);
+    } else {
+        v6 = get64(p1);
+        v7 = get64(p1 + 8);
+        v8 = get64(p1 + 16);
+        v2 = v2 + (v5 << 5);
+        put64(v2 + 24, get64(p1 + 24));
+        put64(v2 + 16, v8);
+        put64(v2 + 8, v7);
+        put64(v2, v6);
+        put64(v4, v5 + 1);
     }
-    if (v3 == 0) return p0;
-    copy(p0, p1, v3);
-    return p0;
+    put64(p0 + 8, v3 + 1);
+    return;
 }
 
 LOCAL uint32_t space_packet_whole_is_packet(uint64_t p0, uint64_t p1)
@@ -55160,6 +55305,31 @@ LOCAL uint32_t std_alloc_vec_Vec_grow_1598ebf9113514c4(uint64_t p0, uint64_t p1)
     p1 = (p1 > 4) ? p1 : 4ULL;
     v3 = v2 << 1;
     return std_alloc_vec_Vec_move_to_1598ebf9113514c4(p0, (v2 < 0x4000000000000000ULL) ? ((p1 > v3) ? p1 : v3) : p1);
+}
+
+LOCAL uint64_t std_alloc_vec_copy_34_nodes_owned_segment_OwnedSegment(uint64_t p0, uint64_t p1, uint64_t p2)
+{
+    uint64_t v3 = 0, v4 = 0, v5 = 0, v6 = 0;
+    v3 = p2 << 5;
+    if ((p0 - p1) < v3) {
+        v3 = p0;
+        for (;;) {
+            if (p2 == 0) return p0;
+            v4 = get64(p1);
+            v5 = get64(p1 + 8);
+            v6 = get64(p1 + 16);
+            put64(v3 + 24, get64(p1 + 24));
+            put64(v3 + 16, v6);
+            put64(v3 + 8, v5);
+            put64(v3, v4);
+            p2 = p2 - 1;
+            v3 = v3 + 32;
+            p1 = p1 + 32;
+        }
+    }
+    if (v3 == 0) return p0;
+    copy(p0, p1, v3);
+    return p0;
 }
 
 LOCAL void nodes_ground_node_Ground_refill(uint64_t p0)
@@ -55502,220 +55672,203 @@ l4:;
 
 LOCAL void map_service_packets_copied_packets(uint64_t p0, uint64_t p1, uint64_t p2, uint64_t p3)
 {
-    unsigned char frame_octets[224 + 15];
-    uint32_t v7 = 0, v9 = 0, t3;
-    uint64_t v4 = 0, v5 = 0, v6 = 0, v8 = 0, v10 = 0, v11 = 0, v12 = 0, v13 = 0;
+    unsigned char frame_octets[256 + 15];
+    uint32_t v7 = 0, t1;
+    uint64_t v4 = 0, v5 = 0, v6 = 0, v8 = 0, v9 = 0, v10 = 0, v11 = 0, v12 = 0, v13 = 0;
     v4 = aligned(frame_octets);
-    fill(v4 + 32, 0, 72);
-    if (get8(p1 + 16) == 0) {
-        put64(v4 + 32, 0);
-        fill(v4 + 48, 0, 24);
-        put64(v4 + 40, v4 + 223);
-        v7 = p3 == 0;
-        if (v7 != 0) {
-            v10 = v4 + 223;
-        } else {
-            if (p3 > 0x7fffffffffffffffULL) goto l44;
-            rattle_alloc_at(v4 + 16, p3, 1);
-            if (((uint32_t)get64(v4 + 16) & 1) == 0) goto l44;
-            v10 = get64(v4 + 24);
-        }
-        if ((v10 - p2) < p3) {
-            v5 = p3 & 3;
+    fill(v4 + 96, 0, 32);
+    if (get8(p1 + 16) != 0) {
+        if (p3 < 6) goto l5;
+        v5 = 0;
+        v6 = p3;
+        p1 = p2;
+        do {
+            v7 = get8(p1);
+            if (v7 > 31 || ((v7 & 8) != 0 && (((v7 << 8) & 0x700) | get8(p1 + 1)) == 0x7ff)) break;
+            v8 = (((uint64_t)get8(p1 + 4) << 8) | (uint64_t)get8(p1 + 5)) + 7;
+            if (v6 < v8) break;
+            p1 = p1 + v8;
+            v5 = v5 + 1;
+            v6 = v6 - v8;
+        } while (v6 > 5);
+        if (v5 < 2) goto l5;
+        if (v5 > 0x555555555555555ULL) goto l3;
+        rattle_alloc_at(v4 + 24, v5 * 24, 8);
+        if (((uint32_t)get64(v4 + 24) & 1) == 0) goto l3;
+        v6 = get64(v4 + 32);
+        p1 = 1;
+        v9 = 0;
+        v8 = 0;
+        goto l4;
+    }
+    put64(v4 + 56, 0);
+    fill(v4 + 72, 0, 24);
+    put64(v4 + 64, v4 + 248);
+    v7 = p3 == 0;
+    if (v7 != 0) {
+        v10 = v4 + 248;
+    } else {
+        if (p3 > 0x7fffffffffffffffULL) goto l11;
+        rattle_alloc_at(v4 + 40, p3, 1);
+        if (((uint32_t)get64(v4 + 40) & 1) == 0) goto l11;
+        v10 = get64(v4 + 48);
+    }
+    if ((v10 - p2) < p3) {
+        v5 = p3 & 3;
+        v6 = 0;
+        if (p3 >= 4) {
+            v11 = p3 & ~3ULL;
             v6 = 0;
-            if (p3 >= 4) {
-                v12 = p3 & ~3ULL;
-                v6 = 0;
-                do {
-                    p1 = v10 + v6;
-                    v8 = p2 + v6;
-                    put8(p1, get8(v8));
-                    put8(p1 + 1, get8(v8 + 1));
-                    put8(p1 + 2, get8(v8 + 2));
-                    put8(p1 + 3, get8(v8 + 3));
-                    v6 = v6 + 4;
-                } while (v12 != v6);
-                if (v5 == 0) goto l47;
-            }
-            p1 = v10 + v6;
-            v6 = p2 + v6;
             do {
-                put8(p1, get8(v6));
-                p1 = p1 + 1;
-                v6 = v6 + 1;
-                v5 = v5 - 1;
-            } while (v5 != 0);
-        } else if (v7 == 0) copy(v10, p2, p3);
-    l47:;
-        p1 = v4 + 40;
-        v8 = get64(v4 + 64);
-        if (v8 == 1) {
-            t3 = smallvec_small_vec_SmallVec_grow_444910b390f8755b(v4 + 32, 2);
-            if ((t3 & 255) != 0) {
-                if (v7 == 0) rattle_dealloc_at(v10);
-                v5 = get64(v4 + 56);
-                v8 = get64(v4 + 40);
-                if (get8(v4 + 32) == 0) {
-                    if (v5 != 0) goto l57;
-                    goto l56;
-                }
-                v6 = get64(v4 + 48);
-                if (v6 != 0) {
-                    p1 = v8;
-                    do {
-                        if (get64(p1 + 16) != 0) rattle_dealloc_at(get64(p1));
-                        p1 = p1 + 24;
-                        v6 = v6 - 1;
-                    } while (v6 != 0);
-                }
-                if (v5 == 0) goto l56;
-            l57:;
-                rattle_dealloc_at(v8);
-            l56:;
-                put8(p0, 1);
-                fill(p0 + 8, 0, 40);
-                return;
-            }
-            v7 = get8(v4 + 32);
-            if (v7 != 0) {
-                v8 = get64(v4 + 48);
-                v6 = get64(v4 + 40) + (v8 * 24);
-                put64(v6 + 16, p3);
-                put64(v6 + 8, p3);
-                put64(v6, v10);
-                put64(v4 + 48, v8 + 1);
-                goto l42;
-            }
-            v8 = get64(v4 + 64);
+                p1 = v10 + v6;
+                v8 = p2 + v6;
+                put8(p1, get8(v8));
+                put8(p1 + 1, get8(v8 + 1));
+                put8(p1 + 2, get8(v8 + 2));
+                put8(p1 + 3, get8(v8 + 3));
+                v6 = v6 + 4;
+            } while (v11 != v6);
+            if (v5 == 0) goto l14;
         }
-        v6 = p1 + (v8 * 24);
-        put64(v6 + 8, p3);
-        v5 = get64(v6 + 16);
-        put64(v6 + 16, p3);
-        p2 = get64(v6);
-        put64(v6, v10);
-        if (v5 != 0) rattle_dealloc_at(p2);
-        put64(v4 + 64, v8 + 1);
-        v7 = get8(v4 + 32);
-        goto l42;
-    l44:;
-        if (get64(v4 + 56) != 0) rattle_dealloc_at(v4 + 223);
-        put8(p0, 1);
-        fill(p0 + 8, 0, 40);
-        return;
-    l42:;
-        put8(p0, 0);
-        put64(p0 + 16, get64(p1));
-        put64(p0 + 24, get64(p1 + 8));
-        put64(p0 + 32, get64(p1 + 16));
-        put64(p0 + 40, get64(p1 + 24));
-        put64(p0 + 8, (uint64_t)v7 & 255);
-        return;
-    }
-    if (p3 < 6) {
-        p1 = 0;
-        fill(v4 + 112, 0, 24);
-        fill(v4 + 152, 0, 24);
-        put64(v4 + 104, v4 + 223);
-        put64(v4 + 144, v4 + 223);
-        v11 = v4 + 144;
-        goto l3;
-    }
-    v5 = 0;
-    v6 = p3;
-    p1 = p2;
-    do {
-        v7 = get8(p1);
-        if (v7 > 31 || ((v7 & 8) != 0 && (((v7 << 8) & 0x700) | get8(p1 + 1)) == 0x7ff)) break;
-        v8 = (((uint64_t)get8(p1 + 4) << 8) | (uint64_t)get8(p1 + 5)) + 7;
-        if (v6 < v8) break;
-        p1 = p1 + v8;
-        v5 = v5 + 1;
-        v6 = v6 - v8;
-    } while (v6 > 5);
-    put64(v4 + 176, 0);
-    fill(v4 + 192, 0, 24);
-    put64(v4 + 184, v4 + 223);
-    v6 = 0;
-    if (v5 >= 2) {
-        v7 = smallvec_small_vec_SmallVec_grow_444910b390f8755b(v4 + 176, v5);
-        v9 = get8(v4 + 176);
-        if ((v7 & 255) != 0) {
-            if ((v9 & 255) == 0) {
-                if (get64(v4 + 200) == 0) goto l62;
-                v8 = get64(v4 + 184);
-            } else {
-                v5 = get64(v4 + 200);
-                v8 = get64(v4 + 184);
-                v6 = get64(v4 + 192);
-                if (v6 != 0) {
-                    p1 = v8;
-                    do {
-                        if (get64(p1 + 16) != 0) rattle_dealloc_at(get64(p1));
-                        p1 = p1 + 24;
-                        v6 = v6 - 1;
-                    } while (v6 != 0);
-                }
-                if (v5 == 0) goto l62;
-            }
-            rattle_dealloc_at(v8);
-        l62:;
-            p1 = 0;
-            fill(v4 + 72, 0, 32);
-            goto l5;
+        p1 = v10 + v6;
+        v6 = p2 + v6;
+        do {
+            put8(p1, get8(v6));
+            p1 = p1 + 1;
+            v6 = v6 + 1;
+            v5 = v5 - 1;
+        } while (v5 != 0);
+    } else if (v7 == 0) copy(v10, p2, p3);
+l14:;
+    v11 = v4 + 64;
+    v6 = get64(v4 + 88);
+    if (v6 == 1) {
+        fill(v4 + 232, 0, 16);
+        put64(v4 + 224, v4 + 248);
+        t1 = std_alloc_vec_Vec_reserve_exact_451022adbeef254f(v4 + 224, 2);
+        if ((t1 & 255) != 0) {
+            std_alloc_vec_Vec_drop_d6ec2945c09a05c1(v4 + 224);
+            if (v7 == 0) rattle_dealloc_at(v10);
+            if (get64(v4 + 80) != 0) rattle_dealloc_at(v4 + 248);
+            put8(p0, 1);
+            fill(p0 + 8, 0, 40);
+            return;
         }
-        v6 = (uint64_t)v9 & 255;
+        v6 = get64(v4 + 232);
+        p1 = get64(v4 + 224) + (v6 * 24);
+        v8 = get64(v11);
+        put64(p1, v8);
+        v5 = get64(v11 + 8);
+        put64(p1 + 8, v5);
+        p2 = get64(v11 + 16);
+        put64(p1 + 16, p2);
+        put64(v4 + 72, 0);
+        put64(v4 + 200, v8);
+        put64(v4 + 208, v5);
+        put64(v4 + 80, 0);
+        put64(v4 + 216, p2);
+        put64(v4 + 232, v6 + 1);
+        put64(v4 + 64, v4 + 248);
+        v6 = get64(v4 + 88);
+        if (v6 != 0) {
+            p1 = v4 + 56 + 24;
+            do {
+                put64(p1 - 8, 0);
+                v8 = get64(p1);
+                put64(p1, 0);
+                v5 = p1 - 16;
+                p2 = get64(v5);
+                put64(v5, v4 + 248);
+                if (v8 != 0) rattle_dealloc_at(p2);
+                p1 = p1 + 24;
+                v6 = v6 - 1;
+            } while (v6 != 0);
+            put64(v4 + 88, 0);
+        }
+        put64(v4 + 191, get64(v4 + 240));
+        put64(v4 + 183, get64(v4 + 232));
+        put64(v4 + 175, get64(v4 + 224));
+        v7 = get8(v4 + 56);
+        put64(v4 + 56, 1);
+        put64(v4 + 128, get64(v11));
+        put64(v4 + 136, get64(v11 + 8));
+        put64(v4 + 144, get64(v11 + 16));
+        put64(v4 + 152, get64(v11 + 24));
+        put64(v11, get64(v4 + 175));
+        put64(v11 + 8, get64(v4 + 183));
+        put64(v11 + 16, get64(v4 + 191));
+        put64(v4 + 88, 0);
+        if (v7 == 0) {
+            if (get64(v4 + 144) != 0) rattle_dealloc_at(get64(v4 + 128));
+        } else {
+            std_alloc_vec_Vec_drop_d6ec2945c09a05c1(v4 + 128);
+        }
+        v6 = get64(v4 + 72);
+        p1 = get64(v4 + 64) + (v6 * 24);
+        put64(p1 + 16, p3);
+        put64(p1 + 8, p3);
+        put64(p1, v10);
+        p1 = 1;
+        put64(v4 + 72, v6 + 1);
+    } else {
+        p1 = v11 + (v6 * 24);
+        put64(p1 + 8, p3);
+        v8 = get64(p1 + 16);
+        put64(p1 + 16, p3);
+        v5 = get64(p1);
+        put64(p1, v10);
+        if (v8 != 0) rattle_dealloc_at(v5);
+        put64(v4 + 88, v6 + 1);
+        p1 = (uint64_t)get8(v4 + 56);
     }
-    p1 = v4 + 176 + 8;
-    v8 = get64(p1 + 24);
-    put64(v4 + 128, v8);
-    v5 = get64(p1 + 16);
-    put64(v4 + 120, v5);
-    v10 = get64(p1 + 8);
-    put64(v4 + 112, v10);
-    p1 = get64(p1);
-    put64(v4 + 104, p1);
+    put8(p0, 0);
+    put64(p0 + 8, p1);
+    put64(p0 + 16, get64(v11));
+    put64(p0 + 24, get64(v11 + 8));
+    put64(p0 + 32, get64(v11 + 16));
+    put64(p0 + 40, get64(v11 + 24));
+    return;
+l11:;
+    if (get64(v4 + 80) != 0) rattle_dealloc_at(v4 + 248);
+    put8(p0, 1);
+    fill(p0 + 8, 0, 40);
+    return;
+l5:;
+    p1 = 0;
+    fill(v4 + 168, 0, 32);
+    fill(v4 + 232, 0, 16);
+    put64(v4 + 224, v4 + 248);
+    smallvec_small_vec_to_inline_444910b390f8755b(v4 + 168, v4 + 224);
+    v8 = get64(v4 + 176);
+    v6 = get64(v4 + 168);
+    v9 = get64(v4 + 192);
+    v5 = get64(v4 + 184);
+l4:;
+    put64(v4 + 160, v9);
+    put64(v4 + 152, v5);
+    put64(v4 + 144, v8);
     put64(v4 + 136, v6);
-    put64(v4 + 144, p1);
-    put64(v4 + 152, v10);
-    put64(v4 + 160, v5);
-    put64(v4 + 168, v8);
-    v11 = v4 + 136 + 8;
-    for (;;) {
+    v12 = v4 + 128 + 8;
+    put64(v4 + 128, p1);
+    if (p3 < 6) {
+        v7 = (uint32_t)p1;
+        goto l31;
+    }
+    do {
         v7 = get8(p2);
-        if (v7 > 31 || ((v7 & 8) != 0 && (((v7 << 8) & 0x700) | get8(p2 + 1)) == 0x7ff)) goto l4;
+        if (v7 > 31 || ((v7 & 8) != 0 && (((v7 << 8) & 0x700) | get8(p2 + 1)) == 0x7ff)) break;
         p1 = (uint64_t)get8(p2 + 4) << 8;
         v8 = (uint64_t)get8(p2 + 5);
-        v12 = (p1 | v8) + 7;
-        if (p3 < v12) goto l4;
-        rattle_alloc_at(v4, v12, 1);
-        if (((uint32_t)get64(v4) & 1) == 0) {
-            v5 = get64(v4 + 160);
-            v8 = get64(v4 + 144);
-            if (get8(v4 + 136) == 0) {
-                if (v5 != 0) goto l32;
-                goto l7;
-            }
-            v6 = get64(v4 + 152);
-            if (v6 != 0) {
-                p1 = v8;
-                do {
-                    if (get64(p1 + 16) != 0) rattle_dealloc_at(get64(p1));
-                    p1 = p1 + 24;
-                    v6 = v6 - 1;
-                } while (v6 != 0);
-            }
-            if (v5 == 0) goto l7;
-        l32:;
-            rattle_dealloc_at(v8);
-            goto l7;
-        }
-        v10 = get64(v4 + 8);
-        if ((v10 - p2) < v12) {
-            v5 = v12 & 3;
+        v11 = (p1 | v8) + 7;
+        if (p3 < v11) break;
+        rattle_alloc_at(v4 + 8, v11, 1);
+        if (((uint32_t)get64(v4 + 8) & 1) == 0) goto l30;
+        v10 = get64(v4 + 16);
+        if ((v10 - p2) < v11) {
+            v5 = v11 & 3;
             v6 = 0;
             if ((v8 + p1 + 6) >= 3) {
-                v13 = v12 & 0x1fffc;
+                v13 = v11 & 0x1fffc;
                 v6 = 0;
                 do {
                     p1 = v10 + v6;
@@ -55726,7 +55879,7 @@ LOCAL void map_service_packets_copied_packets(uint64_t p0, uint64_t p1, uint64_t
                     put8(p1 + 3, get8(v8 + 3));
                     v6 = v6 + 4;
                 } while (v13 != v6);
-                if (v5 == 0) goto l26;
+                if (v5 == 0) goto l36;
             }
             p1 = v10 + v6;
             v6 = p2 + v6;
@@ -55736,94 +55889,68 @@ LOCAL void map_service_packets_copied_packets(uint64_t p0, uint64_t p1, uint64_t
                 v6 = v6 + 1;
                 v5 = v5 - 1;
             } while (v5 != 0);
-        } else if (v12 != 0) copy(v10, p2, v12);
-    l26:;
-        v6 = get64(v4 + 168);
-        p1 = get64(v4 + 152);
-        v7 = get8(v4 + 136);
-        if (v7 == 0) {
-            if (v6 != 1) goto l23;
+        } else if (v11 != 0) copy(v10, p2, v11);
+    l36:;
+        p3 = p3 - v11;
+        if (get8(v4 + 128) == 0) {
+            p1 = v12 + (v9 * 24);
+            put64(p1 + 8, v11);
+            v6 = get64(p1 + 16);
+            put64(p1 + 16, v11);
+            v8 = get64(p1);
+            put64(p1, v10);
+            if (v6 != 0) rattle_dealloc_at(v8);
+            v9 = v9 + 1;
+            put64(v4 + 160, v9);
         } else {
-            if (p1 != get64(v4 + 160)) goto l21;
-            if (p1 > 0x7fffffffffffffffULL) {
-                rattle_dealloc_at(v10);
-                v7 = 0;
-                v8 = get64(v4 + 144);
-                goto l16;
-            }
+            v6 = get64(v4 + 144);
+            p1 = get64(v4 + 136) + (v6 * 24);
+            put64(p1 + 16, v11);
+            put64(p1 + 8, v11);
+            put64(p1, v10);
+            put64(v4 + 144, v6 + 1);
         }
-        v7 = smallvec_small_vec_SmallVec_grow_444910b390f8755b(v4 + 136, 1ULL << ((0 - clz64((v7 != 0) ? p1 : v6)) &
-            63));
-        v9 = get8(v4 + 136);
-        if ((v7 & 255) != 0) break;
-        if ((v9 & 255) != 0) {
-            p1 = get64(v4 + 152);
-            goto l21;
-        }
-        v6 = get64(v4 + 168);
-    l23:;
-        p1 = v11 + (v6 * 24);
-        put64(p1 + 8, v12);
-        v8 = get64(p1 + 16);
-        put64(p1 + 16, v12);
-        v5 = get64(p1);
-        put64(p1, v10);
-        if (v8 != 0) rattle_dealloc_at(v5);
-        put64(v4 + 168, v6 + 1);
-        goto l20;
-    l21:;
-        v6 = get64(v4 + 144) + (p1 * 24);
-        put64(v6 + 16, v12);
-        put64(v6 + 8, v12);
-        put64(v6, v10);
-        put64(v4 + 152, p1 + 1);
-    l20:;
-        p2 = p2 + v12;
-        p3 = p3 - v12;
-        if (p3 < 6) goto l4;
-    }
-    p1 = get64(v4 + 152);
-    v6 = get64(v4 + 160);
-    rattle_dealloc_at(v10);
-    v8 = get64(v4 + 144);
-    if ((v9 & 255) == 0) {
-        if (v6 == 0) goto l7;
-        goto l14;
-    }
-    v7 = v6 == 0;
-    if (p1 == 0) goto l15;
-l16:;
-    v6 = v8;
-    do {
-        if (get64(v6 + 16) != 0) rattle_dealloc_at(get64(v6));
-        v6 = v6 + 24;
-        p1 = p1 - 1;
-    } while (p1 != 0);
-l15:;
-    if (v7 != 0) goto l7;
-l14:;
-    rattle_dealloc_at(v8);
-l7:;
-    p1 = 0;
-    fill(v4 + 72, 0, 32);
-l5:;
-    v7 = 1;
-    goto l2;
-l4:;
-    p1 = (uint64_t)get8(v4 + 136);
-l3:;
-    put64(v4 + 96, get64(v11 + 24));
-    put64(v4 + 88, get64(v11 + 16));
-    put64(v4 + 80, get64(v11 + 8));
-    put64(v4 + 72, get64(v11));
+        p2 = p2 + v11;
+    } while (p3 >= 6);
+    v7 = get8(v4 + 128);
+l31:;
+    put64(v4 + 120, get64(v12 + 24));
+    put64(v4 + 112, get64(v12 + 16));
+    put64(v4 + 104, get64(v12 + 8));
+    put64(v4 + 96, get64(v12));
+    p1 = (uint64_t)v7 & 255;
     v7 = 0;
+    goto l2;
+l30:;
+    v5 = get64(v4 + 152);
+    v8 = get64(v4 + 136);
+    if (get8(v4 + 128) == 0) {
+        if (v5 != 0) goto l44;
+        goto l3;
+    }
+    v6 = get64(v4 + 144);
+    if (v6 != 0) {
+        p1 = v8;
+        do {
+            if (get64(p1 + 16) != 0) rattle_dealloc_at(get64(p1));
+            p1 = p1 + 24;
+            v6 = v6 - 1;
+        } while (v6 != 0);
+    }
+    if (v5 == 0) goto l3;
+l44:;
+    rattle_dealloc_at(v8);
+l3:;
+    p1 = 0;
+    fill(v4 + 96, 0, 32);
+    v7 = 1;
 l2:;
-    put64(p0 + 8, p1);
     put8(p0, v7);
-    put64(p0 + 16, get64(v4 + 72));
-    put64(p0 + 24, get64(v4 + 80));
-    put64(p0 + 32, get64(v4 + 88));
-    put64(p0 + 40, get64(v4 + 96));
+    put64(p0 + 8, p1);
+    put64(p0 + 16, get64(v4 + 96));
+    put64(p0 + 24, get64(v4 + 104));
+    put64(p0 + 32, get64(v4 + 112));
+    put64(p0 + 40, get64(v4 + 120));
     return;
 }
 
@@ -55972,227 +56099,6 @@ l3:;
     return;
 }
 
-LOCAL uint32_t smallvec_small_vec_SmallVec_grow_444910b390f8755b(uint64_t p0, uint64_t p1)
-{
-    unsigned char frame_octets[240 + 15];
-    uint32_t v3 = 0, v4 = 0, t1, t2;
-    uint64_t v2 = 0, v5 = 0, v6 = 0, v7 = 0, v8 = 0, v9 = 0, v10 = 0, v11 = 0, v12 = 0;
-    v2 = aligned(frame_octets);
-    fill(v2 + 56, 0, 63);
-    v3 = 0;
-    v4 = get8(p0);
-    v5 = get64(p0 + ((v4 != 0) ? 16ULL : 32ULL));
-    if (p1 < v5) return v3;
-    if (p1 <= 1) {
-        if (v4 != 1) return v3;
-        p1 = p0 + 16;
-        v5 = get64(p1);
-        put64(p1, 0);
-        p1 = p0 + 24;
-        v6 = get64(p1);
-        put64(p1, 0);
-        v7 = p0 + 8;
-        v8 = get64(v7);
-        put64(v7, v2 + 232);
-        fill(v2 + 184, 0, 24);
-        put64(v2 + 176, v2 + 232);
-        p1 = v8;
-        while (v5 != 0) {
-            put64(v2 + 168, get64(p1 + 16));
-            put64(v2 + 160, get64(p1 + 8));
-            put64(v2 + 152, get64(p1));
-            p1 = p1 + 24;
-            v5 = v5 - 1;
-            arrayvec_array_vec_ArrayVec_push_c655abd748d87263(v2 + 176, v2 + 152);
-        }
-        put64(v2 + 224, v6);
-        put64(v2 + 216, 0);
-        put64(v2 + 208, v8);
-        std_alloc_vec_Vec_destroy_empty_451022adbeef254f(v2 + 208);
-        put64(v2 + 120, get64(v2 + 176));
-        put64(v2 + 128, get64(v2 + 184));
-        put64(v2 + 136, get64(v2 + 192));
-        put64(v2 + 144, get64(v2 + 200));
-        v4 = get8(p0);
-        put64(p0, 0);
-        put64(v2 + 176, get64(v7));
-        put64(v2 + 184, get64(v7 + 8));
-        put64(v2 + 192, get64(v7 + 16));
-        put64(v2 + 200, get64(v7 + 24));
-        put64(v7, get64(v2 + 120));
-        put64(v7 + 8, get64(v2 + 128));
-        put64(v7 + 16, get64(v2 + 136));
-        put64(v7 + 24, get64(v2 + 144));
-        if (v4 == 0) {
-            core_array_array_drop_1f1e24fac6b576de(v2 + 176);
-            return v3;
-        }
-        std_alloc_vec_Vec_drop_d6ec2945c09a05c1(v2 + 176);
-        return v3;
-    }
-    v9 = p0 + 8;
-    if (v4 != 0) {
-        v7 = get64(p0 + 24);
-        if (p1 >= v7) {
-            t2 = std_alloc_vec_Vec_reserve_exact_451022adbeef254f(v9, p1 - v5);
-            v3 = t2 & 255;
-            return v3;
-        }
-        v5 = get64(p0 + 16);
-        if (v5 >= v7) return v3;
-        p1 = (v5 > p1) ? v5 : p1;
-        rattle_realloc_at(v2 + 8, get64(v9), v5 * 24, p1 * 24, 8);
-        if (((uint32_t)get64(v2 + 8) & 1) == 0) return v3;
-        v5 = get64(v2 + 16);
-        put64(p0 + 24, p1);
-        put64(p0 + 8, v5);
-        return v3;
-    }
-    fill(v2 + 128, 0, 16);
-    put64(v2 + 120, v2 + 232);
-    t1 = std_alloc_vec_Vec_reserve_exact_451022adbeef254f(v2 + 120, p1);
-    if ((t1 & 255) == 0) {
-        v10 = get64(v2 + 128);
-        v11 = get64(v2 + 120) + (v10 * 24);
-        v5 = get64(p0 + 32);
-        p1 = 0;
-        while (v5 != 0) {
-            v7 = p0 + p1;
-            v6 = v7 + 16;
-            v8 = get64(v6);
-            put64(v6, 0);
-            v12 = v7 + 24;
-            v6 = get64(v12);
-            put64(v12, 0);
-            v12 = v7 + 8;
-            v7 = get64(v12);
-            put64(v12, v2 + 232);
-            v12 = v11 + p1;
-            put64(v12 + 16, v6);
-            put64(v12 + 8, v8);
-            put64(v12, v7);
-            put64(v2 + 224, v6);
-            put64(v2 + 216, v8);
-            put64(v2 + 208, v7);
-            v5 = v5 - 1;
-            p1 = p1 + 24;
-            v10 = v10 + 1;
-        }
-        put64(v2 + 128, v10);
-        v5 = get64(p0 + 32);
-        if (v5 != 0) {
-            p1 = p0 + 16;
-            while (v5 != 0) {
-                v7 = get64(p1);
-                put64(p1, 0);
-                v8 = p1 + 8;
-                v6 = get64(v8);
-                put64(v8, 0);
-                put64(v2 + 184, v7);
-                put64(v2 + 192, v6);
-                v7 = p1 - 8;
-                put64(v2 + 176, get64(v7));
-                put64(v7, v2 + 232);
-                v5 = v5 - 1;
-                p1 = p1 + 24;
-                std_alloc_vec_Vec_drop_78c991ce24189f90(v2 + 176);
-            }
-            put64(p0 + 32, 0);
-        }
-        p1 = get64(v2 + 136);
-        put64(v2 + 111, p1);
-        v5 = get64(v2 + 128);
-        put64(v2 + 103, v5);
-        v7 = get64(v2 + 120);
-        put64(v2 + 95, v7);
-        v4 = get8(p0);
-        put64(p0, 1);
-        put64(v2 + 56, v7);
-        put64(v2 + 64, v5);
-        put64(v2 + 72, p1);
-        put64(v2 + 24, get64(v9));
-        put64(v2 + 32, get64(v9 + 8));
-        put64(v2 + 40, get64(v9 + 16));
-        put64(v2 + 48, get64(v9 + 24));
-        put64(v9, get64(v2 + 56));
-        put64(v9 + 8, get64(v2 + 64));
-        put64(v9 + 16, get64(v2 + 72));
-        put64(v9 + 24, get64(v2 + 80));
-        if (v4 == 0) {
-            core_array_array_drop_1f1e24fac6b576de(v2 + 24);
-            return v3;
-        }
-        std_alloc_vec_Vec_drop_d6ec2945c09a05c1(v2 + 24);
-        return v3;
-    }
-    std_alloc_vec_Vec_drop_d6ec2945c09a05c1(v2 + 120);
-    v3 = 1;
-    return v3;
-}
-
-LOCAL void arrayvec_array_vec_ArrayVec_push_c655abd748d87263(uint64_t p0, uint64_t p1)
-{
-    unsigned char frame_octets[32 + 15];
-    uint64_t v2 = 0, v3 = 0, v4 = 0, v5 = 0, v6 = 0, v7 = 0;
-    v2 = aligned(frame_octets);
-    v3 = p0 + 24;
-    v4 = get64(v3);
-    p0 = p0 + (v4 * 24);
-    v5 = get64(p0);
-    v6 = get64(p1 + 16);
-    v7 = get64(p1 + 8);
-    put64(p0, get64(p1));
-    p1 = get64(p0 + 8);
-    put64(p0 + 8, v7);
-    v7 = get64(p0 + 16);
-    put64(p0 + 16, v6);
-    put64(v2 + 8, v5);
-    put64(v2 + 16, p1);
-    put64(v2 + 24, v7);
-    std_alloc_vec_Vec_drop_78c991ce24189f90(v2 + 8);
-    put64(v3, v4 + 1);
-    return;
-}
-
-LOCAL void std_alloc_vec_Vec_destroy_empty_451022adbeef254f(uint64_t p0)
-{
-    if (get64(p0 + 16) == 0) return;
-    rattle_dealloc_at(get64(p0));
-    return;
-}
-
-LOCAL void core_array_array_drop_1f1e24fac6b576de(uint64_t p0)
-{
-    unsigned char frame_octets[32 + 15];
-    uint64_t v1 = 0;
-    v1 = aligned(frame_octets);
-    put64(v1 + 24, get64(p0 + 16));
-    put64(v1 + 16, get64(p0 + 8));
-    put64(v1 + 8, get64(p0));
-    std_alloc_vec_Vec_drop_78c991ce24189f90(v1 + 8);
-    return;
-}
-
-LOCAL void std_alloc_vec_Vec_drop_d6ec2945c09a05c1(uint64_t p0)
-{
-    unsigned char frame_octets[48 + 15];
-    uint64_t v1 = 0, v2 = 0, v3 = 0;
-    v1 = aligned(frame_octets);
-    v2 = get64(p0 + 16);
-    v3 = get64(p0);
-    p0 = get64(p0 + 8);
-    if (p0 != 0) {
-        put64(v1 + 40, p0);
-        put64(v1 + 32, v3);
-        std_alloc_vec_opened_drop_run_3ad31edc7f44ff50(v1 + 32, 0, p0);
-    }
-    put64(v1 + 24, v2);
-    put64(v1 + 16, 0);
-    put64(v1 + 8, v3);
-    std_alloc_vec_Vec_destroy_empty_451022adbeef254f(v1 + 8);
-    return;
-}
-
 LOCAL uint32_t std_alloc_vec_Vec_reserve_exact_451022adbeef254f(uint64_t p0, uint64_t p1)
 {
     unsigned char frame_octets[32 + 15];
@@ -56223,15 +56129,94 @@ LOCAL uint32_t std_alloc_vec_Vec_reserve_exact_451022adbeef254f(uint64_t p0, uin
     return v3;
 }
 
-LOCAL void std_alloc_vec_Vec_drop_78c991ce24189f90(uint64_t p0)
+LOCAL void std_alloc_vec_Vec_drop_d6ec2945c09a05c1(uint64_t p0)
+{
+    unsigned char frame_octets[48 + 15];
+    uint64_t v1 = 0, v2 = 0, v3 = 0;
+    v1 = aligned(frame_octets);
+    v2 = get64(p0 + 16);
+    v3 = get64(p0);
+    p0 = get64(p0 + 8);
+    if (p0 != 0) {
+        put64(v1 + 40, p0);
+        put64(v1 + 32, v3);
+        std_alloc_vec_opened_drop_run_3ad31edc7f44ff50(v1 + 32, 0, p0);
+    }
+    put64(v1 + 24, v2);
+    put64(v1 + 16, 0);
+    put64(v1 + 8, v3);
+    std_alloc_vec_Vec_destroy_empty_451022adbeef254f(v1 + 8);
+    return;
+}
+
+LOCAL void smallvec_small_vec_to_inline_444910b390f8755b(uint64_t p0, uint64_t p1)
+{
+    unsigned char frame_octets[96 + 15];
+    uint64_t v2 = 0, v3 = 0, v4 = 0, v5 = 0, v6 = 0;
+    v2 = aligned(frame_octets);
+    fill(v2 + 40, 0, 24);
+    put64(v2 + 32, v2 + 95);
+    v3 = get64(p1 + 16);
+    v4 = get64(p1 + 8);
+    v5 = get64(p1);
+    v6 = 0;
+    for (;;) {
+        if (v4 == 0) {
+            p1 = 0;
+            fill(v2 + 64, 0, 24);
+        } else {
+            p1 = v5 + (v6 * 24);
+            put64(v2 + 80, get64(p1 + 16));
+            put64(v2 + 72, get64(p1 + 8));
+            put64(v2 + 64, get64(p1));
+            p1 = v4 - 1;
+            v6 = v6 + 1;
+        }
+        put64(v2 + 24, get64(v2 + 80));
+        put64(v2 + 16, get64(v2 + 72));
+        put64(v2 + 8, get64(v2 + 64));
+        if (v4 == 0) break;
+        arrayvec_array_vec_ArrayVec_push_c655abd748d87263(v2 + 32, v2 + 8);
+        v4 = p1;
+    }
+    if (p1 != 0) {
+        put64(v2 + 72, v3);
+        put64(v2 + 64, v5);
+        std_alloc_vec_opened_drop_run_3ad31edc7f44ff50(v2 + 64, v6, v6 + p1);
+        std_alloc_vec_opened_drop_run_3ad31edc7f44ff50(v2 + 64, 0, 0);
+    }
+    put64(v2 + 80, v3);
+    put64(v2 + 72, 0);
+    put64(v2 + 64, v5);
+    std_alloc_vec_Vec_destroy_empty_451022adbeef254f(v2 + 64);
+    put64(p0 + 24, get64(v2 + 56));
+    put64(p0 + 16, get64(v2 + 48));
+    put64(p0 + 8, get64(v2 + 40));
+    put64(p0, get64(v2 + 32));
+    return;
+}
+
+LOCAL void arrayvec_array_vec_ArrayVec_push_c655abd748d87263(uint64_t p0, uint64_t p1)
 {
     unsigned char frame_octets[32 + 15];
-    uint64_t v1 = 0;
-    v1 = aligned(frame_octets);
-    put64(v1 + 16, 0);
-    put64(v1 + 24, get64(p0 + 16));
-    put64(v1 + 8, get64(p0));
-    std_alloc_vec_Vec_destroy_empty_a351ad16c7c032ee(v1 + 8);
+    uint64_t v2 = 0, v3 = 0, v4 = 0, v5 = 0, v6 = 0, v7 = 0;
+    v2 = aligned(frame_octets);
+    v3 = p0 + 24;
+    v4 = get64(v3);
+    p0 = p0 + (v4 * 24);
+    v5 = get64(p0);
+    v6 = get64(p1 + 16);
+    v7 = get64(p1 + 8);
+    put64(p0, get64(p1));
+    p1 = get64(p0 + 8);
+    put64(p0 + 8, v7);
+    v7 = get64(p0 + 16);
+    put64(p0 + 16, v6);
+    put64(v2 + 8, v5);
+    put64(v2 + 16, p1);
+    put64(v2 + 24, v7);
+    std_alloc_vec_Vec_drop_78c991ce24189f90(v2 + 8);
+    put64(v3, v4 + 1);
     return;
 }
 
@@ -56253,6 +56238,32 @@ LOCAL void std_alloc_vec_opened_drop_run_3ad31edc7f44ff50(uint64_t p0, uint64_t 
         p1 = p1 + 24;
         std_alloc_vec_Vec_drop_78c991ce24189f90(v3 + 8);
     }
+}
+
+LOCAL void std_alloc_vec_Vec_destroy_empty_451022adbeef254f(uint64_t p0)
+{
+    if (get64(p0 + 16) == 0) return;
+    rattle_dealloc_at(get64(p0));
+    return;
+}
+
+LOCAL void std_alloc_vec_Vec_drop_78c991ce24189f90(uint64_t p0)
+{
+    unsigned char frame_octets[32 + 15];
+    uint64_t v1 = 0;
+    v1 = aligned(frame_octets);
+    put64(v1 + 16, 0);
+    put64(v1 + 24, get64(p0 + 16));
+    put64(v1 + 8, get64(p0));
+    std_alloc_vec_Vec_destroy_empty_a351ad16c7c032ee(v1 + 8);
+    return;
+}
+
+LOCAL void std_alloc_vec_Vec_destroy_empty_a351ad16c7c032ee(uint64_t p0)
+{
+    if (get64(p0 + 16) == 0) return;
+    rattle_dealloc_at(get64(p0));
+    return;
 }
 
 LOCAL void core_slots_raw_move_down_2262cf5b90b10fda(uint64_t p0, uint64_t p1, uint64_t p2)
@@ -56288,13 +56299,6 @@ LOCAL void core_slots_raw_move_up_2262cf5b90b10fda(uint64_t p0, uint64_t p1, uin
         p1 = p1 - 24;
         p0 = p0 - 24;
     }
-}
-
-LOCAL void std_alloc_vec_Vec_destroy_empty_a351ad16c7c032ee(uint64_t p0)
-{
-    if (get64(p0 + 16) == 0) return;
-    rattle_dealloc_at(get64(p0));
-    return;
 }
 
 LOCAL void map_service_assembler_new_list(uint64_t p0, uint64_t p1)
@@ -56368,6 +56372,17 @@ LOCAL void std_alloc_vec_Vec_drop_53a4c03472232ebd(uint64_t p0)
     put64(v1 + 8, get64(p0));
     std_alloc_vec_Vec_truncate_c4b493c3d24b93db(v1 + 8, 0);
     std_alloc_vec_Vec_destroy_empty_b92d73155746ed2e(v1 + 8);
+    return;
+}
+
+LOCAL void cop1_farm_Farm_set_vr(uint64_t p0, uint32_t p1)
+{
+    uint64_t v2 = 0;
+    v2 = p0 + 5;
+    put8(v2, (get8(v2) + 1) & 3);
+    if (get8(p0 + 2) != 0) return;
+    put16(p0 + 3, 0);
+    put8(p0 + 1, p1);
     return;
 }
 
@@ -59488,10 +59503,11 @@ LOCAL uint32_t std_alloc_vec_Vec_push_bbd08ad089034210(uint64_t p0)
 
 LOCAL void node_lines_player_answer_54fc8b3eca759606(uint64_t p0, uint64_t p1, uint64_t p2, uint64_t p3)
 {
-    unsigned char frame_octets[2192 + 15];
-    uint32_t v7 = 0, v8 = 0, v10 = 0, t1, t2, t4, t5, t7, t9, t10, t11, t12, t13, t14, t15, t16, t17, t18, t19, t20,
-        t21, t22, t23, t24, t25, t26, t27, t28, t29;
-    uint64_t v4 = 0, v5 = 0, v6 = 0, v9 = 0, t3;
+    unsigned char frame_octets[2272 + 15];
+    uint32_t v7 = 0, v8 = 0, v9 = 0, v10 = 0, v11 = 0, v12 = 0, v13 = 0, v14 = 0, v15 = 0, v16 = 0, v17 = 0, t1, t2,
+        t4, t5, t7, t9, t10, t11, t12, t13, t14, t15, t16, t17, t18, t19, t20, t21, t22, t23, t24, t25, t26, t27, t28,
+        t29, t30;
+    uint64_t v4 = 0, v5 = 0, v6 = 0, v18 = 0, t3;
     v4 = aligned(frame_octets);
     v5 = get64(p2 + 16);
     v6 = get64(p2 + 8);
@@ -59500,264 +59516,497 @@ LOCAL void node_lines_player_answer_54fc8b3eca759606(uint64_t p0, uint64_t p1, u
     fill(v4 + 24, 0, 5);
     switch ((uint32_t)p2) {
     case 3:
-        v7 = 0;
-        fill(v4 + 32, 0, 0x800);
-        t3 = nodes_spacecraft_Spacecraft_report(p1, v4 + 32);
-        t4 = node_answers_answers_push_sent(p3, v4 + 32, t3);
-        if ((t4 & 255) == 0) goto l5;
-        goto l4;
+        v12 = 0;
+        fill(v4 + 192, 0, 0x800);
+        t3 = nodes_spacecraft_Spacecraft_report(p1, v4 + 192);
+        t4 = node_answers_answers_push_sent(p3, v4 + 192, t3);
+        if ((t4 & 255) == 0) goto l4;
+        v7 = 1;
+        put8(p0 + 1, v12);
+        put8(p0, v7);
+        return;
     case 4:
         nodes_spacecraft_Spacecraft_control_word(v4 + 24, p1);
         t5 = node_answers_answers_push_report(p3, v4 + 24);
-        if ((t5 & 255) != 0) goto l4;
-        goto l5;
+        if ((t5 & 255) != 0) goto l3;
+        goto l4;
     case 6:
-        nodes_spacecraft_Spacecraft_take(v4 + 32, p1);
-        v8 = 1;
-        if (get8(v4 + 32) != 1) {
+        nodes_spacecraft_Spacecraft_take(v4 + 192, p1);
+        v7 = 1;
+        if (get8(v4 + 192) != 1) {
             t7 = std_alloc_string_String_push_str_c9f0b165bbde0115(p3, address(constant_314), 7);
             if ((t7 & 255) != 0) goto l2;
-            goto l5;
+            goto l4;
         }
-        p2 = get64(v4 + 64);
-        p1 = get64(v4 + 48);
-        v5 = get64(v4 + 56);
-        v7 = node_answers_answers_push_packet(p3, get8(v4 + 40), p1, v5);
-        put64(v4 + 2104, p2);
-        put64(v4 + 2096, v5);
-        put64(v4 + 2088, p1);
-        std_alloc_vec_Vec_drop_22dcaffff3fe4929(v4 + 0x828);
-        if ((v7 & 255) != 0) goto l2;
-        goto l5;
+        p2 = get64(v4 + 224);
+        p1 = get64(v4 + 208);
+        v5 = get64(v4 + 216);
+        v12 = node_answers_answers_push_packet(p3, get8(v4 + 200), p1, v5);
+        put64(v4 + 104, p2);
+        put64(v4 + 96, v5);
+        put64(v4 + 88, p1);
+        std_alloc_vec_Vec_drop_22dcaffff3fe4929(v4 + 88);
+        if ((v12 & 255) != 0) goto l2;
+        goto l4;
     case 7:
-        nodes_spacecraft_Spacecraft_take_bypass(v4 + 32, p1);
-        v8 = 1;
-        if (get8(v4 + 32) != 1) {
+        nodes_spacecraft_Spacecraft_take_bypass(v4 + 192, p1);
+        v7 = 1;
+        if (get8(v4 + 192) != 1) {
             t9 = std_alloc_string_String_push_str_c9f0b165bbde0115(p3, address(constant_314), 7);
             if ((t9 & 255) != 0) goto l2;
-            goto l5;
+            goto l4;
         }
-        p2 = get64(v4 + 64);
-        p1 = get64(v4 + 48);
-        v5 = get64(v4 + 56);
-        v7 = node_answers_answers_push_packet(p3, get8(v4 + 40), p1, v5);
-        put64(v4 + 2104, p2);
-        put64(v4 + 2096, v5);
-        put64(v4 + 2088, p1);
-        std_alloc_vec_Vec_drop_22dcaffff3fe4929(v4 + 0x828);
-        if ((v7 & 255) != 0) goto l2;
-        goto l5;
+        p2 = get64(v4 + 224);
+        p1 = get64(v4 + 208);
+        v5 = get64(v4 + 216);
+        v12 = node_answers_answers_push_packet(p3, get8(v4 + 200), p1, v5);
+        put64(v4 + 104, p2);
+        put64(v4 + 96, v5);
+        put64(v4 + 88, p1);
+        std_alloc_vec_Vec_drop_22dcaffff3fe4929(v4 + 88);
+        if ((v12 & 255) != 0) goto l2;
+        goto l4;
     case 8:
         nodes_spacecraft_Spacecraft_telemetry(v4 + 16, p1, v6, v5);
         if (get8(v4 + 16) == 0) {
             t29 = std_alloc_string_String_push_str_c9f0b165bbde0115(p3, address(constant_313), 2);
             if ((t29 & 255) != 0) goto l3;
-            goto l5;
+            goto l4;
         }
-        v7 = get8(v4 + 17);
-        if ((v7 & 255) == 6) goto l3;
-        tm_link_fault_TmFault_name(v4, v7);
-        v8 = 1;
-        t2 = node_answers_answers_push_fault(p3, address(constant_312), v7 + 1, get64(v4), get64(v4 + 8));
-        if ((t2 & 255) == 0) goto l5;
+        v12 = get8(v4 + 17);
+        if ((v12 & 255) == 6) goto l3;
+        tm_link_fault_TmFault_name(v4, v12);
+        v7 = 1;
+        t2 = node_answers_answers_push_fault(p3, address(constant_312), v12 + 1, get64(v4), get64(v4 + 8));
+        if ((t2 & 255) == 0) goto l4;
         goto l2;
     case 9:
-        fill(v4 + 32, 0, 232);
-        fill(v4 + 0x828, 0, 24);
-        fill(v4 + 0x878, 0, 24);
-        nodes_spacecraft_Spacecraft_prepare(v4 + 32, p1, v6, v5);
-        if (get8(v4 + 32) != 0) goto l3;
-        nodes_spacecraft_Spacecraft_commit(v4 + 0x828, p1, v4 + 40);
-        put16(v4 + 2184, get16(v4 + 2104));
-        put64(v4 + 2176, get64(v4 + 2096));
-        put8(v4 + 2170, get8(v4 + 2090));
-        put16(v4 + 2168, get16(v4 + 2088));
-        t1 = node_answers_answers_push_received(p3, v4 + 0x878);
-        if ((t1 & 255) != 0) goto l3;
-        goto l5;
-    case 12:
         break;
-    default:
-        goto l5;
-    }
-    if (get8(p1 + 74) != 0) {
-        p2 = address(constant_340);
-        v5 = 7;
-    } else {
-        p2 = (get8(p1 + 75) != 0) ? address(constant_447) : address(constant_446);
-        v5 = 4;
-    }
-    nodes_spacecraft_Spacecraft_control_word(v4 + 0x870, p1);
-    put8(v4 + 2152, get8(v4 + 2164));
-    put64(v4 + 2128, 4);
-    put64(v4 + 2120, address(constant_445));
-    put64(v4 + 2112, v5);
-    put64(v4 + 2104, p2);
-    put64(v4 + 2096, 6);
-    put64(v4 + 2088, address(constant_433));
-    p2 = p3 + 8;
-    v5 = get64(p2);
-    put64(v4 + 2136, v4 + 0x868);
-    put64(v4 + 60, 0);
-    fill(v4 + 80, 0, 16);
-    put32(v4 + 56, 32);
-    put32(v4 + 68, 0);
-    put64(v4 + 72, ~0ULL);
-    put64(v4 + 48, get64(p3 + 16));
-    put64(v4 + 40, get64(p2));
-    put64(v4 + 32, get64(p3));
-    v7 = 1;
-    t10 = core_fmt_formatter_Formatter_write_piece_021956a9582caf01(v4 + 32, v4 + 0x828);
-    if ((t10 & 255) == 0) {
-        t11 = core_fmt_formatter_Formatter_write_piece_021956a9582caf01(v4 + 32, v4 + 0x838);
-        if ((t11 & 255) == 0) {
-            t12 = core_fmt_formatter_Formatter_write_piece_021956a9582caf01(v4 + 32, v4 + 0x848);
-            if ((t12 & 255) == 0) {
-                t13 = core_fmt_formatter_Formatter_write_piece_05dbed1a5b08dd1e(v4 + 32, v4 + 0x858);
-                v7 = t13 & 255;
+    case 12:
+        if (get8(p1 + 74) != 0) {
+            p2 = address(constant_340);
+            v5 = 7;
+        } else {
+            p2 = (get8(p1 + 75) != 0) ? address(constant_447) : address(constant_446);
+            v5 = 4;
+        }
+        nodes_spacecraft_Spacecraft_control_word(v4 + 56, p1);
+        put8(v4 + 32, get8(v4 + 60));
+        put64(v4 + 128, 4);
+        put64(v4 + 120, address(constant_445));
+        put64(v4 + 112, v5);
+        put64(v4 + 104, p2);
+        put64(v4 + 96, 6);
+        put64(v4 + 88, address(constant_433));
+        p2 = p3 + 8;
+        v5 = get64(p2);
+        put64(v4 + 136, v4 + 32);
+        put64(v4 + 220, 0);
+        fill(v4 + 240, 0, 16);
+        put32(v4 + 216, 32);
+        put32(v4 + 228, 0);
+        put64(v4 + 232, ~0ULL);
+        put64(v4 + 208, get64(p3 + 16));
+        put64(v4 + 200, get64(p2));
+        put64(v4 + 192, get64(p3));
+        v7 = 1;
+        t10 = core_fmt_formatter_Formatter_write_piece_021956a9582caf01(v4 + 192, v4 + 88);
+        if ((t10 & 255) == 0) {
+            t11 = core_fmt_formatter_Formatter_write_piece_021956a9582caf01(v4 + 192, v4 + 104);
+            if ((t11 & 255) == 0) {
+                t12 = core_fmt_formatter_Formatter_write_piece_021956a9582caf01(v4 + 192, v4 + 120);
+                if ((t12 & 255) == 0) {
+                    t13 = core_fmt_formatter_Formatter_write_piece_05dbed1a5b08dd1e(v4 + 192, v4 + 136);
+                    v7 = t13 & 255;
+                }
             }
         }
-    }
-    p2 = get64(v4 + 32);
-    put64(v4 + 2168, p2);
-    v6 = get64(v4 + 40);
-    put64(v4 + 2176, v6);
-    v9 = get64(v4 + 48);
-    put64(v4 + 2184, v9);
-    put64(p3 + 16, v9);
-    put64(p3 + 8, v6);
-    put64(p3, p2);
-    t14 = std_alloc_fmt_undo_if_err_c9f0b165bbde0115(p3, v5, v7);
-    if ((t14 & 255) != 0) goto l3;
-    nodes_spacecraft_Spacecraft_control_word(v4 + 0x870, p1);
-    put8(v4 + 2085, get8(v4 + 2163));
-    v8 = 1;
-    v7 = get8(v4 + 2162);
-    put8(v4 + 2152, (v7 >> 5) & 1);
-    put8(v4 + 2087, (v7 >> 4) & 1);
-    put8(v4 + 2086, (v7 >> 3) & 1);
-    put64(v4 + 112, 3);
-    put64(v4 + 104, address(constant_451));
-    put64(v4 + 88, 3);
-    put64(v4 + 80, address(constant_450));
-    put64(v4 + 64, 3);
-    put64(v4 + 56, address(constant_449));
-    put64(v4 + 40, 3);
-    put64(v4 + 32, address(constant_448));
-    p2 = p3 + 8;
-    v5 = get64(p2);
-    put64(v4 + 120, v4 + 0x825);
-    put64(v4 + 96, v4 + 0x826);
-    put64(v4 + 72, v4 + 0x827);
-    put64(v4 + 48, v4 + 0x868);
-    put64(v4 + 0x844, 0);
-    fill(v4 + 0x858, 0, 16);
-    put32(v4 + 2112, 32);
-    put32(v4 + 0x84c, 0);
-    put64(v4 + 2128, ~0ULL);
-    put64(v4 + 2104, get64(p3 + 16));
-    put64(v4 + 2096, get64(p2));
-    put64(v4 + 2088, get64(p3));
-    t15 = core_fmt_formatter_Formatter_write_piece_021956a9582caf01(v4 + 0x828, v4 + 32);
-    if ((t15 & 255) != 0) goto l19;
-    t16 = core_fmt_formatter_Formatter_write_piece_05dbed1a5b08dd1e(v4 + 0x828, v4 + 48);
-    if ((t16 & 255) != 0) goto l19;
-    t17 = core_fmt_formatter_Formatter_write_piece_021956a9582caf01(v4 + 0x828, v4 + 56);
-    if ((t17 & 255) == 0) {
-        t18 = core_fmt_formatter_Formatter_write_piece_05dbed1a5b08dd1e(v4 + 0x828, v4 + 72);
-        if ((t18 & 255) == 0) {
-            t19 = core_fmt_formatter_Formatter_write_piece_021956a9582caf01(v4 + 0x828, v4 + 80);
-            if ((t19 & 255) == 0) {
-                t20 = core_fmt_formatter_Formatter_write_piece_05dbed1a5b08dd1e(v4 + 0x828, v4 + 96);
-                if ((t20 & 255) == 0) {
-                    t21 = core_fmt_formatter_Formatter_write_piece_021956a9582caf01(v4 + 0x828, v4 + 104);
-                    if ((t21 & 255) == 0) {
-                        t22 = core_fmt_formatter_Formatter_write_piece_05dbed1a5b08dd1e(v4 + 0x828, v4 + 120);
-                        v8 = t22 & 255;
+        p2 = get64(v4 + 192);
+        put64(v4 + 2248, p2);
+        v6 = get64(v4 + 200);
+        put64(v4 + 2256, v6);
+        v18 = get64(v4 + 208);
+        put64(v4 + 2264, v18);
+        put64(p3 + 16, v18);
+        put64(p3 + 8, v6);
+        put64(p3, p2);
+        t14 = std_alloc_fmt_undo_if_err_c9f0b165bbde0115(p3, v5, v7);
+        if ((t14 & 255) != 0) goto l3;
+        nodes_spacecraft_Spacecraft_control_word(v4 + 56, p1);
+        put8(v4 + 2246, get8(v4 + 59));
+        v12 = 1;
+        v7 = get8(v4 + 58);
+        put8(v4 + 32, (v7 >> 5) & 1);
+        put8(v4 + 80, (v7 >> 4) & 1);
+        put8(v4 + 2247, (v7 >> 3) & 1);
+        put64(v4 + 272, 3);
+        put64(v4 + 264, address(constant_451));
+        put64(v4 + 248, 3);
+        put64(v4 + 240, address(constant_450));
+        put64(v4 + 224, 3);
+        put64(v4 + 216, address(constant_449));
+        put64(v4 + 200, 3);
+        put64(v4 + 192, address(constant_448));
+        p2 = p3 + 8;
+        v5 = get64(p2);
+        put64(v4 + 280, v4 + 0x8c6);
+        put64(v4 + 256, v4 + 0x8c7);
+        put64(v4 + 232, v4 + 80);
+        put64(v4 + 208, v4 + 32);
+        put64(v4 + 116, 0);
+        fill(v4 + 136, 0, 16);
+        put32(v4 + 112, 32);
+        put32(v4 + 124, 0);
+        put64(v4 + 128, ~0ULL);
+        put64(v4 + 104, get64(p3 + 16));
+        put64(v4 + 96, get64(p2));
+        put64(v4 + 88, get64(p3));
+        t15 = core_fmt_formatter_Formatter_write_piece_021956a9582caf01(v4 + 88, v4 + 192);
+        if ((t15 & 255) != 0) goto l48;
+        t16 = core_fmt_formatter_Formatter_write_piece_05dbed1a5b08dd1e(v4 + 88, v4 + 208);
+        if ((t16 & 255) != 0) goto l48;
+        t17 = core_fmt_formatter_Formatter_write_piece_021956a9582caf01(v4 + 88, v4 + 216);
+        if ((t17 & 255) == 0) {
+            t18 = core_fmt_formatter_Formatter_write_piece_05dbed1a5b08dd1e(v4 + 88, v4 + 232);
+            if ((t18 & 255) == 0) {
+                t19 = core_fmt_formatter_Formatter_write_piece_021956a9582caf01(v4 + 88, v4 + 240);
+                if ((t19 & 255) == 0) {
+                    t20 = core_fmt_formatter_Formatter_write_piece_05dbed1a5b08dd1e(v4 + 88, v4 + 256);
+                    if ((t20 & 255) == 0) {
+                        t21 = core_fmt_formatter_Formatter_write_piece_021956a9582caf01(v4 + 88, v4 + 264);
+                        if ((t21 & 255) == 0) {
+                            t22 = core_fmt_formatter_Formatter_write_piece_05dbed1a5b08dd1e(v4 + 88, v4 + 280);
+                            v12 = t22 & 255;
+                        }
                     }
                 }
             }
         }
-    }
-l19:;
-    p2 = get64(v4 + 2088);
-    put64(v4 + 2168, p2);
-    v6 = get64(v4 + 2096);
-    put64(v4 + 2176, v6);
-    v9 = get64(v4 + 2104);
-    put64(v4 + 2184, v9);
-    put64(p3 + 16, v9);
-    put64(p3 + 8, v6);
-    put64(p3, p2);
-    t23 = std_alloc_fmt_undo_if_err_c9f0b165bbde0115(p3, v5, v8);
-    if ((t23 & 255) != 0) goto l3;
-    put64(v4 + 2160, get64(p1 + 168));
-    put64(v4 + 2152, get64(p1 + 216));
-    put64(v4 + 2112, address(constant_440));
-    put64(v4 + 2096, 7);
-    put64(v4 + 2088, address(constant_452));
-    put64(v4 + 2120, 8);
-    p2 = p3 + 8;
-    p1 = get64(p2);
-    put64(v4 + 2128, v4 + 0x868);
-    put64(v4 + 2104, v4 + 0x870);
-    put64(v4 + 60, 0);
-    fill(v4 + 80, 0, 16);
-    put32(v4 + 56, 32);
-    v7 = 0;
-    put32(v4 + 68, 0);
-    put64(v4 + 72, ~0ULL);
-    put64(v4 + 48, get64(p3 + 16));
-    put64(v4 + 40, get64(p2));
-    put64(v4 + 32, get64(p3));
-    v8 = 1;
-    v10 = 1;
-    t24 = core_fmt_formatter_Formatter_write_piece_021956a9582caf01(v4 + 32, v4 + 0x828);
-    if ((t24 & 255) == 0) {
-        v10 = 1;
-        t25 = core_fmt_formatter_Formatter_write_piece_15ed8fd27183701c(v4 + 32, v4 + 0x838);
-        if ((t25 & 255) == 0) {
-            v10 = 1;
-            t26 = core_fmt_formatter_Formatter_write_piece_021956a9582caf01(v4 + 32, v4 + 0x840);
-            if ((t26 & 255) == 0) {
-                t27 = core_fmt_formatter_Formatter_write_piece_15ed8fd27183701c(v4 + 32, v4 + 0x850);
-                v10 = t27 & 255;
+    l48:;
+        p2 = get64(v4 + 88);
+        put64(v4 + 2248, p2);
+        v6 = get64(v4 + 96);
+        put64(v4 + 2256, v6);
+        v18 = get64(v4 + 104);
+        put64(v4 + 2264, v18);
+        put64(p3 + 16, v18);
+        put64(p3 + 8, v6);
+        put64(p3, p2);
+        t23 = std_alloc_fmt_undo_if_err_c9f0b165bbde0115(p3, v5, v12);
+        if ((t23 & 255) != 0) goto l3;
+        put64(v4 + 56, get64(p1 + 168));
+        put64(v4 + 32, get64(p1 + 216));
+        put64(v4 + 112, address(constant_440));
+        put64(v4 + 96, 7);
+        put64(v4 + 88, address(constant_452));
+        put64(v4 + 120, 8);
+        p2 = p3 + 8;
+        p1 = get64(p2);
+        put64(v4 + 128, v4 + 32);
+        put64(v4 + 104, v4 + 56);
+        put64(v4 + 220, 0);
+        fill(v4 + 240, 0, 16);
+        put32(v4 + 216, 32);
+        v12 = 0;
+        put32(v4 + 228, 0);
+        put64(v4 + 232, ~0ULL);
+        put64(v4 + 208, get64(p3 + 16));
+        put64(v4 + 200, get64(p2));
+        put64(v4 + 192, get64(p3));
+        v7 = 1;
+        v8 = 1;
+        t24 = core_fmt_formatter_Formatter_write_piece_021956a9582caf01(v4 + 192, v4 + 88);
+        if ((t24 & 255) == 0) {
+            v8 = 1;
+            t25 = core_fmt_formatter_Formatter_write_piece_15ed8fd27183701c(v4 + 192, v4 + 104);
+            if ((t25 & 255) == 0) {
+                v8 = 1;
+                t26 = core_fmt_formatter_Formatter_write_piece_021956a9582caf01(v4 + 192, v4 + 112);
+                if ((t26 & 255) == 0) {
+                    t27 = core_fmt_formatter_Formatter_write_piece_15ed8fd27183701c(v4 + 192, v4 + 128);
+                    v8 = t27 & 255;
+                }
             }
         }
-    }
-    p2 = get64(v4 + 32);
-    put64(v4 + 2168, p2);
-    v5 = get64(v4 + 40);
-    put64(v4 + 2176, v5);
-    v6 = get64(v4 + 48);
-    put64(v4 + 2184, v6);
-    put64(p3 + 16, v6);
-    put64(p3 + 8, v5);
-    put64(p3, p2);
-    t28 = std_alloc_fmt_undo_if_err_c9f0b165bbde0115(p3, p1, v10);
-    if ((t28 & 255) != 0) {
-        put8(p0 + 1, v7);
-        put8(p0, v8);
+        p2 = get64(v4 + 192);
+        put64(v4 + 2248, p2);
+        v5 = get64(v4 + 200);
+        put64(v4 + 2256, v5);
+        v6 = get64(v4 + 208);
+        put64(v4 + 2264, v6);
+        put64(p3 + 16, v6);
+        put64(p3 + 8, v5);
+        put64(p3, p2);
+        t28 = std_alloc_fmt_undo_if_err_c9f0b165bbde0115(p3, p1, v8);
+        if ((t28 & 255) == 0) goto l4;
+        put8(p0 + 1, v12);
+        put8(p0, v7);
         return;
+    default:
+        goto l4;
     }
-l5:;
-    v7 = std_alloc_vec_Vec_push_bbd08ad089034210(p3);
-    v8 = v7 & 1;
-    v7 = ~v7 & 1;
-    put8(p0 + 1, v7);
-    put8(p0, v8);
-    return;
-l4:;
+    p2 = 0;
+    fill(v4 + 32, 0, 24);
+    if (v5 < 5) {
+        v8 = 0;
+        goto l7;
+    }
+    v9 = get8(v6);
+    if (v9 > 63) {
+        v8 = 1;
+        goto l7;
+    }
+    if ((v9 & 48) == 16) {
+        v8 = 2;
+        goto l7;
+    }
+    if ((v9 & 12) != 0) {
+        v8 = 3;
+        goto l7;
+    }
+    v8 = 4;
+    v10 = get8(v6 + 2);
+    v11 = ((v10 << 8) & 768) | get8(v6 + 3);
+    if (v5 != (uint64_t)(v11 + 1)) goto l7;
+    v12 = 0;
+    if (v11 < 6) goto l6;
+    v11 = get8(v6 + 1);
+    v7 = 0;
+    t1 = tc_frame_decoding_has_wrong_check(v6, v5, 0);
+    if (t1 != 0) {
+        v8 = 5;
+        goto l7;
+    }
+    v12 = get8(v6 + 4);
+    if (v9 >= 32 && (v12 & 255) != 0) {
+        v8 = 6;
+        goto l7;
+    }
+    if ((v9 & 16) == 0) {
+        if ((v5 - 9) > ~2ULL) {
+            v8 = 7;
+            goto l7;
+        }
+        v14 = 0;
+        fill(v4 + 80, 0, 6);
+        v13 = (v9 < 32) ? v12 : 0U;
+        v16 = v9 > 31;
+        v18 = v5 - 8;
+        v5 = v6 + 6;
+        v7 = get8(v6 + 5);
+        v17 = v7 & 63;
+        v15 = v7 >> 6;
+        goto l26;
+    }
+    v5 = v5 - 7;
+    if (v5 <= 3) {
+        v8 = 7;
+        v12 = 0;
+        switch ((uint32_t)v5) {
+        case 1:
+            v7 = 0;
+            if (get8(v6 + 5) != 0) goto l28;
+            v13 = 0;
+            v14 = 0;
+            break;
+        case 2:
+            goto l28;
+        case 3:
+            v8 = 8;
+            if (get8(v6 + 5) != 130) goto l7;
+            v12 = 0;
+            if (get8(v6 + 6) != 0) goto l6;
+            v14 = get8(v6 + 7);
+            v13 = 1;
+            break;
+        default:
+            goto l6;
+        }
+        v15 = 0;
+        fill(v4 + 80, 0, 6);
+        v16 = 2;
+        v5 = 0;
+        v17 = 0;
+        v18 = 0;
+        goto l26;
+    }
+l28:;
+    v8 = 8;
+    goto l7;
+l26:;
+    v8 = 0;
+    v7 = 1;
+    if (get32(p1) != (((v9 << 8) & 768) | v11)) goto l7;
+    v12 = 0;
+    if (get32(p1 + 4) != ((v10 & 252) >> 2)) goto l6;
+    switch (v16) {
+    case 1:
+        put8(v4 + 57, v17);
+        put8(v4 + 56, v15);
+        put32(v4 + 58, get32(v4 + 80));
+        put16(v4 + 62, get16(v4 + 84));
+        put64(v4 + 72, v18);
+        put64(v4 + 64, v5);
+        v12 = 0;
+        fill(v4 + 192, 0, 48);
+        nodes_spacecraft_Spacecraft_packet_to_keep(v4 + 192, p1, v4 + 56);
+        v10 = 1;
+        v7 = 0;
+        v13 = 0;
+        if (get8(v4 + 192) == 0) {
+            v7 = 3;
+            p2 = p1 + 77;
+            put8(p2, (get8(p2) + 1) & 3);
+            p2 = (uint64_t)get8(v4 + 200);
+            put64(v4 + 88, p2);
+            put64(v4 + 96, get64(v4 + 208));
+            put64(v4 + 104, get64(v4 + 216));
+            put64(v4 + 112, get64(v4 + 224));
+            put64(v4 + 120, get64(v4 + 232));
+            nodes_spacecraft_Spacecraft_keep(p1, v4 + 88);
+            v13 = p2 == 1;
+            v10 = 0;
+        }
+        p2 = 0;
+        goto l9;
+    case 2:
+        nodes_spacecraft_receive_obey(p1 + 72, v13, v14);
+        v7 = 4;
+        v8 = v13;
+        v12 = v14;
+        goto l6;
+    default:
+        break;
+    }
+    put8(v4 + 2249, v17);
+    put8(v4 + 2248, v15);
+    put32(v4 + 2250, get32(v4 + 80));
+    put16(v4 + 2254, get16(v4 + 84));
+    put64(v4 + 2264, v18);
+    put64(v4 + 2256, v5);
+    v10 = 0;
+    fill(v4 + 192, 0, 112);
     v8 = 1;
-    put8(p0 + 1, v7);
-    put8(p0, v8);
+    p2 = p1 + 76;
+    v9 = get8(p2);
+    v5 = p1 + 75;
+    v7 = get8(v5);
+    v12 = 5;
+    v6 = p1 + 74;
+    if ((get8(v6) & 1) != 0) goto l10;
+    v16 = get8(p1 + 72);
+    v11 = get8(p1 + 73);
+    if ((v13 & 255) != (v11 & 255)) {
+        v8 = 1;
+        v11 = v13 - v11;
+        v16 = (v16 >> 1) & 127;
+        if ((v11 & 255) >= v16) {
+            if ((v11 & 255) > (~v16 & 255)) {
+                v12 = ((v7 & 1) != 0) ? 5U : 3U;
+                v8 = 0;
+                goto l10;
+            }
+            v12 = 4;
+            goto l10;
+        }
+        if ((v7 & 1) != 0) {
+            v8 = 0;
+            goto l11;
+        }
+        v12 = 1;
+        v8 = 0;
+        v7 = 0;
+        v9 = 1;
+        goto l10;
+    }
+    v8 = 0;
+    if ((v7 & 1) == 0) {
+        if (get64(p1 + 168) >= (uint64_t)get32(p1 + 48)) {
+            v12 = 2;
+            v7 = 1;
+            v9 = 1;
+            goto l10;
+        }
+        v7 = get8(p1 + 77);
+        map_service_assembler_Assembler_prepare(v4 + 192, p1 + 80, v4 + 0x8c8);
+        if (get8(v4 + 192) != 0) {
+            p2 = 0;
+            v7 = 0;
+            v10 = 1;
+            v13 = 0;
+            v12 = 0;
+            goto l9;
+        }
+        v9 = get8(v4 + 201);
+        put8(v4 + 89, v9);
+        v11 = get8(v4 + 200);
+        put8(v4 + 88, v11);
+        put32(v4 + 90, get32(v4 + 202));
+        put16(v4 + 94, get16(v4 + 206));
+        v12 = get8(v4 + 208);
+        put8(v4 + 96, v12);
+        put64(v4 + 97, get64(v4 + 209));
+        put64(v4 + 104, get64(v4 + 216));
+        p2 = get64(v4 + 224);
+        v5 = get64(v4 + 232);
+        v6 = get64(v4 + 240);
+        put64(v4 + 128, v6);
+        put64(v4 + 120, v5);
+        put64(v4 + 112, p2);
+        copy(v4 + 136, v4 + 192 + 56, 56);
+        nodes_spacecraft_Spacecraft_hand_on(p1, v4 + 0x8c8, v4 + 88);
+        put8(p1 + 77, v7);
+        v10 = 0;
+        fill(p1 + 74, 0, 3);
+        put8(p1 + 73, v13 + 1);
+        put8(p1 + 72, v16);
+        p2 = (v12 != 0) ? p2 : v6;
+        v7 = 2;
+        v12 = 0;
+        goto l8;
+    }
+l11:;
+    v7 = 1;
+l10:;
+    put8(p2, v9);
+    put8(v5, v7);
+    put8(v6, v8);
+    p2 = 0;
+    v7 = 2;
+l9:;
+    v11 = 0;
+    v9 = 0;
+l8:;
+    v8 = v13;
+    if (v10 == 0) goto l5;
+    goto l3;
+l7:;
+    v12 = 0;
+l6:;
+    v9 = 0;
+    v11 = 0;
+l5:;
+    put8(v4 + 49, v9);
+    put8(v4 + 48, v11);
+    put64(v4 + 40, p2);
+    put8(v4 + 34, v12);
+    put8(v4 + 33, v8);
+    put8(v4 + 32, v7);
+    t30 = node_answers_answers_push_received(p3, v4 + 32);
+    if ((t30 & 255) != 0) goto l3;
+l4:;
+    v12 = std_alloc_vec_Vec_push_bbd08ad089034210(p3);
+    v7 = v12 & 1;
+    v12 = ~v12 & 1;
+    put8(p0 + 1, v12);
+    put8(p0, v7);
     return;
 l3:;
-    v8 = 1;
+    v7 = 1;
 l2:;
-    v7 = 0;
-    put8(p0 + 1, v7);
-    put8(p0, v8);
+    v12 = 0;
+    put8(p0 + 1, v12);
+    put8(p0, v7);
     return;
 }
 
@@ -60594,6 +60843,9 @@ l1:;
     return;
 }
 
+#endif
+
+#if !defined PART || PART == 7
 LOCAL void listings_stream_list_piece_012fed91f5969607(uint64_t p0, uint64_t p1, uint64_t p2, uint64_t p3, uint64_t
     p4, uint64_t p5, uint64_t p6, uint64_t p7)
 {
@@ -60709,9 +60961,6 @@ l1:;
     return;
 }
 
-#endif
-
-#if !defined PART || PART == 7
 LOCAL void listings_stream_list_piece_ad2f97c76d7aa93a(uint64_t p0, uint64_t p1, uint64_t p2, uint64_t p3, uint64_t
     p4, uint64_t p5, uint64_t p6, uint64_t p7)
 {
@@ -61980,9 +62229,29 @@ LOCAL void found_frames_stream_list_found_4eed5df9a5215028(uint64_t p0, uint64_t
                 switch ((uint32_t)v25) {
                 case 1:
                     if (get8(v22 + 5) == 0) {
-                        v24 = 0;
-                        v21 = 1;
-                        goto l24;
+                        v20 = get64(v16);
+                        v25 = get64(p7);
+                        put8(v12, 0);
+                        put16(p5 + 2, 0);
+                        put8(v14, (get8(v14) + 1) & 3);
+                        v22 = get64(v17);
+                        if (v22 <= 8) {
+                            put64(v25 + v20, get64(v9));
+                        } else {
+                            core_slice_edits_slice_T_copy_from_slice_i8_20_core_clone_U8Clone(v25 + v20, v22, v9,
+                                v22);
+                        }
+                        v21 = get8(v10);
+                        v22 = v22 + v20;
+                        v20 = v25 + v22;
+                        put64(v20 + 1, 0x6f6c6e7520434220ULL);
+                        put8(v20, v21);
+                        put8(v20 + 11, 32);
+                        put16(v20 + 9, 0x6b63);
+                        put8(v20 + 8, 111);
+                        put32(v20 + 4, 0x6c6e7520);
+                        v20 = v22 + 12;
+                        goto l19;
                     }
                     break;
                 case 2:
@@ -61990,9 +62259,20 @@ LOCAL void found_frames_stream_list_found_4eed5df9a5215028(uint64_t p0, uint64_t
                 case 3:
                     v24 = 8;
                     if (get8(v22 + 5) != 130 || get8(v22 + 6) != 0) goto l5;
-                    v24 = get8(v22 + 7);
-                    v21 = 0;
-                    goto l24;
+                    v20 = get64(v16);
+                    v25 = get64(p7);
+                    v21 = get8(v22 + 7);
+                    cop1_farm_Farm_set_vr(p5, v21);
+                    v22 = get64(v17);
+                    if (v22 <= 8) {
+                        put64(v25 + v20, get64(v9));
+                    } else {
+                        core_slice_edits_slice_T_copy_from_slice_i8_20_core_clone_U8Clone(v25 + v20, v22, v9, v22);
+                    }
+                    v20 = v22 + v20;
+                    put8(v25 + v20, get8(v10));
+                    v20 = listings_farm_put_set_vr(v25, v20 + 1, v21);
+                    goto l19;
                 default:
                     goto l5;
                 }
@@ -62000,152 +62280,113 @@ LOCAL void found_frames_stream_list_found_4eed5df9a5215028(uint64_t p0, uint64_t
             v24 = 8;
             goto l5;
         }
-        if ((v23 - 9) >= ~1ULL) {
+        if ((v23 - 9) > ~2ULL) {
             v24 = 7;
             goto l5;
         }
         v20 = get64(v16);
-        v22 = get64(p7);
+        v25 = get64(p7);
         if (v21 > 31) {
             put8(v14, (get8(v14) + 1) & 3);
-            v25 = get64(v17);
-            if (v25 <= 8) {
-                put64(v22 + v20, get64(v9));
+            v22 = get64(v17);
+            if (v22 <= 8) {
+                put64(v25 + v20, get64(v9));
             } else {
-                core_slice_edits_slice_T_copy_from_slice_i8_20_core_clone_U8Clone(v22 + v20, v25, v9, v25);
+                core_slice_edits_slice_T_copy_from_slice_i8_20_core_clone_U8Clone(v25 + v20, v22, v9, v22);
             }
-            v20 = v25 + v20;
-            v25 = v22 + v20;
-            put8(v25, get8(v10));
-            put32(v25 + 1, 0x20444220);
+            v20 = v22 + v20;
+            v22 = v25 + v20;
+            put8(v22, get8(v10));
+            put32(v22 + 1, 0x20444220);
             v20 = v20 + 5;
-            goto l19;
-        }
-        v25 = (uint64_t)v24;
-        v21 = 5;
-        v26 = p5 + 2;
-        if (get8(v26) == 0) {
-            v27 = get8(v15);
-            if ((v24 & 255) == v27) {
-                if (get8(v13) == 0) {
-                    v21 = 0;
-                    put8(v12, 0);
-                    put8(v15, v24 + 1);
-                }
-            } else {
-                v24 = (v24 - v27) & 255;
-                v27 = get8(p5) >> 1;
-                if (v24 < v27) {
+        } else {
+            v22 = (uint64_t)v24;
+            v21 = 5;
+            v26 = p5 + 2;
+            if (get8(v26) == 0) {
+                v27 = get8(v15);
+                if ((v24 & 255) == v27) {
                     if (get8(v13) == 0) {
-                        v21 = 1;
-                        put8(v12, 1);
+                        v21 = 0;
+                        put8(v12, 0);
+                        put8(v15, v24 + 1);
                     }
-                } else if (v24 <= (~v27 & 255)) {
-                    put8(v26, 1);
-                    v21 = 4;
                 } else {
-                    v21 = (get8(v13) != 0) ? 5U : 3U;
+                    v24 = (v24 - v27) & 255;
+                    v27 = get8(p5) >> 1;
+                    if (v24 < v27) {
+                        if (get8(v13) == 0) {
+                            v21 = 1;
+                            put8(v12, 1);
+                        }
+                    } else if (v24 <= (~v27 & 255)) {
+                        put8(v26, 1);
+                        v21 = 4;
+                    } else {
+                        v21 = (get8(v13) != 0) ? 5U : 3U;
+                    }
                 }
             }
-        }
-        v26 = v25 & 255;
-        v25 = get64(v17);
-        if (v25 <= 8) {
-            put64(v22 + v20, get64(v9));
-        } else {
-            core_slice_edits_slice_T_copy_from_slice_i8_20_core_clone_U8Clone(v22 + v20, v25, v9, v25);
-        }
-        v20 = v25 + v20;
-        v28 = v22 + v20;
-        put8(v28, get8(v10));
-        v29 = v20 + 5;
-        v20 = v22 + v29;
-        v25 = v26 << 2;
-        v24 = get8(v25 + address(constant_454 + 3));
-        put8(v20 + 3, v24);
-        put8(v20 + 2, get8(v25 + address(constant_454 + 2)));
-        put16(v20, get16(v25 + address(constant_454)));
-        put32(v28 + 1, 0x20444120);
-        v20 = v29 + ((uint64_t)v24 & 255);
-        if (v21 != 0) {
-            v20 = listings_farm_put_refusal(v22, v20, v21);
-            goto l19;
-        }
-        v25 = v22 + v20;
-        put64(v25, 0x6574706563636120ULL);
-        put16(v25 + 8, 0x2064);
-        put8(v25 + 7, 101);
-        put16(v25 + 5, 0x7470);
-        v20 = v20 + 10;
-        goto l19;
-    l24:;
-        v20 = get64(v16);
-        v22 = get64(p7);
-        put8(v14, (get8(v14) + 1) & 3);
-        if (v21 != 0) {
-            put8(v12, 0);
-            put16(p5 + 2, 0);
-            v25 = get64(v17);
-            if (v25 <= 8) {
-                put64(v22 + v20, get64(v9));
+            v26 = v22 & 255;
+            v22 = get64(v17);
+            if (v22 <= 8) {
+                put64(v25 + v20, get64(v9));
             } else {
-                core_slice_edits_slice_T_copy_from_slice_i8_20_core_clone_U8Clone(v22 + v20, v25, v9, v25);
+                core_slice_edits_slice_T_copy_from_slice_i8_20_core_clone_U8Clone(v25 + v20, v22, v9, v22);
             }
-            v21 = get8(v10);
-            v25 = v25 + v20;
-            v20 = v22 + v25;
-            put64(v20 + 1, 0x6f6c6e7520434220ULL);
-            put8(v20, v21);
-            put8(v20 + 11, 32);
-            put16(v20 + 9, 0x6b63);
-            put8(v20 + 8, 111);
-            put32(v20 + 4, 0x6c6e7520);
-            v20 = v25 + 12;
-            goto l19;
+            v20 = v22 + v20;
+            v28 = v25 + v20;
+            put8(v28, get8(v10));
+            v29 = v20 + 5;
+            v20 = v25 + v29;
+            v22 = v26 << 2;
+            v24 = get8(v22 + address(constant_454 + 3));
+            put8(v20 + 3, v24);
+            put8(v20 + 2, get8(v22 + address(constant_454 + 2)));
+            put16(v20, get16(v22 + address(constant_454)));
+            put32(v28 + 1, 0x20444120);
+            v20 = v29 + ((uint64_t)v24 & 255);
+            if (v21 != 0) {
+                v20 = listings_farm_put_refusal(v25, v20, v21);
+            } else {
+                v22 = v25 + v20;
+                put64(v22, 0x6574706563636120ULL);
+                put16(v22 + 8, 0x2064);
+                put8(v22 + 7, 101);
+                put16(v22 + 5, 0x7470);
+                v20 = v20 + 10;
+            }
         }
-        if (get8(p5 + 2) == 0) {
-            put16(v13, 0);
-            put8(v15, v24);
-        }
-        v25 = get64(v17);
-        if (v25 > 8) {
-            core_slice_edits_slice_T_copy_from_slice_i8_20_core_clone_U8Clone(v22 + v20, v25, v9, v25);
-        } else {
-            put64(v22 + v20, get64(v9));
-        }
-        v20 = v25 + v20;
-        put8(v22 + v20, get8(v10));
-        v20 = listings_farm_put_set_vr(v22, v20 + 1, v24);
     l19:;
         v26 = p5 + 2;
         if (get8(v26) == 0) {
-            v25 = v22 + v20;
+            v22 = v25 + v20;
             v20 = v20 + 4;
             if (get8(v13) == 0) {
-                put32(v25, 0x6e65704f);
+                put32(v22, 0x6e65704f);
             } else {
-                put32(v25, 0x74696157);
+                put32(v22, 0x74696157);
             }
         } else {
-            v25 = v22 + v20;
-            put32(v25, 0x6b636f4c);
-            put8(v25 + 6, 116);
-            put16(v25 + 4, 0x756f);
-            put8(v25 + 3, 107);
+            v22 = v25 + v20;
+            put32(v22, 0x6b636f4c);
+            put8(v22 + 6, 116);
+            put16(v22 + 4, 0x756f);
+            put8(v22 + 3, 107);
             v20 = v20 + 7;
         }
-        v25 = (uint64_t)get8(v15);
-        put32(v22 + v20, 0x3d727620);
+        v22 = (uint64_t)get8(v15);
+        put32(v25 + v20, 0x3d727620);
         v28 = v20 + 4;
-        v20 = v22 + v28;
-        v25 = v25 << 2;
-        v21 = get8(v25 + address(constant_454 + 3));
+        v20 = v25 + v28;
+        v22 = v22 << 2;
+        v21 = get8(v22 + address(constant_454 + 3));
         put8(v20 + 3, v21);
-        put8(v20 + 2, get8(v25 + address(constant_454 + 2)));
-        put16(v20, get16(v25 + address(constant_454)));
+        put8(v20 + 2, get8(v22 + address(constant_454 + 2)));
+        put16(v20, get16(v22 + address(constant_454)));
         v24 = get8(v26);
-        v25 = v28 + ((uint64_t)v21 & 255);
-        v20 = v22 + v25;
+        v22 = v28 + ((uint64_t)v21 & 255);
+        v20 = v25 + v22;
         put16(v20, 0x6c20);
         put8(v20 + 2, 61);
         put8(v20 + 3, v24 | 48);
@@ -62160,15 +62401,15 @@ LOCAL void found_frames_stream_list_found_4eed5df9a5215028(uint64_t p0, uint64_t
         v26 = (uint64_t)get8(v14);
         put8(v20 + 14, 61);
         put16(v20 + 12, 0x6220);
-        v28 = v25 + 15;
-        v20 = v22 + v28;
-        v25 = v26 << 2;
-        v21 = get8(v25 + address(constant_454 + 3));
+        v28 = v22 + 15;
+        v20 = v25 + v28;
+        v22 = v26 << 2;
+        v21 = get8(v22 + address(constant_454 + 3));
         put8(v20 + 3, v21);
-        put16(v20 + 1, get16(v25 + address(constant_454 + 1)));
-        put8(v20, get8(v25 + address(constant_454)));
+        put16(v20 + 1, get16(v22 + address(constant_454 + 1)));
+        put8(v20, get8(v22 + address(constant_454)));
         v20 = v28 + ((uint64_t)v21 & 255);
-        put8(v22 + v20, 10);
+        put8(v25 + v20, 10);
         put64(v16, v20 + 1);
         goto l2;
     l5:;
