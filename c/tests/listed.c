@@ -320,6 +320,7 @@ static bool is_served(size_t less) {
     struct sedge_spacecraft spacecraft = {0};
     bool served = true;
     unsigned left;
+    uint8_t opened;
     size_t at;
     rows_count = next_number = 0;
     waiting_count = waiting_octets = 0;
@@ -327,7 +328,9 @@ static bool is_served(size_t less) {
     places_of_spacecraft(&config, &traffic);
     for (at = 0; at < rows_count; at++) rows[at].count -= (rows[at].count * less + 99) / 100 * (rows[at].count > 1);
     set_places();
-    GIVES(0, sedge_spacecraft_open(&config, &spacecraft));
+    opened = sedge_spacecraft_open(&config, &spacecraft);
+    if (less > 0 && opened == SEDGE_NODE_MEMORY) return false;
+    gives(0, opened, "sedge_spacecraft_open");
     GIVES(0, sedge_tm_builder_open(&builder, 1, 0, config.frame_length));
     for (left = 1000; left > 0 && served; left--) served = something_comes(&spacecraft);
     sedge_spacecraft_close(&spacecraft);
