@@ -1,5 +1,6 @@
 -- What a spacecraft holds at most, by its configuration.
-use Rattle.std.specs.Prelude.{◌≡◌, ◌≤◌, ◌+◌, ◌-◌, ◌*◌, ◌==◌, if◌then◌else◌, max, ℕ, List, length, Option, IfSome, true}
+use Rattle.std.specs.Prelude.{◌≡◌, ◌≤◌, ◌+◌, ◌-◌, ◌*◌, ◌==◌, if◌then◌else◌, max, ℕ, List, length}
+use Rattle.std.specs.Prelude.{Option, IfSome, true}
 use Rattle.std.specs.List.{sum_by}
 use Rattle.map_service.specs.Assembly.{is_open, open_part}
 use Rattle.nodes.specs.declared.config.Config.{Config}
@@ -16,7 +17,7 @@ octets_together packets = sum_by (λ (p : PacketOn). length p.octets) packets
 abbrev pub most_together : Config → ℕ
 most_together c = (c.ready_slots - 1) * c.max_packet + max c.max_packet 1016
 
--- of how many there is room: with blocking those of one frame more than the slots, of which one was free
+-- of how many there is room: with blocking for those of one frame, where one slot is free
 abbrev pub most_ready : Config → ℕ
 most_ready c =
     if c.blocking == 1 then c.ready_slots + 144
