@@ -1,7 +1,8 @@
 -- What is handed out at a segment is packets, each exactly one, on a MAP that is open.
-use Rattle.std.proofs.Common.{◌≡◌, ◌<◌, ℕ, Bool, true, false, not, List, [], ◌∷◌, ◌++◌, Option, Some, None, refl, ap}
+use Rattle.std.proofs.Common.{◌≡◌, ◌<◌, ℕ, Bool, true, false, not, List, [], ◌∷◌, ◌++◌, Option, Some, None, refl}
+use Rattle.std.proofs.Common.{sym, ap}
 use Rattle.std.proofs.Common.{◌≤◌, length, subst}
-use Rattle.std.specs.Prelude.{if◌then◌else◌, nat_lt}
+use Rattle.std.specs.Prelude.{if◌then◌else◌, nat_lt, is_none}
 use Rattle.std.specs.List.{AllByRecursion}
 use Rattle.std.proofs.lemmas.Bool.{cond_both, ltb-true, ltb-false, and_parts, or_parts, not-false}
 use Rattle.std.proofs.lemmas.List.{append-nil}
@@ -17,7 +18,7 @@ use Rattle.map_service.specs.declared.decision.Action.TheVariants.{HandOut}
 use Rattle.map_service.specs.Decision.{outcome_with}
 use Rattle.map_service.specs.AssemblerTable.{TakeOutcome, one_fault, several_fault, alone_fault, drop_outcome}
 use Rattle.map_service.specs.AssemblerTable.{packets_outcome, part_outcome, interruption, cell, take_step}
-use Rattle.map_service.specs.AssemblerTable.{alone_packets}
+use Rattle.map_service.specs.AssemblerTable.{alone_packets, hands_out, hands_out_cell}
 use Rattle.map_service.proofs.Groups.{IsWhole, packets-split, again}
 use Rattle.map_service.proofs.Passage.{one-from}
 use Rattle.map_service.specs.AssemblerTable.{is_dropped_at_once}
@@ -52,6 +53,26 @@ pub handed_out : (limits : Limits) (part : Option (List ℕ)) (octets : List ℕ
     → outcome_with limits HandOut (interruption part) part octets ≡ cell limits Alone part octets
 handed_out limits part octets none =
     rw none (ap (handing (interruption part)) (alone_packets_are limits octets none))
+
+no_fault : (fault : Option Dropped) → is_none fault ≡ true → fault ≡ None
+no_fault None e = refl
+no_fault (Some cause) e = absurd cc
+
+handed_cell : (limits : Limits) (flags : SegmentFlags) (part : Option (List ℕ)) (octets : List ℕ)
+    → hands_out_cell limits flags octets ≡ true → (cell limits flags part octets).packets ≡ packets_in octets
+handed_cell limits Alone part octets e =
+    let none : alone_fault limits octets ≡ None = no_fault (alone_fault limits octets) e in
+    rw none (sym (alone_packets_are limits octets none))
+handed_cell limits First part octets e = absurd cc
+handed_cell limits Continuing part octets e = absurd cc
+handed_cell limits Last part octets e = absurd cc
+
+-- the packets are those that stand in its octets
+pub handed_packets : (limits : Limits) (part : Option (List ℕ)) (s : SegmentView) → hands_out limits s ≡ true
+    → (take_step limits part s).packets ≡ packets_in s.payload
+handed_packets limits part s e =
+    let both = and_parts (is_open limits s.header.map) (hands_out_cell limits s.header.flags s.payload) e in
+    rw both.0 (handed_cell limits s.header.flags part s.payload both.1)
 
 pub lone_whole : (p : List ℕ) → IsWhole (p ∷ []) → is_packet p ≡ true
 lone_whole p h =

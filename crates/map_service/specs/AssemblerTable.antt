@@ -1,6 +1,6 @@
 -- How the assembler takes a segment: a line for each cell of its table.
 use Rattle.std.specs.Prelude.{ℕ, List, [], ◌∷◌, ◌++◌, not, if◌then◌else◌, Option, Some, None}
-use Rattle.std.specs.Prelude.{◌&&◌, ◌≡◌, Result, IsOk, Bool, true, false}
+use Rattle.std.specs.Prelude.{◌&&◌, ◌≡◌, Result, IsOk, Bool, true, false, is_none}
 use Rattle.tc_frame.specs.declared.frame.SegmentFlags.{SegmentFlags}
 use Rattle.tc_frame.specs.declared.frame.SegmentFlags.TheVariants.{First, Continuing, Last, Alone}
 use Rattle.tc_frame.specs.Layout.{SegmentView}
@@ -104,6 +104,19 @@ abbrev pub lone_packet_at : Limits → Option (List ℕ) → SegmentView → Opt
 lone_packet_at limits part s =
     if is_open limits s.header.map
     && not limits.blocking then lone_packet_cell limits s.header.flags part s.payload else None
+
+-- ---- the alone segment whose packets are handed out, wherever they are copied to
+
+abbrev pub hands_out_cell : Limits → SegmentFlags → List ℕ → Bool
+hands_out_cell limits Alone octets = is_none (alone_fault limits octets)
+hands_out_cell limits First octets = false
+hands_out_cell limits Continuing octets = false
+hands_out_cell limits Last octets = false
+
+-- an alone segment of an open MAP, with no fault
+abbrev pub hands_out : Limits → SegmentView → Bool
+hands_out limits s =
+    is_open limits s.header.map && hands_out_cell limits s.header.flags s.payload
 
 -- ---- which segments are dropped with no memory taken
 

@@ -7,14 +7,15 @@ ghost use Rattle.tc_frame.specs.Layout.{segment_view};
 ghost use Rattle.map_service.specs.Assembly.{is_open, is_too_long};
 ghost use Rattle.map_service.specs.AssemblerFields.{HasLongest, HasPlaces, IsPartList, IsNewList, parts_of};
 ghost use Rattle.map_service.specs.Prepared.{outcome_of, part_after, is_opened, HasRoom, AreClosed, IsFoundBy};
-ghost use Rattle.map_service.specs.AssemblerTable.{packets_outcome, one_fault, take_step, lone_packet_cell, IsSureAtOnce};
+ghost use Rattle.map_service.specs.AssemblerTable.{packets_outcome, one_fault, take_step, lone_packet_cell, hands_out, hands_out_cell, IsSureAtOnce};
+ghost use Rattle.map_service.specs.Packets.{packets_in};
 ghost use Rattle.map_service.specs.Views.{part_view, packets_view, ready_view};
 
-use crate::decision::{Action, Decision, decide};
+use crate::decision::{Action, Decision, decide, interruption};
 use crate::dropped::Dropped;
 use crate::fault::MapFault;
 use crate::limits::Limits;
-use crate::packets::{copied_packets, fault_of_one};
+use crate::packets::{copied_packets, fault_of_alone, fault_of_one};
 use smallvec::SmallVec;
 use std::alloc::{AllocError, Global};
 use std::marker::Model;
@@ -270,6 +271,36 @@ impl Assembler {
             return None;
         }
         Some(segment.payload)
+    }
+
+    /// Whether this is an alone segment whose packets are handed out: its MAP is open, and its data are
+    /// exactly one packet of at most `max_packet` octets, or with blocking one or more. Then they may be
+    /// copied from the segment's own octets, and `take_alone` takes it with no memory.
+    /// Cost: n.
+    pub fn hands_out(&self, segment: &Segment) -> bool
+        ensures alone { result ≡ hands_out self.now.limits (segment_view segment.now) }
+        ensures packets { result ≡ true → (step_at self.now (segment_view segment.now)).packets
+            ≡ packets_in segment.now.payload.now }
+    {
+        let header = segment.header;
+        self.limits.is_open(header.map) && hands_out(&self.limits, header.flags, segment.payload)
+    }
+
+    /// Takes an alone segment whose packets are handed out, as `take` does, but leaves the packets to be
+    /// copied from its octets: says what was dropped.
+    pub fn take_alone(&mut self, segment: &Segment) -> Option<Dropped>
+        requires { hands_out self.old.limits (segment_view segment.now) ≡ true }
+        ensures dropped { result ≡ (step_at self.old (segment_view segment.now)).dropped }
+        ensures state { self.new ≡ after_step self.old (segment_view segment.now) }
+
+        // Exact assembly, whichever segments led here.
+        ensures exact { (segments : List SegmentView) → HasPartsOf self.old segments
+            → IsTakenExactly
+            self.new segments (segment_view segment.now) (packets_in segment.now.payload.now) }
+    {
+        let dropped = interruption(part_on(&self.parts, segment.header.map));
+        self.put(segment, Change::Closed, Vec::new(self.alloc));
+        dropped
     }
 
     // Keeps the room of a part that was closed, where there is any.
@@ -650,6 +681,16 @@ fn prepared_cell(
             let Some(begun) = part else { unreachable!() };
             ended(alloc, limits, begun, octets)
         }
+    }
+}
+
+// Whether the packets of a segment of an open MAP are handed out, where they stand in it.
+fn hands_out(limits: &Limits, flags: SegmentFlags, octets: &[u8]) -> bool
+    ensures { result ≡ hands_out_cell limits.now flags octets.now }
+{
+    match flags {
+        SegmentFlags::Alone => fault_of_alone(limits, octets).is_none(),
+        _ => false,
     }
 }
 

@@ -56,7 +56,7 @@ fn kept(limits: &Limits, len: usize, action: Action, dropped: Option<Dropped>) -
 }
 
 // What a first or an alone segment drops: the part that is open.
-fn interruption(part: Option<&[u8]>) -> Option<Dropped>
+pub(crate) fn interruption(part: Option<&[u8]>) -> Option<Dropped>
     ensures { result ≡ interruption (option_copied part.entry) }
 {
     match part {

@@ -3,6 +3,7 @@ pub mod CommandPackets
 pub mod Delivery
 pub mod Failover
 pub mod GroundBounds
+pub mod HandedOn
 pub mod InRange
 pub mod Kept
 pub mod Owed

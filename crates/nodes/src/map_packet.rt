@@ -1,13 +1,17 @@
 // Packets on board.
 
-ghost use Rattle.std.specs.Prelude.{◌≡◌, ◌≤◌, ◌+◌, ◌++◌, length};
+ghost use Rattle.std.specs.Prelude.{◌≡◌, ◌≤◌, ◌+◌, ◌++◌, length, take, IfOk, IfErr, OnOk, OnErr};
 ghost use Rattle.std.specs.List.{AllByRecursion};
 ghost use Rattle.std.specs.VecDeque.{deque_len, deque_capacity};
+ghost use Rattle.map_service.specs.Packets.{packets_in};
 ghost use Rattle.map_service.specs.Views.{ready_view};
 ghost use Rattle.nodes.specs.Packets.{put_on_map};
 ghost use Rattle.nodes.specs.PacketFields.{IsPacketOn};
 
+use crate::fault::LinkFault;
 use smallvec::SmallVec;
+use space_packet::packet_len;
+use std::alloc::{AllocError, Global};
 use std::collections::VecDeque;
 use std::marker::Model;
 
@@ -67,4 +71,53 @@ pub(crate) fn make_ready(ready: &mut VecDeque<MapPacket>, on_map: u8, packets: S
     for octets in packets {
         ready.push_back_reserved(MapPacket::new(on_map, octets));
     }
+}
+
+// Copies the packets that octets are, for which there is room, after those that are ready, and says how
+// many they are. Where memory is refused, none of them is ready.
+pub(crate) fn make_ready_of(
+    alloc: Global,
+    ready: &mut VecDeque<MapPacket>,
+    on_map: u8,
+    octets: &[u8],
+) -> Result<usize, LinkFault>
+    requires whole { AllByRecursion IsPacketOn (put_on_map on_map (packets_in octets.now)) }
+    requires room { deque_len ready.old + length (packets_in octets.now) ≤ deque_capacity ready.old }
+    ensures items { OnOk result (ready.new.items
+        ≡ ready.old.items ++ put_on_map on_map (packets_in octets.now)) }
+    ensures number { IfOk result (λ n. n ≡ length (packets_in octets.now)) }
+    ensures none { OnErr result (ready.new.items ≡ ready.old.items) }
+    ensures fault { IfErr result (λ e. e ≡ LinkFault.Memory) }
+    ensures capacity { deque_capacity ready.new ≡ deque_capacity ready.old }
+{
+    let before = ready.len();
+    if copy_each(alloc, ready, on_map, octets).is_err() {
+        ready.truncate(before);
+        return Err(LinkFault::Memory);
+    }
+    Ok(ready.len() - before)
+}
+
+// The same, but where memory is refused some of them are ready.
+fn copy_each(
+    alloc: Global,
+    ready: &mut VecDeque<MapPacket>,
+    on_map: u8,
+    octets: &[u8],
+) -> Result<(), AllocError>
+    requires whole { AllByRecursion IsPacketOn (put_on_map on_map (packets_in octets.now)) }
+    requires room { deque_len ready.old + length (packets_in octets.now) ≤ deque_capacity ready.old }
+    ensures items { OnOk result (ready.new.items
+        ≡ ready.old.items ++ put_on_map on_map (packets_in octets.now)) }
+    ensures before { take (length ready.old.items) ready.new.items ≡ ready.old.items }
+    ensures capacity { deque_capacity ready.new ≡ deque_capacity ready.old }
+{
+    let mut rest = octets;
+    'packets: while let Some(len) = packet_len(rest) {
+        let (packet, behind) = rest.split_at(len);
+        let packet = Vec::from_slice(alloc, packet)?;
+        ready.push_back_reserved(MapPacket::new(on_map, packet));
+        rest = behind;
+    }
+    Ok(())
 }

@@ -7,20 +7,22 @@ ghost use Rattle.nodes.specs.Spacecraft.{command_event};
 use super::Spacecraft;
 use crate::bypass_segments::is_kept;
 use crate::fault::LinkFault;
-use crate::map_packet::{MapPacket, make_ready};
+use crate::map_packet::{MapPacket, make_ready, make_ready_of};
 use crate::received::Received;
 use cop1::{Farm, Verdict};
-use map_service::Prepared;
+use map_service::{Dropped, Prepared};
 use tc_frame::{Body, Check, Command, Segment, TcFrame, decode};
 
 impl Spacecraft {
-    ghost use Rattle.std.specs.Prelude.{◌≤◌, length, false, None, Some, IsOk, IfOk, IfErr, IfSome, if◌then◌else◌};
+    ghost use Rattle.std.specs.Prelude.{◌≤◌, length, true, false, None, Some, IsOk, IfOk, IfErr, OnOk, OnErr, IfSome, if◌then◌else◌};
     ghost use Rattle.tc_frame.specs.Layout.{Ad, Bd, frame_view, segment_view};
     ghost use Rattle.tc_frame.specs.Decoding.{frame_at};
+    ghost use Rattle.map_service.specs.AssemblerTable.{hands_out};
     ghost use Rattle.nodes.specs.Arrival.{IsAcceptable, after_keeping};
     ghost use Rattle.nodes.specs.BypassSegments.{is_kept};
     ghost use Rattle.nodes.specs.Packets.{packet_on};
-    ghost use Rattle.nodes.specs.Spacecraft.{spacecraft_step, Receive, is_free, is_own_frame, hands_on, HandsNothingOn, after_segment, body_outcome};
+    ghost use Rattle.nodes.specs.Parameters.{limits_of};
+    ghost use Rattle.nodes.specs.Spacecraft.{spacecraft_step, Receive, is_free, is_own_frame, hands_on, HandsNothingOn, assemble_step, after_segment, body_outcome};
     ghost use Rattle.nodes.specs.Steps.{TakesStep};
 
     /// Takes octets that came from the ground: exactly one telecommand frame, with its FECF (CCSDS
@@ -68,18 +70,60 @@ impl Spacecraft {
                 dropped: None,
             });
         };
+        let (ready, dropped) = self.hand_on_next(segment)?;
+        self.farm = farm;
+        Ok(Received::Sequence {
+            n,
+            verdict,
+            ready,
+            dropped,
+        })
+    }
+
+    // Hands on the segment that is accepted: how many packets are ready with it, and what was dropped.
+    fn hand_on_next(&mut self, segment: &Segment<'_>) -> Result<(usize, Option<Dropped>), LinkFault>
+        requires free { is_free self.old ≡ true }
+        requires short { length segment.now.payload.now ≤ 1016 }
+        ensures ready { IfOk result (λ p. p.0
+            ≡ length (assemble_step self.old (segment_view segment.now)).packets) }
+        ensures dropped { IfOk result (λ p. p.1
+            ≡ (assemble_step self.old (segment_view segment.now)).dropped) }
+        ensures after { OnOk result (self.new ≡ after_segment self.old (segment_view segment.now)) }
+        ensures same { OnErr result (self.new ≡ self.old) }
+        ensures fault { IfErr result (λ e. e ≡ LinkFault.Memory) }
+    {
+        if self.assembler.hands_out(segment) {
+            return self.hand_on_alone(segment);
+        }
         let Ok(prepared) = self.assembler.prepare(segment) else {
             return Err(LinkFault::Memory);
         };
-        let received = Received::Sequence {
-            n,
-            verdict,
-            ready: prepared.packets.len(),
-            dropped: prepared.dropped,
-        };
+        let handed = (prepared.packets.len(), prepared.dropped);
         self.hand_on(segment, prepared);
-        self.farm = farm;
-        Ok(received)
+        Ok(handed)
+    }
+
+    // The same of an alone segment whose packets are handed out: they are copied from its octets.
+    fn hand_on_alone(
+        &mut self,
+        segment: &Segment<'_>,
+    ) -> Result<(usize, Option<Dropped>), LinkFault>
+        requires alone { hands_out (limits_of self.old.config) (segment_view segment.now) ≡ true }
+        requires free { is_free self.old ≡ true }
+        requires short { length segment.now.payload.now ≤ 1016 }
+        ensures ready { IfOk result (λ p. p.0
+            ≡ length (assemble_step self.old (segment_view segment.now)).packets) }
+        ensures dropped { IfOk result (λ p. p.1
+            ≡ (assemble_step self.old (segment_view segment.now)).dropped) }
+        ensures after { OnOk result (self.new ≡ after_segment self.old (segment_view segment.now)) }
+        ensures same { OnErr result (self.new ≡ self.old) }
+        ensures fault { IfErr result (λ e. e ≡ LinkFault.Memory) }
+    {
+        let map = segment.header.map;
+        let ready = make_ready_of(self.alloc, &mut self.ready, map, segment.payload)?;
+        let dropped = self.assembler.take_alone(segment);
+        self.accepted = self.accepted.then(segment);
+        Ok((ready, dropped))
     }
 
     fn receive_bypass(&mut self, segment: &Segment<'_>) -> Result<Received, LinkFault>
