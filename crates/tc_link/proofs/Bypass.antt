@@ -40,7 +40,7 @@ use Rattle.tc_link.specs.Bypass.{bypass_taken_by, by_step, bypass_accepted, bypa
 use Rattle.tc_link.specs.Bypass.{BypassKeepsOrder}
 use Rattle.tc_link.specs.InTransit.{in_frame}
 use Rattle.tc_link.proofs.Refilled.{refilled_keeps}
-use Rattle.tc_link.proofs.Promised.{link_step_holds, past_holds}
+use Rattle.tc_link.proofs.AnyPast.{link_step_holds, past_holds}
 use Rattle.tc_link.proofs.Readable.{moved, marked_fits, Goes, reads_back}
 use Rattle.tc_link.proofs.Invariant.{Holding}
 

@@ -33,13 +33,17 @@ use Rattle.nodes.proofs.Owed.{moved_is, fewer_left, left_more}
 use Rattle.nodes.specs.declared.event.Event.TheVariants as events
 use Rattle.simulated_link.proofs.Unchanged.{ground_after, not_restarted, BringsReport, down_arrives, word_arrives}
 use Rattle.simulated_link.specs.World.{Session, session_after_report}
-use Rattle.tc_link.proofs.Promised.{past_holds, keeps_what_is_known, sent_count, accepted_count, promised_so}
-use Rattle.tc_link.proofs.Promised.{link_step_holds, still_idle, still_opening, CountsAs, counts_still}
+use Rattle.tc_link.proofs.AnyPast.{past_holds, link_step_holds, still_idle, still_opening, CountsAs, counts_still}
+use Rattle.tc_link.proofs.CountsOn.{keeps_what_is_known}
+use Rattle.tc_link.proofs.OneLink.{sent_count, accepted_count}
+use Rattle.tc_link.proofs.Promised.{promised_so}
 use Rattle.tc_link.proofs.Beside.{beside_so}
 use Rattle.tc_link.proofs.IdleStart.{in_session}
 use Rattle.tc_link.proofs.Linked.{holds_on}
-use Rattle.tc_link.proofs.InOrder.{sent_length, has_plain_history, total, left_with, whole_still, whole_more}
-use Rattle.tc_link.proofs.Invariant.{Holding, BeganAt, step_holds, octet, began_at, begun_session}
+use Rattle.tc_link.proofs.InOrder.{sent_length, has_plain_history}
+use Rattle.tc_link.proofs.Whole.{total, left_with, whole_still, whole_more}
+use Rattle.tc_link.proofs.Invariant.{Holding, BeganAt, step_holds, began_at, begun_session}
+use Rattle.tc_link.proofs.Known.{octet}
 use Rattle.tc_link.proofs.Refilled.{refilled_keeps}
 use Rattle.tc_link.specs.Accepted.{SaysWhatWasAccepted}
 use Rattle.std.proofs.lemmas.Bool.{cases_Bool, eqb-true, eqb-false}

@@ -1,5 +1,10 @@
 pub mod Promised
-pub mod Locks
+pub mod AnyPast
+pub mod CountsOn
+pub mod OneLink
+pub mod Confirmation
+pub mod FalseAlarms
+pub mod InTransit
 pub mod Upward
 pub mod IdleStart
 pub mod Beside
@@ -7,10 +12,12 @@ pub mod Bypass
 pub mod Readable
 pub mod Configured
 pub mod InOrder
+pub mod Whole
 pub mod Linked
 pub mod Downward
 pub mod Fates
 pub mod Invariant
+pub mod Known
 pub mod Taken
 pub mod OctetsRead
 pub mod Outage

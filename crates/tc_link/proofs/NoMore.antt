@@ -8,7 +8,7 @@ use Rattle.tc_link.specs.InTransit.{numbers_up}
 use Rattle.tc_link.specs.Taken.{EachAcceptsNoMore}
 use Rattle.tc_link.proofs.Beside.{beside_so}
 use Rattle.tc_link.proofs.Invariant.{Holding}
-use Rattle.tc_link.proofs.Promised.{link_step_holds, past_holds}
+use Rattle.tc_link.proofs.AnyPast.{link_step_holds, past_holds}
 use Rattle.tc_link.proofs.Readable.{closed_so, none_so, same_so}
 
 -- from one world to another the sender stays in S6, and no segment is accepted

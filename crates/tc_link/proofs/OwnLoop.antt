@@ -34,7 +34,7 @@ use Rattle.tc_link.specs.Telemetry as downlink
 use Rattle.tc_link.specs.Seen.{IsPromisedOfSeen, seen}
 use Rattle.tc_link.proofs.IdleStart.{report_reads}
 use Rattle.tc_link.proofs.Invariant.{Holding, new_holds, step_holds}
-use Rattle.tc_link.proofs.Promised.{link_step_holds, link_run_holds}
+use Rattle.tc_link.proofs.AnyPast.{link_step_holds, link_run_holds}
 use Rattle.tc_link.proofs.Seen.{each_is_seen}
 use Rattle.tc_link.proofs.SeenTelemetry.{telemetry_is_seen}
 

@@ -39,7 +39,9 @@ use Rattle.tc_link.proofs.IdleStart.{tells_now}
 use Rattle.tc_link.proofs.ProgressSender.{with_kept, step_kept, without_length, marked_length, WaitsFull, body_full}
 use Rattle.tc_link.proofs.ProgressSender.{released, directed_kept, Timed, timed_empty, timed_step}
 use Rattle.tc_link.proofs.Sound.{Commanded, all_append, all_push}
-use Rattle.tc_link.proofs.Promised.{run_append, settled_goes, link_step_holds, link_push}
+use Rattle.tc_link.proofs.Promised.{run_append}
+use Rattle.tc_link.proofs.OneLink.{settled_goes}
+use Rattle.tc_link.proofs.AnyPast.{link_step_holds, link_push}
 use Rattle.tc_link.proofs.Beside.{with_telemetry, taken_beside}
 use Rattle.tc_link.proofs.Common.{IsConfig, ExtractorState}
 use Rattle.nodes.specs.Ground.{new_ground}

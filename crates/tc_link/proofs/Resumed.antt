@@ -22,8 +22,9 @@ use Rattle.nodes.proofs.Resuming.{known_kept}
 use Rattle.nodes.specs.declared.fault.LinkFault.{LinkFault}
 use Rattle.nodes.specs.declared.event.Event.TheVariants as events
 use Rattle.simulated_link.specs.World.{Session, is_idle, is_none, reports_as, report_now, world_after_resuming}
-use Rattle.tc_link.proofs.Promised.{past_holds, promised_so, run_idle, link_push, link_run_holds}
-use Rattle.tc_link.proofs.Promised.{sent_count, accepted_count}
+use Rattle.tc_link.proofs.AnyPast.{past_holds, run_idle, link_push, link_run_holds}
+use Rattle.tc_link.proofs.Promised.{promised_so}
+use Rattle.tc_link.proofs.OneLink.{sent_count, accepted_count}
 use Rattle.std.proofs.Math.Seq.{drop-length}
 use Rattle.tc_link.proofs.Common.{append-nil, segment_octets}
 use Rattle.simulated_link.specs.World.{assembled_on}

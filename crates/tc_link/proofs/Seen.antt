@@ -44,7 +44,7 @@ use Rattle.tc_link.proofs.Resumed.{set_idle, Began, Leads, began_on, began_first
 use Rattle.tc_link.proofs.Resumed.{known_now}
 use Rattle.tc_link.proofs.Invariant.{session_stays, begun_is, can_off, Holding, new_holds, step_holds, early_step}
 use Rattle.tc_link.proofs.Invariant.{late_step}
-use Rattle.tc_link.proofs.InOrder.{AllHaveMore, step_none, given_first, all_single, cut, is_cut}
+use Rattle.tc_link.proofs.Whole.{AllHaveMore, step_none, given_first, all_single, cut, is_cut}
 use Rattle.tc_link.proofs.Taken.{passes, made, made-append, all_made, packets_of}
 use Rattle.tc_link.proofs.IdleStart.{InSession, in_session}
 use Rattle.tc_link.proofs.Sound.{Sound}

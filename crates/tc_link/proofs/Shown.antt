@@ -16,7 +16,8 @@ use Rattle.tc_link.specs.FalseAlarms.{alert_in, HasCause, IsUnderCheck}
 use Rattle.tc_link.specs.Resumed.{ShowsNoneByItself}
 use Rattle.tc_link.proofs.Beside.{beside_so}
 use Rattle.tc_link.proofs.Invariant.{Holding}
-use Rattle.tc_link.proofs.Promised.{past_holds, promised_of_so, link_step_holds, still_idle, still_opening}
+use Rattle.tc_link.proofs.AnyPast.{past_holds, link_step_holds, still_idle, still_opening}
+use Rattle.tc_link.proofs.Promised.{promised_of_so}
 
 -- ---- an alert with its cause
 

@@ -18,7 +18,7 @@ use Rattle.tc_link.specs.AnyPast.{LinkStep, Happens, TakeTelemetry, Hears, Hears
 use Rattle.tc_link.specs.AnyPast.{IsLinkStep, link_step, link_run, after_report, after_hearing}
 use Rattle.tc_link.specs.Silence.{IsSilent, KeepsSilence, gone_by, gone_down, SilenceIsIdle}
 use Rattle.tc_link.specs.Telemetry.{came_by}
-use Rattle.tc_link.proofs.Promised.{link_step_holds, past_holds}
+use Rattle.tc_link.proofs.AnyPast.{link_step_holds, past_holds}
 use Rattle.tc_link.proofs.Invariant.{Holding}
 use Rattle.tc_link.proofs.Linked.{Tells}
 use Rattle.tc_link.proofs.IdleStart.{tells_now}

@@ -36,7 +36,7 @@ use Rattle.tc_link.proofs.IdleStart.{in_session}
 use Rattle.tc_link.proofs.InOrder.{is_history}
 use Rattle.tc_link.proofs.Invariant.{can_off}
 use Rattle.tc_link.proofs.Linked.{In, holds_on}
-use Rattle.tc_link.proofs.Promised.{past_holds}
+use Rattle.tc_link.proofs.AnyPast.{past_holds}
 use Rattle.tc_link.proofs.Refilled.{refilled_keeps}
 use Rattle.tc_link.proofs.Sound.{Sound}
 

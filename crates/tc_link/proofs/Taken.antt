@@ -37,7 +37,7 @@ use Rattle.tc_link.proofs.Linked.{IsGiven, units_of_all, In}
 use Rattle.tc_link.proofs.Sound.{Sound}
 use Rattle.tc_link.proofs.IdleStart.{in_session}
 use Rattle.tc_link.proofs.InOrder.{is_in_order, all_accepted}
-use Rattle.tc_link.proofs.Promised.{past_holds, link_run_holds, session_still}
+use Rattle.tc_link.proofs.AnyPast.{past_holds, link_run_holds, session_still}
 use Rattle.tc_link.proofs.Invariant.{opened, begun_is, step_holds, began_at}
 
 -- The packets that segments make ready, each with its MAP, in the order in which they do.

@@ -1,4 +1,4 @@
-use Rattle.tc_link.proofs.Promised.{holds_after_any_past, each_goes_on_as_kept, reports_do_as_frames, runs_as_events}
+use Rattle.tc_link.proofs.AnyPast.{holds_after_any_past, each_goes_on_as_kept, reports_do_as_frames, runs_as_events}
 use Rattle.tc_link.proofs.laws.law_of_any_past.Goals as goal
 
 pub returns-clause-promised : goal.returns-clause-promised

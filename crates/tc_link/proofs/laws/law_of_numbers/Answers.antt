@@ -1,4 +1,4 @@
-use Rattle.tc_link.proofs.Promised.{keeps_what_is_known}
+use Rattle.tc_link.proofs.CountsOn.{keeps_what_is_known}
 use Rattle.tc_link.proofs.laws.law_of_numbers.Goals as goal
 
 pub returns : goal.returns

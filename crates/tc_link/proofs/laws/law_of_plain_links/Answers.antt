@@ -1,4 +1,4 @@
-use Rattle.tc_link.proofs.Promised.{each_has_one_link, each_goes_on_as_one}
+use Rattle.tc_link.proofs.OneLink.{each_has_one_link, each_goes_on_as_one}
 use Rattle.tc_link.proofs.laws.law_of_plain_links.Goals as goal
 
 pub returns-clause-one : goal.returns-clause-one
