@@ -199,7 +199,6 @@ static void places_of_spacecraft(const struct sedge_config *config, const struct
     packets->parts = open_maps(config);
     add(SPACECRAFT), add(PLACE * ready), add(PLACE * config->bypass_slots);
     if (parts > 0) (void)add_kind(ANY, parts, parts, 2);
-    if (config->blocking == 1) (void)add_kind(ANY, 2 * PACKET, MOST * PACKET, 1);
     add_telemetry(traffic);
     list_places();
 }
