@@ -1,5 +1,6 @@
 pub mod Listed
 pub mod ListedMaps
 pub mod Digits
+pub mod Recent
 pub mod Words
 pub mod WordEnds

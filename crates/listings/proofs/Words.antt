@@ -1,14 +1,63 @@
--- What a table of words has, with a word more.
-use Rattle.std.proofs.Common.{◌≡◌, ◌∙◌, ◌+◌, ◌∷◌, List, [], ℕ, Some, None, Vec, map, refl, ap, sym, Ordering}
+-- What a table of words has, with a word so many times more.
+use Rattle.std.proofs.Common.{◌≡◌, ◌∙◌, ◌+◌, ◌<◌, ◌∷◌, List, [], ℕ, Some, None, Vec, map, refl, ap, sym, Ordering}
+use Rattle.std.proofs.Common.{arith, suc, zero}
 use Rattle.std.proofs.lemmas.Cmp.{nat_list_cmp_total}
 use Rattle.std.specs.BTreeMap.{insert_entry, is_at}
 use Rattle.std.specs.Cmp.Lexicographic.{slice_cmp}
 use Rattle.std.specs.List.{AllByRecursion}
 use Rattle.std.specs.List.Sorted.{IsStrictlySortedBy}
 use Rattle.std.specs.Map.{keys_of, lookup, set_value}
-use Rattle.std.specs.Ordering.{nat_cmp}
+use Rattle.std.specs.Ordering.{match_ordering, nat_cmp, ordering_reverse}
 use Rattle.std.specs.declared.cmp.Ordering.TheVariants.{Less, Equal, Greater}
-use Rattle.listings.specs.Totals.{row_of, with_word}
+use Rattle.listings.specs.Totals.{row_of, with_word, with_words}
+
+abbrev pub Rows : Type 0
+Rows = List (List ℕ × ℕ)
+
+-- a word is none but itself
+pub same_by : (o : Ordering) → o ≡ ordering_reverse o → o ≡ Equal
+same_by Less is = absurd (cc is)
+same_by Equal is = refl
+same_by Greater is = absurd (cc is)
+
+pub itself : (w : List ℕ) → slice_cmp nat_cmp w w ≡ Equal
+itself w = same_by (slice_cmp nat_cmp w w) (nat_list_cmp_total.antisymm w w)
+
+-- the table with a word so many times, in one pass
+abbrev more : Rows → List ℕ → ℕ → Rows
+more [] w n = (w, n) ∷ []
+more (row ∷ rows) w n =
+    match_ordering (slice_cmp nat_cmp w row.0)
+    ((w, n) ∷ row ∷ rows)
+    ((row.0, row.1 + n) ∷ rows)
+    (row ∷ more rows w n)
+
+once : (rows : Rows) (w : List ℕ) → with_word rows w ≡ more rows w 1
+once [] w = refl
+once (row ∷ rows) w =
+    ap (λ (x : Rows). match_ordering (slice_cmp nat_cmp w row.0) ((w, 1) ∷ row ∷ rows) ((row.0, row.1 + 1) ∷ rows)
+    (row ∷ x)) (once rows w)
+
+again_by : (row : List ℕ × ℕ) (rows : Rows) (w : List ℕ) (n : ℕ) → with_word (more rows w n) w ≡ more rows w (suc n)
+    → (o : Ordering) → slice_cmp nat_cmp w row.0 ≡ o
+    → with_word (match_ordering o ((w, n) ∷ row ∷ rows) ((row.0, row.1 + n) ∷ rows) (row ∷ more rows w n)) w
+    ≡ match_ordering o ((w, suc n) ∷ row ∷ rows) ((row.0, row.1 + suc n) ∷ rows) (row ∷ more rows w (suc n))
+again_by row rows w n rest Less is =
+    rw (itself w) (ap (λ (k : ℕ). (w, k) ∷ row ∷ rows) (omega arith))
+again_by row rows w n rest Equal is = rw is (ap (λ (k : ℕ). (row.0, k) ∷ rows) (omega arith))
+again_by row rows w n rest Greater is = rw is (ap (λ (x : Rows). row ∷ x) rest)
+
+again : (rows : Rows) (w : List ℕ) (n : ℕ) → with_word (more rows w n) w ≡ more rows w (suc n)
+again [] w n = rw (itself w) (ap (λ (k : ℕ). (w, k) ∷ []) (omega arith))
+again (row ∷ rows) w n = again_by row rows w n (again rows w n) (slice_cmp nat_cmp w row.0) refl
+
+each_time : (rows : Rows) (w : List ℕ) (n : ℕ) → more rows w (suc n) ≡ with_words rows w (suc n)
+each_time rows w zero = sym (once rows w)
+each_time rows w (suc n) = sym (again rows w (suc n)) ∙ ap (λ (x : Rows). with_word x w) (each_time rows w n)
+
+in_one_pass : (rows : Rows) (w : List ℕ) (n : ℕ) → 0 < n → more rows w n ≡ with_words rows w n
+in_one_pass rows w zero some = absurd (omega arith)
+in_one_pass rows w (suc n) some = each_time rows w n
 
 -- the order of keys, and where a word stands before a key
 abbrev by_octets : {A : Type 0} → Vec ℕ A → Vec ℕ A → Ordering
@@ -26,46 +75,57 @@ module _ {A : Type 0} where
       rw (nat_list_cmp_total.trans w k.items e.0.items less all.0) (nowhere k es w less all.1)
 
   -- The table with a word that it has, by where the word stands before the first key, and by what is so of the others.
-  known_by : (e : Vec ℕ A × ℕ) (es : List (Vec ℕ A × ℕ)) (w : List ℕ) (n m : ℕ) → m ≡ n + 1
+  known_by : (e : Vec ℕ A × ℕ) (es : List (Vec ℕ A × ℕ)) (w : List ℕ) (n k m : ℕ) → m ≡ n + k
       → AllByRecursion (λ y. by_octets e.0 y ≡ Less) (keys_of es)
       → lookup (is_at (against w)) (e ∷ es) ≡ Some n
       → (lookup (is_at (against w)) es ≡ Some n
-      → map row_of (set_value (is_at (against w)) es m) ≡ with_word (map row_of es) w)
+      → map row_of (set_value (is_at (against w)) es m) ≡ more (map row_of es) w k)
       → (o : Ordering) → against w e.0 ≡ o
-      → map row_of (set_value (is_at (against w)) (e ∷ es) m) ≡ with_word (map row_of (e ∷ es)) w
-  known_by e es w n m more after found rest Less is =
+      → map row_of (set_value (is_at (against w)) (e ∷ es) m) ≡ more (map row_of (e ∷ es)) w k
+  known_by e es w n k m so after found rest Less is =
       let there : lookup (is_at (against w)) es ≡ Some n = rw is at found in
       absurd (cc (there, nowhere e.0 es w is after))
-  known_by e es w n m more after found rest Equal is =
+  known_by e es w n k m so after found rest Equal is =
       let here : Some e.1 ≡ Some n = rw is at found in
       let same : e.1 ≡ n = cc here in
-      rw is (ap (λ (c : ℕ). (e.0.items, c) ∷ map row_of es) (more ∙ ap (λ (c : ℕ). c + 1) (sym same)))
-  known_by e es w n m more after found rest Greater is =
+      rw is (ap (λ (c : ℕ). (e.0.items, c) ∷ map row_of es) (so ∙ ap (λ (c : ℕ). c + k) (sym same)))
+  known_by e es w n k m so after found rest Greater is =
       let there : lookup (is_at (against w)) es ≡ Some n = rw is at found in
       rw is (ap (λ rows. row_of e ∷ rows) (rest there))
 
-  pub word_known : (es : List (Vec ℕ A × ℕ)) (w : List ℕ) (n m : ℕ) → m ≡ n + 1
+  known : (es : List (Vec ℕ A × ℕ)) (w : List ℕ) (n k m : ℕ) → m ≡ n + k
       → IsStrictlySortedBy by_octets (keys_of es) → lookup (is_at (against w)) es ≡ Some n
-      → map row_of (set_value (is_at (against w)) es m) ≡ with_word (map row_of es) w
+      → map row_of (set_value (is_at (against w)) es m) ≡ more (map row_of es) w k
   unfolding IsStrictlySortedBy
-  word_known [] w n m more sorted found = absurd (cc found)
-  word_known (e ∷ es) w n m more sorted found =
-      known_by e es w n m more sorted.0 found (word_known es w n m more sorted.1) (against w e.0) refl
+  known [] w n k m so sorted found = absurd (cc found)
+  known (e ∷ es) w n k m so sorted found =
+      known_by e es w n k m so sorted.0 found (known es w n k m so sorted.1) (against w e.0) refl
+
+  pub word_known : (es : List (Vec ℕ A × ℕ)) (w : List ℕ) (n k m : ℕ) → 0 < k → m ≡ n + k
+      → IsStrictlySortedBy by_octets (keys_of es) → lookup (is_at (against w)) es ≡ Some n
+      → map row_of (set_value (is_at (against w)) es m) ≡ with_words (map row_of es) w k
+  word_known es w n k m some so sorted found =
+      known es w n k m so sorted found ∙ in_one_pass (map row_of es) w k some
 
   -- The table with a word that it does not have.
-  new_by : (e : Vec ℕ A × ℕ) (es : List (Vec ℕ A × ℕ)) (key : Vec ℕ A)
+  new_by : (e : Vec ℕ A × ℕ) (es : List (Vec ℕ A × ℕ)) (key : Vec ℕ A) (k : ℕ)
       → lookup (is_at (against key.items)) (e ∷ es) ≡ None
       → (lookup (is_at (against key.items)) es ≡ None
-      → map row_of (insert_entry by_octets es key 1) ≡ with_word (map row_of es) key.items)
+      → map row_of (insert_entry by_octets es key k) ≡ more (map row_of es) key.items k)
       → (o : Ordering) → against key.items e.0 ≡ o
-      → map row_of (insert_entry by_octets (e ∷ es) key 1) ≡ with_word (map row_of (e ∷ es)) key.items
-  new_by e es key none rest Less is = rw is refl
-  new_by e es key none rest Equal is = let here : Some e.1 ≡ None = rw is at none in absurd (cc here)
-  new_by e es key none rest Greater is =
+      → map row_of (insert_entry by_octets (e ∷ es) key k) ≡ more (map row_of (e ∷ es)) key.items k
+  new_by e es key k none rest Less is = rw is refl
+  new_by e es key k none rest Equal is = let here : Some e.1 ≡ None = rw is at none in absurd (cc here)
+  new_by e es key k none rest Greater is =
       let there : lookup (is_at (against key.items)) es ≡ None = rw is at none in
       rw is (ap (λ rows. row_of e ∷ rows) (rest there))
 
-  pub word_new : (es : List (Vec ℕ A × ℕ)) (key : Vec ℕ A) → lookup (is_at (against key.items)) es ≡ None
-      → map row_of (insert_entry by_octets es key 1) ≡ with_word (map row_of es) key.items
-  word_new [] key none = refl
-  word_new (e ∷ es) key none = new_by e es key none (word_new es key) (against key.items e.0) refl
+  new : (es : List (Vec ℕ A × ℕ)) (key : Vec ℕ A) (k : ℕ) → lookup (is_at (against key.items)) es ≡ None
+      → map row_of (insert_entry by_octets es key k) ≡ more (map row_of es) key.items k
+  new [] key k none = refl
+  new (e ∷ es) key k none = new_by e es key k none (new es key k) (against key.items e.0) refl
+
+  pub word_new : (es : List (Vec ℕ A × ℕ)) (key : Vec ℕ A) (k : ℕ) → 0 < k
+      → lookup (is_at (against key.items)) es ≡ None
+      → map row_of (insert_entry by_octets es key k) ≡ with_words (map row_of es) key.items k
+  word_new es key k some none = new es key k none ∙ in_one_pass (map row_of es) key.items k some

@@ -1,13 +1,13 @@
 // Counts the words of lines.
 
-ghost use Rattle.std.specs.Prelude.{◌≡◌, ◌≤◌, ◌+◌, ◌++◌, codes, decimal, false, length, map, take, true, [], None, OnOk, IfOk, Ok};
+ghost use Rattle.std.specs.Prelude.{◌≡◌, ◌<◌, ◌≤◌, ◌+◌, ◌++◌, codes, decimal, false, length, map, take, true, [], None, OnOk, IfOk, Ok};
 ghost use Rattle.std.specs.BTreeMap.{get_by};
 ghost use Rattle.std.specs.Cmp.Lexicographic.{slice_cmp};
 ghost use Rattle.std.specs.List.{fold};
 ghost use Rattle.std.specs.Ordering.{nat_cmp};
 ghost use Rattle.listings.specs.Text.{line_end, written, Appends};
 ghost use Rattle.listings.specs.Totals.{row_of, shown, tallied, tallied_in, total_line};
-ghost use Rattle.listings.specs.Totals.{totals_of, with_ended, with_octet, with_word};
+ghost use Rattle.listings.specs.Totals.{totals_of, with_ended, with_ended_times, with_octet, with_recent, with_words};
 
 use crate::device_log::{Call, DeviceLog};
 use crate::line_words::{end_of_word, has_channel, is_counted, parts_words, write_channel};
@@ -27,16 +27,21 @@ pub struct Tally {
     written: Vec<u8>,
 }
 
-// Counts a word that has come before, and answers whether it has.
-fn count_known(table: &mut BTreeMap<Vec<u8>, u64>, word: &[u8]) -> Result<bool, AllocError>
+// Counts a word that is in the table so many times more, and answers whether it is.
+fn count_known(
+    table: &mut BTreeMap<Vec<u8>, u64>,
+    word: &[u8],
+    times: u64,
+) -> Result<bool, AllocError>
+    requires { 0 < times }
     ensures known { result ≡ Ok true → map row_of table.new.entries
-        ≡ with_word (map row_of table.old.entries) word.now }
+        ≡ with_words (map row_of table.old.entries) word.now times }
     ensures new { result ≡ Ok false → (table.new.entries ≡ table.old.entries)
         × (get_by (λ k. slice_cmp nat_cmp word.now k.items) table.old ≡ None) }
 {
     match table.get_mut(word) {
         None => Ok(false),
-        Some(count) => match count.checked_add(1) {
+        Some(count) => match count.checked_add(times) {
             None => Err(AllocError),
             Some(more) => {
                 *count = more;
@@ -46,55 +51,118 @@ fn count_known(table: &mut BTreeMap<Vec<u8>, u64>, word: &[u8]) -> Result<bool, 
     }
 }
 
-// Counts a word as it is written.
+// Counts a word so many times, as it is written.
 fn count_written(
     alloc: Global,
     table: &mut BTreeMap<Vec<u8>, u64>,
     word: &[u8],
+    times: u64,
 ) -> Result<(), AllocError>
+    requires { 0 < times }
     ensures { OnOk result (map row_of table.new.entries
-        ≡ with_word (map row_of table.old.entries) word.now) }
+        ≡ with_words (map row_of table.old.entries) word.now times) }
 {
-    if count_known(table, word)? {
+    if count_known(table, word, times)? {
         return Ok(());
     }
     let mut key = Vec::new(alloc);
     key.extend_from_slice(word)?;
-    table.insert(key, 1)?;
+    table.insert(key, times)?;
     Ok(())
 }
 
-// Counts a word.
+// Counts a word so many times.
 fn count_word(
     alloc: Global,
     table: &mut BTreeMap<Vec<u8>, u64>,
     written: &mut Vec<u8>,
     word: &[u8],
+    times: u64,
 ) -> Result<(), AllocError>
+    requires { 0 < times }
     ensures { OnOk result (map row_of table.new.entries
-        ≡ with_word (map row_of table.old.entries) (shown word.now)) }
+        ≡ with_words (map row_of table.old.entries) (shown word.now) times) }
 {
     if !has_channel(word) {
-        return count_written(alloc, table, word);
+        return count_written(alloc, table, word, times);
     }
     write_channel(written, word)?;
-    count_written(alloc, table, written.as_slice())
+    count_written(alloc, table, written.as_slice(), times)
 }
 
-// Counts a word that has ended, where it is counted.
+// Counts a word that has ended so many times, where it is counted.
 fn count_ended(
     alloc: Global,
     table: &mut BTreeMap<Vec<u8>, u64>,
     written: &mut Vec<u8>,
     word: &[u8],
+    times: u64,
 ) -> Result<(), AllocError>
     ensures { OnOk result (map row_of table.new.entries
-        ≡ with_ended (map row_of table.old.entries) word.now) }
+        ≡ with_ended_times (map row_of table.old.entries) word.now times) }
 {
+    if times == 0 {
+        return Ok(());
+    }
     if !is_counted(word) {
         return Ok(());
     }
-    count_word(alloc, table, written, word)
+    count_word(alloc, table, written, word, times)
+}
+
+// A word of a text, and how often it has come since it was last put in the table.
+#[derive(Clone, Copy)]
+struct Recent<'a> {
+    word: &'a [u8],
+    times: u64,
+}
+
+// Where a word has its place among the recent ones.
+#[inline(always)]
+fn place_of(word: &[u8]) -> usize
+    ensures { result < 64 }
+{
+    match word {
+        [first, .., last] => {
+            let middle = usize::from(word[word.len() / 2]);
+            let before = usize::from(word[word.len() - 2]);
+            let ends = usize::from(*first) * 29 + before * 11 + usize::from(*last);
+            (word.len() % 64 * 37 + ends + middle * 17) % 64
+        }
+        _ => 0,
+    }
+}
+
+// Counts a word of a text: where its place has it, it has come once more there. Else what the place has is
+// put in the table, and the word takes the place.
+#[inline(always)]
+fn count_recent<'a>(
+    alloc: Global,
+    table: &mut BTreeMap<Vec<u8>, u64>,
+    written: &mut Vec<u8>,
+    recent: &mut [Recent<'a>; 64],
+    word: &'a [u8],
+) -> Result<(), AllocError>
+    ensures { OnOk result (with_recent (map row_of table.new.entries) recent.new
+        ≡ with_ended (with_recent (map row_of table.old.entries) recent.old) word.now) }
+{
+    let place = place_of(word);
+    let before = recent[place];
+    if before.word != word {
+        if !is_counted(word) {
+            return Ok(());
+        }
+        count_ended(alloc, table, written, before.word, before.times)?;
+        recent[place] = Recent { word, times: 1 };
+        return Ok(());
+    }
+    match before.times.checked_add(1) {
+        None => Err(AllocError),
+        Some(times) => {
+            recent[place] = Recent { word, times };
+            Ok(())
+        }
+    }
 }
 
 impl Tally {
@@ -111,6 +179,7 @@ impl Tally {
             &mut self.table,
             &mut self.written,
             self.word.as_slice(),
+            1,
         )?;
         self.word.clear();
         Ok(())
@@ -131,12 +200,35 @@ impl Tally {
         requires { self.old.word.items ≡ [] }
         ensures { OnOk result (tallied_in self.new ≡ fold with_octet (tallied_in self.old) text.now) }
     {
+        let mut recent = [Recent {
+            word: b"",
+            times: 0,
+        }; 64];
         let mut rest = text;
         'words: while let Some(end) = end_of_word(rest) {
-            count_ended(alloc, &mut self.table, &mut self.written, &rest[..end])?;
+            count_recent(
+                alloc,
+                &mut self.table,
+                &mut self.written,
+                &mut recent,
+                &rest[..end],
+            )?;
             rest = &rest[end + 1..];
         }
+        self.put_all(alloc, &recent)?;
         self.word.extend_from_slice(rest)?;
+        Ok(())
+    }
+
+    // Puts the recent words in the table.
+    fn put_all(&mut self, alloc: Global, recent: &[Recent<'_>]) -> Result<(), AllocError>
+        ensures rows { OnOk result (map row_of self.new.table.entries
+            ≡ with_recent (map row_of self.old.table.entries) recent.now) }
+        ensures word { self.new.word.items ≡ self.old.word.items }
+    {
+        for it in recent {
+            count_ended(alloc, &mut self.table, &mut self.written, it.word, it.times)?;
+        }
         Ok(())
     }
 

@@ -1,0 +1,8 @@
+use Rattle.std.proofs.Common.{map}
+use Rattle.listings.specs.Totals.{row_of}
+use Rattle.listings.proofs.Recent.{no_time}
+use Rattle.listings.proofs.totals.count_ended.Goals as goal
+
+pub returns-then-times-eq0 : goal.returns-then-times-eq0
+returns-then-times-eq0 c =
+    no_time (map row_of c.args.table.now.entries) c.args.word.now c.args.times c.if-times-eq0.true
