@@ -766,9 +766,10 @@ static void simulated_link_world_World_begin(uint64_t p0, uint64_t p1, uint32_t 
 static void tc_frame_encoding_encode(uint64_t p0, uint64_t p1, uint64_t p2, uint64_t p3);
 static uint32_t std_alloc_vec_deque_VecDeque_grow_1598ebf9113514c4(uint64_t p0);
 static void map_service_assembler_Assembler_prepare(uint64_t p0, uint64_t p1, uint64_t p2);
+static void map_service_packets_fault_of_alone(uint64_t p0, uint64_t p1, uint64_t p2, uint64_t p3);
+static uint32_t std_alloc_vec_Vec_extend_from_slice_672334860c861157(uint64_t p0, uint64_t p1, uint64_t p2);
 static uint32_t std_alloc_vec_Vec_grow_amortized_a351ad16c7c032ee(uint64_t p0, uint64_t p1);
 static void smallvec_small_vec_SmallVec_push_reserved_ed127ccbaaf726c4(uint64_t p0, uint64_t p1);
-static uint32_t std_alloc_vec_Vec_extend_from_slice_672334860c861157(uint64_t p0, uint64_t p1, uint64_t p2);
 static void std_alloc_vec_Vec_drop_555ceec2fcbf3849(uint64_t p0);
 static void nodes_spacecraft_Spacecraft_hand_on(uint64_t p0, uint64_t p1, uint64_t p2);
 static void tm_link_turn_put_next(uint64_t p0, uint64_t p1, uint64_t p2, uint32_t p3, uint64_t p4, uint64_t p5);
@@ -5734,20 +5735,20 @@ l3:;
     return 1;
 }
 
-/* map_service::assembler::Assembler::prepare, crates/map_service/src/assembler.rt:200 */
+/* map_service::assembler::Assembler::prepare, crates/map_service/src/assembler.rt:201 */
 static void map_service_assembler_Assembler_prepare(uint64_t p0, uint64_t p1, uint64_t p2)
 {
-    unsigned char frame_octets[480 + 15];
-    uint32_t v6 = 0, v9 = 0, v10 = 0, v11 = 0, t3;
+    unsigned char frame_octets[496 + 15];
+    uint32_t v6 = 0, v9 = 0, v10 = 0, v11 = 0, t1;
     uint64_t v3 = 0, v4 = 0, v5 = 0, v7 = 0, v8 = 0, v12 = 0, v13 = 0, v14 = 0, v15 = 0, v16 = 0, v17 = 0, v18 = 0,
         v19 = 0;
     v3 = aligned(frame_octets);
+    put64(v3 + 152, 0);
+    put64(v3 + 144, 0);
     put64(v3 + 136, 0);
-    put64(v3 + 128, 0);
-    put64(v3 + 120, 0);
-    put64(v3 + 96, 0);
-    put64(v3 + 104, 0);
     put64(v3 + 112, 0);
+    put64(v3 + 120, 0);
+    put64(v3 + 128, 0);
     v4 = get64(p1 + 24);
     v5 = get64(p1 + 32);
     if (v5 == 0) {
@@ -5763,12 +5764,12 @@ static void map_service_assembler_Assembler_prepare(uint64_t p0, uint64_t p1, ui
             v7 = v7 - 1;
         } while (v9 != 0);
     }
+    put64(v3 + 184, 0);
+    put64(v3 + 192, 0);
+    put64(v3 + 200, 0);
+    put64(v3 + 160, 0);
     put64(v3 + 168, 0);
     put64(v3 + 176, 0);
-    put64(v3 + 184, 0);
-    put64(v3 + 144, 0);
-    put64(v3 + 152, 0);
-    put64(v3 + 160, 0);
     v8 = (uint64_t)get8(p2 + 1);
     if (v8 <= 63) {
         v10 = 1;
@@ -5790,510 +5791,527 @@ static void map_service_assembler_Assembler_prepare(uint64_t p0, uint64_t p1, ui
                     v10 = 0;
                 }
             }
+            put64(v3 + 360, 0);
+            put64(v3 + 368, 0);
+            put64(v3 + 376, 0);
+            put64(v3 + 336, 0);
             put64(v3 + 344, 0);
             put64(v3 + 352, 0);
-            put64(v3 + 360, 0);
+            put64(v3 + 312, 0);
             put64(v3 + 320, 0);
             put64(v3 + 328, 0);
-            put64(v3 + 336, 0);
+            put64(v3 + 288, 0);
             put64(v3 + 296, 0);
             put64(v3 + 304, 0);
-            put64(v3 + 312, 0);
+            put64(v3 + 264, 0);
             put64(v3 + 272, 0);
             put64(v3 + 280, 0);
-            put64(v3 + 288, 0);
-            put64(v3 + 248, 0);
             put64(v3 + 256, 0);
-            put64(v3 + 264, 0);
+            put64(v3 + 248, 0);
             put64(v3 + 240, 0);
-            put64(v3 + 232, 0);
+            put64(v3 + 231, 0);
             put64(v3 + 224, 0);
-            put64(v3 + 215, 0);
+            put64(v3 + 216, 0);
             put64(v3 + 208, 0);
-            put64(v3 + 200, 0);
-            put64(v3 + 192, 0);
-            v4 = get64(p2 + 16);
-            v13 = get64(p2 + 8);
+            v13 = get64(p2 + 16);
+            v4 = get64(p2 + 8);
             switch ((uint32_t)(uint64_t)get8(p2)) {
             case 1:
                 v10 = get32(p1 + 4);
                 v12 = (uint64_t)v10;
-                if (v4 > v12) goto l22;
-                v8 = 0;
-                v16 = v3 + 472;
-                if (v6 != 0) {
-                    v5 = v16;
-                    p2 = 0;
+                if (v13 <= v12) {
+                    v8 = 0;
+                    v14 = v3 + 488;
+                    if (v6 != 0) {
+                        v5 = v14;
+                        p2 = 0;
+                        goto l18;
+                    }
+                    v15 = clz64(v7);
+                    p2 = 64 - v15;
+                    if (v7 == 0) {
+                        v5 = v14;
+                    } else {
+                        rattle_alloc_at(v3 + 80, p2 << 5, 8);
+                        v6 = 1;
+                        if (((uint32_t)get64(v3 + 80) & 1) == 0) {
+                            v8 = 0;
+                            put64(v3 + 200, 0);
+                            put64(v3 + 192, 0);
+                            put64(v3 + 184, 0);
+                            put64(v3 + 160, 0);
+                            put64(v3 + 168, 0);
+                            put64(v3 + 176, 0);
+                            v9 = 0;
+                            v11 = 2;
+                            goto l10;
+                        }
+                        v5 = get64(v3 + 88);
+                        v8 = 0x800 - (v15 << 5);
+                        if (v8 != 0) fill(v5, 0, v8);
+                        v10 = get32(p1 + 4);
+                        v12 = (uint64_t)v10;
+                        v8 = p2;
+                    }
                     goto l18;
                 }
-                v15 = clz64(v7);
-                p2 = 64 - v15;
-                if (v7 == 0) {
-                    v5 = v16;
-                } else {
-                    rattle_alloc_at(v3 + 64, p2 << 5, 8);
-                    v6 = 1;
-                    if (((uint32_t)get64(v3 + 64) & 1) == 0) {
-                        v8 = 0;
-                        put64(v3 + 184, 0);
-                        put64(v3 + 176, 0);
-                        put64(v3 + 168, 0);
-                        put64(v3 + 144, 0);
-                        put64(v3 + 152, 0);
-                        put64(v3 + 160, 0);
-                        v9 = 0;
-                        v11 = 2;
-                        goto l10;
-                    }
-                    v5 = get64(v3 + 72);
-                    v8 = 0x800 - (v15 << 5);
-                    if (v8 != 0) fill(v5, 0, v8);
-                    v10 = get32(p1 + 4);
-                    v12 = (uint64_t)v10;
-                    v8 = p2;
-                }
-                goto l18;
+                break;
             case 2:
                 if (v10 != 0) {
                     v10 = 2;
-                    goto l21;
+                    goto l22;
                 }
-                v15 = v4 + v5;
-                if (v15 > (uint64_t)get32(p1 + 4)) goto l22;
-                v17 = 0;
-                put64(v3 + 432, 0);
-                put64(v3 + 440, 0);
-                put64(v3 + 448, 0);
-                put64(v3 + 456, 0);
-                put64(v3 + 464, 0);
-                put64(v3 + 408, 0);
-                put64(v3 + 416, 0);
-                put64(v3 + 424, 0);
-                if (v15 == 0) {
-                    v18 = v3 + 472;
-                } else {
-                    rattle_alloc_at(v3 + 80, v15, 1);
-                    v6 = 1;
-                    if (((uint32_t)get64(v3 + 80) & 1) == 0) {
-                        p1 = 0;
-                        put64(v3 + 312, 0);
-                        put64(v3 + 304, 0);
-                        put64(v3 + 296, 0);
-                        put64(v3 + 272, 0);
-                        put64(v3 + 280, 0);
-                        put64(v3 + 288, 0);
-                        v9 = 0;
-                        v11 = 2;
-                        v10 = 0;
-                        v7 = 0;
-                        v4 = 0;
-                        v5 = 0;
-                        goto l58;
+                v15 = v13 + v5;
+                if (v15 <= (uint64_t)get32(p1 + 4)) {
+                    v17 = 0;
+                    put64(v3 + 448, 0);
+                    put64(v3 + 456, 0);
+                    put64(v3 + 464, 0);
+                    put64(v3 + 472, 0);
+                    put64(v3 + 480, 0);
+                    put64(v3 + 424, 0);
+                    put64(v3 + 432, 0);
+                    put64(v3 + 440, 0);
+                    if (v15 == 0) {
+                        v18 = v3 + 488;
+                    } else {
+                        rattle_alloc_at(v3 + 96, v15, 1);
+                        v6 = 1;
+                        if (((uint32_t)get64(v3 + 96) & 1) == 0) {
+                            p1 = 0;
+                            put64(v3 + 328, 0);
+                            put64(v3 + 320, 0);
+                            put64(v3 + 312, 0);
+                            put64(v3 + 288, 0);
+                            put64(v3 + 296, 0);
+                            put64(v3 + 304, 0);
+                            v9 = 0;
+                            v11 = 2;
+                            v10 = 0;
+                            v7 = 0;
+                            v4 = 0;
+                            v5 = 0;
+                            goto l70;
+                        }
+                        v18 = get64(v3 + 104);
                     }
-                    v18 = get64(v3 + 88);
-                }
-                put64(v3 + 376, 0);
-                put64(v3 + 368, v18);
-                put64(v3 + 384, v15);
-                if (v5 > v15) {
-                    v9 = std_alloc_vec_Vec_grow_amortized_a351ad16c7c032ee(v3 + 368, v5);
-                    v17 = get64(v3 + 376);
-                    v15 = get64(v3 + 384);
-                    if (v9 == 0) {
-                        v19 = v17;
-                        goto l62;
+                    put64(v3 + 392, 0);
+                    put64(v3 + 384, v18);
+                    put64(v3 + 400, v15);
+                    if (v5 > v15) {
+                        v9 = std_alloc_vec_Vec_grow_amortized_a351ad16c7c032ee(v3 + 384, v5);
+                        v17 = get64(v3 + 392);
+                        v15 = get64(v3 + 400);
+                        if (v9 == 0) {
+                            v19 = v17;
+                            goto l74;
+                        }
+                        v18 = get64(v3 + 384);
                     }
-                    v18 = get64(v3 + 368);
-                }
-                v19 = v17 + v5;
-                v14 = v18 + v17;
-                if ((v14 - v12) < v5) {
-                    v16 = v5 & 3;
-                    v7 = 0;
-                    if (v5 >= 4) {
-                        v5 = v5 & ~3ULL;
+                    v19 = v17 + v5;
+                    v16 = v18 + v17;
+                    if ((v16 - v12) < v5) {
+                        v14 = v5 & 3;
                         v7 = 0;
+                        if (v5 >= 4) {
+                            v5 = v5 & ~3ULL;
+                            v7 = 0;
+                            do {
+                                v8 = v16 + v7;
+                                p2 = v12 + v7;
+                                put8(v8, get8(p2));
+                                put8(v8 + 1, get8(p2 + 1));
+                                put8(v8 + 2, get8(p2 + 2));
+                                put8(v8 + 3, get8(p2 + 3));
+                                v7 = v7 + 4;
+                            } while (v5 != v7);
+                            if (v14 == 0) goto l77;
+                        }
+                        v8 = v12 + v7;
+                        v7 = v18 + (v17 + v7);
                         do {
-                            v8 = v14 + v7;
-                            p2 = v12 + v7;
-                            put8(v8, get8(p2));
-                            put8(v8 + 1, get8(p2 + 1));
-                            put8(v8 + 2, get8(p2 + 2));
-                            put8(v8 + 3, get8(p2 + 3));
-                            v7 = v7 + 4;
-                        } while (v5 != v7);
-                        if (v16 == 0) goto l65;
+                            put8(v7, get8(v8));
+                            v7 = v7 + 1;
+                            v8 = v8 + 1;
+                            v14 = v14 - 1;
+                        } while (v14 != 0);
+                    } else if (v5 != 0) copy(v16, v12, v5);
+                l77:;
+                    put64(v3 + 400, v15);
+                    put64(v3 + 392, v19);
+                l74:;
+                    if (v13 > (v15 - v19)) {
+                        v9 = std_alloc_vec_Vec_grow_amortized_a351ad16c7c032ee(v3 + 384, v13);
+                        v19 = get64(v3 + 392);
+                        if (v9 == 0) {
+                            v16 = get64(v3 + 384);
+                            v14 = v19;
+                            goto l82;
+                        }
+                        v15 = get64(v3 + 400);
                     }
-                    v8 = v12 + v7;
-                    v7 = v18 + (v17 + v7);
-                    do {
-                        put8(v7, get8(v8));
-                        v7 = v7 + 1;
-                        v8 = v8 + 1;
-                        v16 = v16 - 1;
-                    } while (v16 != 0);
-                } else if (v5 != 0) copy(v14, v12, v5);
-            l65:;
-                put64(v3 + 384, v15);
-                put64(v3 + 376, v19);
-            l62:;
-                if (v4 > (v15 - v19)) {
-                    v9 = std_alloc_vec_Vec_grow_amortized_a351ad16c7c032ee(v3 + 368, v4);
-                    v19 = get64(v3 + 376);
-                    if (v9 == 0) {
-                        v14 = get64(v3 + 368);
-                        v16 = v19;
-                        goto l70;
-                    }
-                    v15 = get64(v3 + 384);
-                }
-                v16 = v19 + v4;
-                v14 = get64(v3 + 368);
-                v12 = v14 + v19;
-                if ((v12 - v13) < v4) {
-                    v5 = v4 & 3;
-                    v7 = 0;
-                    if (v4 >= 4) {
-                        v4 = v4 & ~3ULL;
+                    v14 = v19 + v13;
+                    v16 = get64(v3 + 384);
+                    v12 = v16 + v19;
+                    if ((v12 - v4) < v13) {
+                        v5 = v13 & 3;
                         v7 = 0;
+                        if (v13 >= 4) {
+                            v13 = v13 & ~3ULL;
+                            v7 = 0;
+                            do {
+                                v8 = v12 + v7;
+                                p2 = v4 + v7;
+                                put8(v8, get8(p2));
+                                put8(v8 + 1, get8(p2 + 1));
+                                put8(v8 + 2, get8(p2 + 2));
+                                put8(v8 + 3, get8(p2 + 3));
+                                v7 = v7 + 4;
+                            } while (v13 != v7);
+                            if (v5 == 0) goto l85;
+                        }
+                        v8 = v4 + v7;
+                        v7 = v16 + (v19 + v7);
                         do {
-                            v8 = v12 + v7;
-                            p2 = v13 + v7;
-                            put8(v8, get8(p2));
-                            put8(v8 + 1, get8(p2 + 1));
-                            put8(v8 + 2, get8(p2 + 2));
-                            put8(v8 + 3, get8(p2 + 3));
-                            v7 = v7 + 4;
-                        } while (v4 != v7);
-                        if (v5 == 0) goto l73;
+                            put8(v7, get8(v8));
+                            v7 = v7 + 1;
+                            v8 = v8 + 1;
+                            v5 = v5 - 1;
+                        } while (v5 != 0);
+                    } else if (v13 != 0) copy(v12, v4, v13);
+                l85:;
+                    put64(v3 + 400, v15);
+                    put64(v3 + 392, v14);
+                l82:;
+                    if (v14 > (uint64_t)get32(p1 + 4)) {
+                        v9 = 1;
+                        v10 = 4;
+                        goto l90;
                     }
-                    v8 = v13 + v7;
-                    v7 = v14 + (v19 + v7);
-                    do {
-                        put8(v7, get8(v8));
-                        v7 = v7 + 1;
-                        v8 = v8 + 1;
-                        v5 = v5 - 1;
-                    } while (v5 != 0);
-                } else if (v4 != 0) copy(v12, v13, v4);
-            l73:;
-                put64(v3 + 384, v15);
-                put64(v3 + 376, v16);
-            l70:;
-                if (v16 > (uint64_t)get32(p1 + 4)) {
-                    v9 = 1;
-                    v10 = 4;
-                    goto l78;
-                }
-                v8 = 0;
-                if (v16 < 6) {
-                    v9 = 0;
-                } else {
-                    v6 = get8(v14);
-                    if (v6 > 31) {
+                    v8 = 0;
+                    if (v14 < 6) {
                         v9 = 0;
                     } else {
-                        if ((v6 & 8) != 0) {
+                        v6 = get8(v16);
+                        if (v6 > 31) {
                             v9 = 0;
-                            if ((((v6 << 8) & 0x700) | get8(v14 + 1)) == 0x7ff) goto l80;
+                        } else {
+                            if ((v6 & 8) != 0) {
+                                v9 = 0;
+                                if ((((v6 << 8) & 0x700) | get8(v16 + 1)) == 0x7ff) goto l92;
+                            }
+                            v8 = (((uint64_t)get8(v16 + 4) << 8) | (uint64_t)get8(v16 + 5)) + 7;
+                            v9 = v14 >= v8;
+                            v8 = (v9 != 0) ? v8 : 0ULL;
                         }
-                        v8 = (((uint64_t)get8(v14 + 4) << 8) | (uint64_t)get8(v14 + 5)) + 7;
-                        v9 = v16 >= v8;
-                        v8 = (v9 != 0) ? v8 : 0ULL;
                     }
-                }
-            l80:;
-                v9 = v9 & (uint32_t)(v8 == v16);
-                v10 = (v9 != 0) ? 0U : 3U;
-                v9 = v9 ^ 1;
-            l78:;
-                p1 = 0;
-                put64(v3 + 448, 0);
-                put64(v3 + 432, 0);
-                put64(v3 + 456, 0);
-                put64(v3 + 464, 0);
-                put64(v3 + 440, v3 + 472);
-                v7 = v3 + 472;
-                if (v9 == 0) {
-                    smallvec_small_vec_SmallVec_push_reserved_ed127ccbaaf726c4(v3 + 432, v3 + 368);
-                    p1 = (uint64_t)get8(v3 + 432);
-                    v7 = get64(v3 + 440);
-                }
-                v8 = v3 + 448;
-                if (v9 != 0 && get64(v3 + 384) != 0) rattle_dealloc_at(v14);
-                put64(v3 + 272, get64(v3 + 408));
-                put64(v3 + 280, get64(v3 + 416));
-                put64(v3 + 288, get64(v3 + 424));
-                put64(v3 + 312, get64(v8 + 16));
-                put64(v3 + 304, get64(v8 + 8));
-                put64(v3 + 296, get64(v8));
-                v5 = v3 + 472;
-                v4 = 1;
-                v6 = 0;
-                v11 = 0;
-            l58:;
-                v8 = 0;
-                p2 = 0;
-                goto l12;
-            case 3:
-                break;
-            default:
-                if (v10 != 0) {
-                    v10 = 2;
-                    goto l21;
-                }
-                if ((v4 + v5) > (uint64_t)get32(p1 + 4)) goto l22;
-                v8 = 0;
-                put64(v3 + 312, 0);
-                put64(v3 + 304, 0);
-                put64(v3 + 296, 0);
-                put64(v3 + 272, 0);
-                put64(v3 + 280, 0);
-                put64(v3 + 288, 0);
-                v7 = v3 + 472;
-                v4 = 3;
-                v6 = 0;
-                p2 = 0;
-                v11 = 0;
-                v9 = 0;
-                v10 = 0;
-                goto l20;
-            }
-            p2 = (uint64_t)get32(p1 + 4);
-            if (get8(p1 + 16) == 0) {
-                if (v4 > p2) goto l22;
-                v10 = 3;
-                if (v4 < 6) goto l21;
-                v6 = get8(v13);
-                if (v6 > 31 || (((v6 & 8) != 0 && (((v6 << 8) & 0x700) | get8(v13 + 1)) == 0x7ff) ||
-                    ((((uint64_t)get8(v13 + 4) << 8) | (uint64_t)get8(v13 + 5)) + 7) != v4)) goto l21;
-                put64(v3 + 384, 0);
-                put64(v3 + 368, 0);
-                put64(v3 + 392, 0);
-                put64(v3 + 400, 0);
-                put64(v3 + 376, v3 + 472);
-                rattle_alloc_at(v3 + 32, v4, 1);
-                if (((uint32_t)get64(v3 + 32) & 1) == 0) goto l11;
-                v7 = get64(v3 + 40);
-                if ((v7 - v13) < v4) {
-                    v12 = v4 & ~3ULL;
-                    v5 = v4 & 3;
+                l92:;
+                    v9 = v9 & (uint32_t)(v8 == v14);
+                    v10 = (v9 != 0) ? 0U : 3U;
+                    v9 = v9 ^ 1;
+                l90:;
+                    p1 = 0;
+                    put64(v3 + 464, 0);
+                    put64(v3 + 448, 0);
+                    put64(v3 + 472, 0);
+                    put64(v3 + 480, 0);
+                    put64(v3 + 456, v3 + 488);
+                    v7 = v3 + 488;
+                    if (v9 == 0) {
+                        smallvec_small_vec_SmallVec_push_reserved_ed127ccbaaf726c4(v3 + 448, v3 + 384);
+                        p1 = (uint64_t)get8(v3 + 448);
+                        v7 = get64(v3 + 456);
+                    }
+                    v8 = v3 + 464;
+                    if (v9 != 0 && get64(v3 + 400) != 0) rattle_dealloc_at(v16);
+                    put64(v3 + 288, get64(v3 + 424));
+                    put64(v3 + 296, get64(v3 + 432));
+                    put64(v3 + 304, get64(v3 + 440));
+                    put64(v3 + 328, get64(v8 + 16));
+                    put64(v3 + 320, get64(v8 + 8));
+                    put64(v3 + 312, get64(v8));
+                    v5 = v3 + 488;
+                    v4 = 1;
+                    v6 = 0;
+                    v11 = 0;
+                l70:;
                     v8 = 0;
-                    do {
-                        p1 = v7 + v8;
-                        p2 = v13 + v8;
-                        put8(p1, get8(p2));
-                        put8(p1 + 1, get8(p2 + 1));
-                        put8(p1 + 2, get8(p2 + 2));
-                        put8(p1 + 3, get8(p2 + 3));
-                        v8 = v8 + 4;
-                    } while (v12 != v8);
-                    if (v5 != 0) {
-                        p1 = v13 + v8;
-                        v8 = v7 + v8;
+                    p2 = 0;
+                    goto l13;
+                }
+                break;
+            case 3:
+                map_service_packets_fault_of_alone(v3 + 56, p1, v4, v13);
+                if (get8(v3 + 56) == 1) {
+                    v10 = get8(v3 + 57);
+                    goto l22;
+                }
+                if (get8(p1 + 16) != 1) {
+                    v6 = v13 == 0;
+                    if (v6 != 0) {
+                        v7 = v3 + 488;
+                    } else {
+                        if (v13 > 0x7fffffffffffffffULL) goto l11;
+                        rattle_alloc_at(v3 + 40, v13, 1);
+                        if (((uint32_t)get64(v3 + 40) & 1) == 0) goto l11;
+                        v7 = get64(v3 + 48);
+                    }
+                    if ((v7 - v4) < v13) {
+                        v5 = v13 & 3;
+                        p1 = 0;
+                        if ((v13 - 1) >= 3) {
+                            v12 = v13 & ~3ULL;
+                            p1 = 0;
+                            do {
+                                v8 = v7 + p1;
+                                p2 = v4 + p1;
+                                put8(v8, get8(p2));
+                                put8(v8 + 1, get8(p2 + 1));
+                                put8(v8 + 2, get8(p2 + 2));
+                                put8(v8 + 3, get8(p2 + 3));
+                                p1 = p1 + 4;
+                            } while (v12 != p1);
+                            if (v5 == 0) goto l57;
+                        }
+                        v8 = v7 + p1;
+                        p1 = v4 + p1;
                         do {
                             put8(v8, get8(p1));
                             v8 = v8 + 1;
                             p1 = p1 + 1;
                             v5 = v5 - 1;
                         } while (v5 != 0);
-                    }
-                } else if (v4 != 0) copy(v7, v13, v4);
-                v8 = v3 + 384;
-                put64(v3 + 400, 1);
-                put64(v3 + 392, v4);
-                put64(v3 + 384, v4);
-                put64(v3 + 376, v7);
-                p1 = 0;
-                goto l14;
-            }
-            v10 = 3;
-            if (v4 < 6) goto l21;
-            v11 = 0;
-            v8 = v13;
-            p1 = v4;
-            do {
-                v6 = get8(v8);
-                if (v6 > 31 || ((v6 & 8) != 0 && (((v6 << 8) & 0x700) | get8(v8 + 1)) == 0x7ff)) goto l21;
-                v7 = (((uint64_t)get8(v8 + 4) << 8) | (uint64_t)get8(v8 + 5)) + 7;
-                if (p1 < v7) goto l21;
-                v8 = v8 + v7;
-                v11 = v11 | (uint32_t)(v7 > p2);
-                p1 = p1 - v7;
-            } while (p1 > 5);
-            v6 = p1 == 0;
-            v11 = v6 & v11;
-            v10 = (v6 != 0) ? ((v11 != 0) ? 4U : 0U) : 3U;
-            if (v11 != 0) goto l21;
-            p2 = 0;
-            if (p1 != 0) goto l21;
-            put64(v3 + 464, 0);
-            put64(v3 + 456, 0);
-            put64(v3 + 448, 0);
-            put64(v3 + 440, 0);
-            put64(v3 + 432, 0);
-            v7 = v4;
-            v8 = v13;
-            do {
-                v6 = get8(v8);
-                if (v6 > 31 || ((v6 & 8) != 0 && (((v6 << 8) & 0x700) | get8(v8 + 1)) == 0x7ff)) break;
-                p1 = (((uint64_t)get8(v8 + 4) << 8) | (uint64_t)get8(v8 + 5)) + 7;
-                if (v7 < p1) break;
-                v8 = v8 + p1;
-                p2 = p2 + 1;
-                v7 = v7 - p1;
-            } while (v7 > 5);
-            v8 = v3 + 472;
-            v7 = 0;
-            p1 = 0;
-            if (p2 >= 2) {
-                if (p2 > 0x555555555555555ULL) goto l27;
-                rattle_alloc_at(v3 + 16, p2 * 24, 8);
-                if (((uint32_t)get64(v3 + 16) & 1) == 0) goto l27;
-                v8 = get64(v3 + 24);
-                v7 = 1;
-                p1 = p2;
-            }
-            put64(v3 + 464, 0);
-            put64(v3 + 456, p1);
-            put64(v3 + 448, 0);
-            put64(v3 + 440, v8);
-            put64(v3 + 432, v7);
-            v14 = v3 + 432 + 8;
-            v15 = 0;
-            for (;;) {
-                v6 = get8(v13);
-                if (v6 > 31 || ((v6 & 8) != 0 && (((v6 << 8) & 0x700) | get8(v13 + 1)) == 0x7ff)) goto l15;
-                v8 = (uint64_t)get8(v13 + 4) << 8;
-                p1 = (uint64_t)get8(v13 + 5);
-                v12 = (v8 | p1) + 7;
-                if (v4 < v12) goto l15;
-                rattle_alloc_at(v3, v12, 1);
-                if (((uint32_t)get64(v3) & 1) == 0) break;
-                v5 = get64(v3 + 8);
-                if ((v5 - v13) < v12) {
-                    p2 = v12 & 3;
-                    v7 = 0;
-                    if ((p1 + v8 + 6) >= 3) {
-                        v16 = v12 & 0x1fffc;
-                        v7 = 0;
-                        do {
-                            v8 = v5 + v7;
-                            p1 = v13 + v7;
-                            put8(v8, get8(p1));
-                            put8(v8 + 1, get8(p1 + 1));
-                            put8(v8 + 2, get8(p1 + 2));
-                            put8(v8 + 3, get8(p1 + 3));
-                            v7 = v7 + 4;
-                        } while (v16 != v7);
-                        if (p2 == 0) goto l40;
-                    }
-                    v8 = v5 + v7;
-                    v7 = v13 + v7;
-                    do {
-                        put8(v8, get8(v7));
-                        v8 = v8 + 1;
-                        v7 = v7 + 1;
-                        p2 = p2 - 1;
-                    } while (p2 != 0);
-                } else if (v12 != 0) copy(v5, v13, v12);
-            l40:;
-                v4 = v4 - v12;
-                if (get8(v3 + 432) == 0) {
-                    v8 = v14 + (v15 * 24);
-                    put64(v8 + 8, v12);
-                    v7 = get64(v8 + 16);
-                    put64(v8 + 16, v12);
-                    p1 = get64(v8);
-                    put64(v8, v5);
-                    if (v7 != 0) rattle_dealloc_at(p1);
-                    v15 = v15 + 1;
-                    put64(v3 + 464, v15);
-                } else {
-                    v7 = get64(v3 + 448);
-                    v8 = get64(v3 + 440) + (v7 * 24);
-                    put64(v8 + 16, v12);
-                    put64(v8 + 8, v12);
-                    put64(v8, v5);
-                    put64(v3 + 448, v7 + 1);
+                    } else if (v6 == 0) copy(v7, v4, v13);
+                l57:;
+                    v8 = v3 + 384 + 16;
+                    put64(v3 + 416, 1);
+                    put64(v3 + 408, v13);
+                    put64(v3 + 400, v13);
+                    p1 = 0;
+                    goto l30;
                 }
-                v13 = v13 + v12;
-                if (v4 < 6) goto l15;
-            }
-            p2 = get64(v3 + 456);
-            p1 = get64(v3 + 440);
-            if (get8(v3 + 432) == 0) {
-                if (p2 != 0) goto l48;
-                goto l27;
-            }
-            v7 = get64(v3 + 448);
-            if (v7 != 0) {
-                v8 = p1;
+                p2 = 0;
+                put64(v3 + 480, 0);
+                put64(v3 + 472, 0);
+                put64(v3 + 464, 0);
+                put64(v3 + 456, 0);
+                put64(v3 + 448, 0);
+                if (v13 < 6) {
+                    p1 = 0;
+                    put64(v3 + 480, 0);
+                    put64(v3 + 472, 0);
+                    put64(v3 + 464, 0);
+                    v7 = v3 + 488;
+                    goto l31;
+                }
+                v7 = v13;
+                v8 = v4;
                 do {
-                    if (get64(v8 + 16) != 0) rattle_dealloc_at(get64(v8));
-                    v8 = v8 + 24;
-                    v7 = v7 - 1;
-                } while (v7 != 0);
+                    v6 = get8(v8);
+                    if (v6 > 31 || ((v6 & 8) != 0 && (((v6 << 8) & 0x700) | get8(v8 + 1)) == 0x7ff)) break;
+                    p1 = (((uint64_t)get8(v8 + 4) << 8) | (uint64_t)get8(v8 + 5)) + 7;
+                    if (v7 < p1) break;
+                    v8 = v8 + p1;
+                    p2 = p2 + 1;
+                    v7 = v7 - p1;
+                } while (v7 > 5);
+                v8 = v3 + 488;
+                v7 = 0;
+                p1 = 0;
+                if (p2 >= 2) {
+                    if (p2 > 0x555555555555555ULL) goto l12;
+                    rattle_alloc_at(v3 + 24, p2 * 24, 8);
+                    if (((uint32_t)get64(v3 + 24) & 1) == 0) goto l12;
+                    v8 = get64(v3 + 32);
+                    v7 = 1;
+                    p1 = p2;
+                }
+                put64(v3 + 480, 0);
+                put64(v3 + 472, p1);
+                put64(v3 + 464, 0);
+                put64(v3 + 456, v8);
+                put64(v3 + 448, v7);
+                v16 = v3 + 448 + 8;
+                v15 = 0;
+                do {
+                    v6 = get8(v4);
+                    if (v6 > 31 || ((v6 & 8) != 0 && (((v6 << 8) & 0x700) | get8(v4 + 1)) == 0x7ff)) break;
+                    v8 = (uint64_t)get8(v4 + 4) << 8;
+                    p1 = (uint64_t)get8(v4 + 5);
+                    v12 = (v8 | p1) + 7;
+                    if (v13 < v12) break;
+                    rattle_alloc_at(v3 + 8, v12, 1);
+                    if (((uint32_t)get64(v3 + 8) & 1) == 0) goto l38;
+                    v5 = get64(v3 + 16);
+                    if ((v5 - v4) < v12) {
+                        p2 = v12 & 3;
+                        v7 = 0;
+                        if ((p1 + v8 + 6) >= 3) {
+                            v14 = v12 & 0x1fffc;
+                            v7 = 0;
+                            do {
+                                v8 = v5 + v7;
+                                p1 = v4 + v7;
+                                put8(v8, get8(p1));
+                                put8(v8 + 1, get8(p1 + 1));
+                                put8(v8 + 2, get8(p1 + 2));
+                                put8(v8 + 3, get8(p1 + 3));
+                                v7 = v7 + 4;
+                            } while (v14 != v7);
+                            if (p2 == 0) goto l42;
+                        }
+                        v8 = v5 + v7;
+                        v7 = v4 + v7;
+                        do {
+                            put8(v8, get8(v7));
+                            v8 = v8 + 1;
+                            v7 = v7 + 1;
+                            p2 = p2 - 1;
+                        } while (p2 != 0);
+                    } else if (v12 != 0) copy(v5, v4, v12);
+                l42:;
+                    v13 = v13 - v12;
+                    if (get8(v3 + 448) == 0) {
+                        v8 = v16 + (v15 * 24);
+                        put64(v8 + 8, v12);
+                        v7 = get64(v8 + 16);
+                        put64(v8 + 16, v12);
+                        p1 = get64(v8);
+                        put64(v8, v5);
+                        if (v7 != 0) rattle_dealloc_at(p1);
+                        v15 = v15 + 1;
+                        put64(v3 + 480, v15);
+                    } else {
+                        v7 = get64(v3 + 464);
+                        v8 = get64(v3 + 456) + (v7 * 24);
+                        put64(v8 + 16, v12);
+                        put64(v8 + 8, v12);
+                        put64(v8, v5);
+                        put64(v3 + 464, v7 + 1);
+                    }
+                    v4 = v4 + v12;
+                } while (v13 >= 6);
+                p1 = (uint64_t)get8(v3 + 448);
+                v7 = get64(v3 + 456);
+                goto l31;
+            l38:;
+                p2 = get64(v3 + 472);
+                p1 = get64(v3 + 456);
+                if (get8(v3 + 448) == 0) {
+                    if (p2 != 0) goto l50;
+                    goto l12;
+                }
+                v7 = get64(v3 + 464);
+                if (v7 != 0) {
+                    v8 = p1;
+                    do {
+                        if (get64(v8 + 16) != 0) rattle_dealloc_at(get64(v8));
+                        v8 = v8 + 24;
+                        v7 = v7 - 1;
+                    } while (v7 != 0);
+                }
+                if (p2 == 0) goto l12;
+            l50:;
+                rattle_dealloc_at(p1);
+                goto l12;
+            l31:;
+                put64(v3 + 440, get64(v3 + 480));
+                put64(v3 + 432, get64(v3 + 472));
+                put64(v3 + 424, get64(v3 + 464));
+                v8 = v3 + 424;
+            l30:;
+                p2 = get64(v8 + 16);
+                put64(v3 + 280, p2);
+                v5 = get64(v8 + 8);
+                put64(v3 + 272, v5);
+                v8 = get64(v8);
+                put64(v3 + 264, v8);
+                put64(v3 + 288, get64(v3 + 240));
+                put64(v3 + 296, get64(v3 + 248));
+                put64(v3 + 304, get64(v3 + 256));
+                put64(v3 + 312, v8);
+                put64(v3 + 320, v5);
+                put64(v3 + 328, p2);
+                v5 = v3 + 488;
+                v4 = 1;
+                v6 = 0;
+                v8 = 0;
+                p2 = 0;
+                goto l15;
+            default:
+                if (v10 != 0) {
+                    v10 = 2;
+                    goto l22;
+                }
+                if ((v13 + v5) <= (uint64_t)get32(p1 + 4)) {
+                    v8 = 0;
+                    put64(v3 + 328, 0);
+                    put64(v3 + 320, 0);
+                    put64(v3 + 312, 0);
+                    put64(v3 + 288, 0);
+                    put64(v3 + 296, 0);
+                    put64(v3 + 304, 0);
+                    v7 = v3 + 488;
+                    v4 = 3;
+                    v6 = 0;
+                    p2 = 0;
+                    v11 = 0;
+                    v9 = 0;
+                    v10 = 0;
+                    goto l21;
+                }
+                break;
             }
-            if (p2 == 0) goto l27;
-        l48:;
-            rattle_dealloc_at(p1);
-        l27:;
-            put64(v3 + 424, 0);
-            put64(v3 + 416, 0);
-            put64(v3 + 408, 0);
-            goto l11;
-        l22:;
             v10 = 4;
-        l21:;
+        l22:;
             v8 = 0;
+            put64(v3 + 328, 0);
+            put64(v3 + 320, 0);
             put64(v3 + 312, 0);
-            put64(v3 + 304, 0);
-            put64(v3 + 296, 0);
-            put64(v3 + 272, 0);
-            put64(v3 + 280, 0);
             put64(v3 + 288, 0);
-            v7 = v3 + 472;
+            put64(v3 + 296, 0);
+            put64(v3 + 304, 0);
+            v7 = v3 + 488;
             v4 = 1;
             v9 = 1;
             v6 = 0;
             p2 = 0;
             v11 = 0;
-        l20:;
+        l21:;
             p1 = 0;
             v5 = v7;
-            goto l12;
+            goto l13;
         l18:;
             if (v10 != 0) {
-                rattle_alloc_at(v3 + 48, v12, 1);
-                if (((uint32_t)get64(v3 + 48) & 1) == 0) goto l89;
-                v16 = get64(v3 + 56);
+                rattle_alloc_at(v3 + 64, v12, 1);
+                if (((uint32_t)get64(v3 + 64) & 1) == 0) goto l64;
+                v14 = get64(v3 + 72);
             }
-            put64(v3 + 448, v12);
+            put64(v3 + 464, v12);
             p1 = 0;
-            put64(v3 + 440, 0);
-            put64(v3 + 432, v16);
-            t3 = std_alloc_vec_Vec_extend_from_slice_672334860c861157(v3 + 432, v13, v4);
-            if ((t3 & 255) == 0) {
-                v7 = get64(v3 + 448);
-                put64(v3 + 215, v7);
-                v4 = get64(v3 + 440);
-                put64(v3 + 207, v4);
-                v13 = get64(v3 + 432);
-                put64(v3 + 199, v13);
-                put64(v3 + 296, 0);
-                put64(v3 + 304, 0);
+            put64(v3 + 456, 0);
+            put64(v3 + 448, v14);
+            t1 = std_alloc_vec_Vec_extend_from_slice_672334860c861157(v3 + 448, v4, v13);
+            if ((t1 & 255) == 0) {
+                v7 = get64(v3 + 464);
+                put64(v3 + 231, v7);
+                v4 = get64(v3 + 456);
+                put64(v3 + 223, v4);
+                v13 = get64(v3 + 448);
+                put64(v3 + 215, v13);
                 put64(v3 + 312, 0);
-                put64(v3 + 272, v13);
-                put64(v3 + 280, v4);
-                put64(v3 + 288, v7);
+                put64(v3 + 320, 0);
+                put64(v3 + 328, 0);
+                put64(v3 + 288, v13);
+                put64(v3 + 296, v4);
+                put64(v3 + 304, v7);
                 v4 = 2;
-                v7 = v3 + 472;
+                v7 = v3 + 488;
                 v6 = 0;
-                goto l13;
+                goto l15;
             }
-            if (get64(v3 + 448) != 0) rattle_dealloc_at(get64(v3 + 432));
-        l89:;
+            if (get64(v3 + 464) != 0) rattle_dealloc_at(get64(v3 + 448));
+        l64:;
             if (v8 != 0) {
                 v7 = v5;
                 do {
@@ -6304,59 +6322,38 @@ static void map_service_assembler_Assembler_prepare(uint64_t p0, uint64_t p1, ui
             }
             if (p2 != 0) rattle_dealloc_at(v5);
             v8 = 0;
+            put64(v3 + 200, 0);
+            put64(v3 + 192, 0);
             put64(v3 + 184, 0);
-            put64(v3 + 176, 0);
-            put64(v3 + 168, 0);
-            put64(v3 + 144, 0);
-            put64(v3 + 152, 0);
             put64(v3 + 160, 0);
+            put64(v3 + 168, 0);
+            put64(v3 + 176, 0);
             v9 = 0;
             v11 = 2;
             v6 = 1;
             goto l10;
         l15:;
-            put64(v3 + 408, get64(v3 + 448));
-            put64(v3 + 416, get64(v3 + 456));
-            put64(v3 + 424, get64(v3 + 464));
-            v7 = get64(v3 + 440);
-            p1 = (uint64_t)get8(v3 + 432);
-            v8 = v3 + 408;
-        l14:;
-            p2 = get64(v8 + 16);
-            put64(v3 + 264, p2);
-            v5 = get64(v8 + 8);
-            put64(v3 + 256, v5);
-            v8 = get64(v8);
-            put64(v3 + 248, v8);
-            put64(v3 + 272, get64(v3 + 224));
-            put64(v3 + 280, get64(v3 + 232));
-            put64(v3 + 288, get64(v3 + 240));
-            put64(v3 + 296, v8);
-            put64(v3 + 304, v5);
-            put64(v3 + 312, p2);
-            v5 = v3 + 472;
-            v4 = 1;
-            v6 = 0;
-            v8 = 0;
-            p2 = 0;
-        l13:;
             v11 = 0;
             v10 = v9;
-        l12:;
+        l13:;
+            put64(v3 + 200, get64(v3 + 328));
+            put64(v3 + 192, get64(v3 + 320));
             put64(v3 + 184, get64(v3 + 312));
-            put64(v3 + 176, get64(v3 + 304));
-            put64(v3 + 168, get64(v3 + 296));
-            put64(v3 + 144, get64(v3 + 272));
-            put64(v3 + 152, get64(v3 + 280));
             put64(v3 + 160, get64(v3 + 288));
+            put64(v3 + 168, get64(v3 + 296));
+            put64(v3 + 176, get64(v3 + 304));
             goto l9;
+        l12:;
+            put64(v3 + 440, 0);
+            put64(v3 + 432, 0);
+            put64(v3 + 424, 0);
         l11:;
+            put64(v3 + 184, get64(v3 + 360));
+            put64(v3 + 192, get64(v3 + 368));
+            put64(v3 + 200, get64(v3 + 376));
+            put64(v3 + 160, get64(v3 + 336));
             put64(v3 + 168, get64(v3 + 344));
             put64(v3 + 176, get64(v3 + 352));
-            put64(v3 + 184, get64(v3 + 360));
-            put64(v3 + 144, get64(v3 + 320));
-            put64(v3 + 152, get64(v3 + 328));
-            put64(v3 + 160, get64(v3 + 336));
             v9 = 0;
             v11 = 2;
             v6 = 1;
@@ -6369,26 +6366,26 @@ static void map_service_assembler_Assembler_prepare(uint64_t p0, uint64_t p1, ui
             p1 = 0;
             v4 = 0;
         l9:;
+            put64(v3 + 136, get64(v3 + 184));
+            put64(v3 + 144, get64(v3 + 192));
+            put64(v3 + 152, get64(v3 + 200));
+            put64(v3 + 112, get64(v3 + 160));
             put64(v3 + 120, get64(v3 + 168));
             put64(v3 + 128, get64(v3 + 176));
-            put64(v3 + 136, get64(v3 + 184));
-            put64(v3 + 96, get64(v3 + 144));
-            put64(v3 + 104, get64(v3 + 152));
-            put64(v3 + 112, get64(v3 + 160));
             goto l4;
         }
     }
     v8 = 0;
+    put64(v3 + 152, 0);
+    put64(v3 + 144, 0);
     put64(v3 + 136, 0);
-    put64(v3 + 128, 0);
-    put64(v3 + 120, 0);
-    put64(v3 + 96, 0);
-    put64(v3 + 104, 0);
     put64(v3 + 112, 0);
+    put64(v3 + 120, 0);
+    put64(v3 + 128, 0);
     v10 = 0;
     v9 = 1;
     p2 = 0;
-    v7 = v3 + 472;
+    v7 = v3 + 488;
     v5 = v7;
     p1 = 0;
     v4 = 0;
@@ -6403,17 +6400,138 @@ l4:;
     put8(p0 + 8, v9);
     put8(p0 + 1, v11);
     put8(p0, v6);
-    put64(p0 + 32, get64(v3 + 120));
-    put64(p0 + 40, get64(v3 + 128));
-    put64(p0 + 48, get64(v3 + 136));
+    put64(p0 + 32, get64(v3 + 136));
+    put64(p0 + 40, get64(v3 + 144));
+    put64(p0 + 48, get64(v3 + 152));
     put64(p0 + 56, v4);
-    put64(p0 + 64, get64(v3 + 96));
-    put64(p0 + 72, get64(v3 + 104));
-    put64(p0 + 80, get64(v3 + 112));
+    put64(p0 + 64, get64(v3 + 112));
+    put64(p0 + 72, get64(v3 + 120));
+    put64(p0 + 80, get64(v3 + 128));
     put64(p0 + 104, p2);
     put64(p0 + 96, v8);
     put64(p0 + 88, v5);
     return;
+}
+
+/* map_service::packets::fault_of_alone, crates/map_service/src/packets.rt:76 */
+static void map_service_packets_fault_of_alone(uint64_t p0, uint64_t p1, uint64_t p2, uint64_t p3)
+{
+    uint32_t v5 = 0, v6 = 0, v7 = 0, v8 = 0;
+    uint64_t v4 = 0;
+    v4 = (uint64_t)get32(p1 + 4);
+    if (get8(p1 + 16) != 0) {
+        v5 = 3;
+        v6 = 1;
+        if (p3 >= 6) {
+            v8 = 0;
+            do {
+                v7 = get8(p2);
+                if (v7 > 31 || ((v7 & 8) != 0 && (((v7 << 8) & 0x700) | get8(p2 + 1)) == 0x7ff)) {
+                    put8(p0 + 1, v5);
+                    put8(p0, v6);
+                    return;
+                }
+                p1 = (((uint64_t)get8(p2 + 4) << 8) | (uint64_t)get8(p2 + 5)) + 7;
+                if (p3 < p1) {
+                    put8(p0 + 1, v5);
+                    put8(p0, v6);
+                    return;
+                }
+                p2 = p2 + p1;
+                v8 = v8 | (uint32_t)(p1 > v4);
+                p3 = p3 - p1;
+            } while (p3 > 5);
+            v7 = p3 == 0;
+            v8 = v7 & v8;
+            v6 = v8 | (uint32_t)(p3 != 0);
+            v5 = (v7 != 0) ? ((v8 != 0) ? 4U : 0U) : 3U;
+        }
+        put8(p0 + 1, v5);
+        put8(p0, v6);
+        return;
+    }
+    if (p3 > v4) {
+        v5 = 4;
+        v6 = 1;
+        put8(p0 + 1, v5);
+        put8(p0, v6);
+        return;
+    }
+    p1 = 0;
+    if (p3 < 6) {
+        v7 = 0;
+    } else {
+        v8 = get8(p2);
+        if (v8 > 31) {
+            v7 = 0;
+        } else {
+            if ((v8 & 8) != 0) {
+                v7 = 0;
+                if ((((v8 << 8) & 0x700) | get8(p2 + 1)) == 0x7ff) goto l4;
+            }
+            p2 = (((uint64_t)get8(p2 + 4) << 8) | (uint64_t)get8(p2 + 5)) + 7;
+            v7 = p3 >= p2;
+            p1 = (v7 != 0) ? p2 : 0ULL;
+        }
+    }
+l4:;
+    v7 = v7 & (uint32_t)(p1 == p3);
+    v5 = (v7 != 0) ? 0U : 3U;
+    v6 = v7 ^ 1;
+    put8(p0 + 1, v5);
+    put8(p0, v6);
+    return;
+}
+
+static uint32_t std_alloc_vec_Vec_extend_from_slice_672334860c861157(uint64_t p0, uint64_t p1, uint64_t p2)
+{
+    uint32_t t1;
+    uint64_t v3 = 0, v4 = 0, v5 = 0, v7 = 0, v8 = 0, v9 = 0, v10 = 0, v11 = 0, v12 = 0;
+    v3 = get64(p0 + 16);
+    v4 = p0 + 8;
+    v5 = get64(v4);
+    if (p2 > (v3 - v5)) {
+        t1 = std_alloc_vec_Vec_grow_amortized_a351ad16c7c032ee(p0, p2);
+        if (t1 == 0) return 1;
+        v3 = get64(p0 + 16);
+        v5 = get64(p0 + 8);
+    }
+    v7 = 0;
+    put64(v4, 0);
+    put64(v4 + 8, 0);
+    v8 = v5 + p2;
+    v9 = get64(p0);
+    v10 = v9 + v5;
+    if ((v10 - p1) < p2) {
+        v11 = p2 & 3;
+        if (p2 >= 4) {
+            v12 = p2 & ~3ULL;
+            v7 = 0;
+            do {
+                p2 = v10 + v7;
+                v4 = p1 + v7;
+                put8(p2, get8(v4));
+                put8(p2 + 1, get8(v4 + 1));
+                put8(p2 + 2, get8(v4 + 2));
+                put8(p2 + 3, get8(v4 + 3));
+                v7 = v7 + 4;
+            } while (v12 != v7);
+            if (v11 == 0) goto l3;
+        }
+        p2 = p1 + v7;
+        v7 = v9 + (v5 + v7);
+        do {
+            put8(v7, get8(p2));
+            v7 = v7 + 1;
+            p2 = p2 + 1;
+            v11 = v11 - 1;
+        } while (v11 != 0);
+    } else if (p2 != 0) copy(v10, p1, p2);
+l3:;
+    put64(p0, v9);
+    put64(p0 + 16, v3);
+    put64(p0 + 8, v8);
+    return 0;
 }
 
 static uint32_t std_alloc_vec_Vec_grow_amortized_a351ad16c7c032ee(uint64_t p0, uint64_t p1)
@@ -6476,57 +6594,6 @@ static void smallvec_small_vec_SmallVec_push_reserved_ed127ccbaaf726c4(uint64_t 
     return;
 }
 
-static uint32_t std_alloc_vec_Vec_extend_from_slice_672334860c861157(uint64_t p0, uint64_t p1, uint64_t p2)
-{
-    uint32_t t1;
-    uint64_t v3 = 0, v4 = 0, v5 = 0, v7 = 0, v8 = 0, v9 = 0, v10 = 0, v11 = 0, v12 = 0;
-    v3 = get64(p0 + 16);
-    v4 = p0 + 8;
-    v5 = get64(v4);
-    if (p2 > (v3 - v5)) {
-        t1 = std_alloc_vec_Vec_grow_amortized_a351ad16c7c032ee(p0, p2);
-        if (t1 == 0) return 1;
-        v3 = get64(p0 + 16);
-        v5 = get64(p0 + 8);
-    }
-    v7 = 0;
-    put64(v4, 0);
-    put64(v4 + 8, 0);
-    v8 = v5 + p2;
-    v9 = get64(p0);
-    v10 = v9 + v5;
-    if ((v10 - p1) < p2) {
-        v11 = p2 & 3;
-        if (p2 >= 4) {
-            v12 = p2 & ~3ULL;
-            v7 = 0;
-            do {
-                p2 = v10 + v7;
-                v4 = p1 + v7;
-                put8(p2, get8(v4));
-                put8(p2 + 1, get8(v4 + 1));
-                put8(p2 + 2, get8(v4 + 2));
-                put8(p2 + 3, get8(v4 + 3));
-                v7 = v7 + 4;
-            } while (v12 != v7);
-            if (v11 == 0) goto l3;
-        }
-        p2 = p1 + v7;
-        v7 = v9 + (v5 + v7);
-        do {
-            put8(v7, get8(p2));
-            v7 = v7 + 1;
-            p2 = p2 + 1;
-            v11 = v11 - 1;
-        } while (v11 != 0);
-    } else if (p2 != 0) copy(v10, p1, p2);
-l3:;
-    put64(p0, v9);
-    put64(p0 + 16, v3);
-    put64(p0 + 8, v8);
-    return 0;
-}
-
 static void std_alloc_vec_Vec_drop_555ceec2fcbf3849(uint64_t p0)
 {
     uint64_t v1 = 0, v2 = 0, v3 = 0;
@@ -6546,7 +6613,7 @@ static void std_alloc_vec_Vec_drop_555ceec2fcbf3849(uint64_t p0)
     return;
 }
 
-/* nodes::spacecraft::Spacecraft::hand_on, crates/nodes/src/spacecraft/receive.rt:100 */
+/* nodes::spacecraft::Spacecraft::hand_on, crates/nodes/src/spacecraft/receive.rt:144 */
 static void nodes_spacecraft_Spacecraft_hand_on(uint64_t p0, uint64_t p1, uint64_t p2)
 {
     unsigned char frame_octets[176 + 15];
@@ -13132,9 +13199,10 @@ static uint32_t sedge_spacecraft_read_at(uint64_t spacecraft, uint64_t read)
 /* sedge_spacecraft_receive, crates/sedgechisel_nodes/src/spacecraft.rt:103 */
 static uint32_t sedge_spacecraft_receive_at(uint64_t spacecraft, uint64_t octets, uint64_t count, uint64_t received)
 {
-    unsigned char frame_octets[272 + 15];
-    uint32_t v6 = 0, v7 = 0, v8 = 0, v9 = 0, v10 = 0, v11 = 0, v13 = 0, v14 = 0, t1;
-    uint64_t v4 = 0, v5 = 0, v12 = 0, v15 = 0, v16 = 0, v17 = 0, v18 = 0, v19 = 0, v20 = 0;
+    unsigned char frame_octets[288 + 15];
+    uint32_t v6 = 0, v7 = 0, v8 = 0, v9 = 0, v10 = 0, v11 = 0, v13 = 0, v14 = 0, v17 = 0, v18 = 0, t1;
+    uint64_t v4 = 0, v5 = 0, v12 = 0, v15 = 0, v16 = 0, v19 = 0, v20 = 0, v21 = 0, v22 = 0, v23 = 0, v24 = 0, v25 = 0,
+        v26 = 0, v27 = 0, v28 = 0, v29 = 0, v30 = 0, v31 = 0, v32 = 0;
     v4 = aligned(frame_octets);
     v5 = get64(spacecraft /* node */);
     put64(spacecraft /* node */, 0);
@@ -13181,298 +13249,465 @@ static uint32_t sedge_spacecraft_receive_at(uint64_t spacecraft, uint64_t octets
         switch ((uint32_t)count) {
         case 1:
             if (get8(octets + 5) != 0) goto l15;
-            v10 = 0;
+            v7 = 2;
+            v12 = 0;
+            v6 = 0;
             v13 = 0;
-            break;
+            count = 0;
+            v10 = 0;
+            v14 = 0;
+            goto l16;
         case 2:
             goto l15;
         case 3:
             v6 = 9;
             if (get8(octets + 5) != 130 || get8(octets + 6) != 0) goto l10;
-            v13 = get8(octets + 7);
+            v14 = get8(octets + 7);
             v10 = 1;
-            break;
+            v7 = 2;
+            v12 = 0;
+            v6 = 0;
+            v13 = 0;
+            count = 0;
+            goto l16;
         default:
             goto l10;
         }
-        v6 = 0;
-        put16(v4 + 52, 0);
-        put32(v4 + 48, 0);
-        v7 = 2;
-        v12 = 0;
-        v14 = 0;
-        count = 0;
-    } else {
-        if ((count - 9) > ~2ULL) {
-            v6 = 8;
-            goto l10;
-        }
-        v13 = 0;
-        put32(v4 + 48, 0);
-        put16(v4 + 52, 0);
-        v10 = (v8 < 32) ? v6 : 0U;
-        v7 = v8 > 31;
-        count = count - 8;
-        v12 = octets + 6;
-        v6 = get8(octets + 5);
-        v14 = v6 & 63;
-        v6 = v6 >> 6;
     }
+    if ((count - 9) > ~2ULL) {
+        v6 = 8;
+        goto l10;
+    }
+    v14 = 0;
+    v10 = (v8 < 32) ? v6 : 0U;
+    v7 = v8 > 31;
+    count = count - 8;
+    v12 = octets + 6;
+    v6 = get8(octets + 5);
+    v13 = v6 & 63;
+    v6 = v6 >> 6;
+l16:;
     if (get32(v5) != (((v8 << 8) & 768) | v11) || get32(v5 + 4) != ((v9 & 252) >> 2)) {
         count = 0;
         v7 = 2;
         v9 = 0;
-        v14 = 0;
+        v13 = 0;
         v11 = 0;
-        goto l6;
+        goto l7;
     }
     switch (v7) {
     case 1:
-        if (v6 != 3) goto l8;
-        v15 = (uint64_t)v14;
-        if (((uint32_t)(get64(v5 + 40) >> (v15 & 63)) & 1) == 0 || count > (uint64_t)get32(v5 + 32) || count < 6) goto
-            l8;
+        if (v6 != 3) goto l9;
+        v29 = (uint64_t)v13;
+        if (((uint32_t)(get64(v5 + 40) >> (v29 & 63)) & 1) == 0 || count > (uint64_t)get32(v5 + 32) || count < 6) goto
+            l9;
         v6 = get8(v12);
         if (v6 > 31 || (((v6 & 8) != 0 && (((v6 << 8) & 0x700) | get8(v12 + 1)) == 0x7ff) || ((((uint64_t)get8(v12 +
-            4) << 8) | (uint64_t)get8(v12 + 5)) + 7) != count)) goto l8;
-        rattle_alloc_at(v4 + 8, count, 1);
-        if (((uint32_t)get64(v4 + 8) & 1) == 0) {
-            v6 = 6;
-            goto l3;
-        }
-        v16 = get64(v4 + 16);
-        if ((v16 - v12) < count) {
-            v17 = count & 3;
-            v18 = 0;
+            4) << 8) | (uint64_t)get8(v12 + 5)) + 7) != count)) goto l9;
+        rattle_alloc_at(v4 + 24, count, 1);
+        if (((uint32_t)get64(v4 + 24) & 1) == 0) goto l4;
+        v20 = get64(v4 + 32);
+        if ((v20 - v12) < count) {
+            v30 = count & 3;
+            v15 = 0;
             if (count >= 4) {
-                v19 = count & ~3ULL;
-                v18 = 0;
+                v32 = count & ~3ULL;
+                v15 = 0;
                 do {
-                    octets = v16 + v18;
-                    v20 = v12 + v18;
-                    put8(octets, get8(v20));
-                    put8(octets + 1, get8(v20 + 1));
-                    put8(octets + 2, get8(v20 + 2));
-                    put8(octets + 3, get8(v20 + 3));
-                    v18 = v18 + 4;
-                } while (v19 != v18);
-                if (v17 == 0) goto l35;
+                    octets = v20 + v15;
+                    v16 = v12 + v15;
+                    put8(octets, get8(v16));
+                    put8(octets + 1, get8(v16 + 1));
+                    put8(octets + 2, get8(v16 + 2));
+                    put8(octets + 3, get8(v16 + 3));
+                    v15 = v15 + 4;
+                } while (v32 != v15);
+                if (v30 == 0) goto l55;
             }
-            octets = v16 + v18;
-            v12 = v12 + v18;
+            octets = v20 + v15;
+            v12 = v12 + v15;
             do {
                 put8(octets, get8(v12));
                 octets = octets + 1;
                 v12 = v12 + 1;
-                v17 = v17 - 1;
-            } while (v17 != 0);
-        } else if (count != 0) copy(v16, v12, count);
-    l35:;
+                v30 = v30 - 1;
+            } while (v30 != 0);
+        } else if (count != 0) copy(v20, v12, count);
+    l55:;
         v11 = 1;
         octets = v5 + 77;
         put8(octets, (get8(octets) + 1) & 3);
         octets = get64(v5 + 208);
         if (octets != 0) {
-            v17 = v5 + 224;
-            v18 = get64(v17);
+            v30 = v5 + 224;
+            v15 = get64(v30);
             v12 = v5 + 216;
-            v20 = get64(v12);
-            if (octets > v20) {
-                v18 = v18 + v20;
-                octets = get64(v5 + 200) + ((v18 - ((v18 < octets) ? 0ULL : octets)) << 5);
+            v16 = get64(v12);
+            if (octets > v16) {
+                v15 = v15 + v16;
+                octets = get64(v5 + 200) + ((v15 - ((v15 < octets) ? 0ULL : octets)) << 5);
                 put64(octets + 24, count);
                 put64(octets + 16, count);
-                put64(octets + 8, v16);
-                put64(octets, v15);
+                put64(octets + 8, v20);
+                put64(octets, v29);
                 put64(v12, get64(v12) + 1);
                 v11 = 1;
-                goto l7;
+                goto l8;
             }
-            v20 = v20 - 1;
-            put64(v12, v20);
-            v19 = v18 + 1;
-            v19 = v19 - ((v19 < octets) ? 0ULL : octets);
-            put64(v17, v19);
-            v17 = get64(v5 + 200);
-            v20 = v19 + v20;
-            octets = v17 + ((v20 - ((v20 < octets) ? 0ULL : octets)) << 5);
-            put64(octets, v15);
-            v18 = v17 + (v18 << 5);
-            v20 = get64(v18 + 8);
-            put64(octets + 8, v16);
+            v16 = v16 - 1;
+            put64(v12, v16);
+            v32 = v15 + 1;
+            v32 = v32 - ((v32 < octets) ? 0ULL : octets);
+            put64(v30, v32);
+            v30 = get64(v5 + 200);
+            v16 = v32 + v16;
+            octets = v30 + ((v16 - ((v16 < octets) ? 0ULL : octets)) << 5);
+            put64(octets, v29);
+            v15 = v30 + (v15 << 5);
+            v16 = get64(v15 + 8);
+            put64(octets + 8, v20);
             put64(octets + 16, count);
-            v18 = get64(v18 + 24);
+            v15 = get64(v15 + 24);
             put64(octets + 24, count);
             put64(v12, get64(v12) + 1);
-            if (v18 == 0) {
+            if (v15 == 0) {
                 v11 = 1;
-                goto l7;
+                goto l8;
             }
-            v16 = v20;
+            v20 = v16;
         }
-        rattle_dealloc_at(v16);
-        goto l7;
+        rattle_dealloc_at(v20);
+        goto l8;
     case 2:
         count = v5 + 77;
         put8(count, (get8(count) + 1) & 3);
         if ((v10 & 255) == 0) {
             put8(v5 + 74, 0);
         } else {
-            if (get8(v5 + 74) != 0) goto l43;
-            put8(v5 + 73, v13);
+            if (get8(v5 + 74) != 0) goto l63;
+            put8(v5 + 73, v14);
         }
         put16(v5 + 75, 0);
-    l43:;
+    l63:;
         v11 = 0;
         v6 = v10 & 255;
-        v9 = (v6 != 0) ? v13 : 0U;
-        v14 = v6 != 0;
+        v9 = (v6 != 0) ? v14 : 0U;
+        v13 = v6 != 0;
         count = 0;
         v7 = 5;
-        goto l6;
+        goto l7;
     default:
         break;
     }
-    put8(v4 + 25, v14);
-    put8(v4 + 24, v6);
-    put32(v4 + 26, get32(v4 + 48));
-    put16(v4 + 30, get16(v4 + 52));
-    put64(v4 + 40, count);
-    put64(v4 + 32, v12);
     v9 = 0;
-    fill(v4 + 160, 0, 112);
-    v7 = 1;
-    count = v5 + 76;
-    v11 = get8(count);
-    octets = v5 + 75;
-    v6 = get8(octets);
+    put32(v4 + 42, 0);
+    put8(v4 + 41, v13);
+    put8(v4 + 40, v6);
+    put16(v4 + 46, 0);
+    put64(v4 + 56, count);
+    put64(v4 + 48, v12);
+    v11 = 1;
+    octets = v5 + 76;
+    v14 = get8(octets);
+    v15 = v5 + 75;
+    v7 = get8(v15);
     v8 = 5;
-    v12 = v5 + 74;
-    if ((get8(v12) & 1) == 0) {
-        v14 = get8(v5 + 72);
-        v13 = get8(v5 + 73);
-        if ((v10 & 255) == (v13 & 255)) {
-            v7 = 0;
-            if ((v6 & 1) != 0) {
-                v6 = 1;
-            } else {
-                if (get64(v5 + 168) < (uint64_t)get32(v5 + 48)) {
-                    v6 = get8(v5 + 77);
-                    map_service_assembler_Assembler_prepare(v4 + 160, v5 + 80, v4 + 24);
-                    if (get8(v4 + 160) != 0) {
-                        v6 = 6;
-                        goto l3;
-                    }
-                    v7 = get8(v4 + 169);
-                    put8(v4 + 57, v7);
-                    put32(v4 + 58, get32(v4 + 170));
-                    put16(v4 + 62, get16(v4 + 174));
-                    v8 = get8(v4 + 176);
-                    put8(v4 + 64, v8);
-                    put64(v4 + 65, get64(v4 + 177));
-                    put64(v4 + 72, get64(v4 + 184));
-                    v11 = get8(v4 + 168);
-                    put8(v4 + 56, v11);
-                    count = get64(v4 + 192);
-                    octets = get64(v4 + 200);
-                    v12 = get64(v4 + 208);
-                    put64(v4 + 96, v12);
-                    put64(v4 + 88, octets);
-                    put64(v4 + 80, count);
-                    put64(v4 + 104, get64(v4 + 216));
-                    put64(v4 + 112, get64(v4 + 224));
-                    put64(v4 + 120, get64(v4 + 232));
-                    put64(v4 + 128, get64(v4 + 240));
-                    put64(v4 + 136, get64(v4 + 248));
-                    put64(v4 + 144, get64(v4 + 256));
-                    put64(v4 + 152, get64(v4 + 264));
-                    nodes_spacecraft_Spacecraft_hand_on(v5, v4 + 24, v4 + 56);
-                    put8(v5 + 77, v6);
-                    v9 = 0;
-                    put8(v5 + 76, 0);
-                    put16(v5 + 74, 0);
-                    put8(v5 + 73, v10 + 1);
-                    put8(v5 + 72, v14);
-                    count = (v8 != 0) ? count : v12;
-                    v13 = ((v11 & 255) != 0) ? (v7 + 1) : 0U;
-                    v7 = 3;
-                    v14 = 0;
-                    v11 = 0;
-                    v8 = 0;
-                    goto l5;
-                }
-                v8 = 2;
-                v6 = 1;
-                v11 = 1;
+    v16 = v5 + 74;
+    if ((get8(v16) & 1) == 0) {
+        v17 = get8(v5 + 72);
+        v18 = get8(v5 + 73);
+        if ((v10 & 255) == (v18 & 255)) {
+            v11 = 0;
+            if ((v7 & 1) != 0) {
+                v7 = 1;
+                goto l26;
             }
-        } else {
+            v19 = v5 + 168;
+            v20 = get64(v19);
+            if (v20 < (uint64_t)get32(v5 + 48)) {
+                v7 = get8(v5 + 77);
+                fill(v4 + 168, 0, 112);
+                octets = v5 + 80;
+                if (v6 != 3) goto l33;
+                v21 = (uint64_t)v13;
+                if (((uint32_t)(get64(v5 + 88) >> (v21 & 63)) & 1) == 0) goto l33;
+                map_service_packets_fault_of_alone(v4 + 16, octets, v12, count);
+                if (get8(v4 + 16) == 1) goto l33;
+                octets = v20;
+                if (count < 6) goto l35;
+                octets = v20;
+                v6 = get8(v12);
+                if (v6 > 31) goto l35;
+                if ((v6 & 8) != 0) {
+                    octets = v20;
+                    if ((((v6 << 8) & 0x700) | get8(v12 + 1)) == 0x7ff) goto l35;
+                }
+                octets = v20;
+                v22 = (((uint64_t)get8(v12 + 4) << 8) | (uint64_t)get8(v12 + 5)) + 7;
+                if (count >= v22) {
+                    v23 = v5 + 184;
+                    v24 = v5 + 176;
+                    v25 = v5 + 192;
+                    v26 = v5 + 168;
+                    v27 = v5 + 160;
+                    do {
+                        rattle_alloc_at(v4, v22, 1);
+                        if (((uint32_t)get64(v4) & 1) == 0) goto l34;
+                        v28 = get64(v4 + 8);
+                        if ((v28 - v12) < v22) {
+                            v29 = v28 + 4;
+                            v30 = v12 + 4;
+                            v31 = v22 & ~3ULL;
+                            v32 = v22 & 3;
+                            octets = 0;
+                            do {
+                                v15 = v28 + octets;
+                                v16 = v12 + octets;
+                                put8(v15, get8(v16));
+                                put8(v15 + 1, get8(v16 + 1));
+                                put8(v15 + 2, get8(v16 + 2));
+                                put8(v15 + 3, get8(v16 + 3));
+                                v15 = v29;
+                                v29 = v15 + 4;
+                                v16 = v30;
+                                v30 = v16 + 4;
+                                octets = octets + 4;
+                            } while (v31 != octets);
+                            if (v32 != 0) {
+                                do {
+                                    put8(v15, get8(v16));
+                                    v15 = v15 + 1;
+                                    v16 = v16 + 1;
+                                    v32 = v32 - 1;
+                                } while (v32 != 0);
+                            }
+                        } else if (v22 != 0) copy(v28, v12, v22);
+                        octets = get64(v27);
+                        v15 = get64(v26);
+                        v16 = get64(v25);
+                        v29 = v15 - v16;
+                        v30 = get64(v23);
+                        if (v29 < (get64(v24) - v30)) {
+                            octets = octets + ((v30 + v29) << 5);
+                            put32(octets + 1, 0);
+                            put8(octets, v13);
+                            put32(octets + 4, 0);
+                            put64(octets + 24, v22);
+                            put64(octets + 16, v22);
+                            put64(octets + 8, v28);
+                        } else {
+                            octets = octets + (v16 << 5);
+                            put32(octets + 1, 0);
+                            put8(octets, v13);
+                            put32(octets + 4, 0);
+                            put64(octets + 24, v22);
+                            put64(octets + 16, v22);
+                            put64(octets + 8, v28);
+                            put64(v25, v16 + 1);
+                        }
+                        octets = v15 + 1;
+                        put64(v19, octets);
+                        count = count - v22;
+                        if (count < 6) break;
+                        v12 = v12 + v22;
+                        v6 = get8(v12);
+                        if (v6 > 31 || ((v6 & 8) != 0 && (((v6 << 8) & 0x700) | get8(v12 + 1)) == 0x7ff)) break;
+                        v22 = (((uint64_t)get8(v12 + 4) << 8) | (uint64_t)get8(v12 + 5)) + 7;
+                    } while (count >= v22);
+                }
+            l35:;
+                v15 = v21 << 5;
+                v16 = get64(v5 + 104);
+                v6 = 0;
+                v29 = v5 + 112;
+                v12 = get64(v29);
+                if (v12 > v21) v6 = get8(v16 + v15) == 1;
+                count = octets - v20;
+                if (((uint32_t)(get64(v5 + 88) >> (v21 & 63)) & 1) != 0) {
+                    if (v12 == 0) {
+                        put64(v5 + 104, v4 + 280);
+                        octets = get64(v5 + 120);
+                        put64(v29 + 8, 0);
+                        put64(v29, 0);
+                        if (octets == 0) goto l46;
+                        rattle_dealloc_at(v16);
+                        v12 = get64(v29);
+                    }
+                    if (v12 > v21) {
+                        octets = get64(v5 + 104) + v15;
+                        put64(octets + 16, 0);
+                        v8 = get8(octets);
+                        put64(octets, 0);
+                        v12 = octets + 8;
+                        v15 = get64(v12);
+                        put64(v12, 0);
+                        octets = octets + 24;
+                        v12 = get64(octets);
+                        put64(octets, 0);
+                        if (v8 == 1 && v12 != 0) rattle_dealloc_at(v15);
+                    }
+                }
+            l46:;
+                v8 = v6;
+                goto l32;
+            l34:;
+                received = get64(v5 + 168);
+                if (received <= v20) goto l4;
+                v12 = get64(v5 + 192);
+                v15 = get64(v5 + 184);
+                v30 = get64(v5 + 176);
+                v16 = get64(v5 + 160);
+                put64(v19 + 24, 0);
+                put64(v19 + 16, 0);
+                put64(v19 + 8, 0);
+                put64(v19, 0);
+                octets = received - v12;
+                count = v20 - octets;
+                v29 = (count > v20) ? 0ULL : count;
+                count = (v20 > octets) ? octets : v20;
+                v32 = v15 + count;
+                if (v32 < (octets + v15)) {
+                    count = received - (v12 + count);
+                    received = ((v32 << 5) + v16) + 24;
+                    do {
+                        if (get64(received) != 0) rattle_dealloc_at(get64(received - 16));
+                        received = received + 32;
+                        count = count - 1;
+                    } while (count != 0);
+                }
+                if (v29 < v12) {
+                    count = (v20 < octets) ? v20 : octets;
+                    received = (v16 + ((v20 << 5) - (count << 5))) + 24;
+                    count = v12 + count - v20;
+                    do {
+                        if (get64(received) != 0) rattle_dealloc_at(get64(received - 16));
+                        received = received + 32;
+                        count = count - 1;
+                    } while (count != 0);
+                }
+                put64(v5 + 192, v29);
+                put64(v5 + 184, v15);
+                put64(v5 + 176, v30);
+                put64(v5 + 168, v20);
+                put64(v5 + 160, v16);
+                goto l4;
+            l33:;
+                map_service_assembler_Assembler_prepare(v4 + 168, octets, v4 + 40);
+                if (get8(v4 + 168) != 0) goto l4;
+                v8 = get8(v4 + 177);
+                put8(v4 + 65, v8);
+                put32(v4 + 66, get32(v4 + 178));
+                put16(v4 + 70, get16(v4 + 182));
+                v9 = get8(v4 + 184);
+                put8(v4 + 72, v9);
+                put64(v4 + 73, get64(v4 + 185));
+                put64(v4 + 80, get64(v4 + 192));
+                v6 = get8(v4 + 176);
+                put8(v4 + 64, v6);
+                count = get64(v4 + 200);
+                octets = get64(v4 + 208);
+                v12 = get64(v4 + 216);
+                put64(v4 + 104, v12);
+                put64(v4 + 96, octets);
+                put64(v4 + 88, count);
+                put64(v4 + 112, get64(v4 + 224));
+                put64(v4 + 120, get64(v4 + 232));
+                put64(v4 + 128, get64(v4 + 240));
+                put64(v4 + 136, get64(v4 + 248));
+                put64(v4 + 144, get64(v4 + 256));
+                put64(v4 + 152, get64(v4 + 264));
+                put64(v4 + 160, get64(v4 + 272));
+                nodes_spacecraft_Spacecraft_hand_on(v5, v4 + 40, v4 + 64);
+                count = (v9 != 0) ? count : v12;
+            l32:;
+                put8(v5 + 77, v7);
+                v9 = 0;
+                put8(v5 + 76, 0);
+                put16(v5 + 74, 0);
+                put8(v5 + 73, v10 + 1);
+                put8(v5 + 72, v17);
+                v14 = ((v6 & 255) != 0) ? (v8 + 1) : 0U;
+                v7 = 3;
+                v13 = 0;
+                v11 = 0;
+                v8 = 0;
+                goto l6;
+            }
+            v8 = 2;
             v7 = 1;
-            v13 = v10 - v13;
-            v14 = (v14 >> 1) & 127;
-            if ((v13 & 255) >= v14) {
-                if ((v13 & 255) > (~v14 & 255)) {
-                    v8 = ((v6 & 1) != 0) ? 5U : 3U;
-                    v7 = 0;
+            v14 = 1;
+        } else {
+            v11 = 1;
+            v6 = v10 - v18;
+            v13 = (v17 >> 1) & 127;
+            if ((v6 & 255) >= v13) {
+                if ((v6 & 255) > (~v13 & 255)) {
+                    v8 = ((v7 & 1) != 0) ? 5U : 3U;
+                    v11 = 0;
                 } else {
                     v8 = 4;
                 }
-            } else if ((v6 & 1) != 0) {
-                v7 = 0;
-                v6 = 1;
+            } else if ((v7 & 1) != 0) {
+                v11 = 0;
+                v7 = 1;
             } else {
                 v8 = 1;
+                v11 = 0;
                 v7 = 0;
-                v6 = 0;
-                v11 = 1;
+                v14 = 1;
             }
         }
     }
-    put8(count, v11);
-    put8(octets, v6);
-    put8(v12, v7);
+l26:;
+    put8(octets, v14);
+    put8(v15, v7);
+    put8(v16, v11);
     count = 0;
     v7 = 3;
-    v14 = 0;
-    v11 = 0;
     v13 = 0;
-    goto l5;
+    v11 = 0;
+    v14 = 0;
+    goto l6;
 l15:;
     v6 = 9;
 l10:;
     count = 0;
     v9 = 0;
-    v14 = 0;
-    v11 = 0;
     v13 = 0;
+    v11 = 0;
+    v14 = 0;
     v8 = 0;
     v10 = 0;
-    goto l4;
-l8:;
+    goto l5;
+l9:;
     count = v5 + 77;
     put8(count, (get8(count) + 1) & 3);
     v11 = 0;
-l7:;
+l8:;
     count = 0;
     v7 = 4;
     v9 = 0;
-    v14 = 0;
-l6:;
     v13 = 0;
+l7:;
+    v14 = 0;
     v8 = 0;
     v10 = 0;
+l6:;
+    v6 = 0;
 l5:;
+    put8(received + 15, v9);
+    put8(received + 14, v13);
+    put8(received + 13, v11);
+    put8(received + 12, v14);
+    put8(received + 11, v8);
+    put8(received + 10, v10);
+    put8(received + 9, v6);
+    put8(received + 8, v7);
+    put64(received, count);
     v6 = 0;
+    goto l3;
 l4:;
-    put8(received + 15 /* vr */, v9);
-    put8(received + 14 /* command */, v14);
-    put8(received + 13 /* kept */, v11);
-    put8(received + 12 /* dropped */, v13);
-    put8(received + 11 /* verdict */, v8);
-    put8(received + 10 /* n */, v10);
-    put8(received + 9 /* fault */, v6);
-    put8(received + 8 /* kind */, v7);
-    put64(received /* ready */, count);
-    v6 = 0;
+    v6 = 6;
 l3:;
     put64(spacecraft /* node */, v5);
     return v6;
