@@ -2,7 +2,7 @@
  * 32 to 64 bits. It is made by tools/portable_c of the program's object for wasm64, and not edited: change the program,
  * and make this anew.
  *
- * tools/sources_sum of the code that it was made of: 1330839489-1235324
+ * tools/sources_sum of the code that it was made of: 666109631-1250577
  *
  * What is proved is the code as the prover has it, for 64 bits: the program writes what the contracts of its crates say
  * (docs/PROMISES.md). LLVM, which compiles that for wasm64, tools/program_module and tools/portable_c, which write this
@@ -1306,6 +1306,11 @@ static const unsigned char switch_table_stream_commands_status_ending_6219d44548
     20, 0, 0, 0, 0, 0, 0, 0, 21, 0, 0, 0, 0, 0, 0, 0, 18, 0, 0, 0, 0, 0, 0, 0, 23, 0, 0, 0, 0, 0, 0, 0
 };
 #endif
+#if !defined PART || PART == 1 || PART == 2 || PART == 3 || PART == 4 || PART == 5 || PART == 6
+static const unsigned char constant_56[1] = {
+    0
+};
+#endif
 #if !defined PART || PART == 1 || PART == 3
 static const unsigned char constant_8[3] = {
     109, 97, 112
@@ -1338,35 +1343,32 @@ static const unsigned char constant_241[8] = {
     116, 99, 116, 111, 111, 108, 58, 32
 };
 #endif
+#if !defined PART || PART == 1 || PART == 3 || PART == 4
+static const unsigned char constant_55[2] = {
+    45, 45
+};
+#endif
 #if !defined PART || PART == 1 || PART == 3 || PART == 4 || PART == 5
 static const unsigned char constant_113[1] = {
     45
 };
 #endif
 #if !defined PART || PART == 1 || PART == 3 || PART == 4 || PART == 5 || PART == 6
-static const unsigned char constant_2[4] = {
-    104, 101, 108, 112
-};
-static const unsigned char constant_56[1] = {
-    0
-};
-#endif
-#if !defined PART || PART == 1 || PART == 3 || PART == 4 || PART == 5 || PART == 6 || PART == 7
 static const unsigned char constant_126[1] = {
     10
 };
 #endif
-#if !defined PART || PART == 1 || PART == 4
-static const unsigned char constant_156[7] = {
-    101, 114, 114, 111, 114, 58, 32
+#if !defined PART || PART == 1 || PART == 3 || PART == 4 || PART == 6
+static const unsigned char constant_2[4] = {
+    104, 101, 108, 112
 };
 #endif
-#if !defined PART || PART == 1 || PART == 4 || PART == 5
-static const unsigned char constant_55[2] = {
-    45, 45
-};
+#if !defined PART || PART == 1 || PART == 4
 static const unsigned char constant_127[2] = {
     10, 10
+};
+static const unsigned char constant_156[7] = {
+    101, 114, 114, 111, 114, 58, 32
 };
 #endif
 #if !defined PART || PART == 1 || PART == 5
@@ -1379,6 +1381,12 @@ static const unsigned char constant_242[5] = {
 static const unsigned char constant_257[5] = {
     100, 97, 116, 97, 61
 };
+static const unsigned char constant_266[5] = {
+    103, 97, 112, 61, 45
+};
+static const unsigned char constant_267[4] = {
+    103, 97, 112, 61
+};
 #endif
 #if !defined PART || PART == 1 || PART == 5 || PART == 6
 static const unsigned char constant_21[4] = {
@@ -1389,12 +1397,6 @@ static const unsigned char constant_86[6] = {
 };
 #endif
 #if !defined PART || PART == 1 || PART == 6
-static const unsigned char constant_266[5] = {
-    103, 97, 112, 61, 45
-};
-static const unsigned char constant_267[4] = {
-    103, 97, 112, 61
-};
 static const unsigned char constant_274[6] = {
     119, 105, 110, 100, 111, 119
 };
@@ -1408,21 +1410,28 @@ static const unsigned char constant_340[7] = {
     76, 111, 99, 107, 111, 117, 116
 };
 #endif
-#if !defined PART || PART == 1 || PART == 7 || PART == 8
-static const unsigned char constant_321[6] = {
-    77, 101, 109, 111, 114, 121
-};
+#if !defined PART || PART == 1 || PART == 6 || PART == 7 || PART == 8
 static const unsigned char constant_330[6] = {
     76, 101, 110, 103, 116, 104
 };
+static const unsigned char constant_355[5] = {
+    83, 104, 111, 114, 116
+};
+static const unsigned char constant_502[9] = {
+    84, 114, 117, 110, 99, 97, 116, 101, 100
+};
+#endif
+#if !defined PART || PART == 1 || PART == 6 || PART == 8
+static const unsigned char constant_321[6] = {
+    77, 101, 109, 111, 114, 121
+};
+#endif
+#if !defined PART || PART == 1 || PART == 7
 static const unsigned char constant_331[7] = {
     86, 101, 114, 115, 105, 111, 110
 };
 static const unsigned char constant_332[5] = {
     67, 104, 101, 99, 107
-};
-static const unsigned char constant_355[5] = {
-    83, 104, 111, 114, 116
 };
 static const unsigned char constant_356[12] = {
     82, 101, 115, 101, 114, 118, 101, 100, 84, 121, 112, 101
@@ -1439,11 +1448,6 @@ static const unsigned char constant_359[9] = {
 static const unsigned char constant_360[7] = {
     67, 111, 109, 109, 97, 110, 100
 };
-static const unsigned char constant_502[9] = {
-    84, 114, 117, 110, 99, 97, 116, 101, 100
-};
-#endif
-#if !defined PART || PART == 1 || PART == 8
 static const unsigned char constant_373[4] = {
     75, 105, 110, 100
 };
@@ -1452,6 +1456,65 @@ static const unsigned char constant_374[3] = {
 };
 static const unsigned char constant_503[17] = {
     73, 100, 108, 101, 87, 105, 116, 104, 83, 101, 99, 111, 110, 100, 97, 114, 121
+};
+#endif
+#if !defined PART || PART == 2
+static const unsigned char constant_315[4] = {
+    108, 111, 115, 116
+};
+static const unsigned char constant_381[6] = {
+    99, 108, 101, 97, 110, 61
+};
+static const unsigned char constant_382[7] = {
+    32, 115, 116, 97, 116, 101, 61
+};
+static const unsigned char constant_384[11] = {
+    32, 100, 101, 108, 105, 118, 101, 114, 101, 100, 61
+};
+static const unsigned char constant_385[4] = {
+    110, 111, 110, 101
+};
+static const unsigned char constant_393[10] = {
+    32, 97, 99, 99, 101, 112, 116, 101, 100, 61
+};
+static const unsigned char switch_table_tctool_simulation_run_script_1002a7eb2e9facbe_[32] = {
+    6, 0, 0, 0, 0, 0, 0, 0, 16, 0, 0, 0, 0, 0, 0, 0, 13, 0, 0, 0, 0, 0, 0, 0, 6, 0, 0, 0, 0, 0, 0, 0
+};
+#endif
+#if !defined PART || PART == 2 || PART == 5
+static const unsigned char constant_179[3] = {
+    121, 101, 115
+};
+static const unsigned char constant_184[2] = {
+    110, 111
+};
+#endif
+#if !defined PART || PART == 2 || PART == 5 || PART == 6
+static const unsigned char constant_313[2] = {
+    111, 107
+};
+#endif
+#if !defined PART || PART == 2 || PART == 6
+static const unsigned char constant_312[7] = {
+    114, 101, 102, 117, 115, 101, 100
+};
+static const unsigned char constant_314[7] = {
+    110, 111, 116, 104, 105, 110, 103
+};
+static const unsigned char constant_376[8] = {
+    114, 101, 115, 117, 109, 101, 100, 32
+};
+static const unsigned char constant_383[11] = {
+    32, 115, 117, 98, 109, 105, 116, 116, 101, 100, 61
+};
+static const unsigned char constant_392[6] = {
+    32, 115, 101, 110, 116, 61
+};
+static const unsigned char constant_394[14] = {
+    32, 97, 99, 107, 110, 111, 119, 108, 101, 100, 103, 101, 100, 61
+};
+static const unsigned char constant_395[13] = {
+    32, 111, 117, 116, 115, 116, 97, 110, 100, 105, 110, 103, 61
 };
 #endif
 #if !defined PART || PART == 3
@@ -1526,32 +1589,53 @@ static const unsigned char constant_106[32] = {
     80, 114, 105, 110, 116, 32, 104, 101, 108, 112, 32, 102, 111, 114, 32, 116, 104, 101, 32, 115, 117, 98, 99, 111,
     109, 109, 97, 110, 100, 40, 115, 41
 };
+static const unsigned char constant_110[1] = {
+    124
+};
+static const unsigned char constant_114[2] = {
+    91, 61
+};
+static const unsigned char constant_115[1] = {
+    61
+};
+static const unsigned char constant_116[2] = {
+    32, 91
+};
+static const unsigned char constant_118[3] = {
+    46, 46, 46
+};
 static const unsigned char constant_122[3] = {
     124, 45, 45
 };
 static const unsigned char constant_123[2] = {
     124, 45
 };
+static const unsigned char constant_224[21] = {
+    10, 10, 32, 32, 116, 105, 112, 58, 32, 115, 117, 98, 99, 111, 109, 109, 97, 110, 100, 32, 39
+};
+static const unsigned char constant_225[46] = {
+    39, 32, 101, 120, 105, 115, 116, 115, 59, 32, 116, 111, 32, 117, 115, 101, 32, 105, 116, 44, 32, 114, 101, 109,
+    111, 118, 101, 32, 116, 104, 101, 32, 39, 45, 45, 39, 32, 98, 101, 102, 111, 114, 101, 32, 105, 116
+};
+static const unsigned char constant_226[8] = {
+    10, 10, 32, 32, 116, 105, 112, 58
+};
+static const unsigned char constant_227[30] = {
+    32, 97, 32, 115, 105, 109, 105, 108, 97, 114, 32, 115, 117, 98, 99, 111, 109, 109, 97, 110, 100, 32, 101, 120,
+    105, 115, 116, 115, 58, 32
+};
+static const unsigned char constant_228[33] = {
+    32, 115, 111, 109, 101, 32, 115, 105, 109, 105, 108, 97, 114, 32, 115, 117, 98, 99, 111, 109, 109, 97, 110, 100,
+    115, 32, 101, 120, 105, 115, 116, 58, 32
+};
+static const unsigned char constant_229[19] = {
+    39, 32, 97, 115, 32, 97, 32, 118, 97, 108, 117, 101, 44, 32, 117, 115, 101, 32, 39
+};
+static const unsigned char constant_230[4] = {
+    32, 45, 45, 32
+};
 static const unsigned char constant_234[5] = {
     102, 105, 114, 115, 116
-};
-static const unsigned char constant_315[4] = {
-    108, 111, 115, 116
-};
-static const unsigned char constant_381[6] = {
-    99, 108, 101, 97, 110, 61
-};
-static const unsigned char constant_382[7] = {
-    32, 115, 116, 97, 116, 101, 61
-};
-static const unsigned char constant_384[11] = {
-    32, 100, 101, 108, 105, 118, 101, 114, 101, 100, 61
-};
-static const unsigned char constant_385[4] = {
-    110, 111, 110, 101
-};
-static const unsigned char constant_393[10] = {
-    32, 97, 99, 99, 101, 112, 116, 101, 100, 61
 };
 static const unsigned char constant_517[14] = {
     115, 116, 97, 110, 100, 97, 114, 100, 32, 105, 110, 112, 117, 116
@@ -1592,9 +1676,6 @@ static const unsigned char switch_table_clap_builder_command_building_build_leve
     0, 0, 0, 0, 0, 0, 0, 0, 0, 0, 0, 0, 0, 0, 0, 0, 0, 0, 0, 0, 0, 0, 0, 0, 0, 0, 0, 0, 0, 0, 0, 0, 255, 0, 0, 0, 0,
     0, 0, 0, 0, 0, 0, 0, 0, 0, 0, 0, 0, 0, 0, 0, 0, 0, 0, 0, 0, 0, 0, 0, 0, 0, 0, 0, 0, 0, 0, 0, 0, 0, 0, 0
 };
-static const unsigned char switch_table_tctool_simulation_run_script_1002a7eb2e9facbe_[32] = {
-    6, 0, 0, 0, 0, 0, 0, 0, 16, 0, 0, 0, 0, 0, 0, 0, 13, 0, 0, 0, 0, 0, 0, 0, 6, 0, 0, 0, 0, 0, 0, 0
-};
 static const unsigned char switch_table_tctool_noting_reason[336] = {
     21, 0, 0, 0, 0, 0, 0, 0, 17, 0, 0, 0, 0, 0, 0, 0, 17, 0, 0, 0, 0, 0, 0, 0, 17, 0, 0, 0, 0, 0, 0, 0, 17, 0, 0, 0,
     0, 0, 0, 0, 17, 0, 0, 0, 0, 0, 0, 0, 17, 0, 0, 0, 0, 0, 0, 0, 17, 0, 0, 0, 0, 0, 0, 0, 17, 0, 0, 0, 0, 0, 0, 0,
@@ -1609,27 +1690,23 @@ static const unsigned char switch_table_tctool_noting_reason[336] = {
 };
 #endif
 #if !defined PART || PART == 3 || PART == 4
-static const unsigned char constant_105[7] = {
-    67, 79, 77, 77, 65, 78, 68
-};
-#endif
-#if !defined PART || PART == 3 || PART == 4 || PART == 5 || PART == 6
-static const unsigned char constant_108[1] = {
-    32
-};
-#endif
-#if !defined PART || PART == 3 || PART == 5
-static const unsigned char constant_94[4] = {
-    116, 114, 117, 101
-};
-static const unsigned char constant_95[5] = {
-    102, 97, 108, 115, 101
-};
 static const unsigned char constant_101[7] = {
     118, 101, 114, 115, 105, 111, 110
 };
-static const unsigned char constant_107[1] = {
-    48
+static const unsigned char constant_105[7] = {
+    67, 79, 77, 77, 65, 78, 68
+};
+static const unsigned char constant_109[1] = {
+    60
+};
+static const unsigned char constant_111[1] = {
+    62
+};
+static const unsigned char constant_119[1] = {
+    93
+};
+static const unsigned char constant_120[1] = {
+    91
 };
 static const unsigned char constant_124[1] = {
     123
@@ -1640,69 +1717,62 @@ static const unsigned char constant_125[1] = {
 static const unsigned char constant_141[2] = {
     58, 32
 };
-static const unsigned char constant_179[3] = {
-    121, 101, 115
+static const unsigned char constant_142[2] = {
+    44, 32
 };
-static const unsigned char constant_184[2] = {
-    110, 111
+static const unsigned char constant_154[25] = {
+    117, 110, 114, 101, 99, 111, 103, 110, 105, 122, 101, 100, 32, 115, 117, 98, 99, 111, 109, 109, 97, 110, 100, 32,
+    39
+};
+static const unsigned char constant_216[21] = {
+    117, 110, 101, 120, 112, 101, 99, 116, 101, 100, 32, 97, 114, 103, 117, 109, 101, 110, 116, 32, 39
+};
+static const unsigned char constant_217[7] = {
+    39, 32, 102, 111, 117, 110, 100
+};
+static const unsigned char constant_219[17] = {
+    10, 32, 32, 116, 105, 112, 58, 32, 116, 111, 32, 112, 97, 115, 115, 32, 39
 };
 #endif
-#if !defined PART || PART == 3 || PART == 6
-static const unsigned char constant_312[7] = {
-    114, 101, 102, 117, 115, 101, 100
+#if !defined PART || PART == 3 || PART == 4 || PART == 5
+static const unsigned char constant_108[1] = {
+    32
 };
-static const unsigned char constant_313[2] = {
-    111, 107
+static const unsigned char constant_155[1] = {
+    39
 };
-static const unsigned char constant_314[7] = {
-    110, 111, 116, 104, 105, 110, 103
+#endif
+#if !defined PART || PART == 3 || PART == 4 || PART == 6 || PART == 8
+static const unsigned char constant_112[4] = {
+    32, 32, 32, 32
 };
-static const unsigned char constant_376[8] = {
-    114, 101, 115, 117, 109, 101, 100, 32
+#endif
+#if !defined PART || PART == 3 || PART == 5
+static const unsigned char constant_94[4] = {
+    116, 114, 117, 101
 };
-static const unsigned char constant_383[11] = {
-    32, 115, 117, 98, 109, 105, 116, 116, 101, 100, 61
+static const unsigned char constant_95[5] = {
+    102, 97, 108, 115, 101
 };
-static const unsigned char constant_392[6] = {
-    32, 115, 101, 110, 116, 61
-};
-static const unsigned char constant_394[14] = {
-    32, 97, 99, 107, 110, 111, 119, 108, 101, 100, 103, 101, 100, 61
-};
-static const unsigned char constant_395[13] = {
-    32, 111, 117, 116, 115, 116, 97, 110, 100, 105, 110, 103, 61
+static const unsigned char constant_107[1] = {
+    48
 };
 #endif
 #if !defined PART || PART == 4
-static const unsigned char constant_109[1] = {
-    60
-};
-static const unsigned char constant_110[1] = {
-    124
-};
-static const unsigned char constant_111[1] = {
-    62
-};
-static const unsigned char constant_114[2] = {
-    91, 61
-};
-static const unsigned char constant_115[1] = {
-    61
-};
-static const unsigned char constant_116[2] = {
-    32, 91
-};
-static const unsigned char constant_118[3] = {
-    46, 46, 46
-};
-static const unsigned char constant_120[1] = {
-    91
-};
 static const unsigned char constant_128[8] = {
     10, 85, 115, 97, 103, 101, 58, 32
 };
 static const unsigned char constant_129[8] = {
     10, 32, 32, 32, 32, 32, 32, 32
+};
+static const unsigned char constant_130[10] = {
+    91, 79, 80, 84, 73, 79, 78, 83, 93, 32
+};
+static const unsigned char constant_131[3] = {
+    45, 45, 32
+};
+static const unsigned char constant_132[4] = {
+    91, 45, 45, 32
 };
 static const unsigned char constant_133[8] = {
     67, 111, 109, 109, 97, 110, 100, 115
@@ -1719,120 +1789,8 @@ static const unsigned char constant_136[3] = {
 static const unsigned char constant_137[4] = {
     44, 32, 45, 45
 };
-static const unsigned char constant_147[2] = {
-    58, 10
-};
-static const unsigned char constant_154[25] = {
-    117, 110, 114, 101, 99, 111, 103, 110, 105, 122, 101, 100, 32, 115, 117, 98, 99, 111, 109, 109, 97, 110, 100, 32,
-    39
-};
-static const unsigned char constant_175[18] = {
-    117, 110, 101, 120, 112, 101, 99, 116, 101, 100, 32, 118, 97, 108, 117, 101, 32, 39
-};
-static const unsigned char constant_176[30] = {
-    39, 32, 102, 111, 117, 110, 100, 59, 32, 110, 111, 32, 109, 111, 114, 101, 32, 119, 101, 114, 101, 32, 101, 120,
-    112, 101, 99, 116, 101, 100
-};
-static const unsigned char constant_214[47] = {
-    101, 113, 117, 97, 108, 32, 115, 105, 103, 110, 32, 105, 115, 32, 110, 101, 101, 100, 101, 100, 32, 119, 104, 101,
-    110, 32, 97, 115, 115, 105, 103, 110, 105, 110, 103, 32, 118, 97, 108, 117, 101, 115, 32, 116, 111, 32, 39
-};
-static const unsigned char constant_215[16] = {
-    116, 104, 101, 32, 115, 117, 98, 99, 111, 109, 109, 97, 110, 100, 32, 39
-};
-static const unsigned char constant_216[21] = {
-    117, 110, 101, 120, 112, 101, 99, 116, 101, 100, 32, 97, 114, 103, 117, 109, 101, 110, 116, 32, 39
-};
-static const unsigned char constant_217[7] = {
-    39, 32, 102, 111, 117, 110, 100
-};
-static const unsigned char constant_218[37] = {
-    10, 10, 32, 32, 116, 105, 112, 58, 32, 97, 32, 115, 105, 109, 105, 108, 97, 114, 32, 97, 114, 103, 117, 109, 101,
-    110, 116, 32, 101, 120, 105, 115, 116, 115, 58, 32, 39
-};
-static const unsigned char constant_219[17] = {
-    10, 32, 32, 116, 105, 112, 58, 32, 116, 111, 32, 112, 97, 115, 115, 32, 39
-};
-static const unsigned char constant_220[22] = {
-    39, 32, 97, 115, 32, 97, 32, 118, 97, 108, 117, 101, 44, 32, 117, 115, 101, 32, 39, 45, 45, 32
-};
-static const unsigned char constant_221[9] = {
-    10, 32, 32, 116, 105, 112, 58, 32, 39
-};
-static const unsigned char constant_222[8] = {
-    39, 32, 101, 120, 105, 115, 116, 115
-};
-static const unsigned char constant_224[21] = {
-    10, 10, 32, 32, 116, 105, 112, 58, 32, 115, 117, 98, 99, 111, 109, 109, 97, 110, 100, 32, 39
-};
-static const unsigned char constant_225[46] = {
-    39, 32, 101, 120, 105, 115, 116, 115, 59, 32, 116, 111, 32, 117, 115, 101, 32, 105, 116, 44, 32, 114, 101, 109,
-    111, 118, 101, 32, 116, 104, 101, 32, 39, 45, 45, 39, 32, 98, 101, 102, 111, 114, 101, 32, 105, 116
-};
-static const unsigned char constant_226[8] = {
-    10, 10, 32, 32, 116, 105, 112, 58
-};
-static const unsigned char constant_227[30] = {
-    32, 97, 32, 115, 105, 109, 105, 108, 97, 114, 32, 115, 117, 98, 99, 111, 109, 109, 97, 110, 100, 32, 101, 120,
-    105, 115, 116, 115, 58, 32
-};
-static const unsigned char constant_228[33] = {
-    32, 115, 111, 109, 101, 32, 115, 105, 109, 105, 108, 97, 114, 32, 115, 117, 98, 99, 111, 109, 109, 97, 110, 100,
-    115, 32, 101, 120, 105, 115, 116, 58, 32
-};
-static const unsigned char constant_229[19] = {
-    39, 32, 97, 115, 32, 97, 32, 118, 97, 108, 117, 101, 44, 32, 117, 115, 101, 32, 39
-};
-static const unsigned char constant_230[4] = {
-    32, 45, 45, 32
-};
-static const unsigned char constant_231[48] = {
-    39, 32, 114, 101, 113, 117, 105, 114, 101, 115, 32, 97, 32, 115, 117, 98, 99, 111, 109, 109, 97, 110, 100, 32, 98,
-    117, 116, 32, 111, 110, 101, 32, 119, 97, 115, 32, 110, 111, 116, 32, 112, 114, 111, 118, 105, 100, 101, 100
-};
-static const unsigned char constant_232[17] = {
-    10, 32, 32, 91, 115, 117, 98, 99, 111, 109, 109, 97, 110, 100, 115, 58, 32
-};
-static const unsigned char constant_233[51] = {
-    116, 104, 101, 32, 102, 111, 108, 108, 111, 119, 105, 110, 103, 32, 114, 101, 113, 117, 105, 114, 101, 100, 32,
-    97, 114, 103, 117, 109, 101, 110, 116, 115, 32, 119, 101, 114, 101, 32, 110, 111, 116, 32, 112, 114, 111, 118,
-    105, 100, 101, 100, 58
-};
-#endif
-#if !defined PART || PART == 4 || PART == 5
-static const unsigned char constant_119[1] = {
-    93
-};
 static const unsigned char constant_138[2] = {
     32, 32
-};
-static const unsigned char constant_142[2] = {
-    44, 32
-};
-static const unsigned char constant_155[1] = {
-    39
-};
-static const unsigned char constant_165[7] = {
-    39, 32, 102, 111, 114, 32, 39
-};
-static const unsigned char constant_207[21] = {
-    39, 32, 99, 97, 110, 110, 111, 116, 32, 98, 101, 32, 117, 115, 101, 100, 32, 119, 105, 116, 104
-};
-#endif
-#if !defined PART || PART == 4 || PART == 5 || PART == 6 || PART == 8
-static const unsigned char constant_112[4] = {
-    32, 32, 32, 32
-};
-#endif
-#if !defined PART || PART == 5
-static const unsigned char constant_130[10] = {
-    91, 79, 80, 84, 73, 79, 78, 83, 93, 32
-};
-static const unsigned char constant_131[3] = {
-    45, 45, 32
-};
-static const unsigned char constant_132[4] = {
-    91, 45, 45, 32
 };
 static const unsigned char constant_139[2] = {
     101, 115
@@ -1851,6 +1809,9 @@ static const unsigned char constant_145[16] = {
 };
 static const unsigned char constant_146[2] = {
     45, 32
+};
+static const unsigned char constant_147[2] = {
+    58, 10
 };
 static const unsigned char constant_148[10] = {
     91, 100, 101, 102, 97, 117, 108, 116, 58, 32
@@ -1893,9 +1854,6 @@ static const unsigned char constant_162[25] = {
 static const unsigned char constant_163[23] = {
     39, 32, 98, 117, 116, 32, 110, 111, 110, 101, 32, 119, 97, 115, 32, 115, 117, 112, 112, 108, 105, 101, 100
 };
-static const unsigned char constant_164[15] = {
-    105, 110, 118, 97, 108, 105, 100, 32, 118, 97, 108, 117, 101, 32, 39
-};
 static const unsigned char constant_166[21] = {
     10, 32, 32, 91, 112, 111, 115, 115, 105, 98, 108, 101, 32, 118, 97, 108, 117, 101, 115, 58, 32
 };
@@ -1921,6 +1879,58 @@ static const unsigned char constant_173[21] = {
 static const unsigned char constant_174[8] = {
     39, 59, 32, 111, 110, 108, 121, 32
 };
+static const unsigned char constant_175[18] = {
+    117, 110, 101, 120, 112, 101, 99, 116, 101, 100, 32, 118, 97, 108, 117, 101, 32, 39
+};
+static const unsigned char constant_176[30] = {
+    39, 32, 102, 111, 117, 110, 100, 59, 32, 110, 111, 32, 109, 111, 114, 101, 32, 119, 101, 114, 101, 32, 101, 120,
+    112, 101, 99, 116, 101, 100
+};
+static const unsigned char constant_214[47] = {
+    101, 113, 117, 97, 108, 32, 115, 105, 103, 110, 32, 105, 115, 32, 110, 101, 101, 100, 101, 100, 32, 119, 104, 101,
+    110, 32, 97, 115, 115, 105, 103, 110, 105, 110, 103, 32, 118, 97, 108, 117, 101, 115, 32, 116, 111, 32, 39
+};
+static const unsigned char constant_215[16] = {
+    116, 104, 101, 32, 115, 117, 98, 99, 111, 109, 109, 97, 110, 100, 32, 39
+};
+static const unsigned char constant_218[37] = {
+    10, 10, 32, 32, 116, 105, 112, 58, 32, 97, 32, 115, 105, 109, 105, 108, 97, 114, 32, 97, 114, 103, 117, 109, 101,
+    110, 116, 32, 101, 120, 105, 115, 116, 115, 58, 32, 39
+};
+static const unsigned char constant_220[22] = {
+    39, 32, 97, 115, 32, 97, 32, 118, 97, 108, 117, 101, 44, 32, 117, 115, 101, 32, 39, 45, 45, 32
+};
+static const unsigned char constant_221[9] = {
+    10, 32, 32, 116, 105, 112, 58, 32, 39
+};
+static const unsigned char constant_222[8] = {
+    39, 32, 101, 120, 105, 115, 116, 115
+};
+static const unsigned char constant_231[48] = {
+    39, 32, 114, 101, 113, 117, 105, 114, 101, 115, 32, 97, 32, 115, 117, 98, 99, 111, 109, 109, 97, 110, 100, 32, 98,
+    117, 116, 32, 111, 110, 101, 32, 119, 97, 115, 32, 110, 111, 116, 32, 112, 114, 111, 118, 105, 100, 101, 100
+};
+static const unsigned char constant_232[17] = {
+    10, 32, 32, 91, 115, 117, 98, 99, 111, 109, 109, 97, 110, 100, 115, 58, 32
+};
+static const unsigned char constant_233[51] = {
+    116, 104, 101, 32, 102, 111, 108, 108, 111, 119, 105, 110, 103, 32, 114, 101, 113, 117, 105, 114, 101, 100, 32,
+    97, 114, 103, 117, 109, 101, 110, 116, 115, 32, 119, 101, 114, 101, 32, 110, 111, 116, 32, 112, 114, 111, 118,
+    105, 100, 101, 100, 58
+};
+#endif
+#if !defined PART || PART == 4 || PART == 5
+static const unsigned char constant_164[15] = {
+    105, 110, 118, 97, 108, 105, 100, 32, 118, 97, 108, 117, 101, 32, 39
+};
+static const unsigned char constant_165[7] = {
+    39, 32, 102, 111, 114, 32, 39
+};
+static const unsigned char constant_207[21] = {
+    39, 32, 99, 97, 110, 110, 111, 116, 32, 98, 101, 32, 117, 115, 101, 100, 32, 119, 105, 116, 104
+};
+#endif
+#if !defined PART || PART == 5
 static const unsigned char constant_178[1] = {
     121
 };
@@ -2844,49 +2854,6 @@ static const unsigned char constant_306[6] = {
 static const unsigned char constant_307[7] = {
     114, 101, 115, 117, 109, 101, 32
 };
-static const unsigned char switch_table_clap_parser_parse_Parser_check_value[32] = {
-    38, 0, 0, 0, 0, 0, 0, 0, 29, 0, 0, 0, 0, 0, 0, 0, 38, 0, 0, 0, 0, 0, 0, 0, 38, 0, 0, 0, 0, 0, 0, 0
-};
-#endif
-#if !defined PART || PART == 5 || PART == 6
-static const unsigned char constant_186[3] = {
-    111, 102, 102
-};
-static const unsigned char constant_246[5] = {
-    102, 114, 97, 109, 101
-};
-static const unsigned char constant_247[9] = {
-    116, 101, 108, 101, 109, 101, 116, 114, 121
-};
-static const unsigned char constant_248[6] = {
-    98, 121, 112, 97, 115, 115
-};
-static const unsigned char constant_249[6] = {
-    115, 117, 98, 109, 105, 116
-};
-static const unsigned char constant_270[4] = {
-    115, 104, 111, 119
-};
-static const unsigned char constant_287[9] = {
-    116, 101, 114, 109, 105, 110, 97, 116, 101
-};
-static const unsigned char constant_288[4] = {
-    115, 101, 110, 100
-};
-static const unsigned char constant_294[4] = {
-    116, 105, 99, 107
-};
-static const unsigned char constant_295[4] = {
-    116, 97, 107, 101
-};
-static const unsigned char constant_296[10] = {
-    116, 97, 107, 101, 98, 121, 112, 97, 115, 115
-};
-#endif
-#if !defined PART || PART == 6
-static const unsigned char constant_172[1] = {
-    43
-};
 static const unsigned char constant_310[7] = {
     7, 255, 192, 0, 0, 0, 85
 };
@@ -2935,9 +2902,6 @@ static const unsigned char constant_371[9] = {
 static const unsigned char constant_372[7] = {
     32, 97, 108, 101, 114, 116, 32
 };
-static const unsigned char constant_377[7] = {
-    112, 97, 99, 107, 101, 116, 32
-};
 static const unsigned char constant_396[1] = {
     13
 };
@@ -2948,6 +2912,89 @@ static const unsigned char constant_397[30] = {
 static const unsigned char constant_398[30] = {
     105, 116, 32, 98, 101, 103, 105, 110, 115, 32, 111, 114, 32, 101, 110, 100, 115, 32, 119, 105, 116, 104, 32, 97,
     32, 115, 112, 97, 99, 101
+};
+static const unsigned char switch_table_clap_parser_parse_Parser_check_value[32] = {
+    38, 0, 0, 0, 0, 0, 0, 0, 29, 0, 0, 0, 0, 0, 0, 0, 38, 0, 0, 0, 0, 0, 0, 0, 38, 0, 0, 0, 0, 0, 0, 0
+};
+static const unsigned char switch_table_nodes_parameter_Parameter_row_4[120] = {
+    4, 0, 0, 0, 0, 0, 0, 0, 4, 0, 0, 0, 0, 0, 0, 0, 7, 0, 0, 0, 0, 0, 0, 0, 5, 0, 0, 0, 0, 0, 0, 0, 6, 0, 0, 0, 0, 0,
+    0, 0, 5, 0, 0, 0, 0, 0, 0, 0, 5, 0, 0, 0, 0, 0, 0, 0, 4, 0, 0, 0, 0, 0, 0, 0, 10, 0, 0, 0, 0, 0, 0, 0, 4, 0, 0, 0,
+    0, 0, 0, 0, 11, 0, 0, 0, 0, 0, 0, 0, 12, 0, 0, 0, 0, 0, 0, 0, 11, 0, 0, 0, 0, 0, 0, 0, 12, 0, 0, 0, 0, 0, 0, 0, 8,
+    0, 0, 0, 0, 0, 0, 0
+};
+static const unsigned char switch_table_nodes_parameter_Parameter_row_5[120] = {
+    0, 0, 0, 0, 0, 0, 0, 0, 0, 0, 0, 0, 0, 0, 0, 0, 0, 0, 0, 0, 0, 0, 0, 0, 2, 0, 0, 0, 0, 0, 0, 0, 1, 0, 0, 0, 0, 0,
+    0, 0, 1, 0, 0, 0, 0, 0, 0, 0, 1, 0, 0, 0, 0, 0, 0, 0, 1, 0, 0, 0, 0, 0, 0, 0, 7, 0, 0, 0, 0, 0, 0, 0, 0, 0, 0, 0,
+    0, 0, 0, 0, 1, 0, 0, 0, 0, 0, 0, 0, 1, 0, 0, 0, 0, 0, 0, 0, 1, 0, 0, 0, 0, 0, 0, 0, 16, 0, 0, 0, 0, 0, 0, 0, 0, 0,
+    0, 0, 0, 0, 0, 0
+};
+static const unsigned char switch_table_nodes_parameter_Parameter_row_6[120] = {
+    255, 3, 0, 0, 0, 0, 0, 0, 63, 0, 0, 0, 0, 0, 0, 0, 7, 0, 0, 0, 0, 0, 0, 0, 254, 0, 0, 0, 0, 0, 0, 0, 127, 0, 0, 0,
+    0, 0, 0, 0, 255, 0, 0, 0, 0, 0, 0, 0, 255, 255, 0, 0, 0, 0, 0, 0, 248, 3, 0, 0, 0, 0, 0, 0, 6, 0, 1, 0, 0, 0, 0,
+    0, 255, 255, 255, 255, 255, 255, 255, 255, 64, 0, 0, 0, 0, 0, 0, 0, 64, 0, 0, 0, 0, 0, 0, 0, 255, 255, 0, 0, 0, 0,
+    0, 0, 0, 8, 0, 0, 0, 0, 0, 0, 1, 0, 0, 0, 0, 0, 0, 0
+};
+static const unsigned char switch_table_nodes_fault_LinkFault_name[56] = {
+    7, 0, 0, 0, 0, 0, 0, 0, 9, 0, 0, 0, 0, 0, 0, 0, 10, 0, 0, 0, 0, 0, 0, 0, 7, 0, 0, 0, 0, 0, 0, 0, 9, 0, 0, 0, 0, 0,
+    0, 0, 6, 0, 0, 0, 0, 0, 0, 0, 8, 0, 0, 0, 0, 0, 0, 0
+};
+static const unsigned char switch_table_cop1_fault_CopFault_name[72] = {
+    5, 0, 0, 0, 0, 0, 0, 0, 6, 0, 0, 0, 0, 0, 0, 0, 5, 0, 0, 0, 0, 0, 0, 0, 5, 0, 0, 0, 0, 0, 0, 0, 6, 0, 0, 0, 0, 0,
+    0, 0, 7, 0, 0, 0, 0, 0, 0, 0, 4, 0, 0, 0, 0, 0, 0, 0, 10, 0, 0, 0, 0, 0, 0, 0, 5, 0, 0, 0, 0, 0, 0, 0
+};
+static const unsigned char switch_table_node_answers_answers_push_received[48] = {
+    8, 0, 0, 0, 0, 0, 0, 0, 5, 0, 0, 0, 0, 0, 0, 0, 8, 0, 0, 0, 0, 0, 0, 0, 6, 0, 0, 0, 0, 0, 0, 0, 7, 0, 0, 0, 0, 0,
+    0, 0, 9, 0, 0, 0, 0, 0, 0, 0
+};
+#endif
+#if !defined PART || PART == 5 || PART == 6
+static const unsigned char constant_186[3] = {
+    111, 102, 102
+};
+static const unsigned char constant_246[5] = {
+    102, 114, 97, 109, 101
+};
+static const unsigned char constant_247[9] = {
+    116, 101, 108, 101, 109, 101, 116, 114, 121
+};
+static const unsigned char constant_248[6] = {
+    98, 121, 112, 97, 115, 115
+};
+static const unsigned char constant_249[6] = {
+    115, 117, 98, 109, 105, 116
+};
+static const unsigned char constant_270[4] = {
+    115, 104, 111, 119
+};
+static const unsigned char constant_287[9] = {
+    116, 101, 114, 109, 105, 110, 97, 116, 101
+};
+static const unsigned char constant_288[4] = {
+    115, 101, 110, 100
+};
+static const unsigned char constant_294[4] = {
+    116, 105, 99, 107
+};
+static const unsigned char constant_295[4] = {
+    116, 97, 107, 101
+};
+static const unsigned char constant_296[10] = {
+    116, 97, 107, 101, 98, 121, 112, 97, 115, 115
+};
+static const unsigned char constant_377[7] = {
+    112, 97, 99, 107, 101, 116, 32
+};
+#endif
+#if !defined PART || PART == 5 || PART == 6 || PART == 7 || PART == 8
+static const unsigned char switch_table_listings_stream_list_piece_de90aa9db3f309e3_[80] = {
+    6, 0, 0, 0, 0, 0, 0, 0, 7, 0, 0, 0, 0, 0, 0, 0, 5, 0, 0, 0, 0, 0, 0, 0, 6, 0, 0, 0, 0, 0, 0, 0, 7, 0, 0, 0, 0, 0,
+    0, 0, 5, 0, 0, 0, 0, 0, 0, 0, 6, 0, 0, 0, 0, 0, 0, 0, 10, 0, 0, 0, 0, 0, 0, 0, 4, 0, 0, 0, 0, 0, 0, 0, 10, 0, 0,
+    0, 0, 0, 0, 0
+};
+#endif
+#if !defined PART || PART == 6
+static const unsigned char constant_172[1] = {
+    43
 };
 static const unsigned char constant_399[6] = {
     99, 111, 110, 102, 105, 103
@@ -3113,75 +3160,15 @@ static const unsigned char constant_451[3] = {
 static const unsigned char constant_452[7] = {
     32, 114, 101, 97, 100, 121, 61
 };
-static const unsigned char switch_table_nodes_parameter_Parameter_row_4[120] = {
-    4, 0, 0, 0, 0, 0, 0, 0, 4, 0, 0, 0, 0, 0, 0, 0, 7, 0, 0, 0, 0, 0, 0, 0, 5, 0, 0, 0, 0, 0, 0, 0, 6, 0, 0, 0, 0, 0,
-    0, 0, 5, 0, 0, 0, 0, 0, 0, 0, 5, 0, 0, 0, 0, 0, 0, 0, 4, 0, 0, 0, 0, 0, 0, 0, 10, 0, 0, 0, 0, 0, 0, 0, 4, 0, 0, 0,
-    0, 0, 0, 0, 11, 0, 0, 0, 0, 0, 0, 0, 12, 0, 0, 0, 0, 0, 0, 0, 11, 0, 0, 0, 0, 0, 0, 0, 12, 0, 0, 0, 0, 0, 0, 0, 8,
-    0, 0, 0, 0, 0, 0, 0
-};
-static const unsigned char switch_table_nodes_parameter_Parameter_row_5[120] = {
-    0, 0, 0, 0, 0, 0, 0, 0, 0, 0, 0, 0, 0, 0, 0, 0, 0, 0, 0, 0, 0, 0, 0, 0, 2, 0, 0, 0, 0, 0, 0, 0, 1, 0, 0, 0, 0, 0,
-    0, 0, 1, 0, 0, 0, 0, 0, 0, 0, 1, 0, 0, 0, 0, 0, 0, 0, 1, 0, 0, 0, 0, 0, 0, 0, 7, 0, 0, 0, 0, 0, 0, 0, 0, 0, 0, 0,
-    0, 0, 0, 0, 1, 0, 0, 0, 0, 0, 0, 0, 1, 0, 0, 0, 0, 0, 0, 0, 1, 0, 0, 0, 0, 0, 0, 0, 16, 0, 0, 0, 0, 0, 0, 0, 0, 0,
-    0, 0, 0, 0, 0, 0
-};
-static const unsigned char switch_table_nodes_parameter_Parameter_row_6[120] = {
-    255, 3, 0, 0, 0, 0, 0, 0, 63, 0, 0, 0, 0, 0, 0, 0, 7, 0, 0, 0, 0, 0, 0, 0, 254, 0, 0, 0, 0, 0, 0, 0, 127, 0, 0, 0,
-    0, 0, 0, 0, 255, 0, 0, 0, 0, 0, 0, 0, 255, 255, 0, 0, 0, 0, 0, 0, 248, 3, 0, 0, 0, 0, 0, 0, 6, 0, 1, 0, 0, 0, 0,
-    0, 255, 255, 255, 255, 255, 255, 255, 255, 64, 0, 0, 0, 0, 0, 0, 0, 64, 0, 0, 0, 0, 0, 0, 0, 255, 255, 0, 0, 0, 0,
-    0, 0, 0, 8, 0, 0, 0, 0, 0, 0, 1, 0, 0, 0, 0, 0, 0, 0
-};
-static const unsigned char switch_table_nodes_fault_LinkFault_name[56] = {
-    7, 0, 0, 0, 0, 0, 0, 0, 9, 0, 0, 0, 0, 0, 0, 0, 10, 0, 0, 0, 0, 0, 0, 0, 7, 0, 0, 0, 0, 0, 0, 0, 9, 0, 0, 0, 0, 0,
-    0, 0, 6, 0, 0, 0, 0, 0, 0, 0, 8, 0, 0, 0, 0, 0, 0, 0
-};
-static const unsigned char switch_table_cop1_fault_CopFault_name[72] = {
-    5, 0, 0, 0, 0, 0, 0, 0, 6, 0, 0, 0, 0, 0, 0, 0, 5, 0, 0, 0, 0, 0, 0, 0, 5, 0, 0, 0, 0, 0, 0, 0, 6, 0, 0, 0, 0, 0,
-    0, 0, 7, 0, 0, 0, 0, 0, 0, 0, 4, 0, 0, 0, 0, 0, 0, 0, 10, 0, 0, 0, 0, 0, 0, 0, 5, 0, 0, 0, 0, 0, 0, 0
+static const unsigned char constant_500[9] = {
+    32, 115, 107, 105, 112, 112, 101, 100, 32
 };
 static const unsigned char switch_table_cop1_vocabulary_Alert_name[56] = {
     7, 0, 0, 0, 0, 0, 0, 0, 3, 0, 0, 0, 0, 0, 0, 0, 4, 0, 0, 0, 0, 0, 0, 0, 5, 0, 0, 0, 0, 0, 0, 0, 5, 0, 0, 0, 0, 0,
     0, 0, 5, 0, 0, 0, 0, 0, 0, 0, 10, 0, 0, 0, 0, 0, 0, 0
 };
-static const unsigned char switch_table_node_answers_answers_push_received[48] = {
-    8, 0, 0, 0, 0, 0, 0, 0, 5, 0, 0, 0, 0, 0, 0, 0, 8, 0, 0, 0, 0, 0, 0, 0, 6, 0, 0, 0, 0, 0, 0, 0, 7, 0, 0, 0, 0, 0,
-    0, 0, 9, 0, 0, 0, 0, 0, 0, 0
-};
 #endif
 #if !defined PART || PART == 6 || PART == 7
-static const unsigned char switch_table_listings_stream_list_records_ba330065ffbb15ec_[40] = {
-    9, 0, 0, 0, 0, 0, 0, 0, 11, 0, 0, 0, 0, 0, 0, 0, 11, 0, 0, 0, 0, 0, 0, 0, 10, 0, 0, 0, 0, 0, 0, 0, 7, 0, 0, 0, 0,
-    0, 0, 0
-};
-#endif
-#if !defined PART || PART == 6 || PART == 7 || PART == 8
-static const unsigned char switch_table_listings_stream_list_piece_de90aa9db3f309e3_[80] = {
-    6, 0, 0, 0, 0, 0, 0, 0, 7, 0, 0, 0, 0, 0, 0, 0, 5, 0, 0, 0, 0, 0, 0, 0, 6, 0, 0, 0, 0, 0, 0, 0, 7, 0, 0, 0, 0, 0,
-    0, 0, 5, 0, 0, 0, 0, 0, 0, 0, 6, 0, 0, 0, 0, 0, 0, 0, 10, 0, 0, 0, 0, 0, 0, 0, 4, 0, 0, 0, 0, 0, 0, 0, 10, 0, 0,
-    0, 0, 0, 0, 0
-};
-static const unsigned char switch_table_listings_stream_list_piece_b363da2399265164_56[40] = {
-    4, 0, 0, 0, 0, 0, 0, 0, 7, 0, 0, 0, 0, 0, 0, 0, 3, 0, 0, 0, 0, 0, 0, 0, 5, 0, 0, 0, 0, 0, 0, 0, 5, 0, 0, 0, 0, 0,
-    0, 0
-};
-static const unsigned char switch_table_listings_stream_list_piece_6915df5b20bf24a7_[96] = {
-    5, 0, 0, 0, 0, 0, 0, 0, 7, 0, 0, 0, 0, 0, 0, 0, 12, 0, 0, 0, 0, 0, 0, 0, 5, 0, 0, 0, 0, 0, 0, 0, 6, 0, 0, 0, 0, 0,
-    0, 0, 5, 0, 0, 0, 0, 0, 0, 0, 12, 0, 0, 0, 0, 0, 0, 0, 9, 0, 0, 0, 0, 0, 0, 0, 7, 0, 0, 0, 0, 0, 0, 0, 4, 0, 0, 0,
-    0, 0, 0, 0, 10, 0, 0, 0, 0, 0, 0, 0, 6, 0, 0, 0, 0, 0, 0, 0
-};
-#endif
-#if !defined PART || PART == 7
-static const unsigned char constant_462[8] = {
-    99, 104, 97, 110, 110, 101, 108, 61
-};
-static const unsigned char constant_477[6] = {
-    66, 121, 112, 97, 115, 115
-};
-static const unsigned char constant_500[9] = {
-    32, 115, 107, 105, 112, 112, 101, 100, 32
-};
-#endif
-#if !defined PART || PART == 7 || PART == 8
 static const unsigned char constant_454[1024] = {
     48, 48, 48, 1, 49, 48, 48, 1, 50, 48, 48, 1, 51, 48, 48, 1, 52, 48, 48, 1, 53, 48, 48, 1, 54, 48, 48, 1, 55, 48,
     48, 1, 56, 48, 48, 1, 57, 48, 48, 1, 49, 48, 48, 2, 49, 49, 48, 2, 49, 50, 48, 2, 49, 51, 48, 2, 49, 52, 48, 2,
@@ -3219,12 +3206,35 @@ static const unsigned char constant_454[1024] = {
     55, 3, 50, 52, 56, 3, 50, 52, 57, 3, 50, 53, 48, 3, 50, 53, 49, 3, 50, 53, 50, 3, 50, 53, 51, 3, 50, 53, 52, 3,
     50, 53, 53, 3
 };
+static const unsigned char switch_table_listings_stream_list_records_ba330065ffbb15ec_[40] = {
+    9, 0, 0, 0, 0, 0, 0, 0, 11, 0, 0, 0, 0, 0, 0, 0, 11, 0, 0, 0, 0, 0, 0, 0, 10, 0, 0, 0, 0, 0, 0, 0, 7, 0, 0, 0, 0,
+    0, 0, 0
+};
+#endif
+#if !defined PART || PART == 6 || PART == 7 || PART == 8
+static const unsigned char switch_table_listings_stream_list_piece_6915df5b20bf24a7_[96] = {
+    5, 0, 0, 0, 0, 0, 0, 0, 7, 0, 0, 0, 0, 0, 0, 0, 12, 0, 0, 0, 0, 0, 0, 0, 5, 0, 0, 0, 0, 0, 0, 0, 6, 0, 0, 0, 0, 0,
+    0, 0, 5, 0, 0, 0, 0, 0, 0, 0, 12, 0, 0, 0, 0, 0, 0, 0, 9, 0, 0, 0, 0, 0, 0, 0, 7, 0, 0, 0, 0, 0, 0, 0, 4, 0, 0, 0,
+    0, 0, 0, 0, 10, 0, 0, 0, 0, 0, 0, 0, 6, 0, 0, 0, 0, 0, 0, 0
+};
+#endif
+#if !defined PART || PART == 6 || PART == 8
+static const unsigned char switch_table_listings_stream_list_piece_b363da2399265164_56[40] = {
+    4, 0, 0, 0, 0, 0, 0, 0, 7, 0, 0, 0, 0, 0, 0, 0, 3, 0, 0, 0, 0, 0, 0, 0, 5, 0, 0, 0, 0, 0, 0, 0, 5, 0, 0, 0, 0, 0,
+    0, 0
+};
 static const unsigned char switch_table_listings_stream_list_piece_22ca68170136ed98_[48] = {
     9, 0, 0, 0, 0, 0, 0, 0, 7, 0, 0, 0, 0, 0, 0, 0, 17, 0, 0, 0, 0, 0, 0, 0, 4, 0, 0, 0, 0, 0, 0, 0, 10, 0, 0, 0, 0,
     0, 0, 0, 6, 0, 0, 0, 0, 0, 0, 0
 };
 #endif
-#if !defined PART || PART == 8
+#if !defined PART || PART == 7
+static const unsigned char constant_462[8] = {
+    99, 104, 97, 110, 110, 101, 108, 61
+};
+static const unsigned char constant_477[6] = {
+    66, 121, 112, 97, 115, 115
+};
 static const unsigned char constant_501[200] = {
     48, 48, 48, 49, 48, 50, 48, 51, 48, 52, 48, 53, 48, 54, 48, 55, 48, 56, 48, 57, 49, 48, 49, 49, 49, 50, 49, 51,
     49, 52, 49, 53, 49, 54, 49, 55, 49, 56, 49, 57, 50, 48, 50, 49, 50, 50, 50, 51, 50, 52, 50, 53, 50, 54, 50, 55,
@@ -3235,12 +3245,14 @@ static const unsigned char constant_501[200] = {
     56, 52, 56, 53, 56, 54, 56, 55, 56, 56, 56, 57, 57, 48, 57, 49, 57, 50, 57, 51, 57, 52, 57, 53, 57, 54, 57, 55,
     57, 56, 57, 57
 };
+static const unsigned char switch_table_listings_telemetry_TelemetryListingListingFrameCutter_take_e34973c183157f3b_[32] = {
+    4, 0, 0, 0, 0, 0, 0, 0, 7, 0, 0, 0, 0, 0, 0, 0, 3, 0, 0, 0, 0, 0, 0, 0, 5, 0, 0, 0, 0, 0, 0, 0
+};
+#endif
+#if !defined PART || PART == 8
 static const unsigned char constant_518[28] = {
     102, 97, 105, 108, 101, 100, 32, 116, 111, 32, 119, 114, 105, 116, 101, 32, 119, 104, 111, 108, 101, 32, 98, 117,
     102, 102, 101, 114
-};
-static const unsigned char switch_table_listings_telemetry_TelemetryListingListingFrameCutter_take_e34973c183157f3b_[32] = {
-    4, 0, 0, 0, 0, 0, 0, 0, 7, 0, 0, 0, 0, 0, 0, 0, 3, 0, 0, 0, 0, 0, 0, 0, 5, 0, 0, 0, 0, 0, 0, 0
 };
 #endif
 ROOM unsigned char constant_68[24 + 15];
@@ -4133,8 +4145,10 @@ LOCAL void core_mem_drop_09dedc624c4eb86b(uint64_t p0);
 LOCAL void nodes_nodes_owned_segment_OwnedSegment_Destruct_drop(uint64_t p0);
 LOCAL void std_alloc_vec_deque_VecDeque_clear_b91120b3987bfff5(uint64_t p0);
 LOCAL void std_alloc_vec_opened_drop_run_09dedc624c4eb86b(uint64_t p0, uint64_t p1, uint64_t p2);
+LOCAL void std_alloc_vec_deque_VecDeque_truncate_ab712b15485b8137(uint64_t p0, uint64_t p1);
 LOCAL void std_alloc_vec_Vec_destroy_empty_0956fa20d2e9e8d8(uint64_t p0);
 LOCAL void std_alloc_vec_deque_VecDeque_drop_54ecb467e50d9ac7(uint64_t p0);
+LOCAL void std_alloc_vec_opened_drop_run_14a212f36676944b(uint64_t p0, uint64_t p1, uint64_t p2);
 LOCAL void core_mem_drop_2be10895257269c2(uint64_t p0);
 LOCAL void std_alloc_vec_opened_drop_run_2be10895257269c2(uint64_t p0, uint64_t p1, uint64_t p2);
 LOCAL void std_alloc_vec_Vec_destroy_empty_49bbd27f022ae39a(uint64_t p0);
@@ -4200,6 +4214,7 @@ LOCAL void std_alloc_vec_Vec_destroy_empty_b92d73155746ed2e(uint64_t p0);
 LOCAL void std_alloc_vec_Vec_truncate_c4b493c3d24b93db(uint64_t p0, uint64_t p1);
 LOCAL void std_alloc_vec_Vec_drop_53a4c03472232ebd(uint64_t p0);
 LOCAL void cop1_farm_Farm_set_vr(uint64_t p0, uint32_t p1);
+LOCAL void std_alloc_vec_deque_VecDeque_push_back_reserved_0956fa20d2e9e8d8(uint64_t p0, uint64_t p1);
 LOCAL void std_alloc_vec_opened_drop_run_03d4c2b8051eaf83(uint64_t p0, uint64_t p1, uint64_t p2);
 LOCAL void std_alloc_vec_Vec_destroy_empty_9144b5853a75d9b2(uint64_t p0);
 LOCAL void circular_buffer_ring_Ring_take_front_0956fa20d2e9e8d8(uint64_t p0, uint64_t p1);
@@ -4377,9 +4392,9 @@ LOCAL uint64_t listings_parts_put_eight(uint64_t p0, uint64_t p1, uint32_t p2);
 LOCAL uint64_t listings_parts_put_long(uint64_t p0, uint64_t p1, uint64_t p2);
 LOCAL uint32_t listings_text_Text_grow(uint64_t p0, uint64_t p1);
 LOCAL uint32_t listings_line_words_parts_words(uint64_t p0, uint64_t p1, uint32_t p2);
-LOCAL uint32_t listings_totals_count_ended(uint64_t p0, uint64_t p1, uint64_t p2, uint64_t p3);
+LOCAL uint32_t listings_totals_count_ended(uint64_t p0, uint64_t p1, uint64_t p2, uint64_t p3, uint64_t p4);
 LOCAL uint64_t listings_line_words_past_sixteens(uint64_t p0, uint64_t p1);
-LOCAL uint32_t listings_totals_count_written(uint64_t p0, uint64_t p1, uint64_t p2);
+LOCAL uint32_t listings_totals_count_written(uint64_t p0, uint64_t p1, uint64_t p2, uint64_t p3);
 LOCAL void std_alloc_vec_lodged_Vec_T_Lodged_insert_reserved_2262cf5b90b10fda(uint64_t p0, uint64_t p1, uint64_t p2);
 LOCAL void std_alloc_vec_lodged_Vec_T_Lodged_insert_reserved_9a902977d02facbb(uint64_t p0, uint64_t p1, uint64_t p2);
 LOCAL uint64_t std_alloc_vec_Vec_remove_1307c8e0442ede3e(uint64_t p0);
@@ -13838,9 +13853,6 @@ l9:;
     return;
 }
 
-#endif
-
-#if !defined PART || PART == 2
 LOCAL void stream_commands_listed_list_lines_b99d0d7bbca1d585(uint64_t p0, uint64_t p1, uint64_t p2, uint64_t p3)
 {
     unsigned char frame_octets[12992 + 15];
@@ -16939,6 +16951,9 @@ l1:;
     return;
 }
 
+#endif
+
+#if !defined PART || PART == 2
 LOCAL uint64_t os_path_nul_position(uint64_t p0, uint64_t p1)
 {
     uint64_t v2 = 0;
@@ -23057,9 +23072,6 @@ l1:;
     return;
 }
 
-#endif
-
-#if !defined PART || PART == 3
 LOCAL void tctool_simulation_run_script_1002a7eb2e9facbe(uint64_t p0, uint64_t p1, uint64_t p2, uint64_t p3)
 {
     unsigned char frame_octets[31536 + 15];
@@ -25517,6 +25529,9 @@ l2:;
     return;
 }
 
+#endif
+
+#if !defined PART || PART == 3
 LOCAL void tctool_cannot_open(uint64_t p0, uint64_t p1, uint64_t p2, uint64_t p3)
 {
     unsigned char frame_octets[128 + 15];
@@ -31370,9 +31385,6 @@ LOCAL uint32_t std_alloc_string_String_write_fmt_b77c81cbf5ad7277(uint64_t p0, u
     return v4 & 255;
 }
 
-#endif
-
-#if !defined PART || PART == 4
 LOCAL void std_alloc_string_String_format_605efbca80f73881(uint64_t p0, uint64_t p1)
 {
     unsigned char frame_octets[176 + 15];
@@ -35431,6 +35443,9 @@ LOCAL void clap_parser_parse_Parser_parse(uint64_t p0, uint64_t p1, uint64_t p2,
     }
 }
 
+#endif
+
+#if !defined PART || PART == 4
 LOCAL uint32_t clap_parser_matcher_ArgMatcher_start(uint64_t p0, uint64_t p1, uint64_t p2, uint32_t p3, uint32_t p4)
 {
     unsigned char frame_octets[336 + 15];
@@ -40223,9 +40238,6 @@ l3:;
     return;
 }
 
-#endif
-
-#if !defined PART || PART == 5
 LOCAL void clap_output_help_subcommand_spec_vals(uint64_t p0, uint64_t p1)
 {
     unsigned char frame_octets[240 + 15];
@@ -44883,6 +44895,9 @@ l5:;
     return;
 }
 
+#endif
+
+#if !defined PART || PART == 5
 LOCAL uint32_t std_alloc_string_String_write_fmt_5a254c874babc368(uint64_t p0, uint64_t p1)
 {
     unsigned char frame_octets[176 + 15];
@@ -49776,14 +49791,14 @@ l2:;
 
 LOCAL void nodes_spacecraft_Spacecraft_of(uint64_t p0, uint64_t p1)
 {
-    unsigned char frame_octets[352 + 15];
+    unsigned char frame_octets[368 + 15];
     uint32_t v3 = 0, v4 = 0, v5 = 0, v6 = 0, v8 = 0, v14 = 0, v15 = 0, v16 = 0;
     uint64_t v2 = 0, v7 = 0, v9 = 0, v10 = 0, v11 = 0, v12 = 0, v13 = 0;
     v2 = aligned(frame_octets);
-    fill(v2 + 40, 0, 70);
-    fill(v2 + 112, 0, 5);
-    fill(v2 + 120, 0, 79);
-    fill(v2 + 202, 0, 78);
+    fill(v2 + 32, 0, 70);
+    fill(v2 + 104, 0, 5);
+    fill(v2 + 112, 0, 79);
+    fill(v2 + 194, 0, 78);
     v3 = get32(p1 + 12);
     if ((v3 & 255) == 0 || (v3 & 1) != 0) UNREACHABLE;
     v4 = get32(p1);
@@ -49794,24 +49809,24 @@ LOCAL void nodes_spacecraft_Spacecraft_of(uint64_t p0, uint64_t p1)
     if ((v6 - 16) > 0x7f0) UNREACHABLE;
     v7 = (uint64_t)get32(p1 + 48);
     v8 = get32(p1 + 64);
-    fill(v2 + 288, 0, 16);
-    put64(v2 + 280, v2 + 344);
+    fill(v2 + 304, 0, 16);
+    put64(v2 + 296, v2 + 360);
     v7 = (v8 == 1) ? (v7 + 144) : v7;
     if (v7 == 0) {
-        v9 = v2 + 344;
+        v9 = v2 + 360;
     } else {
-        std_heap_GlobalAllocator_allocate(v2 + 24, v7 << 5, 8);
-        if (get8(v2 + 24) != 0) {
-            std_alloc_vec_Vec_destroy_empty_0956fa20d2e9e8d8(v2 + 280);
+        std_heap_GlobalAllocator_allocate(v2 + 16, v7 << 5, 8);
+        if (get8(v2 + 16) != 0) {
+            std_alloc_vec_Vec_destroy_empty_0956fa20d2e9e8d8(v2 + 296);
             v13 = 0;
-            fill(v2 + 328, 0, 16);
-            put64(v2 + 320, v2 + 344);
-            std_alloc_vec_Vec_drop_030412a25431895c(v2 + 320);
-            fill(v2 + 288, 0, 32);
-            put64(v2 + 280, v2 + 344);
-            std_alloc_vec_deque_VecDeque_drop_54ecb467e50d9ac7(v2 + 280);
+            fill(v2 + 344, 0, 16);
+            put64(v2 + 336, v2 + 360);
+            std_alloc_vec_Vec_drop_030412a25431895c(v2 + 336);
+            fill(v2 + 304, 0, 32);
+            put64(v2 + 296, v2 + 360);
+            std_alloc_vec_deque_VecDeque_drop_54ecb467e50d9ac7(v2 + 296);
             v6 = 0;
-            fill(v2 + 208, 0, 72);
+            fill(v2 + 200, 0, 72);
             v16 = 1;
             v15 = 5;
             v8 = 0;
@@ -49825,37 +49840,44 @@ LOCAL void nodes_spacecraft_Spacecraft_of(uint64_t p0, uint64_t p1)
             v5 = 0;
             goto l2;
         }
-        v9 = get64(v2 + 32);
+        v9 = get64(v2 + 24);
     }
     v10 = (uint64_t)get32(p1 + 52);
-    std_heap_GlobalAllocator_allocate(v2 + 8, v10 << 5, 8);
-    if (get8(v2 + 8) == 0) {
+    std_heap_GlobalAllocator_allocate(v2, v10 << 5, 8);
+    if (get8(v2) == 0) {
         v11 = (uint64_t)v6;
-        v12 = get64(v2 + 16);
+        v12 = get64(v2 + 8);
         v13 = get64(p1 + 40);
         v8 = get32(p1 + 32);
         v6 = get32(p1 + 28);
         v14 = get32(p1 + 64);
-        copy(v2 + 208, p1, 72);
+        copy(v2 + 200, p1, 72);
         v14 = v14 == 1;
         v15 = 0;
-        p1 = v2 + 344;
+        p1 = v2 + 360;
         v16 = 0;
         goto l1;
     }
-    put64(v2 + 296, v7);
-    v7 = 0;
-    put64(v2 + 288, 0);
-    put64(v2 + 280, v9);
-    std_alloc_vec_Vec_destroy_empty_0956fa20d2e9e8d8(v2 + 280);
-    fill(v2 + 328, 0, 16);
-    put64(v2 + 320, v2 + 344);
-    std_alloc_vec_Vec_drop_030412a25431895c(v2 + 320);
-    fill(v2 + 288, 0, 32);
-    put64(v2 + 280, v2 + 344);
-    std_alloc_vec_deque_VecDeque_drop_54ecb467e50d9ac7(v2 + 280);
+    v12 = 0;
+    put64(v2 + 320, 0);
+    put64(v2 + 312, v7);
+    put64(v2 + 304, 0);
+    put64(v2 + 296, v9);
+    put64(v2 + 328, 0);
+    std_alloc_vec_deque_VecDeque_truncate_ab712b15485b8137(v2 + 296, 0);
+    p1 = get64(v2 + 296);
+    put64(v2 + 352, get64(v2 + 312));
+    put64(v2 + 344, 0);
+    put64(v2 + 336, p1);
+    std_alloc_vec_Vec_destroy_empty_0956fa20d2e9e8d8(v2 + 336);
+    fill(v2 + 280, 0, 16);
+    put64(v2 + 272, v2 + 360);
+    std_alloc_vec_Vec_drop_030412a25431895c(v2 + 272);
+    fill(v2 + 304, 0, 32);
+    put64(v2 + 296, v2 + 360);
+    std_alloc_vec_deque_VecDeque_drop_54ecb467e50d9ac7(v2 + 296);
     v5 = 0;
-    fill(v2 + 208, 0, 72);
+    fill(v2 + 200, 0, 72);
     v16 = 1;
     v15 = 5;
     v6 = 0;
@@ -49864,19 +49886,19 @@ LOCAL void nodes_spacecraft_Spacecraft_of(uint64_t p0, uint64_t p1)
     v14 = 0;
     p1 = 0;
     v9 = 0;
-    v12 = 0;
+    v7 = 0;
     v10 = 0;
     v4 = 0;
 l2:;
     v11 = 0;
     v3 = 0;
 l1:;
-    fill(v2 + 40, 0, 70);
-    fill(v2 + 112, 0, 5);
-    fill(v2 + 120, 0, 79);
+    fill(v2 + 32, 0, 70);
+    fill(v2 + 104, 0, 5);
+    fill(v2 + 112, 0, 79);
     put8(p0 + 1, v15);
     put8(p0, v16);
-    copy(p0 + 8, v2 + 208, 72);
+    copy(p0 + 8, v2 + 200, 72);
     put32(p0 + 81, 0);
     put8(p0 + 80, v3);
     put32(p0 + 84, 0);
@@ -49886,13 +49908,13 @@ l1:;
     put32(p0 + 88, v6);
     put64(p0 + 112, p1);
     put64(p0 + 136, 0);
-    put32(p0 + 105, get32(v2 + 192));
-    put32(p0 + 108, get32(v2 + 195));
-    put64(p0 + 120, get64(v2 + 176));
-    put64(p0 + 128, get64(v2 + 184));
-    put64(p0 + 144, get64(v2 + 152));
-    put64(p0 + 152, get64(v2 + 160));
-    put64(p0 + 160, get64(v2 + 168));
+    put32(p0 + 105, get32(v2 + 184));
+    put32(p0 + 108, get32(v2 + 187));
+    put64(p0 + 120, get64(v2 + 168));
+    put64(p0 + 128, get64(v2 + 176));
+    put64(p0 + 144, get64(v2 + 144));
+    put64(p0 + 152, get64(v2 + 152));
+    put64(p0 + 160, get64(v2 + 160));
     put64(p0 + 184, v7);
     put64(p0 + 176, 0);
     put64(p0 + 168, v9);
@@ -49900,27 +49922,27 @@ l1:;
     put64(p0 + 216, v10);
     put8(p0 + 242, v5);
     put16(p0 + 240, v4);
-    put64(p0 + 192, get64(v2 + 136));
-    put64(p0 + 200, get64(v2 + 144));
-    put64(p0 + 224, get64(v2 + 120));
-    put64(p0 + 232, get64(v2 + 128));
-    put32(p0 + 243, get32(v2 + 112));
-    put8(p0 + 247, get8(v2 + 116));
+    put64(p0 + 192, get64(v2 + 128));
+    put64(p0 + 200, get64(v2 + 136));
+    put64(p0 + 224, get64(v2 + 112));
+    put64(p0 + 232, get64(v2 + 120));
+    put32(p0 + 243, get32(v2 + 104));
+    put8(p0 + 247, get8(v2 + 108));
     put16(p0 + 256, 0);
     put64(p0 + 248, v11);
     put64(p0 + 272, p1);
     put64(p0 + 264, 0);
     put64(p0 + 312, p1);
-    put16(p0 + 262, get16(v2 + 108));
-    put32(p0 + 258, get32(v2 + 104));
-    put64(p0 + 280, get64(v2 + 72));
-    put64(p0 + 288, get64(v2 + 80));
-    put64(p0 + 296, get64(v2 + 88));
-    put64(p0 + 304, get64(v2 + 96));
-    put64(p0 + 344, get64(v2 + 64));
-    put64(p0 + 336, get64(v2 + 56));
-    put64(p0 + 328, get64(v2 + 48));
-    put64(p0 + 320, get64(v2 + 40));
+    put16(p0 + 262, get16(v2 + 100));
+    put32(p0 + 258, get32(v2 + 96));
+    put64(p0 + 280, get64(v2 + 64));
+    put64(p0 + 288, get64(v2 + 72));
+    put64(p0 + 296, get64(v2 + 80));
+    put64(p0 + 304, get64(v2 + 88));
+    put64(p0 + 344, get64(v2 + 56));
+    put64(p0 + 336, get64(v2 + 48));
+    put64(p0 + 328, get64(v2 + 40));
+    put64(p0 + 320, get64(v2 + 32));
     return;
 }
 
@@ -50205,9 +50227,6 @@ LOCAL void script_lines_words_octets_of_digits(uint64_t p0, uint64_t p1, uint64_
     return;
 }
 
-#endif
-
-#if !defined PART || PART == 6
 LOCAL void nodes_ground_node_Ground_prepare(uint64_t p0, uint64_t p1, uint32_t p2, uint64_t p3, uint64_t p4)
 {
     unsigned char frame_octets[448 + 15];
@@ -53241,7 +53260,7 @@ LOCAL void nodes_spacecraft_Spacecraft_hand_on(uint64_t p0, uint64_t p1, uint64_
 {
     unsigned char frame_octets[176 + 15];
     uint32_t v10 = 0, v11 = 0, v14 = 0, t1;
-    uint64_t v3 = 0, v4 = 0, v5 = 0, v6 = 0, v7 = 0, v8 = 0, v9 = 0, v12 = 0, v13 = 0, v15 = 0;
+    uint64_t v3 = 0, v4 = 0, v5 = 0, v6 = 0, v7 = 0, v8 = 0, v9 = 0, v12 = 0, v13 = 0;
     v3 = aligned(frame_octets);
     fill(v3 + 8, 0, 32);
     v4 = get64(p2 + 96);
@@ -53381,59 +53400,36 @@ l1:;
     put64(v3 + 128, v5);
     put64(v3 + 136, p2);
     put64(v3 + 104, v12);
-    v5 = v3 + 151;
-    v7 = v3 + 112;
-    v9 = p0 + 184;
-    v8 = p0 + 176;
-    v12 = p0 + 192;
-    v6 = p0 + 168;
-    v15 = p0 + 160;
+    v12 = p0 + 160;
+    v5 = (v3 + 40) | 1;
+    p0 = v3 + 151;
+    v13 = v3 + 112;
     p2 = 0;
     for (;;) {
-        p0 = get64(v3 + 120);
+        p1 = get64(v3 + 120);
         v10 = v11 & 255;
-        if (p2 == ((v10 != 0) ? p0 : get64(v3 + 136))) break;
+        if (p2 == ((v10 != 0) ? p1 : get64(v3 + 136))) break;
         put64(v3 + 96, p2 + 1);
-        p2 = ((v10 != 0) ? get64(v3 + 112) : v7) + (p2 * 24);
-        p0 = get64(p2 + 16);
+        p2 = ((v10 != 0) ? get64(v3 + 112) : v13) + (p2 * 24);
+        p1 = get64(p2 + 16);
         put64(p2 + 16, 0);
-        p1 = get64(p2 + 8);
+        v6 = get64(p2 + 8);
         put64(p2 + 8, 0);
         v4 = get64(p2);
         put64(v3 + 72, v4);
-        put64(v3 + 80, p1);
-        put64(v3 + 88, p0);
+        put64(v3 + 80, v6);
+        put64(v3 + 88, p1);
         put64(p2, v3 + 175);
-        put64(v5 + 16, p0);
-        put64(v5 + 8, p1);
-        put64(v5, v4);
+        put64(p0 + 16, p1);
+        put64(p0 + 8, v6);
+        put64(p0, v4);
         fill(v3 + 144, 0, 7);
-        put64(v3 + 63, get64(v3 + 167));
-        put64(v3 + 56, get64(v3 + 160));
-        put64(v3 + 48, get64(v3 + 152));
-        put64(v3 + 40, get64(v3 + 144));
-        p2 = get64(v15);
-        p0 = get64(v6);
-        p1 = get64(v12);
-        v4 = p0 - p1;
-        v13 = get64(v9);
-        if (v4 < (get64(v8) - v13)) {
-            p2 = p2 + ((v13 + v4) << 5);
-            put8(p2, v14);
-            put64(p2 + 1, get64(v3 + 40));
-            put64(p2 + 9, get64(v3 + 48));
-            put64(p2 + 17, get64(v3 + 56));
-            put64(p2 + 24, get64(v3 + 63));
-        } else {
-            p2 = p2 + (p1 << 5);
-            put64(p2 + 1, get64(v3 + 40));
-            put8(p2, v14);
-            put64(p2 + 9, get64(v3 + 48));
-            put64(p2 + 17, get64(v3 + 56));
-            put64(p2 + 24, get64(v3 + 63));
-            put64(v12, p1 + 1);
-        }
-        put64(v6, p0 + 1);
+        put64(v5, get64(v3 + 144));
+        put64(v5 + 8, get64(v3 + 152));
+        put64(v5 + 16, get64(v3 + 160));
+        put64(v5 + 23, get64(v3 + 167));
+        put8(v3 + 40, v14);
+        std_alloc_vec_deque_VecDeque_push_back_reserved_0956fa20d2e9e8d8(v12, v3 + 40);
         v11 = get8(v3 + 104);
         p2 = get64(v3 + 96);
     }
@@ -53441,15 +53437,15 @@ l1:;
     p2 = get64(v3 + 112);
     if ((v11 & 255) == 0) {
         put64(v3 + 160, v5);
-        put64(v3 + 152, p0);
+        put64(v3 + 152, p1);
         put64(v3 + 144, p2);
         std_alloc_vec_Vec_drop_030412a25431895c(v3 + 144);
         return;
     }
-    if (p0 != 0) {
-        put64(v3 + 152, p0);
+    if (p1 != 0) {
+        put64(v3 + 152, p1);
         put64(v3 + 144, p2);
-        std_alloc_vec_opened_drop_run_03d4c2b8051eaf83(v3 + 144, 0, p0);
+        std_alloc_vec_opened_drop_run_03d4c2b8051eaf83(v3 + 144, 0, p1);
     }
     put64(v3 + 160, v5);
     put64(v3 + 152, 0);
@@ -54590,6 +54586,40 @@ LOCAL void std_alloc_vec_opened_drop_run_09dedc624c4eb86b(uint64_t p0, uint64_t 
     }
 }
 
+LOCAL void std_alloc_vec_deque_VecDeque_truncate_ab712b15485b8137(uint64_t p0, uint64_t p1)
+{
+    unsigned char frame_octets[16 + 15];
+    uint64_t v2 = 0, v3 = 0, v4 = 0, v5 = 0, v6 = 0, v7 = 0, v8 = 0, v9 = 0, v10 = 0, v11 = 0;
+    v2 = aligned(frame_octets);
+    v3 = p0 + 8;
+    v4 = get64(v3);
+    if (v4 <= p1) return;
+    put64(v3, 0);
+    v5 = p0 + 16;
+    v6 = get64(v5);
+    put64(v3 + 8, 0);
+    v7 = p0 + 24;
+    v8 = get64(v7);
+    put64(v3 + 16, 0);
+    v9 = p0 + 32;
+    v10 = get64(v9);
+    put64(v3 + 24, 0);
+    v11 = get64(p0);
+    put64(v2, v11);
+    put64(v2 + 8, v6);
+    v4 = v4 - v10;
+    std_alloc_vec_opened_drop_run_14a212f36676944b(v2, v8 + ((p1 > v4) ? v4 : p1), v8 + v4);
+    v4 = p1 - v4;
+    v4 = (v4 > p1) ? 0ULL : v4;
+    std_alloc_vec_opened_drop_run_14a212f36676944b(v2, v4, v10);
+    put64(v9, v4);
+    put64(v7, v8);
+    put64(v5, v6);
+    put64(v3, p1);
+    put64(p0, v11);
+    return;
+}
+
 LOCAL void std_alloc_vec_Vec_destroy_empty_0956fa20d2e9e8d8(uint64_t p0)
 {
     if (get64(p0 + 16) == 0) return;
@@ -54602,6 +54632,26 @@ LOCAL void std_alloc_vec_deque_VecDeque_drop_54ecb467e50d9ac7(uint64_t p0)
     if (get64(p0 + 16) == 0) return;
     rattle_dealloc_at(get64(p0));
     return;
+}
+
+LOCAL void std_alloc_vec_opened_drop_run_14a212f36676944b(uint64_t p0, uint64_t p1, uint64_t p2)
+{
+    unsigned char frame_octets[32 + 15];
+    uint64_t v3 = 0, v4 = 0;
+    v3 = aligned(frame_octets);
+    v4 = p2 - p1;
+    p2 = (v4 > p2) ? 0ULL : v4;
+    p1 = (p1 << 5) | 8;
+    for (;;) {
+        if (p2 == 0) return;
+        v4 = get64(p0) + p1;
+        put64(v3 + 24, get64(v4 + 16));
+        put64(v3 + 16, get64(v4 + 8));
+        put64(v3 + 8, get64(v4));
+        p2 = p2 - 1;
+        p1 = p1 + 32;
+        std_alloc_vec_Vec_drop_030412a25431895c(v3 + 8);
+    }
 }
 
 LOCAL void core_mem_drop_2be10895257269c2(uint64_t p0)
@@ -55601,6 +55651,9 @@ LOCAL void core_ptr_copy_drop_copy_nonoverlapping_2262cf5b90b10fda(uint64_t p0, 
     return;
 }
 
+#endif
+
+#if !defined PART || PART == 6
 LOCAL void map_service_packets_fault_of_alone(uint64_t p0, uint64_t p1, uint64_t p2, uint64_t p3)
 {
     uint32_t v5 = 0, v6 = 0, v7 = 0, v8 = 0;
@@ -56383,6 +56436,39 @@ LOCAL void cop1_farm_Farm_set_vr(uint64_t p0, uint32_t p1)
     if (get8(p0 + 2) != 0) return;
     put16(p0 + 3, 0);
     put8(p0 + 1, p1);
+    return;
+}
+
+LOCAL void std_alloc_vec_deque_VecDeque_push_back_reserved_0956fa20d2e9e8d8(uint64_t p0, uint64_t p1)
+{
+    uint64_t v2 = 0, v3 = 0, v4 = 0, v5 = 0, v6 = 0, v7 = 0, v8 = 0;
+    v2 = get64(p0);
+    v3 = get64(p0 + 8);
+    v4 = p0 + 32;
+    v5 = get64(v4);
+    v6 = v3 - v5;
+    v7 = get64(p0 + 24);
+    if (v6 < (get64(p0 + 16) - v7)) {
+        v5 = get64(p1);
+        v4 = get64(p1 + 8);
+        v8 = get64(p1 + 16);
+        v2 = v2 + ((v7 + v6) << 5);
+        put64(v2 + 24, get64(p1 + 24));
+        put64(v2 + 16, v8);
+        put64(v2 + 8, v4);
+        put64(v2, v5);
+    } else {
+        v6 = get64(p1);
+        v7 = get64(p1 + 8);
+        v8 = get64(p1 + 16);
+        v2 = v2 + (v5 << 5);
+        put64(v2 + 24, get64(p1 + 24));
+        put64(v2 + 16, v8);
+        put64(v2 + 8, v7);
+        put64(v2, v6);
+        put64(v4, v5 + 1);
+    }
+    put64(p0 + 8, v3 + 1);
     return;
 }
 
@@ -59503,81 +59589,81 @@ LOCAL uint32_t std_alloc_vec_Vec_push_bbd08ad089034210(uint64_t p0)
 
 LOCAL void node_lines_player_answer_54fc8b3eca759606(uint64_t p0, uint64_t p1, uint64_t p2, uint64_t p3)
 {
-    unsigned char frame_octets[2272 + 15];
-    uint32_t v7 = 0, v8 = 0, v9 = 0, v10 = 0, v11 = 0, v12 = 0, v13 = 0, v14 = 0, v15 = 0, v16 = 0, v17 = 0, t1, t2,
-        t4, t5, t7, t9, t10, t11, t12, t13, t14, t15, t16, t17, t18, t19, t20, t21, t22, t23, t24, t25, t26, t27, t28,
-        t29, t30;
-    uint64_t v4 = 0, v5 = 0, v6 = 0, v18 = 0, t3;
+    unsigned char frame_octets[2368 + 15];
+    uint32_t v7 = 0, v8 = 0, v9 = 0, v10 = 0, v11 = 0, v12 = 0, v13 = 0, v14 = 0, v15 = 0, v16 = 0, t1, t2, t4, t5,
+        t7, t9, t10, t11, t12, t13, t14, t15, t16, t17, t18, t19, t20, t21, t22, t23, t24, t25, t26, t27, t28, t29,
+        t30;
+    uint64_t v4 = 0, v5 = 0, v6 = 0, v17 = 0, v18 = 0, v19 = 0, v20 = 0, v21 = 0, v22 = 0, t3;
     v4 = aligned(frame_octets);
     v5 = get64(p2 + 16);
     v6 = get64(p2 + 8);
     p2 = (uint64_t)get8(p2);
     v7 = 0;
-    fill(v4 + 24, 0, 5);
+    fill(v4 + 32, 0, 5);
     switch ((uint32_t)p2) {
     case 3:
-        v12 = 0;
-        fill(v4 + 192, 0, 0x800);
-        t3 = nodes_spacecraft_Spacecraft_report(p1, v4 + 192);
-        t4 = node_answers_answers_push_sent(p3, v4 + 192, t3);
+        v10 = 0;
+        fill(v4 + 312, 0, 0x800);
+        t3 = nodes_spacecraft_Spacecraft_report(p1, v4 + 312);
+        t4 = node_answers_answers_push_sent(p3, v4 + 312, t3);
         if ((t4 & 255) == 0) goto l4;
         v7 = 1;
-        put8(p0 + 1, v12);
+        put8(p0 + 1, v10);
         put8(p0, v7);
         return;
     case 4:
-        nodes_spacecraft_Spacecraft_control_word(v4 + 24, p1);
-        t5 = node_answers_answers_push_report(p3, v4 + 24);
-        if ((t5 & 255) != 0) goto l3;
-        goto l4;
+        nodes_spacecraft_Spacecraft_control_word(v4 + 32, p1);
+        t5 = node_answers_answers_push_report(p3, v4 + 32);
+        if ((t5 & 255) == 0) goto l4;
+        goto l3;
     case 6:
-        nodes_spacecraft_Spacecraft_take(v4 + 192, p1);
+        nodes_spacecraft_Spacecraft_take(v4 + 312, p1);
         v7 = 1;
-        if (get8(v4 + 192) != 1) {
+        if (get8(v4 + 312) != 1) {
             t7 = std_alloc_string_String_push_str_c9f0b165bbde0115(p3, address(constant_314), 7);
             if ((t7 & 255) != 0) goto l2;
             goto l4;
         }
-        p2 = get64(v4 + 224);
-        p1 = get64(v4 + 208);
-        v5 = get64(v4 + 216);
-        v12 = node_answers_answers_push_packet(p3, get8(v4 + 200), p1, v5);
-        put64(v4 + 104, p2);
-        put64(v4 + 96, v5);
-        put64(v4 + 88, p1);
-        std_alloc_vec_Vec_drop_22dcaffff3fe4929(v4 + 88);
-        if ((v12 & 255) != 0) goto l2;
+        p2 = get64(v4 + 344);
+        p1 = get64(v4 + 328);
+        v5 = get64(v4 + 336);
+        v10 = node_answers_answers_push_packet(p3, get8(v4 + 320), p1, v5);
+        put64(v4 + 128, p2);
+        put64(v4 + 120, v5);
+        put64(v4 + 112, p1);
+        std_alloc_vec_Vec_drop_22dcaffff3fe4929(v4 + 112);
+        if ((v10 & 255) != 0) goto l2;
         goto l4;
     case 7:
-        nodes_spacecraft_Spacecraft_take_bypass(v4 + 192, p1);
+        nodes_spacecraft_Spacecraft_take_bypass(v4 + 312, p1);
         v7 = 1;
-        if (get8(v4 + 192) != 1) {
+        if (get8(v4 + 312) != 1) {
             t9 = std_alloc_string_String_push_str_c9f0b165bbde0115(p3, address(constant_314), 7);
             if ((t9 & 255) != 0) goto l2;
             goto l4;
         }
-        p2 = get64(v4 + 224);
-        p1 = get64(v4 + 208);
-        v5 = get64(v4 + 216);
-        v12 = node_answers_answers_push_packet(p3, get8(v4 + 200), p1, v5);
-        put64(v4 + 104, p2);
-        put64(v4 + 96, v5);
-        put64(v4 + 88, p1);
-        std_alloc_vec_Vec_drop_22dcaffff3fe4929(v4 + 88);
-        if ((v12 & 255) != 0) goto l2;
+        p2 = get64(v4 + 344);
+        p1 = get64(v4 + 328);
+        v5 = get64(v4 + 336);
+        v10 = node_answers_answers_push_packet(p3, get8(v4 + 320), p1, v5);
+        put64(v4 + 128, p2);
+        put64(v4 + 120, v5);
+        put64(v4 + 112, p1);
+        std_alloc_vec_Vec_drop_22dcaffff3fe4929(v4 + 112);
+        if ((v10 & 255) != 0) goto l2;
         goto l4;
     case 8:
-        nodes_spacecraft_Spacecraft_telemetry(v4 + 16, p1, v6, v5);
-        if (get8(v4 + 16) == 0) {
+        nodes_spacecraft_Spacecraft_telemetry(v4 + 24, p1, v6, v5);
+        if (get8(v4 + 24) == 0) {
             t29 = std_alloc_string_String_push_str_c9f0b165bbde0115(p3, address(constant_313), 2);
-            if ((t29 & 255) != 0) goto l3;
-            goto l4;
+            if ((t29 & 255) == 0) goto l4;
+            goto l3;
         }
-        v12 = get8(v4 + 17);
-        if ((v12 & 255) == 6) goto l3;
-        tm_link_fault_TmFault_name(v4, v12);
+        v10 = get8(v4 + 25);
+        if ((v10 & 255) == 6) goto l3;
+        tm_link_fault_TmFault_name(v4 + 8, v10);
         v7 = 1;
-        t2 = node_answers_answers_push_fault(p3, address(constant_312), v12 + 1, get64(v4), get64(v4 + 8));
+        t2 = node_answers_answers_push_fault(p3, address(constant_312), v10 + 1, get64(v4 + 8), get64(v4 + 16));
         if ((t2 & 255) == 0) goto l4;
         goto l2;
     case 9:
@@ -59590,422 +59676,486 @@ LOCAL void node_lines_player_answer_54fc8b3eca759606(uint64_t p0, uint64_t p1, u
             p2 = (get8(p1 + 75) != 0) ? address(constant_447) : address(constant_446);
             v5 = 4;
         }
-        nodes_spacecraft_Spacecraft_control_word(v4 + 56, p1);
-        put8(v4 + 32, get8(v4 + 60));
-        put64(v4 + 128, 4);
-        put64(v4 + 120, address(constant_445));
-        put64(v4 + 112, v5);
-        put64(v4 + 104, p2);
-        put64(v4 + 96, 6);
-        put64(v4 + 88, address(constant_433));
+        nodes_spacecraft_Spacecraft_control_word(v4 + 216, p1);
+        put8(v4 + 280, get8(v4 + 220));
+        put64(v4 + 152, 4);
+        put64(v4 + 144, address(constant_445));
+        put64(v4 + 136, v5);
+        put64(v4 + 128, p2);
+        put64(v4 + 120, 6);
+        put64(v4 + 112, address(constant_433));
         p2 = p3 + 8;
         v5 = get64(p2);
-        put64(v4 + 136, v4 + 32);
-        put64(v4 + 220, 0);
-        fill(v4 + 240, 0, 16);
-        put32(v4 + 216, 32);
-        put32(v4 + 228, 0);
-        put64(v4 + 232, ~0ULL);
-        put64(v4 + 208, get64(p3 + 16));
-        put64(v4 + 200, get64(p2));
-        put64(v4 + 192, get64(p3));
+        put64(v4 + 160, v4 + 280);
+        put64(v4 + 340, 0);
+        fill(v4 + 360, 0, 16);
+        put32(v4 + 336, 32);
+        put32(v4 + 348, 0);
+        put64(v4 + 352, ~0ULL);
+        put64(v4 + 328, get64(p3 + 16));
+        put64(v4 + 320, get64(p2));
+        put64(v4 + 312, get64(p3));
         v7 = 1;
-        t10 = core_fmt_formatter_Formatter_write_piece_021956a9582caf01(v4 + 192, v4 + 88);
+        t10 = core_fmt_formatter_Formatter_write_piece_021956a9582caf01(v4 + 312, v4 + 112);
         if ((t10 & 255) == 0) {
-            t11 = core_fmt_formatter_Formatter_write_piece_021956a9582caf01(v4 + 192, v4 + 104);
+            t11 = core_fmt_formatter_Formatter_write_piece_021956a9582caf01(v4 + 312, v4 + 128);
             if ((t11 & 255) == 0) {
-                t12 = core_fmt_formatter_Formatter_write_piece_021956a9582caf01(v4 + 192, v4 + 120);
+                t12 = core_fmt_formatter_Formatter_write_piece_021956a9582caf01(v4 + 312, v4 + 144);
                 if ((t12 & 255) == 0) {
-                    t13 = core_fmt_formatter_Formatter_write_piece_05dbed1a5b08dd1e(v4 + 192, v4 + 136);
+                    t13 = core_fmt_formatter_Formatter_write_piece_05dbed1a5b08dd1e(v4 + 312, v4 + 160);
                     v7 = t13 & 255;
                 }
             }
         }
-        p2 = get64(v4 + 192);
-        put64(v4 + 2248, p2);
-        v6 = get64(v4 + 200);
-        put64(v4 + 2256, v6);
-        v18 = get64(v4 + 208);
-        put64(v4 + 2264, v18);
-        put64(p3 + 16, v18);
+        p2 = get64(v4 + 312);
+        put64(v4 + 248, p2);
+        v6 = get64(v4 + 320);
+        put64(v4 + 256, v6);
+        v17 = get64(v4 + 328);
+        put64(v4 + 264, v17);
+        put64(p3 + 16, v17);
         put64(p3 + 8, v6);
         put64(p3, p2);
         t14 = std_alloc_fmt_undo_if_err_c9f0b165bbde0115(p3, v5, v7);
         if ((t14 & 255) != 0) goto l3;
-        nodes_spacecraft_Spacecraft_control_word(v4 + 56, p1);
-        put8(v4 + 2246, get8(v4 + 59));
-        v12 = 1;
-        v7 = get8(v4 + 58);
-        put8(v4 + 32, (v7 >> 5) & 1);
-        put8(v4 + 80, (v7 >> 4) & 1);
-        put8(v4 + 2247, (v7 >> 3) & 1);
-        put64(v4 + 272, 3);
-        put64(v4 + 264, address(constant_451));
-        put64(v4 + 248, 3);
-        put64(v4 + 240, address(constant_450));
-        put64(v4 + 224, 3);
-        put64(v4 + 216, address(constant_449));
-        put64(v4 + 200, 3);
-        put64(v4 + 192, address(constant_448));
+        nodes_spacecraft_Spacecraft_control_word(v4 + 216, p1);
+        put8(v4 + 40, get8(v4 + 219));
+        v10 = 1;
+        v7 = get8(v4 + 218);
+        put8(v4 + 280, (v7 >> 5) & 1);
+        put8(v4 + 88, (v7 >> 4) & 1);
+        put8(v4 + 64, (v7 >> 3) & 1);
+        put64(v4 + 392, 3);
+        put64(v4 + 384, address(constant_451));
+        put64(v4 + 368, 3);
+        put64(v4 + 360, address(constant_450));
+        put64(v4 + 344, 3);
+        put64(v4 + 336, address(constant_449));
+        put64(v4 + 320, 3);
+        put64(v4 + 312, address(constant_448));
         p2 = p3 + 8;
         v5 = get64(p2);
-        put64(v4 + 280, v4 + 0x8c6);
-        put64(v4 + 256, v4 + 0x8c7);
-        put64(v4 + 232, v4 + 80);
-        put64(v4 + 208, v4 + 32);
-        put64(v4 + 116, 0);
-        fill(v4 + 136, 0, 16);
-        put32(v4 + 112, 32);
-        put32(v4 + 124, 0);
-        put64(v4 + 128, ~0ULL);
-        put64(v4 + 104, get64(p3 + 16));
-        put64(v4 + 96, get64(p2));
-        put64(v4 + 88, get64(p3));
-        t15 = core_fmt_formatter_Formatter_write_piece_021956a9582caf01(v4 + 88, v4 + 192);
-        if ((t15 & 255) != 0) goto l48;
-        t16 = core_fmt_formatter_Formatter_write_piece_05dbed1a5b08dd1e(v4 + 88, v4 + 208);
-        if ((t16 & 255) != 0) goto l48;
-        t17 = core_fmt_formatter_Formatter_write_piece_021956a9582caf01(v4 + 88, v4 + 216);
+        put64(v4 + 400, v4 + 40);
+        put64(v4 + 376, v4 + 64);
+        put64(v4 + 352, v4 + 88);
+        put64(v4 + 328, v4 + 280);
+        put64(v4 + 140, 0);
+        fill(v4 + 160, 0, 16);
+        put32(v4 + 136, 32);
+        put32(v4 + 148, 0);
+        put64(v4 + 152, ~0ULL);
+        put64(v4 + 128, get64(p3 + 16));
+        put64(v4 + 120, get64(p2));
+        put64(v4 + 112, get64(p3));
+        t15 = core_fmt_formatter_Formatter_write_piece_021956a9582caf01(v4 + 112, v4 + 312);
+        if ((t15 & 255) != 0) goto l55;
+        t16 = core_fmt_formatter_Formatter_write_piece_05dbed1a5b08dd1e(v4 + 112, v4 + 328);
+        if ((t16 & 255) != 0) goto l55;
+        t17 = core_fmt_formatter_Formatter_write_piece_021956a9582caf01(v4 + 112, v4 + 336);
         if ((t17 & 255) == 0) {
-            t18 = core_fmt_formatter_Formatter_write_piece_05dbed1a5b08dd1e(v4 + 88, v4 + 232);
+            t18 = core_fmt_formatter_Formatter_write_piece_05dbed1a5b08dd1e(v4 + 112, v4 + 352);
             if ((t18 & 255) == 0) {
-                t19 = core_fmt_formatter_Formatter_write_piece_021956a9582caf01(v4 + 88, v4 + 240);
+                t19 = core_fmt_formatter_Formatter_write_piece_021956a9582caf01(v4 + 112, v4 + 360);
                 if ((t19 & 255) == 0) {
-                    t20 = core_fmt_formatter_Formatter_write_piece_05dbed1a5b08dd1e(v4 + 88, v4 + 256);
+                    t20 = core_fmt_formatter_Formatter_write_piece_05dbed1a5b08dd1e(v4 + 112, v4 + 376);
                     if ((t20 & 255) == 0) {
-                        t21 = core_fmt_formatter_Formatter_write_piece_021956a9582caf01(v4 + 88, v4 + 264);
+                        t21 = core_fmt_formatter_Formatter_write_piece_021956a9582caf01(v4 + 112, v4 + 384);
                         if ((t21 & 255) == 0) {
-                            t22 = core_fmt_formatter_Formatter_write_piece_05dbed1a5b08dd1e(v4 + 88, v4 + 280);
-                            v12 = t22 & 255;
+                            t22 = core_fmt_formatter_Formatter_write_piece_05dbed1a5b08dd1e(v4 + 112, v4 + 400);
+                            v10 = t22 & 255;
                         }
                     }
                 }
             }
         }
-    l48:;
-        p2 = get64(v4 + 88);
-        put64(v4 + 2248, p2);
-        v6 = get64(v4 + 96);
-        put64(v4 + 2256, v6);
-        v18 = get64(v4 + 104);
-        put64(v4 + 2264, v18);
-        put64(p3 + 16, v18);
+    l55:;
+        p2 = get64(v4 + 112);
+        put64(v4 + 248, p2);
+        v6 = get64(v4 + 120);
+        put64(v4 + 256, v6);
+        v17 = get64(v4 + 128);
+        put64(v4 + 264, v17);
+        put64(p3 + 16, v17);
         put64(p3 + 8, v6);
         put64(p3, p2);
-        t23 = std_alloc_fmt_undo_if_err_c9f0b165bbde0115(p3, v5, v12);
+        t23 = std_alloc_fmt_undo_if_err_c9f0b165bbde0115(p3, v5, v10);
         if ((t23 & 255) != 0) goto l3;
-        put64(v4 + 56, get64(p1 + 168));
-        put64(v4 + 32, get64(p1 + 216));
-        put64(v4 + 112, address(constant_440));
-        put64(v4 + 96, 7);
-        put64(v4 + 88, address(constant_452));
-        put64(v4 + 120, 8);
+        put64(v4 + 216, get64(p1 + 168));
+        put64(v4 + 280, get64(p1 + 216));
+        put64(v4 + 136, address(constant_440));
+        put64(v4 + 120, 7);
+        put64(v4 + 112, address(constant_452));
+        put64(v4 + 144, 8);
         p2 = p3 + 8;
         p1 = get64(p2);
-        put64(v4 + 128, v4 + 32);
-        put64(v4 + 104, v4 + 56);
-        put64(v4 + 220, 0);
-        fill(v4 + 240, 0, 16);
-        put32(v4 + 216, 32);
-        v12 = 0;
-        put32(v4 + 228, 0);
-        put64(v4 + 232, ~0ULL);
-        put64(v4 + 208, get64(p3 + 16));
-        put64(v4 + 200, get64(p2));
-        put64(v4 + 192, get64(p3));
+        put64(v4 + 152, v4 + 280);
+        put64(v4 + 128, v4 + 216);
+        put64(v4 + 340, 0);
+        fill(v4 + 360, 0, 16);
+        put32(v4 + 336, 32);
+        v10 = 0;
+        put32(v4 + 348, 0);
+        put64(v4 + 352, ~0ULL);
+        put64(v4 + 328, get64(p3 + 16));
+        put64(v4 + 320, get64(p2));
+        put64(v4 + 312, get64(p3));
         v7 = 1;
-        v8 = 1;
-        t24 = core_fmt_formatter_Formatter_write_piece_021956a9582caf01(v4 + 192, v4 + 88);
+        v9 = 1;
+        t24 = core_fmt_formatter_Formatter_write_piece_021956a9582caf01(v4 + 312, v4 + 112);
         if ((t24 & 255) == 0) {
-            v8 = 1;
-            t25 = core_fmt_formatter_Formatter_write_piece_15ed8fd27183701c(v4 + 192, v4 + 104);
+            v9 = 1;
+            t25 = core_fmt_formatter_Formatter_write_piece_15ed8fd27183701c(v4 + 312, v4 + 128);
             if ((t25 & 255) == 0) {
-                v8 = 1;
-                t26 = core_fmt_formatter_Formatter_write_piece_021956a9582caf01(v4 + 192, v4 + 112);
+                v9 = 1;
+                t26 = core_fmt_formatter_Formatter_write_piece_021956a9582caf01(v4 + 312, v4 + 136);
                 if ((t26 & 255) == 0) {
-                    t27 = core_fmt_formatter_Formatter_write_piece_15ed8fd27183701c(v4 + 192, v4 + 128);
-                    v8 = t27 & 255;
+                    t27 = core_fmt_formatter_Formatter_write_piece_15ed8fd27183701c(v4 + 312, v4 + 152);
+                    v9 = t27 & 255;
                 }
             }
         }
-        p2 = get64(v4 + 192);
-        put64(v4 + 2248, p2);
-        v5 = get64(v4 + 200);
-        put64(v4 + 2256, v5);
-        v6 = get64(v4 + 208);
-        put64(v4 + 2264, v6);
+        p2 = get64(v4 + 312);
+        put64(v4 + 248, p2);
+        v5 = get64(v4 + 320);
+        put64(v4 + 256, v5);
+        v6 = get64(v4 + 328);
+        put64(v4 + 264, v6);
         put64(p3 + 16, v6);
         put64(p3 + 8, v5);
         put64(p3, p2);
-        t28 = std_alloc_fmt_undo_if_err_c9f0b165bbde0115(p3, p1, v8);
-        if ((t28 & 255) == 0) goto l4;
-        put8(p0 + 1, v12);
-        put8(p0, v7);
-        return;
+        t28 = std_alloc_fmt_undo_if_err_c9f0b165bbde0115(p3, p1, v9);
+        if ((t28 & 255) != 0) {
+            put8(p0 + 1, v10);
+            put8(p0, v7);
+            return;
+        }
+        goto l4;
     default:
         goto l4;
     }
     p2 = 0;
-    fill(v4 + 32, 0, 24);
+    fill(v4 + 40, 0, 24);
     if (v5 < 5) {
         v8 = 0;
+        v9 = 0;
+        v10 = 0;
+        v11 = 0;
+        goto l5;
+    }
+    v12 = get8(v6);
+    if (v12 > 63) {
+        v10 = 1;
         goto l7;
     }
-    v9 = get8(v6);
-    if (v9 > 63) {
-        v8 = 1;
+    if ((v12 & 48) == 16) {
+        v10 = 2;
         goto l7;
     }
-    if ((v9 & 48) == 16) {
-        v8 = 2;
+    if ((v12 & 12) != 0) {
+        v10 = 3;
         goto l7;
     }
-    if ((v9 & 12) != 0) {
-        v8 = 3;
-        goto l7;
-    }
-    v8 = 4;
-    v10 = get8(v6 + 2);
-    v11 = ((v10 << 8) & 768) | get8(v6 + 3);
-    if (v5 != (uint64_t)(v11 + 1)) goto l7;
-    v12 = 0;
-    if (v11 < 6) goto l6;
-    v11 = get8(v6 + 1);
+    v10 = 4;
+    v13 = get8(v6 + 2);
+    v9 = ((v13 << 8) & 768) | get8(v6 + 3);
+    if (v5 != (uint64_t)(v9 + 1) || v9 < 6) goto l7;
+    v14 = get8(v6 + 1);
     v7 = 0;
     t1 = tc_frame_decoding_has_wrong_check(v6, v5, 0);
     if (t1 != 0) {
-        v8 = 5;
+        v10 = 5;
         goto l7;
     }
-    v12 = get8(v6 + 4);
-    if (v9 >= 32 && (v12 & 255) != 0) {
-        v8 = 6;
+    v10 = get8(v6 + 4);
+    if (v12 >= 32 && (v10 & 255) != 0) {
+        v10 = 6;
         goto l7;
     }
-    if ((v9 & 16) == 0) {
-        if ((v5 - 9) > ~2ULL) {
-            v8 = 7;
-            goto l7;
+    if ((v12 & 16) != 0) {
+        v5 = v5 - 7;
+        if (v5 <= 3) {
+            v10 = 7;
+            v8 = 0;
+            v9 = 0;
+            v11 = 0;
+            switch ((uint32_t)v5) {
+            case 1:
+                v5 = 0;
+                v7 = 0;
+                if (get8(v6 + 5) != 0) {
+                    v10 = 8;
+                    v8 = 0;
+                    p2 = 0;
+                    goto l6;
+                }
+                v8 = 2;
+                v15 = 0;
+                v16 = 0;
+                v17 = 0;
+                v10 = 0;
+                v9 = 0;
+                goto l28;
+            case 2:
+                break;
+            case 3:
+                v10 = 8;
+                if (get8(v6 + 5) != 130 || get8(v6 + 6) != 0) goto l7;
+                v9 = get8(v6 + 7);
+                v10 = 1;
+                v8 = 2;
+                v5 = 0;
+                v15 = 0;
+                v16 = 0;
+                v17 = 0;
+                goto l28;
+            default:
+                goto l5;
+            }
         }
-        v14 = 0;
-        fill(v4 + 80, 0, 6);
-        v13 = (v9 < 32) ? v12 : 0U;
-        v16 = v9 > 31;
-        v18 = v5 - 8;
-        v5 = v6 + 6;
-        v7 = get8(v6 + 5);
-        v17 = v7 & 63;
-        v15 = v7 >> 6;
-        goto l26;
+        v10 = 8;
+        goto l7;
     }
-    v5 = v5 - 7;
-    if (v5 <= 3) {
-        v8 = 7;
-        v12 = 0;
-        switch ((uint32_t)v5) {
-        case 1:
-            v7 = 0;
-            if (get8(v6 + 5) != 0) goto l28;
-            v13 = 0;
-            v14 = 0;
-            break;
-        case 2:
-            goto l28;
-        case 3:
-            v8 = 8;
-            if (get8(v6 + 5) != 130) goto l7;
-            v12 = 0;
-            if (get8(v6 + 6) != 0) goto l6;
-            v14 = get8(v6 + 7);
-            v13 = 1;
-            break;
-        default:
-            goto l6;
-        }
-        v15 = 0;
-        fill(v4 + 80, 0, 6);
-        v16 = 2;
-        v5 = 0;
-        v17 = 0;
-        v18 = 0;
-        goto l26;
+    if ((v5 - 9) > ~2ULL) {
+        v10 = 7;
+        goto l7;
     }
+    v9 = 0;
+    v10 = (v12 < 32) ? v10 : 0U;
+    v8 = v12 > 31;
+    v17 = v5 - 8;
+    v5 = v6 + 6;
+    v7 = get8(v6 + 5);
+    v16 = v7 & 63;
+    v15 = v7 >> 6;
 l28:;
-    v8 = 8;
-    goto l7;
-l26:;
-    v8 = 0;
-    v7 = 1;
-    if (get32(p1) != (((v9 << 8) & 768) | v11)) goto l7;
-    v12 = 0;
-    if (get32(p1 + 4) != ((v10 & 252) >> 2)) goto l6;
-    switch (v16) {
+    v11 = 1;
+    v7 = 0;
+    if (get32(p1) != (((v12 << 8) & 768) | v14) || get32(p1 + 4) != ((v13 & 252) >> 2)) {
+        v8 = 0;
+        v9 = 0;
+        v10 = 0;
+        goto l5;
+    }
+    switch (v8) {
     case 1:
-        put8(v4 + 57, v17);
-        put8(v4 + 56, v15);
-        put32(v4 + 58, get32(v4 + 80));
-        put16(v4 + 62, get16(v4 + 84));
-        put64(v4 + 72, v18);
-        put64(v4 + 64, v5);
-        v12 = 0;
-        fill(v4 + 192, 0, 48);
-        nodes_spacecraft_Spacecraft_packet_to_keep(v4 + 192, p1, v4 + 56);
-        v10 = 1;
         v7 = 0;
-        v13 = 0;
-        if (get8(v4 + 192) == 0) {
-            v7 = 3;
-            p2 = p1 + 77;
-            put8(p2, (get8(p2) + 1) & 3);
-            p2 = (uint64_t)get8(v4 + 200);
-            put64(v4 + 88, p2);
-            put64(v4 + 96, get64(v4 + 208));
-            put64(v4 + 104, get64(v4 + 216));
-            put64(v4 + 112, get64(v4 + 224));
-            put64(v4 + 120, get64(v4 + 232));
-            nodes_spacecraft_Spacecraft_keep(p1, v4 + 88);
-            v13 = p2 == 1;
-            v10 = 0;
-        }
-        p2 = 0;
-        goto l9;
+        put32(v4 + 66, 0);
+        put8(v4 + 65, v16);
+        put8(v4 + 64, v15);
+        put16(v4 + 70, 0);
+        put64(v4 + 80, v17);
+        put64(v4 + 72, v5);
+        fill(v4 + 312, 0, 48);
+        nodes_spacecraft_Spacecraft_packet_to_keep(v4 + 312, p1, v4 + 64);
+        if (get8(v4 + 312) != 0) goto l3;
+        v11 = 3;
+        v5 = p1 + 77;
+        put8(v5, (get8(v5) + 1) & 3);
+        v5 = (uint64_t)get8(v4 + 320);
+        put64(v4 + 112, v5);
+        put64(v4 + 120, get64(v4 + 328));
+        put64(v4 + 128, get64(v4 + 336));
+        put64(v4 + 136, get64(v4 + 344));
+        put64(v4 + 144, get64(v4 + 352));
+        nodes_spacecraft_Spacecraft_keep(p1, v4 + 112);
+        v10 = v5 == 1;
+        v8 = 0;
+        v9 = 0;
+        goto l5;
     case 2:
-        nodes_spacecraft_receive_obey(p1 + 72, v13, v14);
-        v7 = 4;
-        v8 = v13;
-        v12 = v14;
-        goto l6;
+        nodes_spacecraft_receive_obey(p1 + 72, v10, v9);
+        v11 = 4;
+        goto l9;
     default:
         break;
     }
-    put8(v4 + 2249, v17);
-    put8(v4 + 2248, v15);
-    put32(v4 + 2250, get32(v4 + 80));
-    put16(v4 + 2254, get16(v4 + 84));
-    put64(v4 + 2264, v18);
-    put64(v4 + 2256, v5);
-    v10 = 0;
-    fill(v4 + 192, 0, 112);
+    v7 = 0;
+    put32(v4 + 90, 0);
+    put8(v4 + 89, v16);
+    put8(v4 + 88, v15);
+    put16(v4 + 94, 0);
+    put64(v4 + 104, v17);
+    put64(v4 + 96, v5);
     v8 = 1;
-    p2 = p1 + 76;
-    v9 = get8(p2);
-    v5 = p1 + 75;
-    v7 = get8(v5);
-    v12 = 5;
-    v6 = p1 + 74;
-    if ((get8(v6) & 1) != 0) goto l10;
-    v16 = get8(p1 + 72);
-    v11 = get8(p1 + 73);
-    if ((v13 & 255) != (v11 & 255)) {
+    v6 = p1 + 76;
+    v12 = get8(v6);
+    v18 = p1 + 75;
+    v11 = get8(v18);
+    v9 = 5;
+    v19 = p1 + 74;
+    if ((get8(v19) & 1) != 0) goto l10;
+    v13 = get8(p1 + 72);
+    v14 = get8(p1 + 73);
+    if ((v10 & 255) != (v14 & 255)) {
         v8 = 1;
-        v11 = v13 - v11;
-        v16 = (v16 >> 1) & 127;
-        if ((v11 & 255) >= v16) {
-            if ((v11 & 255) > (~v16 & 255)) {
-                v12 = ((v7 & 1) != 0) ? 5U : 3U;
+        v14 = v10 - v14;
+        v13 = (v13 >> 1) & 127;
+        if ((v14 & 255) >= v13) {
+            if ((v14 & 255) > (~v13 & 255)) {
+                v9 = ((v11 & 1) != 0) ? 5U : 3U;
                 v8 = 0;
                 goto l10;
             }
-            v12 = 4;
+            v9 = 4;
             goto l10;
         }
-        if ((v7 & 1) != 0) {
+        if ((v11 & 1) != 0) {
             v8 = 0;
             goto l11;
         }
-        v12 = 1;
-        v8 = 0;
-        v7 = 0;
         v9 = 1;
+        v8 = 0;
+        v11 = 0;
+        v12 = 1;
         goto l10;
     }
     v8 = 0;
-    if ((v7 & 1) == 0) {
-        if (get64(p1 + 168) >= (uint64_t)get32(p1 + 48)) {
-            v12 = 2;
-            v7 = 1;
-            v9 = 1;
-            goto l10;
-        }
-        v7 = get8(p1 + 77);
-        map_service_assembler_Assembler_prepare(v4 + 192, p1 + 80, v4 + 0x8c8);
-        if (get8(v4 + 192) != 0) {
-            p2 = 0;
-            v7 = 0;
-            v10 = 1;
-            v13 = 0;
-            v12 = 0;
-            goto l9;
-        }
-        v9 = get8(v4 + 201);
-        put8(v4 + 89, v9);
-        v11 = get8(v4 + 200);
-        put8(v4 + 88, v11);
-        put32(v4 + 90, get32(v4 + 202));
-        put16(v4 + 94, get16(v4 + 206));
-        v12 = get8(v4 + 208);
-        put8(v4 + 96, v12);
-        put64(v4 + 97, get64(v4 + 209));
-        put64(v4 + 104, get64(v4 + 216));
-        p2 = get64(v4 + 224);
-        v5 = get64(v4 + 232);
-        v6 = get64(v4 + 240);
-        put64(v4 + 128, v6);
-        put64(v4 + 120, v5);
-        put64(v4 + 112, p2);
-        copy(v4 + 136, v4 + 192 + 56, 56);
-        nodes_spacecraft_Spacecraft_hand_on(p1, v4 + 0x8c8, v4 + 88);
-        put8(p1 + 77, v7);
-        v10 = 0;
-        fill(p1 + 74, 0, 3);
-        put8(p1 + 73, v13 + 1);
-        put8(p1 + 72, v16);
-        p2 = (v12 != 0) ? p2 : v6;
-        v7 = 2;
-        v12 = 0;
-        goto l8;
+    if ((v11 & 1) != 0) goto l11;
+    v20 = get64(p1 + 168);
+    if (v20 >= (uint64_t)get32(p1 + 48)) {
+        v9 = 2;
+        v11 = 1;
+        v12 = 1;
+        goto l10;
     }
-l11:;
-    v7 = 1;
-l10:;
-    put8(p2, v9);
-    put8(v5, v7);
-    put8(v6, v8);
-    p2 = 0;
-    v7 = 2;
-l9:;
-    v11 = 0;
-    v9 = 0;
-l8:;
-    v8 = v13;
-    if (v10 == 0) goto l5;
+    v9 = get8(p1 + 77);
+    fill(v4 + 312, 0, 112);
+    p2 = p1 + 80;
+    if (v15 != 3) goto l44;
+    v21 = (uint64_t)v16;
+    if (((uint32_t)(get64(p1 + 88) >> (v21 & 63)) & 1) == 0) goto l44;
+    map_service_packets_fault_of_alone(v4, p2, v5, v17);
+    if (get8(v4) != 1) {
+        fill(v4 + 248, 0, 32);
+        v22 = p1 + 160;
+        p2 = (v4 + 216) | 1;
+        v18 = v4 + 280 + 7;
+        v19 = v4 + 248 + 8;
+        while (v17 >= 6) {
+            v7 = get8(v5);
+            if (v7 > 31 || ((v7 & 8) != 0 && (((v7 << 8) & 0x700) | get8(v5 + 1)) == 0x7ff)) break;
+            v6 = (((uint64_t)get8(v5 + 4) << 8) | (uint64_t)get8(v5 + 5)) + 7;
+            if (v17 < v6) break;
+            std_alloc_vec_Vec_from_slice_8e16d1c3a9c68bc1(v4 + 248, v5, v6);
+            if (get8(v4 + 248) != 0) goto l43;
+            put64(v18, get64(v19));
+            put64(v18 + 8, get64(v19 + 8));
+            put64(v18 + 16, get64(v19 + 16));
+            fill(v4 + 280, 0, 7);
+            put64(p2, get64(v4 + 280));
+            put64(p2 + 8, get64(v4 + 288));
+            put64(p2 + 16, get64(v4 + 296));
+            put64(p2 + 23, get64(v4 + 303));
+            put8(v4 + 216, v16);
+            std_alloc_vec_deque_VecDeque_push_back_reserved_0956fa20d2e9e8d8(v22, v4 + 216);
+            v5 = v5 + v6;
+            v17 = v17 - v6;
+        }
+        v6 = v21 << 5;
+        p2 = get64(p1 + 168);
+        v17 = get64(p1 + 104);
+        v8 = 0;
+        v18 = p1 + 112;
+        v5 = get64(v18);
+        if (v5 > v21) v8 = get8(v17 + v6) == 1;
+        p2 = p2 - v20;
+        if (((uint32_t)(get64(p1 + 88) >> (v21 & 63)) & 1) == 0) goto l13;
+        if (v5 == 0) {
+            put64(v18, 0);
+            v5 = get64(p1 + 120);
+            put64(v18 + 8, 0);
+            put64(p1 + 104, v4 + 0x938);
+            if (v5 == 0) goto l13;
+            rattle_dealloc_at(v17);
+            v5 = get64(v18);
+        }
+        if (v5 <= v21) goto l13;
+        v5 = get64(p1 + 104) + v6;
+        put64(v5 + 16, 0);
+        v7 = get8(v5);
+        put64(v5, 0);
+        v6 = v5 + 8;
+        v17 = get64(v6);
+        put64(v6, 0);
+        v5 = v5 + 24;
+        v6 = get64(v5);
+        put64(v5, 0);
+        if (v7 != 1 || v6 == 0) goto l13;
+        rattle_dealloc_at(v17);
+        goto l13;
+    }
+l44:;
+    map_service_assembler_Assembler_prepare(v4 + 312, p2, v4 + 88);
+    if (get8(v4 + 312) != 0) goto l3;
+    v7 = get8(v4 + 321);
+    put8(v4 + 113, v7);
+    v8 = get8(v4 + 320);
+    put8(v4 + 112, v8);
+    put32(v4 + 114, get32(v4 + 322));
+    put16(v4 + 118, get16(v4 + 326));
+    v11 = get8(v4 + 328);
+    put8(v4 + 120, v11);
+    put64(v4 + 121, get64(v4 + 329));
+    put64(v4 + 128, get64(v4 + 336));
+    p2 = get64(v4 + 344);
+    v5 = get64(v4 + 352);
+    v6 = get64(v4 + 360);
+    put64(v4 + 152, v6);
+    put64(v4 + 144, v5);
+    put64(v4 + 136, p2);
+    copy(v4 + 160, v4 + 312 + 56, 56);
+    nodes_spacecraft_Spacecraft_hand_on(p1, v4 + 88, v4 + 112);
+    p2 = (v11 != 0) ? p2 : v6;
+    goto l12;
+l43:;
+    std_alloc_vec_deque_VecDeque_truncate_ab712b15485b8137(v22, v20);
     goto l3;
+l13:;
+    v7 = v8;
+l12:;
+    put8(p1 + 77, v9);
+    v9 = 0;
+    fill(p1 + 74, 0, 3);
+    put8(p1 + 73, v10 + 1);
+    put8(p1 + 72, v13);
+    v11 = 2;
+    goto l5;
+l11:;
+    v11 = 1;
+l10:;
+    put8(v6, v12);
+    put8(v18, v11);
+    put8(v19, v8);
+    v11 = 2;
+l9:;
+    v8 = 0;
+    goto l5;
 l7:;
-    v12 = 0;
+    v8 = 0;
 l6:;
     v9 = 0;
     v11 = 0;
 l5:;
-    put8(v4 + 49, v9);
-    put8(v4 + 48, v11);
-    put64(v4 + 40, p2);
-    put8(v4 + 34, v12);
-    put8(v4 + 33, v8);
-    put8(v4 + 32, v7);
-    t30 = node_answers_answers_push_received(p3, v4 + 32);
+    put8(v4 + 57, v7);
+    put8(v4 + 56, v8);
+    put64(v4 + 48, p2);
+    put8(v4 + 42, v9);
+    put8(v4 + 41, v10);
+    put8(v4 + 40, v11);
+    t30 = node_answers_answers_push_received(p3, v4 + 40);
     if ((t30 & 255) != 0) goto l3;
 l4:;
-    v12 = std_alloc_vec_Vec_push_bbd08ad089034210(p3);
-    v7 = v12 & 1;
-    v12 = ~v12 & 1;
-    put8(p0 + 1, v12);
+    v10 = std_alloc_vec_Vec_push_bbd08ad089034210(p3);
+    v7 = v10 & 1;
+    v10 = ~v10 & 1;
+    put8(p0 + 1, v10);
     put8(p0, v7);
     return;
 l3:;
     v7 = 1;
 l2:;
-    v12 = 0;
-    put8(p0 + 1, v12);
+    v10 = 0;
+    put8(p0 + 1, v10);
     put8(p0, v7);
     return;
 }
@@ -60843,9 +60993,6 @@ l1:;
     return;
 }
 
-#endif
-
-#if !defined PART || PART == 7
 LOCAL void listings_stream_list_piece_012fed91f5969607(uint64_t p0, uint64_t p1, uint64_t p2, uint64_t p3, uint64_t
     p4, uint64_t p5, uint64_t p6, uint64_t p7)
 {
@@ -62428,104 +62575,206 @@ LOCAL void found_frames_stream_list_found_4eed5df9a5215028(uint64_t p0, uint64_t
 
 LOCAL uint32_t listings_output_write_all_d4d2b1b059c284cc(uint64_t p0, uint64_t p1, uint64_t p2)
 {
-    unsigned char frame_octets[64 + 15];
-    uint32_t v10 = 0, v11 = 0, t1, t2, t3, t5;
-    uint64_t v3 = 0, v4 = 0, v5 = 0, v6 = 0, v7 = 0, v8 = 0, v9 = 0, v12 = 0, v13 = 0, v14 = 0;
+    unsigned char frame_octets[1600 + 15];
+    uint32_t v10 = 0, v11 = 0, v14 = 0, v15 = 0, v16 = 0, t1, t2, t3, t6, t7, t8;
+    uint64_t v3 = 0, v4 = 0, v5 = 0, v6 = 0, v7 = 0, v8 = 0, v9 = 0, v12 = 0, v13 = 0, v17 = 0, t5;
     v3 = aligned(frame_octets);
     if (p2 == 0) goto l2;
     v4 = p0 + 48;
     v5 = p0 + 32;
     v6 = get64(v5);
     if (v6 == 0) {
+        fill(v3 + 64, 0, 0x600);
+        v9 = ~1535ULL;
         do {
+            v6 = v3 + 64 + v9;
+            put64(v6 + 0x608, 0);
+            put64(v6 + 0x600, address(constant_56));
+            put64(v6 + 0x610, 0);
+            put64(v6 + 0x620, 0);
+            put64(v6 + 0x618, address(constant_56));
+            put64(v6 + 0x628, 0);
+            put64(v6 + 0x638, 0);
+            put64(v6 + 0x630, address(constant_56));
+            put64(v6 + 0x640, 0);
+            put64(v6 + 0x650, 0);
+            put64(v6 + 0x648, address(constant_56));
+            put64(v6 + 0x658, 0);
+            v9 = v9 + 96;
+        } while (v9 != 0);
+        for (;;) {
             v6 = 0;
             do {
-                v10 = get8(p1 + v6);
+                v9 = p1 + v6;
+                v10 = get8(v9);
                 if (v10 <= 32) {
                     t3 = listings_line_words_parts_words(p1, v6, v10);
-                    if (t3 != 0) goto l16;
+                    if (t3 != 0) goto l15;
                 }
                 v6 = v6 + 1;
                 if (v6 == 16) v6 = listings_line_words_past_sixteens(p1, p2);
             } while (v6 < p2);
-            v6 = get64(p0 + 40);
-            v12 = get64(p0 + 32);
-            if (p2 > (v6 - v12)) goto l13;
-            v13 = v6;
+            v9 = p2;
             goto l14;
-        l16:;
-            t5 = listings_totals_count_ended(p0, v4, p1, v6);
-            if ((t5 & 255) != 0) {
+        l15:;
+            v7 = 0;
+            v11 = v6 < 2;
+            if (v11 == 0) {
+                t5 = ((((uint64_t)get8(p1 + (v6 >> 1)) * 17) + (v6 * 37)) + ((uint64_t)get8(v9 - 2) * 11)) +
+                    ((uint64_t)get8(p1) * 29);
+                v7 = ((t5 + (uint64_t)get8(v9 - 1)) & 63) * 24;
+            }
+            v9 = v3 + 64 + v7;
+            v8 = get64(v9 + 16);
+            v7 = get64(v9);
+            v12 = get64(v9 + 8);
+            if (v12 == v6) {
+                if (v6 >= 4) {
+                    v14 = get8(v7);
+                    v10 = get8(p1);
+                    if (v14 != v10 || (get8(v7 + 1) & 255) != (get8(p1 + 1) & 255) || (get8(v7 + 2) & 255) != (get8(p1
+                        + 2) & 255) || (get8(v7 + 3) & 255) != (get8(p1 + 3) & 255)) goto l23;
+                    v10 = v14;
+                    t6 = core_cmp_slices_groups_equal_i8_31_core_cmp_numbers_U8PartialEq(v7, v6, p1, v6);
+                    if (t6 == 0) goto l23;
+                    goto l22;
+                }
+                if (v6 == 0 || (get8(v7) == get8(p1) && (v6 == 1 || (get8(v7 + 1) == get8(p1 + 1) && (v6 == 2 ||
+                    get8(v7 + 2) == get8(p1 + 2)))))) goto l22;
+            }
+            if (v6 == 0) goto l20;
+            v10 = get8(p1);
+        l23:;
+            if (((v10 - 48) & 255) < 10) goto l20;
+            if (v11 == 0) {
+                v11 = get8(p1 + 1);
+                v10 = v10 & 255;
+                if (v10 == 110 && (v11 & 255) == 61) goto l20;
+                if (v6 == 2) {
+                    if (v10 != 98 || (v11 & 255) != 61) goto l26;
+                    goto l20;
+                }
+                v11 = v11 & 255;
+                if (v10 == 98 && v11 == 61) goto l20;
+                v15 = v10 != 118;
+                v14 = get8(p1 + 2);
+                if (((v15 | (uint32_t)(v11 != 114)) | (uint32_t)(v14 != 61)) == 0 || (((uint32_t)(v10 != 109) & v15)
+                    == 0 && v11 == 99 && v14 == 61)) goto l20;
+                if (v6 < 8) {
+                    if (v6 < 4) goto l26;
+                    v15 = get8(p1 + 3);
+                } else {
+                    v15 = get8(p1 + 3);
+                    if (v10 == 112 && v11 == 111 && v14 == 105 && (v15 & 255) == 110 && (get8(p1 + 4) & 255) == 116 &&
+                        (get8(p1 + 5) & 255) == 101 && (get8(p1 + 6) & 255) == 114 && (get8(p1 + 7) & 255) == 61) goto
+                        l20;
+                }
+                if (v11 == 99 && v10 == 111 && v14 == 102 && (v15 & 255) == 61) goto l20;
+                if (v6 >= 6) {
+                    v16 = get8(p1 + 4);
+                    if (v10 != 99 || v11 != 111 || v14 != 117 || (v15 & 255) != 110 || (v16 & 255) != 116 || (get8(p1
+                        + 5) & 255) != 61) goto l33;
+                    goto l20;
+                }
+                if (v6 == 4) goto l26;
+                v16 = get8(p1 + 4);
+            l33:;
+                if (v10 == 100 && (v15 & 255) == 97 && v11 == 97 && v14 == 116 && (v16 & 255) == 61) goto l20;
+            }
+        l26:;
+            v13 = 1;
+            t7 = listings_totals_count_ended(p0, v4, v7, v12, v8);
+            if ((t7 & 255) == 0) goto l21;
+            v11 = 1;
+            return v11;
+        l22:;
+            if (v8 == ~0ULL) {
                 v11 = 1;
                 return v11;
             }
+            v13 = v8 + 1;
+        l21:;
+            put64(v9 + 16, v13);
+            put64(v9 + 8, v6);
+            put64(v9, p1);
+        l20:;
             v6 = v6 + 1;
             p1 = p1 + v6;
+            v9 = 0;
             p2 = p2 - v6;
-        } while (p2 != 0);
-        v13 = get64(p0 + 40);
-        v12 = get64(p0 + 32);
-        p2 = 0;
-    l14:;
-        v4 = get64(p0 + 24);
-        goto l12;
-    l13:;
-        v11 = 1;
-        if (p2 > ~v12) return v11;
-        v9 = v12 + p2;
-        v9 = (v9 > 8) ? v9 : 8ULL;
-        v7 = v6 << 1;
-        v7 = (v9 > v7) ? v9 : v7;
-        v13 = (v6 < 0x4000000000000000ULL) ? v7 : v9;
-        if (v13 > 0x7fffffffffffffffULL) return v11;
-        if (v6 != 0) {
-            rattle_realloc_at(v3 + 16, get64(p0 + 24), v12, v13, 1);
-            v11 = 1;
-            if (((uint32_t)get64(v3 + 16) & 1) == 0) return v11;
-            v4 = get64(v3 + 24);
-        } else {
-            if (v7 > 0x7fffffffffffffffULL) return v11;
-            rattle_alloc_at(v3, v7, 1);
-            v11 = 1;
-            if (((uint32_t)get64(v3) & 1) == 0) return v11;
-            v4 = get64(v3 + 8);
+            if (p2 != 0) continue;
+        l14:;
+            break;
         }
-        put64(p0 + 24, v4);
-        v12 = get64(p0 + 32);
-    l12:;
-        v9 = 0;
-        fill(v5, 0, 16);
-        v14 = v12 + p2;
-        v7 = v4 + v12;
-        if ((v7 - p1) < p2) {
-            v5 = p2 & 3;
-            if (p2 >= 4) {
-                v8 = p2 & ~3ULL;
-                v9 = 0;
-                do {
-                    v6 = v7 + v9;
-                    p2 = p1 + v9;
-                    put8(v6, get8(p2));
-                    put8(v6 + 1, get8(p2 + 1));
-                    put8(v6 + 2, get8(p2 + 2));
-                    put8(v6 + 3, get8(p2 + 3));
-                    v9 = v9 + 4;
-                } while (v8 != v9);
-                if (v5 == 0) goto l23;
+        p2 = 0;
+        do {
+            v11 = 1;
+            v6 = v3 + 64 + p2;
+            t8 = listings_totals_count_ended(p0, v4, get64(v6), get64(v6 + 8), get64(v6 + 16));
+            if ((t8 & 255) != 0) return v11;
+            p2 = p2 + 24;
+        } while (p2 != 0x600);
+        v6 = get64(p0 + 40);
+        v8 = get64(p0 + 32);
+        if (v9 <= (v6 - v8)) {
+            v12 = get64(p0 + 24);
+            v13 = v6;
+        } else {
+            if (v9 > ~v8) return v11;
+            p2 = v8 + v9;
+            p2 = (p2 > 8) ? p2 : 8ULL;
+            v7 = v6 << 1;
+            v7 = (p2 > v7) ? p2 : v7;
+            v13 = (v6 < 0x4000000000000000ULL) ? v7 : p2;
+            if (v13 > 0x7fffffffffffffffULL) return v11;
+            if (v6 != 0) {
+                rattle_realloc_at(v3 + 16, get64(p0 + 24), v8, v13, 1);
+                v11 = 1;
+                if (((uint32_t)get64(v3 + 16) & 1) == 0) return v11;
+                v12 = get64(v3 + 24);
+            } else {
+                if (v7 > 0x7fffffffffffffffULL) return v11;
+                rattle_alloc_at(v3, v7, 1);
+                v11 = 1;
+                if (((uint32_t)get64(v3) & 1) == 0) return v11;
+                v12 = get64(v3 + 8);
             }
-            v6 = p1 + v9;
-            p1 = v4 + (v12 + v9);
+            put64(p0 + 24, v12);
+            v8 = get64(p0 + 32);
+        }
+        p2 = 0;
+        fill(v5, 0, 16);
+        v17 = v8 + v9;
+        v7 = v12 + v8;
+        if ((v7 - p1) < v9) {
+            v5 = v9 & 3;
+            if (v9 >= 4) {
+                v4 = v9 & ~3ULL;
+                p2 = 0;
+                do {
+                    v6 = v7 + p2;
+                    v9 = p1 + p2;
+                    put8(v6, get8(v9));
+                    put8(v6 + 1, get8(v9 + 1));
+                    put8(v6 + 2, get8(v9 + 2));
+                    put8(v6 + 3, get8(v9 + 3));
+                    p2 = p2 + 4;
+                } while (v4 != p2);
+                if (v5 == 0) goto l41;
+            }
+            v6 = p1 + p2;
+            p1 = v12 + (v8 + p2);
             do {
                 put8(p1, get8(v6));
                 p1 = p1 + 1;
                 v6 = v6 + 1;
                 v5 = v5 - 1;
             } while (v5 != 0);
-        } else if (p2 != 0) copy(v7, p1, p2);
-    l23:;
+        } else if (v9 != 0) copy(v7, p1, v9);
+    l41:;
         put64(p0 + 40, v13);
-        put64(p0 + 32, v14);
-        put64(p0 + 24, v4);
+        put64(p0 + 32, v17);
+        put64(p0 + 24, v12);
         goto l2;
     }
     v7 = p0 + 24;
@@ -62561,7 +62810,7 @@ LOCAL uint32_t listings_output_write_all_d4d2b1b059c284cc(uint64_t p0, uint64_t 
             put8(v9 + v6, v10);
             v6 = v6 + 1;
         } else {
-            t2 = listings_totals_count_ended(p0, v4, v9, v6);
+            t2 = listings_totals_count_ended(p0, v4, v9, v6, 1);
             if ((t2 & 255) != 0) {
                 v11 = 1;
                 return v11;
@@ -65494,248 +65743,251 @@ LOCAL uint32_t listings_line_words_parts_words(uint64_t p0, uint64_t p1, uint32_
     return v3 & 1;
 }
 
-LOCAL uint32_t listings_totals_count_ended(uint64_t p0, uint64_t p1, uint64_t p2, uint64_t p3)
+#endif
+
+#if !defined PART || PART == 7
+LOCAL uint32_t listings_totals_count_ended(uint64_t p0, uint64_t p1, uint64_t p2, uint64_t p3, uint64_t p4)
 {
     unsigned char frame_octets[128 + 15];
-    uint32_t v5 = 0, v6 = 0, v7 = 0, v8 = 0, v9 = 0, v10 = 0, t1, t2;
-    uint64_t v4 = 0, v11 = 0, v12 = 0, v13 = 0, v14 = 0, v15 = 0, v16 = 0, v17 = 0, v18 = 0, v19 = 0, v20 = 0,
-        v21 = 0, v22 = 0, v23 = 0;
-    v4 = aligned(frame_octets);
-    v5 = 0;
-    if (p3 == 0) return v5;
-    v6 = get8(p2);
-    if (((v6 - 48) & 255) < 10) return v5;
-    if (p3 != 1) {
-        v7 = get8(p2 + 1);
-        if ((v6 & 255) == 110 && (v7 & 255) == 61) return v5;
-        if (p3 < 3) {
-            if ((v6 & 255) != 98 || (v7 & 255) != 61) {
-                t1 = listings_totals_count_written(p0, p2, p3);
-                v5 = t1 & 255;
-                return v5;
+    uint32_t v6 = 0, v7 = 0, v8 = 0, v9 = 0, v10 = 0, v11 = 0, t1, t2;
+    uint64_t v5 = 0, v12 = 0, v13 = 0, v14 = 0, v15 = 0, v16 = 0, v17 = 0, v18 = 0, v19 = 0, v20 = 0, v21 = 0,
+        v22 = 0, v23 = 0, v24 = 0;
+    v5 = aligned(frame_octets);
+    v6 = 0;
+    if (p3 == 0 || p4 == 0) return v6;
+    v7 = get8(p2);
+    if (((v7 - 48) & 255) < 10) return v6;
+    if (p3 >= 2) {
+        v8 = get8(p2 + 1);
+        if ((v7 & 255) == 110 && (v8 & 255) == 61) return v6;
+        if (p3 == 2) {
+            if ((v7 & 255) != 98 || (v8 & 255) != 61) {
+                t1 = listings_totals_count_written(p0, p2, p3, p4);
+                v6 = t1 & 255;
+                return v6;
             }
-            return v5;
+            return v6;
         }
-        v8 = v6 & 255;
         v9 = v7 & 255;
-        if (((v8 == 118 && v9 == 114) && get8(p2 + 2) == 61) || !(v8 != 98 || v9 != 61)) return v5;
-        v8 = get8(p2 + 2);
-        v9 = v6 & 255;
-        if ((v9 == 109 && (v7 & 255) == 99 && (v8 & 255) == 61) || (v9 == 118 && (v7 & 255) == 99 && (v8 & 255) ==
-            61)) return v5;
+        v10 = v8 & 255;
+        if (((v9 == 118 && v10 == 114) && get8(p2 + 2) == 61) || !(v9 != 98 || v10 != 61)) return v6;
+        v9 = get8(p2 + 2);
+        v10 = v7 & 255;
+        if ((v10 == 109 && (v8 & 255) == 99 && (v9 & 255) == 61) || (v10 == 118 && (v8 & 255) == 99 && (v9 & 255) ==
+            61)) return v6;
         if (p3 < 8) {
-            if (p3 == 3) {
-                t1 = listings_totals_count_written(p0, p2, p3);
-                v5 = t1 & 255;
-                return v5;
+            if (p3 < 4) {
+                t1 = listings_totals_count_written(p0, p2, p3, p4);
+                v6 = t1 & 255;
+                return v6;
             }
-        } else if ((v6 & 255) == 112 && (v7 & 255) == 111 && (v8 & 255) == 105 && (get8(p2 + 3) & 255) == 110 &&
+        } else if ((v7 & 255) == 112 && (v8 & 255) == 111 && (v9 & 255) == 105 && (get8(p2 + 3) & 255) == 110 &&
             (get8(p2 + 4) & 255) == 116 && (get8(p2 + 5) & 255) == 101 && (get8(p2 + 6) & 255) == 114 && (get8(p2 + 7)
-            & 255) == 61) return v5;
-        v9 = get8(p2 + 3);
-        if ((v6 & 255) == 111 && (v8 & 255) == 102 && (v9 & 255) == 61 && (v7 & 255) == 99) return v5;
+            & 255) == 61) return v6;
+        v10 = get8(p2 + 3);
+        if ((v7 & 255) == 111 && (v9 & 255) == 102 && (v10 & 255) == 61 && (v8 & 255) == 99) return v6;
         if (p3 >= 6) {
-            if ((v6 & 255) != 99 || (v7 & 255) != 111 || (get8(p2 + 4) & 255) != 116 || (get8(p2 + 5) & 255) != 61 ||
-                (v9 & 255) != 110 || (v8 & 255) != 117) goto l11;
-            return v5;
+            if ((v7 & 255) != 99 || (v8 & 255) != 111 || (get8(p2 + 4) & 255) != 116 || (get8(p2 + 5) & 255) != 61 ||
+                (v10 & 255) != 110 || (v9 & 255) != 117) goto l11;
+            return v6;
         }
-        if (p3 != 5) {
-            t1 = listings_totals_count_written(p0, p2, p3);
-            v5 = t1 & 255;
-            return v5;
+        if (p3 == 4) {
+            t1 = listings_totals_count_written(p0, p2, p3, p4);
+            v6 = t1 & 255;
+            return v6;
         }
     l11:;
-        v10 = get8(p2 + 4);
-        v6 = v6 & 255;
-        if (v6 == 100 && (v8 & 255) == 116 && (v10 & 255) == 61 && (v7 & 255) == 97 && (v9 & 255) == 97) return v5;
-        if (v6 == 115 && (v9 & 255) == 100 && (v7 & 255) == 99 && (v8 & 255) == 105 && (v10 & 255) == 61) {
-            v11 = p1 + 8;
-            if (get64(v11) != 0) put64(v11, 0);
-            v12 = get64(p1 + 16);
-            if (v12 >= 8) {
-                v13 = get64(p1);
-                v14 = 0;
-                v15 = v12;
+        v11 = get8(p2 + 4);
+        v7 = v7 & 255;
+        if (v7 == 100 && (v9 & 255) == 116 && (v11 & 255) == 61 && (v8 & 255) == 97 && (v10 & 255) == 97) return v6;
+        if (v7 == 115 && (v10 & 255) == 100 && (v8 & 255) == 99 && (v9 & 255) == 105 && (v11 & 255) == 61) {
+            v12 = p1 + 8;
+            if (get64(v12) != 0) put64(v12, 0);
+            v13 = get64(p1 + 16);
+            if (v13 >= 8) {
+                v14 = get64(p1);
+                v15 = 0;
+                v16 = v13;
             } else {
-                v14 = v12 << 1;
-                v15 = (v14 > 8) ? v14 : 8ULL;
-                if (v12 != 0) {
-                    rattle_realloc_at(v4 + 112, get64(p1), 0, v15, 1);
-                    v5 = 1;
-                    if (((uint32_t)get64(v4 + 112) & 1) == 0) return v5;
-                    v13 = get64(v4 + 120);
+                v15 = v13 << 1;
+                v16 = (v15 > 8) ? v15 : 8ULL;
+                if (v13 != 0) {
+                    rattle_realloc_at(v5 + 112, get64(p1), 0, v16, 1);
+                    v6 = 1;
+                    if (((uint32_t)get64(v5 + 112) & 1) == 0) return v6;
+                    v14 = get64(v5 + 120);
                 } else {
-                    rattle_alloc_at(v4 + 96, v15, 1);
-                    v5 = 1;
-                    if (((uint32_t)get64(v4 + 96) & 1) == 0) return v5;
-                    v13 = get64(v4 + 104);
+                    rattle_alloc_at(v5 + 96, v16, 1);
+                    v6 = 1;
+                    if (((uint32_t)get64(v5 + 96) & 1) == 0) return v6;
+                    v14 = get64(v5 + 104);
                 }
-                v14 = get64(v11);
+                v15 = get64(v12);
             }
-            v12 = v14 + 8;
-            v14 = v13 + v14;
-            if ((v14 - address(constant_462)) <= 7) {
-                put64(v14, 0x3d6c656e6e616863ULL);
+            v13 = v15 + 8;
+            v15 = v14 + v15;
+            if ((v15 - address(constant_462)) <= 7) {
+                put64(v15, 0x3d6c656e6e616863ULL);
             } else {
-                put64(v14, 0x3d6c656e6e616863ULL);
+                put64(v15, 0x3d6c656e6e616863ULL);
             }
-            put64(p1, v13);
-            v16 = p1 + 16;
-            put64(v16, v15);
-            v17 = p1 + 8;
-            put64(v17, v12);
+            put64(p1, v14);
+            v17 = p1 + 16;
+            put64(v17, v16);
+            v18 = p1 + 8;
+            put64(v18, v13);
             if (p3 == 5) goto l21;
-            v18 = p3 - 5;
-            v15 = p3 - 6;
-            v6 = (uint32_t)p3 + 2;
-            v14 = 0;
+            v19 = p3 - 5;
+            v16 = p3 - 6;
+            v7 = (uint32_t)p3 + 2;
+            v15 = 0;
             for (;;) {
-                v13 = get64(v16);
-                v7 = get8(p2 + v14 + 5);
-                if (v7 != 32) {
-                    if (v13 != v12) {
-                        v13 = get64(p1);
+                v14 = get64(v17);
+                v8 = get8(p2 + v15 + 5);
+                if (v8 != 32) {
+                    if (v14 != v13) {
+                        v14 = get64(p1);
                     } else {
-                        v5 = 1;
-                        if (v12 == ~0ULL) return v5;
-                        v13 = ((v12 > 7) ? v12 : 7ULL) + 1;
-                        v19 = v12 << 1;
-                        v21 = (v13 > v19) ? v13 : v19;
-                        v19 = (v12 < 0x4000000000000000ULL) ? v21 : v13;
-                        if (v19 > 0x7fffffffffffffffULL) return v5;
-                        if (v12 != 0) {
-                            rattle_realloc_at(v4 + 80, get64(p1), v12, v19, 1);
-                            v5 = 1;
-                            if (((uint32_t)get64(v4 + 80) & 1) == 0) return v5;
-                            v13 = get64(v4 + 88);
+                        v6 = 1;
+                        if (v13 == ~0ULL) return v6;
+                        v14 = ((v13 > 7) ? v13 : 7ULL) + 1;
+                        v20 = v13 << 1;
+                        v22 = (v14 > v20) ? v14 : v20;
+                        v20 = (v13 < 0x4000000000000000ULL) ? v22 : v14;
+                        if (v20 > 0x7fffffffffffffffULL) return v6;
+                        if (v13 != 0) {
+                            rattle_realloc_at(v5 + 80, get64(p1), v13, v20, 1);
+                            v6 = 1;
+                            if (((uint32_t)get64(v5 + 80) & 1) == 0) return v6;
+                            v14 = get64(v5 + 88);
                         } else {
-                            rattle_alloc_at(v4 + 64, v21, 1);
-                            v5 = 1;
-                            if (((uint32_t)get64(v4 + 64) & 1) == 0) return v5;
-                            v13 = get64(v4 + 72);
+                            rattle_alloc_at(v5 + 64, v22, 1);
+                            v6 = 1;
+                            if (((uint32_t)get64(v5 + 64) & 1) == 0) return v6;
+                            v14 = get64(v5 + 72);
                         }
-                        put64(v16, v19);
-                        put64(p1, v13);
-                        v12 = get64(v17);
+                        put64(v17, v20);
+                        put64(p1, v14);
+                        v13 = get64(v18);
                     }
-                    put8(v13 + v12, v7);
-                    v12 = v12 + 1;
-                    put64(v11, v12);
-                    v6 = v6 + 3;
-                    v15 = v15 - 1;
-                    v14 = v14 + 1;
-                    if (v18 == v14) break;
+                    put8(v14 + v13, v8);
+                    v13 = v13 + 1;
+                    put64(v12, v13);
+                    v7 = v7 + 3;
+                    v16 = v16 - 1;
+                    v15 = v15 + 1;
+                    if (v19 == v15) break;
                     continue;
                 }
-                if (v13 != v12) {
-                    v13 = get64(p1);
+                if (v14 != v13) {
+                    v14 = get64(p1);
                 } else {
-                    v5 = 1;
-                    if (v12 == ~0ULL) return v5;
-                    v13 = ((v12 > 7) ? v12 : 7ULL) + 1;
-                    v16 = v12 << 1;
-                    v19 = (v13 > v16) ? v13 : v16;
-                    v16 = (v12 < 0x4000000000000000ULL) ? v19 : v13;
-                    if (v16 > 0x7fffffffffffffffULL) return v5;
-                    if (v12 != 0) {
-                        rattle_realloc_at(v4 + 48, get64(p1), v12, v16, 1);
-                        v5 = 1;
-                        if (((uint32_t)get64(v4 + 48) & 1) == 0) return v5;
-                        v13 = get64(v4 + 56);
+                    v6 = 1;
+                    if (v13 == ~0ULL) return v6;
+                    v14 = ((v13 > 7) ? v13 : 7ULL) + 1;
+                    v17 = v13 << 1;
+                    v20 = (v14 > v17) ? v14 : v17;
+                    v17 = (v13 < 0x4000000000000000ULL) ? v20 : v14;
+                    if (v17 > 0x7fffffffffffffffULL) return v6;
+                    if (v13 != 0) {
+                        rattle_realloc_at(v5 + 48, get64(p1), v13, v17, 1);
+                        v6 = 1;
+                        if (((uint32_t)get64(v5 + 48) & 1) == 0) return v6;
+                        v14 = get64(v5 + 56);
                     } else {
-                        rattle_alloc_at(v4 + 32, v19, 1);
-                        v5 = 1;
-                        if (((uint32_t)get64(v4 + 32) & 1) == 0) return v5;
-                        v13 = get64(v4 + 40);
+                        rattle_alloc_at(v5 + 32, v20, 1);
+                        v6 = 1;
+                        if (((uint32_t)get64(v5 + 32) & 1) == 0) return v6;
+                        v14 = get64(v5 + 40);
                     }
-                    put64(p1 + 16, v16);
-                    put64(p1, v13);
-                    v12 = get64(p1 + 8);
+                    put64(p1 + 16, v17);
+                    put64(p1, v14);
+                    v13 = get64(p1 + 8);
                 }
-                put8(v13 + v12, 47);
-                v20 = v12 + 1;
-                put64(p1 + 8, v20);
-                v21 = (v15 < 5) ? v15 : 5ULL;
-                v16 = p3 - v21 - v14 - 6;
-                v19 = get64(p1 + 16);
-                if (v16 <= (v19 - v20)) {
-                    v13 = get64(p1);
-                    v22 = v19;
+                put8(v14 + v13, 47);
+                v21 = v13 + 1;
+                put64(p1 + 8, v21);
+                v22 = (v16 < 5) ? v16 : 5ULL;
+                v17 = p3 - v22 - v15 - 6;
+                v20 = get64(p1 + 16);
+                if (v17 <= (v20 - v21)) {
+                    v14 = get64(p1);
+                    v23 = v20;
                 } else {
-                    v5 = 1;
-                    if (v16 > (~1ULL - v12)) return v5;
-                    v12 = ((v12 + (p3 - ((v15 < 5) ? v15 : 5ULL))) - v14) - 5;
-                    v12 = (v12 > 8) ? v12 : 8ULL;
-                    v13 = v19 << 1;
-                    v13 = (v12 > v13) ? v12 : v13;
-                    v22 = (v19 < 0x4000000000000000ULL) ? v13 : v12;
-                    if (v22 > 0x7fffffffffffffffULL) return v5;
-                    if (v19 != 0) {
-                        rattle_realloc_at(v4 + 16, get64(p1), v20, v22, 1);
-                        v5 = 1;
-                        if (((uint32_t)get64(v4 + 16) & 1) == 0) return v5;
-                        v13 = get64(v4 + 24);
+                    v6 = 1;
+                    if (v17 > (~1ULL - v13)) return v6;
+                    v13 = ((v13 + (p3 - ((v16 < 5) ? v16 : 5ULL))) - v15) - 5;
+                    v13 = (v13 > 8) ? v13 : 8ULL;
+                    v14 = v20 << 1;
+                    v14 = (v13 > v14) ? v13 : v14;
+                    v23 = (v20 < 0x4000000000000000ULL) ? v14 : v13;
+                    if (v23 > 0x7fffffffffffffffULL) return v6;
+                    if (v20 != 0) {
+                        rattle_realloc_at(v5 + 16, get64(p1), v21, v23, 1);
+                        v6 = 1;
+                        if (((uint32_t)get64(v5 + 16) & 1) == 0) return v6;
+                        v14 = get64(v5 + 24);
                     } else {
-                        if (v13 > 0x7fffffffffffffffULL) return v5;
-                        rattle_alloc_at(v4, v13, 1);
-                        v5 = 1;
-                        if (((uint32_t)get64(v4) & 1) == 0) return v5;
-                        v13 = get64(v4 + 8);
+                        if (v14 > 0x7fffffffffffffffULL) return v6;
+                        rattle_alloc_at(v5, v14, 1);
+                        v6 = 1;
+                        if (((uint32_t)get64(v5) & 1) == 0) return v6;
+                        v14 = get64(v5 + 8);
                     }
-                    put64(p1, v13);
-                    v20 = get64(p1 + 8);
+                    put64(p1, v14);
+                    v21 = get64(p1 + 8);
                 }
-                v19 = 0;
-                fill(v11, 0, 16);
-                v11 = p3 - ((v15 < 5) ? v15 : 5ULL);
-                v12 = v20 + v11 - v14 - 6;
-                v18 = v13 + v20;
-                v21 = p2 + v21 + v14 + 6;
-                if ((v18 - v21) < v16) {
-                    if ((v11 - v14 - 7) >= 3) {
-                        v23 = v16 & 3;
-                        v16 = (v15 < 5) ? v15 : 5ULL;
-                        v21 = p2 + v16 + v14;
-                        v17 = (p3 - v16 - v14 - 6) & ~3ULL;
-                        v19 = 0;
+                v20 = 0;
+                fill(v12, 0, 16);
+                v12 = p3 - ((v16 < 5) ? v16 : 5ULL);
+                v13 = v21 + v12 - v15 - 6;
+                v19 = v14 + v21;
+                v22 = p2 + v22 + v15 + 6;
+                if ((v19 - v22) < v17) {
+                    if ((v12 - v15 - 7) >= 3) {
+                        v24 = v17 & 3;
+                        v17 = (v16 < 5) ? v16 : 5ULL;
+                        v22 = p2 + v17 + v15;
+                        v18 = (p3 - v17 - v15 - 6) & ~3ULL;
+                        v20 = 0;
                         do {
-                            v16 = v18 + v19;
-                            v11 = v21 + v19;
-                            put8(v16, get8(v11 + 6));
-                            put8(v16 + 1, get8(v11 + 7));
-                            put8(v16 + 2, get8(v11 + 8));
-                            put8(v16 + 3, get8(v11 + 9));
-                            v19 = v19 + 4;
-                        } while (v17 != v19);
-                        if (v23 == 0) goto l32;
+                            v17 = v19 + v20;
+                            v12 = v22 + v20;
+                            put8(v17, get8(v12 + 6));
+                            put8(v17 + 1, get8(v12 + 7));
+                            put8(v17 + 2, get8(v12 + 8));
+                            put8(v17 + 3, get8(v12 + 9));
+                            v20 = v20 + 4;
+                        } while (v18 != v20);
+                        if (v24 == 0) goto l32;
                     }
-                    v16 = v13 + (v20 + v19);
-                    p3 = p3 - v14 - 6;
-                    v11 = (uint64_t)(v6 - (uint32_t)((p3 < 5) ? p3 : 5ULL)) & 3;
-                    p3 = (((p2 + ((v15 < 5) ? v15 : 5ULL)) + v19) + v14) + 6;
+                    v17 = v14 + (v21 + v20);
+                    p3 = p3 - v15 - 6;
+                    v12 = (uint64_t)(v7 - (uint32_t)((p3 < 5) ? p3 : 5ULL)) & 3;
+                    p3 = (((p2 + ((v16 < 5) ? v16 : 5ULL)) + v20) + v15) + 6;
                     do {
-                        put8(v16, get8(p3));
-                        v16 = v16 + 1;
+                        put8(v17, get8(p3));
+                        v17 = v17 + 1;
                         p3 = p3 + 1;
-                        v11 = v11 - 1;
-                    } while (v11 != 0);
-                } else if (v16 != 0) copy(v18, v21, v16);
+                        v12 = v12 - 1;
+                    } while (v12 != 0);
+                } else if (v17 != 0) copy(v19, v22, v17);
             l32:;
-                put64(p1, v13);
-                put64(p1 + 16, v22);
-                put64(p1 + 8, v12);
+                put64(p1, v14);
+                put64(p1 + 16, v23);
+                put64(p1 + 8, v13);
                 goto l21;
             }
-            v13 = get64(p1);
+            v14 = get64(p1);
         l21:;
-            t2 = listings_totals_count_written(p0, v13, v12);
-            v5 = t2 & 255;
-            return v5;
+            t2 = listings_totals_count_written(p0, v14, v13, p4);
+            v6 = t2 & 255;
+            return v6;
         }
     }
-    t1 = listings_totals_count_written(p0, p2, p3);
-    v5 = t1 & 255;
-    return v5;
+    t1 = listings_totals_count_written(p0, p2, p3, p4);
+    v6 = t1 & 255;
+    return v6;
 }
 
 LOCAL uint64_t listings_line_words_past_sixteens(uint64_t p0, uint64_t p1)
@@ -65759,600 +66011,600 @@ LOCAL uint64_t listings_line_words_past_sixteens(uint64_t p0, uint64_t p1)
     return v2;
 }
 
-LOCAL uint32_t listings_totals_count_written(uint64_t p0, uint64_t p1, uint64_t p2)
+LOCAL uint32_t listings_totals_count_written(uint64_t p0, uint64_t p1, uint64_t p2, uint64_t p3)
 {
     unsigned char frame_octets[288 + 15];
-    uint32_t v21 = 0, v24 = 0, v28 = 0, v29 = 0;
-    uint64_t v3 = 0, v4 = 0, v5 = 0, v6 = 0, v7 = 0, v8 = 0, v9 = 0, v10 = 0, v11 = 0, v12 = 0, v13 = 0, v14 = 0,
-        v15 = 0, v16 = 0, v17 = 0, v18 = 0, v19 = 0, v20 = 0, v22 = 0, v23 = 0, v25 = 0, v26 = 0, v27 = 0, v30 = 0,
-        v31 = 0, v32 = 0, v33 = 0;
-    v3 = aligned(frame_octets);
+    uint32_t v22 = 0, v25 = 0, v29 = 0, v30 = 0;
+    uint64_t v4 = 0, v5 = 0, v6 = 0, v7 = 0, v8 = 0, v9 = 0, v10 = 0, v11 = 0, v12 = 0, v13 = 0, v14 = 0, v15 = 0,
+        v16 = 0, v17 = 0, v18 = 0, v19 = 0, v20 = 0, v21 = 0, v23 = 0, v24 = 0, v26 = 0, v27 = 0, v28 = 0, v31 = 0,
+        v32 = 0, v33 = 0, v34 = 0;
+    v4 = aligned(frame_octets);
     if (get8(p0) != 1) goto l3;
-    v4 = p0 + 8;
-    v5 = get64(v4);
-    v6 = (uint64_t)get16(v5 + 2);
-    v7 = 15 - v6;
-    v8 = v5;
-    v9 = 0;
+    v5 = p0 + 8;
+    v6 = get64(v5);
+    v7 = (uint64_t)get16(v6 + 2);
+    v8 = 15 - v7;
+    v9 = v6;
+    v10 = 0;
     for (;;) {
-        v10 = 0;
-        v11 = v5;
-        v12 = (uint64_t)get16(v11);
-        if (v12 == 0) goto l6;
-        v13 = v11 + 8;
-        v10 = 0;
+        v11 = 0;
+        v12 = v6;
+        v13 = (uint64_t)get16(v12);
+        if (v13 == 0) goto l6;
+        v14 = v12 + 8;
+        v11 = 0;
         do {
-            v5 = v13 + (v10 * 24);
-            v14 = get64(v5);
-            v15 = 0;
-            v16 = get64(v5 + 8);
-            v17 = (v16 < p2) ? v16 : p2;
-            if (v17 >= 64) {
-                v18 = v17 & ~63ULL;
-                v15 = 0;
-                v19 = p1;
-                v20 = v14;
+            v6 = v14 + (v11 * 24);
+            v15 = get64(v6);
+            v16 = 0;
+            v17 = get64(v6 + 8);
+            v18 = (v17 < p2) ? v17 : p2;
+            if (v18 >= 64) {
+                v19 = v18 & ~63ULL;
+                v16 = 0;
+                v20 = p1;
+                v21 = v15;
                 do {
-                    v21 = 0;
-                    v5 = 0;
+                    v22 = 0;
+                    v6 = 0;
                     do {
-                        v22 = v19 + v5;
-                        v23 = v20 + v5;
-                        v21 = (v21 | (uint32_t)(get8(v22) != get8(v23))) | (uint32_t)(get8(v22 + 1) != get8(v23 + 1));
-                        v5 = v5 + 2;
-                    } while (v5 != 64);
-                    if ((v21 & 1) != 0) goto l8;
-                    v19 = v19 + 64;
+                        v23 = v20 + v6;
+                        v24 = v21 + v6;
+                        v22 = (v22 | (uint32_t)(get8(v23) != get8(v24))) | (uint32_t)(get8(v23 + 1) != get8(v24 + 1));
+                        v6 = v6 + 2;
+                    } while (v6 != 64);
+                    if ((v22 & 1) != 0) goto l8;
                     v20 = v20 + 64;
-                    v15 = v15 + 64;
-                } while ((v17 - v15) > 63);
-                v15 = v18;
+                    v21 = v21 + 64;
+                    v16 = v16 + 64;
+                } while ((v18 - v16) > 63);
+                v16 = v19;
             }
         l8:;
-            v23 = v17 - v15;
-            if (v23 >= 8) {
+            v24 = v18 - v16;
+            if (v24 >= 8) {
                 do {
-                    v5 = p1 + v15;
-                    v22 = v14 + v15;
-                    if (get8(v5) != get8(v22) || (get8(v5 + 1) & 255) != (get8(v22 + 1) & 255)) break;
-                    if ((get8(v5 + 2) & 255) != (get8(v22 + 2) & 255) || (get8(v5 + 3) & 255) != (get8(v22 + 3) & 255)
-                        || (get8(v5 + 4) & 255) != (get8(v22 + 4) & 255)) break;
-                    if ((get8(v5 + 5) & 255) != (get8(v22 + 5) & 255) || (get8(v5 + 6) & 255) != (get8(v22 + 6) & 255)
-                        || (get8(v5 + 7) & 255) != (get8(v22 + 7) & 255)) break;
-                    v15 = v15 + 8;
-                    v23 = v23 - 8;
-                } while (v23 > 7);
+                    v6 = p1 + v16;
+                    v23 = v15 + v16;
+                    if (get8(v6) != get8(v23) || (get8(v6 + 1) & 255) != (get8(v23 + 1) & 255)) break;
+                    if ((get8(v6 + 2) & 255) != (get8(v23 + 2) & 255) || (get8(v6 + 3) & 255) != (get8(v23 + 3) & 255)
+                        || (get8(v6 + 4) & 255) != (get8(v23 + 4) & 255)) break;
+                    if ((get8(v6 + 5) & 255) != (get8(v23 + 5) & 255) || (get8(v6 + 6) & 255) != (get8(v23 + 6) & 255)
+                        || (get8(v6 + 7) & 255) != (get8(v23 + 7) & 255)) break;
+                    v16 = v16 + 8;
+                    v24 = v24 - 8;
+                } while (v24 > 7);
             }
-            v5 = v17 - v15;
-            v5 = (v5 > v17) ? 0ULL : v5;
-            v22 = v14 + v15;
-            v23 = p1 + v15;
+            v6 = v18 - v16;
+            v6 = (v6 > v18) ? 0ULL : v6;
+            v23 = v15 + v16;
+            v24 = p1 + v16;
             do {
-                if (v5 == 0) goto l14;
-                v5 = v5 - 1;
-                v21 = get8(v22);
-                v24 = get8(v23);
-                v22 = v22 + 1;
+                if (v6 == 0) goto l14;
+                v6 = v6 - 1;
+                v22 = get8(v23);
+                v25 = get8(v24);
                 v23 = v23 + 1;
-            } while (v24 == v21);
-            if (v24 >= v21) goto l13;
+                v24 = v24 + 1;
+            } while (v25 == v22);
+            if (v25 >= v22) goto l13;
             goto l6;
         l14:;
-            if (p2 == v16) goto l4;
-            if (p2 < v16) goto l6;
+            if (p2 == v17) goto l4;
+            if (p2 < v17) goto l6;
         l13:;
-            v10 = v10 + 1;
-        } while (v10 != v12);
-        v10 = v12;
+            v11 = v11 + 1;
+        } while (v11 != v13);
+        v11 = v13;
     l6:;
-        if (get16(v11 + 2) == 0) goto l3;
-        v7 = v7 + 1;
-        v5 = get64((v11 + (v10 << 3)) + 488);
-        v8 = v11;
-        v9 = v10;
+        if (get16(v12 + 2) == 0) goto l3;
+        v8 = v8 + 1;
+        v6 = get64((v12 + (v11 << 3)) + 488);
+        v9 = v12;
+        v10 = v11;
     }
 l4:;
-    v5 = v10 & 15;
-    v22 = get64(((v6 + v7) == 15) ? v4 : ((v8 + (v9 << 3)) + 488));
-    if (v5 >= (uint64_t)get16(v22)) UNREACHABLE;
-    v5 = (v22 + (v5 << 3)) + 368;
-    v22 = get64(v5);
-    if (v22 == ~0ULL) {
-        v21 = 1;
-        return v21;
+    v6 = v11 & 15;
+    v23 = get64(((v7 + v8) == 15) ? v5 : ((v9 + (v10 << 3)) + 488));
+    if (v6 >= (uint64_t)get16(v23)) UNREACHABLE;
+    v6 = (v23 + (v6 << 3)) + 368;
+    v23 = get64(v6);
+    if (v23 > ~p3) {
+        v22 = 1;
+        return v22;
     }
-    put64(v5, v22 + 1);
-    v21 = 0;
-    return v21;
+    put64(v6, v23 + p3);
+    v22 = 0;
+    return v22;
 l3:;
-    v24 = p2 == 0;
-    if (v24 != 0) {
-        v25 = 0;
-        v14 = v3 + 287;
+    v25 = p2 == 0;
+    if (v25 != 0) {
+        v26 = 0;
+        v15 = v4 + 287;
     } else {
-        v25 = (p2 > 8) ? p2 : 8ULL;
-        if (v25 > 0x7fffffffffffffffULL) {
-            v21 = 1;
-            return v21;
+        v26 = (p2 > 8) ? p2 : 8ULL;
+        if (v26 > 0x7fffffffffffffffULL) {
+            v22 = 1;
+            return v22;
         }
-        rattle_alloc_at(v3 + 56, v25, 1);
-        v21 = 1;
-        if (((uint32_t)get64(v3 + 56) & 1) == 0) return v21;
-        v14 = get64(v3 + 64);
+        rattle_alloc_at(v4 + 56, v26, 1);
+        v22 = 1;
+        if (((uint32_t)get64(v4 + 56) & 1) == 0) return v22;
+        v15 = get64(v4 + 64);
     }
-    if ((v14 - p1) < p2) {
-        v19 = p2 & 3;
-        v22 = 0;
+    if ((v15 - p1) < p2) {
+        v20 = p2 & 3;
+        v23 = 0;
         if (p2 >= 4) {
-            v20 = p2 & ~3ULL;
-            v22 = 0;
+            v21 = p2 & ~3ULL;
+            v23 = 0;
             do {
-                v5 = v14 + v22;
-                v23 = p1 + v22;
-                put8(v5, get8(v23));
-                put8(v5 + 1, get8(v23 + 1));
-                put8(v5 + 2, get8(v23 + 2));
-                put8(v5 + 3, get8(v23 + 3));
-                v22 = v22 + 4;
-            } while (v20 != v22);
-            if (v19 == 0) goto l20;
+                v6 = v15 + v23;
+                v24 = p1 + v23;
+                put8(v6, get8(v24));
+                put8(v6 + 1, get8(v24 + 1));
+                put8(v6 + 2, get8(v24 + 2));
+                put8(v6 + 3, get8(v24 + 3));
+                v23 = v23 + 4;
+            } while (v21 != v23);
+            if (v20 == 0) goto l20;
         }
-        v5 = v14 + v22;
-        v22 = p1 + v22;
+        v6 = v15 + v23;
+        v23 = p1 + v23;
         do {
-            put8(v5, get8(v22));
-            v5 = v5 + 1;
-            v22 = v22 + 1;
-            v19 = v19 - 1;
-        } while (v19 != 0);
-    } else if (v24 == 0) copy(v14, p1, p2);
+            put8(v6, get8(v23));
+            v6 = v6 + 1;
+            v23 = v23 + 1;
+            v20 = v20 - 1;
+        } while (v20 != 0);
+    } else if (v25 == 0) copy(v15, p1, p2);
 l20:;
     if (get8(p0) == 1) {
-        v26 = get64(p0 + 8);
+        v27 = get64(p0 + 8);
     } else {
-        rattle_alloc_at(v3 + 40, 488, 8);
-        if (((uint32_t)get64(v3 + 40) & 1) == 0) goto l30;
-        v26 = get64(v3 + 48);
-        put32(v26, 0);
-        put64(p0 + 8, v26);
-        v21 = get8(p0);
+        rattle_alloc_at(v4 + 40, 488, 8);
+        if (((uint32_t)get64(v4 + 40) & 1) == 0) goto l30;
+        v27 = get64(v4 + 48);
+        put32(v27, 0);
+        put64(p0 + 8, v27);
+        v22 = get8(p0);
         put64(p0, 1);
-        if (v21 == 1) UNREACHABLE;
+        if (v22 == 1) UNREACHABLE;
     }
-    v27 = p0 + 8;
-    v28 = get16(v26 + 2);
-    v29 = 0 - v28;
-    v6 = 0;
-    v9 = 0;
-    v5 = v26;
-    v4 = v26;
-    v30 = (uint64_t)v28 & 0xffff;
-    v31 = 15 - v30;
-    v8 = v31;
+    v28 = p0 + 8;
+    v29 = get16(v27 + 2);
+    v30 = 0 - v29;
     v7 = 0;
+    v10 = 0;
+    v6 = v27;
+    v5 = v27;
+    v31 = (uint64_t)v29 & 0xffff;
+    v32 = 15 - v31;
+    v9 = v32;
+    v8 = 0;
     for (;;) {
-        v10 = 0;
-        v11 = v5;
-        v12 = (uint64_t)get16(v11);
-        if (v12 == 0) goto l34;
-        v13 = v11 + 8;
-        v10 = 0;
+        v11 = 0;
+        v12 = v6;
+        v13 = (uint64_t)get16(v12);
+        if (v13 == 0) goto l34;
+        v14 = v12 + 8;
+        v11 = 0;
         do {
-            v5 = v13 + (v10 * 24);
-            v17 = get64(v5);
-            v15 = 0;
-            v16 = get64(v5 + 8);
-            p1 = (v16 < p2) ? v16 : p2;
+            v6 = v14 + (v11 * 24);
+            v18 = get64(v6);
+            v16 = 0;
+            v17 = get64(v6 + 8);
+            p1 = (v17 < p2) ? v17 : p2;
             if (p1 >= 64) {
-                v18 = p1 & ~63ULL;
-                v15 = 0;
-                v19 = v14;
-                v20 = v17;
+                v19 = p1 & ~63ULL;
+                v16 = 0;
+                v20 = v15;
+                v21 = v18;
                 do {
-                    v21 = 0;
-                    v5 = 0;
+                    v22 = 0;
+                    v6 = 0;
                     do {
-                        v22 = v19 + v5;
-                        v23 = v20 + v5;
-                        v21 = (v21 | (uint32_t)(get8(v22) != get8(v23))) | (uint32_t)(get8(v22 + 1) != get8(v23 + 1));
-                        v5 = v5 + 2;
-                    } while (v5 != 64);
-                    if ((v21 & 1) != 0) goto l36;
-                    v19 = v19 + 64;
+                        v23 = v20 + v6;
+                        v24 = v21 + v6;
+                        v22 = (v22 | (uint32_t)(get8(v23) != get8(v24))) | (uint32_t)(get8(v23 + 1) != get8(v24 + 1));
+                        v6 = v6 + 2;
+                    } while (v6 != 64);
+                    if ((v22 & 1) != 0) goto l36;
                     v20 = v20 + 64;
-                    v15 = v15 + 64;
-                } while ((p1 - v15) > 63);
-                v15 = v18;
+                    v21 = v21 + 64;
+                    v16 = v16 + 64;
+                } while ((p1 - v16) > 63);
+                v16 = v19;
             }
         l36:;
-            v23 = p1 - v15;
-            if (v23 >= 8) {
+            v24 = p1 - v16;
+            if (v24 >= 8) {
                 do {
-                    v5 = v14 + v15;
-                    v22 = v17 + v15;
-                    if (get8(v5) != get8(v22) || (get8(v5 + 1) & 255) != (get8(v22 + 1) & 255)) break;
-                    if ((get8(v5 + 2) & 255) != (get8(v22 + 2) & 255) || (get8(v5 + 3) & 255) != (get8(v22 + 3) & 255)
-                        || (get8(v5 + 4) & 255) != (get8(v22 + 4) & 255)) break;
-                    if ((get8(v5 + 5) & 255) != (get8(v22 + 5) & 255) || (get8(v5 + 6) & 255) != (get8(v22 + 6) & 255)
-                        || (get8(v5 + 7) & 255) != (get8(v22 + 7) & 255)) break;
-                    v15 = v15 + 8;
-                    v23 = v23 - 8;
-                } while (v23 > 7);
+                    v6 = v15 + v16;
+                    v23 = v18 + v16;
+                    if (get8(v6) != get8(v23) || (get8(v6 + 1) & 255) != (get8(v23 + 1) & 255)) break;
+                    if ((get8(v6 + 2) & 255) != (get8(v23 + 2) & 255) || (get8(v6 + 3) & 255) != (get8(v23 + 3) & 255)
+                        || (get8(v6 + 4) & 255) != (get8(v23 + 4) & 255)) break;
+                    if ((get8(v6 + 5) & 255) != (get8(v23 + 5) & 255) || (get8(v6 + 6) & 255) != (get8(v23 + 6) & 255)
+                        || (get8(v6 + 7) & 255) != (get8(v23 + 7) & 255)) break;
+                    v16 = v16 + 8;
+                    v24 = v24 - 8;
+                } while (v24 > 7);
             }
-            v23 = (v15 > p1) ? v15 : p1;
+            v24 = (v16 > p1) ? v16 : p1;
             do {
-                if (v23 == v15) goto l42;
-                v5 = v17 + v15;
-                v22 = v14 + v15;
-                v15 = v15 + 1;
-                v21 = get8(v22);
-                v24 = get8(v5);
-            } while (v21 == v24);
-            if (v21 >= v24) goto l41;
+                if (v24 == v16) goto l42;
+                v6 = v18 + v16;
+                v23 = v15 + v16;
+                v16 = v16 + 1;
+                v22 = get8(v23);
+                v25 = get8(v6);
+            } while (v22 == v25);
+            if (v22 >= v25) goto l41;
             goto l34;
         l42:;
-            if (p2 == v16) goto l26;
-            if (p2 < v16) goto l34;
+            if (p2 == v17) goto l26;
+            if (p2 < v17) goto l34;
         l41:;
-            v10 = v10 + 1;
-        } while (v10 != v12);
-        v10 = v12;
+            v11 = v11 + 1;
+        } while (v11 != v13);
+        v11 = v13;
     l34:;
-        v8 = v8 + 1;
-        v7 = v10 + (v7 << 4);
-        if (get16(v11 + 2) == 0) break;
-        v29 = v29 + 1;
         v9 = v9 + 1;
-        v5 = get64((v11 + (v10 << 3)) + 488);
-        v6 = v10;
-        v4 = v11;
+        v8 = v11 + (v8 << 4);
+        if (get16(v12 + 2) == 0) break;
+        v30 = v30 + 1;
+        v10 = v10 + 1;
+        v6 = get64((v12 + (v11 << 3)) + 488);
+        v7 = v11;
+        v5 = v12;
     }
     if (get64(p0 + 16) > 0x7ffffffffffffffeULL) goto l30;
-    v5 = v6 << 3;
-    v22 = v8 - v31;
-    if (get16(get64((v22 == 1) ? v27 : (v4 + v5 + 488))) < 15) goto l27;
-    v32 = v31;
-    if (get16(v26) >= 15) {
-        if ((v28 & 0xffff) > 10) goto l30;
-        rattle_alloc_at(v3 + 24, 616, 8);
-        if (((uint32_t)get64(v3 + 24) & 1) == 0) goto l30;
-        v26 = get64(v3 + 32);
-        put16(v26 + 2, v28 + 1);
-        v5 = get64(v27);
-        put16(v26, 0);
-        put64(v26 + 488, v5);
-        put64(v27, v26);
-        v32 = 14 - v30;
+    v6 = v7 << 3;
+    v23 = v9 - v32;
+    if (get16(get64((v23 == 1) ? v28 : (v5 + v6 + 488))) < 15) goto l27;
+    v33 = v32;
+    if (get16(v27) >= 15) {
+        if ((v29 & 0xffff) > 10) goto l30;
+        rattle_alloc_at(v4 + 24, 616, 8);
+        if (((uint32_t)get64(v4 + 24) & 1) == 0) goto l30;
+        v27 = get64(v4 + 32);
+        put16(v27 + 2, v29 + 1);
+        v6 = get64(v28);
+        put16(v27, 0);
+        put64(v27 + 488, v6);
+        put64(v28, v27);
+        v33 = 14 - v31;
     }
-    fill(v3 + 176, 0, 16);
-    if (v8 > v32) {
-        v23 = v9 + v31 - v32;
-        if (((v8 - v32) & 3) == 0) {
-            v5 = v8;
+    fill(v4 + 176, 0, 16);
+    if (v9 > v33) {
+        v24 = v10 + v32 - v33;
+        if (((v9 - v33) & 3) == 0) {
+            v6 = v9;
         } else {
-            v22 = (uint64_t)(v29 - (uint32_t)v32) & 3;
-            v5 = v8;
+            v23 = (uint64_t)(v30 - (uint32_t)v33) & 3;
+            v6 = v9;
             do {
-                v5 = v5 - 1;
-                put8(v5 + (v3 + 176), (uint32_t)v7 & 15);
-                v7 = v7 >> 4;
-                v22 = v22 - 1;
-            } while (v22 != 0);
+                v6 = v6 - 1;
+                put8(v6 + (v4 + 176), (uint32_t)v8 & 15);
+                v8 = v8 >> 4;
+                v23 = v23 - 1;
+            } while (v23 != 0);
         }
-        if (v23 >= 3) {
-            v23 = v3 + 176 - 4;
+        if (v24 >= 3) {
+            v24 = v4 + 176 - 4;
             do {
-                v22 = v23 + v5;
-                v21 = (uint32_t)v7;
-                put8(v22 + 3, v21 & 15);
-                put8(v22 + 2, (v21 & 240) >> 4);
-                put8(v22 + 1, (v21 >> 8) & 15);
-                put8(v22, (v21 >> 12) & 15);
-                v7 = v7 >> 16;
-                v5 = v5 - 4;
-            } while (v32 < v5);
+                v23 = v24 + v6;
+                v22 = (uint32_t)v8;
+                put8(v23 + 3, v22 & 15);
+                put8(v23 + 2, (v22 & 240) >> 4);
+                put8(v23 + 1, (v22 >> 8) & 15);
+                put8(v23, (v22 >> 12) & 15);
+                v8 = v8 >> 16;
+                v6 = v6 - 4;
+            } while (v33 < v6);
         }
     }
-    v5 = get64(v3 + 184);
-    put64(v3 + 80, v5);
-    v22 = get64(v3 + 176);
-    put64(v3 + 72, v22);
-    put64(v3 + 88, v22);
-    put64(v3 + 96, v5);
-    v33 = v3 + 88 + v32;
-    v31 = 16 - v32;
-    if (v31 < 2) goto l53;
-    v26 = v3 + 176 + 48;
-    v30 = v3 + 176 + 24;
-    v5 = v31;
-    v16 = v33;
-    v12 = v27;
+    v6 = get64(v4 + 184);
+    put64(v4 + 80, v6);
+    v23 = get64(v4 + 176);
+    put64(v4 + 72, v23);
+    put64(v4 + 88, v23);
+    put64(v4 + 96, v6);
+    v34 = v4 + 88 + v33;
+    v32 = 16 - v33;
+    if (v32 < 2) goto l53;
+    v27 = v4 + 176 + 48;
+    v31 = v4 + 176 + 24;
+    v6 = v32;
+    v17 = v34;
+    v13 = v28;
     do {
-        v13 = v5;
-        v4 = get64(v12);
-        v21 = get8(v16);
-        v11 = (uint64_t)v21 & 255;
-        v22 = v11 << 3;
-        if (get16(get64(v4 + v22 + 488)) < 15) goto l55;
-        v5 = (uint64_t)get16(v4 + 2) - 1;
-        rattle_alloc_at(v3 + 8, (v5 == 0) ? 488ULL : 616ULL, 8);
-        if ((get32(v3 + 8) & 1) == 0) goto l52;
-        v20 = get64(v3 + 16);
-        put16(v20 + 2, (uint32_t)v5);
-        v5 = get64(v12);
-        put64(v3 + 248, v5);
-        put64(v3 + 216, 15);
-        put64(v3 + 200, v5 + 368);
-        put64(v3 + 192, 15);
-        put64(v3 + 176, v5 + 8);
-        fill(v3 + 104, 0, 24);
-        v23 = (uint64_t)get16(v5);
-        put64(v3 + 208, v23);
-        put64(v3 + 184, v23);
-        v24 = get16(v5 + 2);
-        put64(v3 + 240, (v24 != 0) ? 16ULL : 0ULL);
-        put64(v3 + 232, (v24 != 0) ? (v23 + 1) : 0ULL);
-        v5 = v5 + 488;
-        put64(v3 + 224, v5);
-        v4 = v20 + 368;
-        v6 = v5 + v22;
-        v23 = get64(v6);
-        v24 = get16(v23 + 2);
-        v22 = v20 + 8;
-        v19 = v23 + 200;
-        v29 = get16(v23);
-        v9 = (uint64_t)v29 & 0xffff;
-        v7 = v9 - 8;
-        v5 = v7 * 24;
-        if ((v22 - v19) < v5) {
-            if (v7 == 0) {
-                v22 = v23 + 432;
-                v5 = 0;
+        v14 = v6;
+        v5 = get64(v13);
+        v22 = get8(v17);
+        v12 = (uint64_t)v22 & 255;
+        v23 = v12 << 3;
+        if (get16(get64(v5 + v23 + 488)) < 15) goto l55;
+        v6 = (uint64_t)get16(v5 + 2) - 1;
+        rattle_alloc_at(v4 + 8, (v6 == 0) ? 488ULL : 616ULL, 8);
+        if ((get32(v4 + 8) & 1) == 0) goto l52;
+        v21 = get64(v4 + 16);
+        put16(v21 + 2, (uint32_t)v6);
+        v6 = get64(v13);
+        put64(v4 + 248, v6);
+        put64(v4 + 216, 15);
+        put64(v4 + 200, v6 + 368);
+        put64(v4 + 192, 15);
+        put64(v4 + 176, v6 + 8);
+        fill(v4 + 104, 0, 24);
+        v24 = (uint64_t)get16(v6);
+        put64(v4 + 208, v24);
+        put64(v4 + 184, v24);
+        v25 = get16(v6 + 2);
+        put64(v4 + 240, (v25 != 0) ? 16ULL : 0ULL);
+        put64(v4 + 232, (v25 != 0) ? (v24 + 1) : 0ULL);
+        v6 = v6 + 488;
+        put64(v4 + 224, v6);
+        v5 = v21 + 368;
+        v7 = v6 + v23;
+        v24 = get64(v7);
+        v25 = get16(v24 + 2);
+        v23 = v21 + 8;
+        v20 = v24 + 200;
+        v30 = get16(v24);
+        v10 = (uint64_t)v30 & 0xffff;
+        v8 = v10 - 8;
+        v6 = v8 * 24;
+        if ((v23 - v20) < v6) {
+            if (v8 == 0) {
+                v23 = v24 + 432;
+                v6 = 0;
                 goto l57;
             }
-            v15 = v9 & 3;
-            v17 = 0;
-            if (((v29 - 9) & 0xffff) >= 3) {
-                v18 = v7 & ~3ULL;
-                v19 = 0;
-                v17 = 0;
+            v16 = v10 & 3;
+            v18 = 0;
+            if (((v30 - 9) & 0xffff) >= 3) {
+                v19 = v8 & ~3ULL;
+                v20 = 0;
+                v18 = 0;
                 do {
-                    v5 = v23 + v19;
-                    p1 = get64(v5 + 200);
-                    v10 = get64(v5 + 208);
-                    v22 = v20 + v19;
-                    put64(v22 + 24, get64(v5 + 216));
-                    put64(v22 + 16, v10);
-                    put64(v22 + 8, p1);
-                    p1 = get64(v5 + 224);
-                    v10 = get64(v5 + 232);
-                    put64(v22 + 48, get64(v5 + 240));
-                    put64(v22 + 40, v10);
-                    put64(v22 + 32, p1);
-                    p1 = get64(v5 + 248);
-                    v10 = get64(v5 + 256);
-                    put64(v22 + 72, get64(v5 + 264));
-                    put64(v22 + 64, v10);
-                    put64(v22 + 56, p1);
-                    p1 = get64(v5 + 272);
-                    v10 = get64(v5 + 280);
-                    put64(v22 + 96, get64(v5 + 288));
-                    put64(v22 + 88, v10);
-                    put64(v22 + 80, p1);
-                    v19 = v19 + 96;
-                    v17 = v17 + 4;
-                } while (v18 != v17);
-                if (v15 == 0) goto l59;
+                    v6 = v24 + v20;
+                    p1 = get64(v6 + 200);
+                    v11 = get64(v6 + 208);
+                    v23 = v21 + v20;
+                    put64(v23 + 24, get64(v6 + 216));
+                    put64(v23 + 16, v11);
+                    put64(v23 + 8, p1);
+                    p1 = get64(v6 + 224);
+                    v11 = get64(v6 + 232);
+                    put64(v23 + 48, get64(v6 + 240));
+                    put64(v23 + 40, v11);
+                    put64(v23 + 32, p1);
+                    p1 = get64(v6 + 248);
+                    v11 = get64(v6 + 256);
+                    put64(v23 + 72, get64(v6 + 264));
+                    put64(v23 + 64, v11);
+                    put64(v23 + 56, p1);
+                    p1 = get64(v6 + 272);
+                    v11 = get64(v6 + 280);
+                    put64(v23 + 96, get64(v6 + 288));
+                    put64(v23 + 88, v11);
+                    put64(v23 + 80, p1);
+                    v20 = v20 + 96;
+                    v18 = v18 + 4;
+                } while (v19 != v18);
+                if (v16 == 0) goto l59;
             }
-            v22 = v17 * 24;
-            v5 = v20 + v22 + 8;
-            v22 = v23 + v22 + 200;
+            v23 = v18 * 24;
+            v6 = v21 + v23 + 8;
+            v23 = v24 + v23 + 200;
             do {
-                v19 = get64(v22);
-                v17 = get64(v22 + 8);
-                put64(v5 + 16, get64(v22 + 16));
-                put64(v5 + 8, v17);
-                put64(v5, v19);
-                v5 = v5 + 24;
-                v22 = v22 + 24;
-                v15 = v15 - 1;
-            } while (v15 != 0);
-        } else if (v5 != 0) copy(v22, v19, v5);
+                v20 = get64(v23);
+                v18 = get64(v23 + 8);
+                put64(v6 + 16, get64(v23 + 16));
+                put64(v6 + 8, v18);
+                put64(v6, v20);
+                v6 = v6 + 24;
+                v23 = v23 + 24;
+                v16 = v16 - 1;
+            } while (v16 != 0);
+        } else if (v6 != 0) copy(v23, v20, v6);
     l59:;
-        v22 = v23 + 432;
-        v5 = v7 << 3;
-        if ((v4 - v22) < v5) {
-            if (v7 == 0) goto l56;
-            v15 = v9 & 3;
-            v17 = 0;
-            if (((v29 - 9) & 0xffff) >= 3) {
-                p1 = v7 & ~3ULL;
-                v5 = 0;
-                v17 = 0;
+        v23 = v24 + 432;
+        v6 = v8 << 3;
+        if ((v5 - v23) < v6) {
+            if (v8 == 0) goto l56;
+            v16 = v10 & 3;
+            v18 = 0;
+            if (((v30 - 9) & 0xffff) >= 3) {
+                p1 = v8 & ~3ULL;
+                v6 = 0;
+                v18 = 0;
                 do {
-                    v22 = v20 + v5;
-                    v19 = v23 + v5;
-                    put64(v22 + 368, get64(v19 + 432));
-                    put64(v22 + 376, get64(v19 + 440));
-                    put64(v22 + 384, get64(v19 + 448));
-                    put64(v22 + 392, get64(v19 + 456));
-                    v5 = v5 + 32;
-                    v17 = v17 + 4;
-                } while (p1 != v17);
-                if (v15 == 0) goto l56;
+                    v23 = v21 + v6;
+                    v20 = v24 + v6;
+                    put64(v23 + 368, get64(v20 + 432));
+                    put64(v23 + 376, get64(v20 + 440));
+                    put64(v23 + 384, get64(v20 + 448));
+                    put64(v23 + 392, get64(v20 + 456));
+                    v6 = v6 + 32;
+                    v18 = v18 + 4;
+                } while (p1 != v18);
+                if (v16 == 0) goto l56;
             }
-            v22 = v17 << 3;
-            v5 = v20 + v22 + 368;
-            v22 = v23 + v22 + 432;
+            v23 = v18 << 3;
+            v6 = v21 + v23 + 368;
+            v23 = v24 + v23 + 432;
             do {
-                put64(v5, get64(v22));
-                v5 = v5 + 8;
-                v22 = v22 + 8;
-                v15 = v15 - 1;
-            } while (v15 != 0);
+                put64(v6, get64(v23));
+                v6 = v6 + 8;
+                v23 = v23 + 8;
+                v16 = v16 - 1;
+            } while (v16 != 0);
             goto l56;
         }
     l57:;
-        if (v5 != 0) copy(v4, v22, v5);
+        if (v6 != 0) copy(v5, v23, v6);
     l56:;
-        put64(v3 + 272, get64(v23 + 192));
-        put64(v3 + 264, get64(v23 + 184));
-        put64(v3 + 256, get64(v23 + 176));
-        v10 = get64(v23 + 424);
-        if ((v24 & 0xffff) != 0) {
-            v19 = v20 + 488;
-            v15 = v23 + 552;
-            v5 = v9 - 7;
-            v22 = v5 << 3;
-            if ((v19 - v15) < v22) {
-                if (v5 == 0) goto l67;
-                v15 = v5 & 3;
-                v17 = 0;
-                if (v7 >= 3) {
-                    p1 = v5 & ~3ULL;
-                    v5 = 0;
-                    v17 = 0;
+        put64(v4 + 272, get64(v24 + 192));
+        put64(v4 + 264, get64(v24 + 184));
+        put64(v4 + 256, get64(v24 + 176));
+        v11 = get64(v24 + 424);
+        if ((v25 & 0xffff) != 0) {
+            v20 = v21 + 488;
+            v16 = v24 + 552;
+            v6 = v10 - 7;
+            v23 = v6 << 3;
+            if ((v20 - v16) < v23) {
+                if (v6 == 0) goto l67;
+                v16 = v6 & 3;
+                v18 = 0;
+                if (v8 >= 3) {
+                    p1 = v6 & ~3ULL;
+                    v6 = 0;
+                    v18 = 0;
                     do {
-                        v22 = v20 + v5;
-                        v19 = v23 + v5;
-                        put64(v22 + 488, get64(v19 + 552));
-                        put64(v22 + 496, get64(v19 + 560));
-                        put64(v22 + 504, get64(v19 + 568));
-                        put64(v22 + 512, get64(v19 + 576));
-                        v5 = v5 + 32;
-                        v17 = v17 + 4;
-                    } while (p1 != v17);
-                    if (v15 == 0) goto l67;
+                        v23 = v21 + v6;
+                        v20 = v24 + v6;
+                        put64(v23 + 488, get64(v20 + 552));
+                        put64(v23 + 496, get64(v20 + 560));
+                        put64(v23 + 504, get64(v20 + 568));
+                        put64(v23 + 512, get64(v20 + 576));
+                        v6 = v6 + 32;
+                        v18 = v18 + 4;
+                    } while (p1 != v18);
+                    if (v16 == 0) goto l67;
                 }
-                v22 = v17 << 3;
-                v5 = v20 + v22 + 488;
-                v22 = v23 + v22 + 552;
+                v23 = v18 << 3;
+                v6 = v21 + v23 + 488;
+                v23 = v24 + v23 + 552;
                 do {
-                    put64(v5, get64(v22));
-                    v5 = v5 + 8;
-                    v22 = v22 + 8;
-                    v15 = v15 - 1;
-                } while (v15 != 0);
-            } else if (v22 != 0) copy(v19, v15, v22);
+                    put64(v6, get64(v23));
+                    v6 = v6 + 8;
+                    v23 = v23 + 8;
+                    v16 = v16 - 1;
+                } while (v16 != 0);
+            } else if (v23 != 0) copy(v20, v16, v23);
         }
     l67:;
-        put16(v23, 7);
-        put16(v20, (uint32_t)v7);
-        v5 = get64(v3 + 256);
-        put64(v3 + 128, v5);
-        v22 = get64(v3 + 264);
-        put64(v3 + 136, v22);
-        v19 = get64(v3 + 272);
-        put64(v3 + 144, v19);
-        put64(v6, v23);
-        put64(v3 + 120, v19);
-        put64(v3 + 104, v5);
-        put64(v3 + 112, v22);
-        std_alloc_vec_lodged_Vec_T_Lodged_insert_reserved_2262cf5b90b10fda(v3 + 176, v11, v3 + 104);
-        std_alloc_vec_lodged_Vec_T_Lodged_insert_reserved_i64(v30, v11, v10);
-        std_alloc_vec_lodged_Vec_T_Lodged_insert_reserved_9a902977d02facbb(v26, v11 + 1, v20);
-        v4 = get64(v3 + 248);
-        put16(v4, (uint32_t)get64(v3 + 184));
-        put64(v12, v4);
-        v24 = get8(v16 + 1);
-        if (v24 <= 7) {
-            v21 = get8(v16);
+        put16(v24, 7);
+        put16(v21, (uint32_t)v8);
+        v6 = get64(v4 + 256);
+        put64(v4 + 128, v6);
+        v23 = get64(v4 + 264);
+        put64(v4 + 136, v23);
+        v20 = get64(v4 + 272);
+        put64(v4 + 144, v20);
+        put64(v7, v24);
+        put64(v4 + 120, v20);
+        put64(v4 + 104, v6);
+        put64(v4 + 112, v23);
+        std_alloc_vec_lodged_Vec_T_Lodged_insert_reserved_2262cf5b90b10fda(v4 + 176, v12, v4 + 104);
+        std_alloc_vec_lodged_Vec_T_Lodged_insert_reserved_i64(v31, v12, v11);
+        std_alloc_vec_lodged_Vec_T_Lodged_insert_reserved_9a902977d02facbb(v27, v12 + 1, v21);
+        v5 = get64(v4 + 248);
+        put16(v5, (uint32_t)get64(v4 + 184));
+        put64(v13, v5);
+        v25 = get8(v17 + 1);
+        if (v25 <= 7) {
+            v22 = get8(v17);
         } else {
-            put8(v16 + 1, v24 - 8);
-            v21 = v21 + 1;
-            put8(v16, v21);
+            put8(v17 + 1, v25 - 8);
+            v22 = v22 + 1;
+            put8(v17, v22);
         }
     l55:;
-        v5 = v13 - 1;
-        v16 = v16 + 1;
-        v6 = (uint64_t)v21 & 255;
-        v12 = (v4 + (v6 << 3)) + 488;
-    } while (v13 > 2);
-    v26 = get64(v27);
+        v6 = v14 - 1;
+        v17 = v17 + 1;
+        v7 = (uint64_t)v22 & 255;
+        v13 = (v5 + (v7 << 3)) + 488;
+    } while (v14 > 2);
+    v27 = get64(v28);
 l53:;
-    if (get16(v26) == 0) goto l51;
-    v5 = v31 & 7;
-    v22 = 0;
-    if ((v32 - 9) < 7) goto l29;
-    v23 = v31 & ~7ULL;
-    v22 = 0;
+    if (get16(v27) == 0) goto l51;
+    v6 = v32 & 7;
+    v23 = 0;
+    if ((v33 - 9) < 7) goto l29;
+    v24 = v32 & ~7ULL;
+    v23 = 0;
     do {
-        v22 = v22 + 8;
-    } while (v23 != v22);
-    if (v5 != 0) goto l29;
-    v22 = v22 - 1;
+        v23 = v23 + 8;
+    } while (v24 != v23);
+    if (v6 != 0) goto l29;
+    v23 = v23 - 1;
     goto l28;
 l52:;
-    v26 = get64(v27);
-    if (get16(v26) != 0) goto l30;
+    v27 = get64(v28);
+    if (get16(v27) != 0) goto l30;
 l51:;
-    if (get16(v26 + 2) != 0) {
-        put64(v3 + 240, 16);
-        put64(v3 + 232, 1);
-        put64(v3 + 216, 15);
-        put64(v3 + 208, 0);
-        put64(v3 + 192, 15);
-        put64(v3 + 184, 0);
-        put64(v3 + 248, v26);
-        put64(v3 + 224, v26 + 488);
-        put64(v3 + 200, v26 + 368);
-        put64(v3 + 176, v26 + 8);
-        v5 = std_alloc_vec_Vec_remove_1307c8e0442ede3e(v3 + 224);
-        rattle_dealloc_at(get64(v3 + 248));
-        put64(v27, v5);
+    if (get16(v27 + 2) != 0) {
+        put64(v4 + 240, 16);
+        put64(v4 + 232, 1);
+        put64(v4 + 216, 15);
+        put64(v4 + 208, 0);
+        put64(v4 + 192, 15);
+        put64(v4 + 184, 0);
+        put64(v4 + 248, v27);
+        put64(v4 + 224, v27 + 488);
+        put64(v4 + 200, v27 + 368);
+        put64(v4 + 176, v27 + 8);
+        v6 = std_alloc_vec_Vec_remove_1307c8e0442ede3e(v4 + 224);
+        rattle_dealloc_at(get64(v4 + 248));
+        put64(v28, v6);
     }
 l30:;
-    v21 = 1;
-    if (v25 != 0) goto l25;
-    return v21;
+    v22 = 1;
+    if (v26 != 0) goto l25;
+    return v22;
 l29:;
-    v22 = v22 + v5 - 1;
+    v23 = v23 + v6 - 1;
     do {
-        v5 = v5 - 1;
-    } while (v5 != 0);
+        v6 = v6 - 1;
+    } while (v6 != 0);
 l28:;
     if (get8(p0) != 1) UNREACHABLE;
-    v7 = (uint64_t)get8(v33 + v22);
-    v5 = v6 << 3;
-    v22 = v8 - v32;
+    v8 = (uint64_t)get8(v34 + v23);
+    v6 = v7 << 3;
+    v23 = v9 - v33;
 l27:;
-    put64(v3 + 272, v25);
-    put64(v3 + 264, p2);
-    put64(v3 + 256, v14);
-    v23 = (v22 == 1) ? v27 : (v4 + v5 + 488);
-    v5 = get64(v23);
-    put64(v3 + 248, v5);
-    put64(v3 + 224, v5 + 488);
-    put64(v3 + 216, 15);
-    put64(v3 + 200, v5 + 368);
-    put64(v3 + 192, 15);
-    put64(v3 + 176, v5 + 8);
-    v22 = (uint64_t)get16(v5);
-    put64(v3 + 208, v22);
-    put64(v3 + 184, v22);
-    v21 = get16(v5 + 2);
-    put64(v3 + 240, (v21 != 0) ? 16ULL : 0ULL);
-    put64(v3 + 232, (v21 != 0) ? (v22 + 1) : 0ULL);
-    v5 = v7 & 15;
-    std_alloc_vec_lodged_Vec_T_Lodged_insert_reserved_2262cf5b90b10fda(v3 + 176, v5, v3 + 256);
-    std_alloc_vec_lodged_Vec_T_Lodged_insert_reserved_i64(v3 + 200, v5, 1);
-    v5 = get64(v3 + 248);
-    put16(v5, (uint32_t)get64(v3 + 184));
-    put64(v23, v5);
-    v5 = p0 + 16;
-    put64(v5, get64(v5) + 1);
-    v21 = 0;
-    return v21;
+    put64(v4 + 272, v26);
+    put64(v4 + 264, p2);
+    put64(v4 + 256, v15);
+    v24 = (v23 == 1) ? v28 : (v5 + v6 + 488);
+    v6 = get64(v24);
+    put64(v4 + 248, v6);
+    put64(v4 + 224, v6 + 488);
+    put64(v4 + 216, 15);
+    put64(v4 + 200, v6 + 368);
+    put64(v4 + 192, 15);
+    put64(v4 + 176, v6 + 8);
+    v23 = (uint64_t)get16(v6);
+    put64(v4 + 208, v23);
+    put64(v4 + 184, v23);
+    v22 = get16(v6 + 2);
+    put64(v4 + 240, (v22 != 0) ? 16ULL : 0ULL);
+    put64(v4 + 232, (v22 != 0) ? (v23 + 1) : 0ULL);
+    v6 = v8 & 15;
+    std_alloc_vec_lodged_Vec_T_Lodged_insert_reserved_2262cf5b90b10fda(v4 + 176, v6, v4 + 256);
+    std_alloc_vec_lodged_Vec_T_Lodged_insert_reserved_i64(v4 + 200, v6, p3);
+    v6 = get64(v4 + 248);
+    put16(v6, (uint32_t)get64(v4 + 184));
+    put64(v24, v6);
+    v6 = p0 + 16;
+    put64(v6, get64(v6) + 1);
+    v22 = 0;
+    return v22;
 l26:;
-    v5 = v10 & 15;
-    v22 = get64(((v30 + v8) == 15) ? v27 : ((v4 + (v6 << 3)) + 488));
-    if (v5 >= (uint64_t)get16(v22)) UNREACHABLE;
-    put64((v22 + (v5 << 3)) + 368, 1);
-    v21 = 0;
-    if (v25 == 0) return v21;
+    v6 = v11 & 15;
+    v23 = get64(((v31 + v9) == 15) ? v28 : ((v5 + (v7 << 3)) + 488));
+    if (v6 >= (uint64_t)get16(v23)) UNREACHABLE;
+    put64((v23 + (v6 << 3)) + 368, p3);
+    v22 = 0;
+    if (v26 == 0) return v22;
 l25:;
-    rattle_dealloc_at(v14);
-    return v21;
+    rattle_dealloc_at(v15);
+    return v22;
 }
 
 LOCAL void std_alloc_vec_lodged_Vec_T_Lodged_insert_reserved_2262cf5b90b10fda(uint64_t p0, uint64_t p1, uint64_t p2)
@@ -71283,9 +71535,6 @@ l1:;
     return;
 }
 
-#endif
-
-#if !defined PART || PART == 8
 LOCAL void listings_stream_list_records_9f6059d96315659a(uint64_t p0, uint64_t p1, uint64_t p2, uint64_t p3, uint64_t
     p4)
 {
@@ -76244,6 +76493,9 @@ l9:;
     return;
 }
 
+#endif
+
+#if !defined PART || PART == 8
 LOCAL void listings_stream_list_piece_b0ca15039e025178(uint64_t p0, uint64_t p1, uint64_t p2, uint64_t p3, uint64_t
     p4, uint64_t p5, uint64_t p6)
 {
