@@ -10,7 +10,7 @@ use crate::frames::frame_in;
 use crate::held::{claims_octets, digits_in, put_digits};
 use crate::packets::packet_in;
 use crate::spellings::{put_frame, put_packet};
-use line_stream::{Responder, respond_to_stream};
+use line_stream::{Player, play_stream};
 use listings::{ListingFault, Sink, Source};
 use std::alloc::{AllocError, Global};
 use tc_frame::Check;
@@ -121,17 +121,12 @@ impl Encoder {
     }
 }
 
-impl Responder<Vec<u8>> for Encoder {
+impl Player<Vec<u8>> for Encoder {
     ghost use Rattle.encode_lines.specs.Octets.{encoding};
 
     ghost playing = { encoding };
 
-    fn respond(
-        &mut self,
-        alloc: Global,
-        line: &[u8],
-        text: &mut Vec<u8>,
-    ) -> Result<bool, AllocError> {
+    fn play(&mut self, alloc: Global, line: &[u8], text: &mut Vec<u8>) -> Result<bool, AllocError> {
         let Some(lines) = self.lines.checked_add(1) else {
             // There are more lines than octets can be read.
             return Err(AllocError);
@@ -167,7 +162,7 @@ pub fn encode_stream<R: Source, W: Sink>(
     ensures end { OnOk result (HasEnded (R.has_ended reader.new) (R.remaining reader.new)) }
 {
     let mut encoder = Encoder::new(skips, check);
-    match respond_to_stream(alloc, reader, writer, &mut encoder, Vec::<u8>::new(alloc)) {
+    match play_stream(alloc, reader, writer, &mut encoder, Vec::<u8>::new(alloc)) {
         Ok(_) => Ok(encoder.refused),
         Err(fault) => Err(fault),
     }

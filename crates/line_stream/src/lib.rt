@@ -9,5 +9,5 @@ mod parts;
 mod player;
 mod stream;
 
-pub use player::{Gathered, Player, Responder};
-pub use stream::{play_stream, respond_to_stream};
+pub use player::{Gathered, Player};
+pub use stream::play_stream;

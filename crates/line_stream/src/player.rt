@@ -1,22 +1,9 @@
 // What plays the lines of a text.
 
 ghost use Rattle.std.specs.Prelude.{◌≡◌, ◌++◌, [], List, ℕ, OnOk, IfOk, string_bytes};
-ghost use Rattle.octets.specs.Beginning.{Appends};
 ghost use Rattle.line_stream.specs.Player.{Playing};
 
 use std::alloc::{AllocError, Global};
-
-/// What plays the lines of a text, one after another.
-pub trait Player {
-    ghost playing: { Playing Self };
-
-    /// Plays a line, given without its line feed; appends its answer, and says whether it was good.
-    /// Faults: AllocError, after which the run ends. Memory: yes. Cost: the player's.
-    fn play(&mut self, alloc: Global, line: &[u8], text: &mut String) -> Result<bool, AllocError>
-        ensures text { Appends result text.old text.new (playing.answer self.old line.now) }
-        ensures state { OnOk result (self.new ≡ playing.after self.old line.now) }
-        ensures good { IfOk result (λ good. good ≡ playing.is_good self.old line.now) };
-}
 
 /// What answers are gathered in until they are written: a text, or octets.
 pub trait Gathered {
@@ -55,27 +42,14 @@ impl Gathered for Vec<u8> {
     }
 }
 
-/// What plays the lines of a text as a `Player` does, with answers of the kind `T`.
-pub trait Responder<T: Gathered> {
+/// What plays the lines of a text, one after another, with answers of the kind `T`.
+pub trait Player<T: Gathered> {
     ghost playing: { Playing Self };
 
     /// Plays a line, given without its line feed; appends its answer, and says whether it was good.
     /// Faults: AllocError, after which the run ends. Memory: yes. Cost: the player's.
-    fn respond(&mut self, alloc: Global, line: &[u8], text: &mut T) -> Result<bool, AllocError>
+    fn play(&mut self, alloc: Global, line: &[u8], text: &mut T) -> Result<bool, AllocError>
         ensures text { OnOk result (T.octets text.new ≡ T.octets text.old ++ playing.answer self.old line.now) }
         ensures state { OnOk result (self.new ≡ playing.after self.old line.now) }
         ensures good { IfOk result (λ good. good ≡ playing.is_good self.old line.now) };
-}
-
-impl<P: Player> Responder<String> for P {
-    ghost playing = { P.playing };
-
-    fn respond(
-        &mut self,
-        alloc: Global,
-        line: &[u8],
-        text: &mut String,
-    ) -> Result<bool, AllocError> {
-        self.play(alloc, line, text)
-    }
 }

@@ -8,7 +8,7 @@ ghost use Rattle.line_stream.specs.Player.{after_lines, after_text, answers, ans
 ghost use Rattle.line_stream.specs.Player.{fed, fresh, played, standing, HasPlayed};
 
 use crate::parts::cut;
-use crate::player::{Gathered, Player, Responder};
+use crate::player::{Gathered, Player};
 use listings::{ListingFault, MOST_OCTETS, Sink, Source, WriteFailed, write_all};
 use std::alloc::{AllocError, Global};
 
@@ -20,7 +20,7 @@ pub struct Progress {
 }
 
 // Plays what is left as a line, after which nothing is.
-fn play_line<T: Gathered, P: Responder<T>>(
+fn play_line<T: Gathered, P: Player<T>>(
     alloc: Global,
     player: &mut P,
     progress: &mut Progress,
@@ -30,14 +30,14 @@ fn play_line<T: Gathered, P: Responder<T>>(
         ≡ played P.playing (standing (T.octets text.old) player.old progress.old)
         (progress.old.left.items ∷ [] ∷ [])) }
 {
-    let good = player.respond(alloc, progress.left.as_slice(), text)?;
+    let good = player.play(alloc, progress.left.as_slice(), text)?;
     progress.all_good = progress.all_good && good;
     progress.left.clear();
     Ok(())
 }
 
 // Plays all lines that a piece ends, and keeps what is left of it.
-fn play_parts<T: Gathered, P: Responder<T>>(
+fn play_parts<T: Gathered, P: Player<T>>(
     alloc: Global,
     player: &mut P,
     progress: &mut Progress,
@@ -60,7 +60,7 @@ fn play_parts<T: Gathered, P: Responder<T>>(
 }
 
 // Plays a piece, and writes the answers to all lines that it ends.
-fn play_piece<T: Gathered, P: Responder<T>, W: Sink>(
+fn play_piece<T: Gathered, P: Player<T>, W: Sink>(
     alloc: Global,
     player: &mut P,
     progress: &mut Progress,
@@ -89,7 +89,7 @@ fn play_piece<T: Gathered, P: Responder<T>, W: Sink>(
 
 // Plays what is left when the input has ended, where anything is, as if a line feed ended it, and says
 // whether all lines were good.
-fn play_rest<T: Gathered, P: Responder<T>, W: Sink>(
+fn play_rest<T: Gathered, P: Player<T>, W: Sink>(
     alloc: Global,
     player: &mut P,
     progress: &mut Progress,
@@ -117,35 +117,13 @@ fn play_rest<T: Gathered, P: Responder<T>, W: Sink>(
 }
 
 /// Reads a text in pieces, plays each line that a piece ends, and writes the answers before it reads the
-/// next. At the end it plays what is left, where that is not empty. It answers whether every line was good.
+/// next; they are gathered in `text`. At the end it plays what is left, where that is not empty. It answers
+/// whether every line was good; the player is used again.
 ///
 /// The fault is `Read` or `Write` where that device failed, `Memory` where none was left, and `TooLong`
 /// past `MOST_OCTETS` octets; what is written by then is a beginning of the answers.
 /// Faults: Read, Write, Memory, TooLong. Memory: yes. Cost: the number of octets, and the player's.
-pub fn play_stream<P: Player + Drop, R: Source, W: Sink>(
-    alloc: Global,
-    reader: &mut R,
-    writer: &mut W,
-    mut player: P,
-) -> Result<bool, ListingFault>
-    ensures reads { Reads R.given R.remaining R.failures result reader.old reader.new }
-    ensures writes { WritesText W.taken_octets W.failures result writer.old writer.new
-        (answers_of P.playing player (gained (R.given reader.old) (R.given reader.new))) }
-
-    // Before each read all lines that have ended are answered: so they are where it fails.
-    ensures in_time { result ≡ Err ListingFault.Read
-        → W.taken_octets writer.new ≡ W.taken_octets writer.old
-        ++ answers_so_far P.playing player (gained (R.given reader.old) (R.given reader.new)) }
-    ensures good { IfOk result (λ good. good
-        ≡ is_all_good P.playing player (gained (R.given reader.old) (R.given reader.new))) }
-    ensures end { OnOk result (HasEnded (R.has_ended reader.new) (R.remaining reader.new)) }
-{
-    respond_to_stream(alloc, reader, writer, &mut player, String::new(alloc))
-}
-
-/// `play_stream` for answers of any kind, which are gathered in `text`; the player is used again.
-/// Faults: Read, Write, Memory, TooLong. Memory: yes. Cost: the number of octets, and the player's.
-pub fn respond_to_stream<T: Gathered + Drop, P: Responder<T>, R: Source, W: Sink>(
+pub fn play_stream<T: Gathered + Drop, P: Player<T>, R: Source, W: Sink>(
     alloc: Global,
     reader: &mut R,
     writer: &mut W,
@@ -155,6 +133,8 @@ pub fn respond_to_stream<T: Gathered + Drop, P: Responder<T>, R: Source, W: Sink
     ensures reads { Reads R.given R.remaining R.failures result reader.old reader.new }
     ensures writes { WritesText W.taken_octets W.failures result writer.old writer.new
         (answers_of P.playing player.old (gained (R.given reader.old) (R.given reader.new))) }
+
+    // Before each read all lines that have ended are answered: so they are where it fails.
     ensures in_time { result ≡ Err ListingFault.Read
         → W.taken_octets writer.new ≡ W.taken_octets writer.old
         ++ answers_so_far P.playing player.old (gained (R.given reader.old) (R.given reader.new)) }
@@ -172,7 +152,7 @@ pub fn respond_to_stream<T: Gathered + Drop, P: Responder<T>, R: Source, W: Sink
 }
 
 // Plays a text of which nothing was read yet.
-fn play_pieces<T: Gathered, P: Responder<T>, R: Source, W: Sink>(
+fn play_pieces<T: Gathered, P: Player<T>, R: Source, W: Sink>(
     alloc: Global,
     reader: &mut R,
     writer: &mut W,

@@ -98,7 +98,7 @@ impl<N: Node + Drop> NodePlayer<N> {
     }
 }
 
-impl<N: Node + Drop> Player for NodePlayer<N> {
+impl<N: Node + Drop> Player<String> for NodePlayer<N> {
     ghost use Rattle.node_lines.specs.Player.{node_playing};
 
     ghost playing = { node_playing N.rules };

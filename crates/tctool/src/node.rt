@@ -28,7 +28,8 @@ pub fn play_node<N: Node + Drop, R: Source, W: Sink>(
         (is_all_good (node_playing N.rules) fresh_player (gained (R.given reader.old) (R.given reader.new)))) }
     ensures end { OnOk result (HasEnded (R.has_ended reader.new) (R.remaining reader.new)) }
 {
-    match play_stream(alloc, reader, writer, NodePlayer::<N>::new()) {
+    let mut player = NodePlayer::<N>::new();
+    match play_stream(alloc, reader, writer, &mut player, String::new(alloc)) {
         Ok(good) => Ok(Outcome::of(good)),
         Err(fault) => Err(fault),
     }

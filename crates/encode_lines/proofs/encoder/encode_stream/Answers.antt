@@ -11,7 +11,7 @@ use Rattle.encode_lines.proofs.encoder.encode_stream.Goals as goal
 pub returns-in-Ok-clause-writes : goal.returns-in-Ok-clause-writes
 returns-in-Ok-clause-writes g c =
     let text : List ℕ =
-    gained (g.R.Source.given c.args.reader.now) (g.R.Source.given c.respond_to_stream.new.reader) in
+    gained (g.R.Source.given c.args.reader.now) (g.R.Source.given c.play_stream.new.reader) in
     let all : answers_of encoding c.new-encoder.result text ≡ octets_in c.args.skips c.args.check text =
     ap (λ (e : Encoder). answers_of encoding e text) c.new-encoder.ensures
     ∙ written c.args.skips c.args.check 0 (lines_of text) in
@@ -25,7 +25,7 @@ returns-in-Ok-clause-writes g c =
 pub returns-in-Ok-clause-unreadable : goal.returns-in-Ok-clause-unreadable
 returns-in-Ok-clause-unreadable g c =
     let text : List ℕ =
-    gained (g.R.Source.given c.args.reader.now) (g.R.Source.given c.respond_to_stream.new.reader) in
+    gained (g.R.Source.given c.args.reader.now) (g.R.Source.given c.play_stream.new.reader) in
     ap (λ (e : Encoder). e.refused) c.in-Ok.ensures.player
     ∙ ap (λ (e : Encoder). (after_text encoding e text).refused) c.new-encoder.ensures
     ∙ refused c.args.skips c.args.check 0 (lines_of text)
@@ -33,13 +33,13 @@ returns-in-Ok-clause-unreadable g c =
 pub returns-in-Err-clause-writes : goal.returns-in-Err-clause-writes
 returns-in-Err-clause-writes g c =
     let text : List ℕ =
-    gained (g.R.Source.given c.args.reader.now) (g.R.Source.given c.respond_to_stream.new.reader) in
+    gained (g.R.Source.given c.args.reader.now) (g.R.Source.given c.play_stream.new.reader) in
     let all : answers_of encoding c.new-encoder.result text ≡ octets_in c.args.skips c.args.check text =
     ap (λ (e : Encoder). answers_of encoding e text) c.new-encoder.ensures
     ∙ written c.args.skips c.args.check 0 (lines_of text) in
     record {
       whole = tt;
-      beginning = subst (λ (t : List ℕ). IsBeginning (g.W.Sink.taken_octets c.respond_to_stream.new.writer)
+      beginning = subst (λ (t : List ℕ). IsBeginning (g.W.Sink.taken_octets c.play_stream.new.writer)
           (g.W.Sink.taken_octets c.args.writer.now ++ t)) all c.in-Err.ensures.writes.beginning;
       failed = c.in-Err.ensures.writes.failed;
     }

@@ -12,6 +12,6 @@ lines-preserved g c =
     let after = c.in-Some.after.now in
     let cuts : parts_of rest ≡ part ∷ parts_of after =
     c.cut.ensures.parts ∙ ap (λ o. parts_from part (option_copied o)) c.in-Some.is in
-    fed_after g.P.Responder.playing st _ _ part rest after c.in_ok-extend_from_slice.ensures.items
+    fed_after g.P.Player.playing st _ _ part rest after c.in_ok-extend_from_slice.ensures.items
     c.in_ok-play_line.ensures cuts
     ∙ c.lines.invariant

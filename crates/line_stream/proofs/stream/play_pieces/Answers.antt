@@ -8,7 +8,7 @@ use Rattle.line_stream.proofs.stream.play_pieces.Goals as goal
 
 pub returns-in_default-clause-writes : goal.returns-in_default-clause-writes
 returns-in_default-clause-writes g c =
-    let adds = adds_piece g.P.Responder.playing c.pieces.invariant.up_to c.in_default.ensures.given in
+    let adds = adds_piece g.P.Player.playing c.pieces.invariant.up_to c.in_default.ensures.given in
     record {
       whole = tt;
       beginning = adds.begins _ (_, refl);
@@ -17,7 +17,7 @@ returns-in_default-clause-writes g c =
 
 pub returns-then-count-eq0-clause-writes : goal.returns-then-count-eq0-clause-writes
 returns-then-count-eq0-clause-writes g c =
-    let all = text_at_end g.P.Responder.playing c.pieces.invariant.up_to c.in-Ok.ensures.given
+    let all = text_at_end g.P.Player.playing c.pieces.invariant.up_to c.in-Ok.ensures.given
     (ap (λ (n : ℕ). take n c.read.new.piece) c.if-count-eq0.true) in
     record {
       whole = on_ok_weaker c.play_rest.result (λ h. h ∙ all) c.play_rest.ensures.text;
@@ -28,19 +28,19 @@ returns-then-count-eq0-clause-writes g c =
 
 pub returns-then-count-eq0-clause-good : goal.returns-then-count-eq0-clause-good
 returns-then-count-eq0-clause-good g c =
-    let all = good_at_end g.P.Responder.playing c.pieces.invariant.up_to c.in-Ok.ensures.given
+    let all = good_at_end g.P.Player.playing c.pieces.invariant.up_to c.in-Ok.ensures.given
     (ap (λ (n : ℕ). take n c.read.new.piece) c.if-count-eq0.true) in
     IfOk-weaker c.play_rest.result _ _ (λ good h. h ∙ all) c.play_rest.ensures.good
 
 pub returns-then-count-eq0-clause-player : goal.returns-then-count-eq0-clause-player
 returns-then-count-eq0-clause-player g c =
-    let all = player_at_end g.P.Responder.playing c.pieces.invariant.up_to c.in-Ok.ensures.given
+    let all = player_at_end g.P.Player.playing c.pieces.invariant.up_to c.in-Ok.ensures.given
     (ap (λ (n : ℕ). take n c.read.new.piece) c.if-count-eq0.true) in
     on_ok_weaker c.play_rest.result (λ h. h ∙ all) c.play_rest.ensures.player
 
 pub returns-then-count-total-clause-writes : goal.returns-then-count-total-clause-writes
 returns-then-count-total-clause-writes g c =
-    let adds = adds_piece g.P.Responder.playing c.pieces.invariant.up_to c.in-Ok.ensures.given in
+    let adds = adds_piece g.P.Player.playing c.pieces.invariant.up_to c.in-Ok.ensures.given in
     record {
       whole = tt;
       beginning = adds.begins _ (_, refl);
@@ -50,7 +50,7 @@ returns-then-count-total-clause-writes g c =
 pub pieces-preserved : goal.pieces-preserved
 pieces-preserved g c =
     let piece = take c.in-Ok.count c.read.new.piece in
-    let adds = adds_piece g.P.Responder.playing c.pieces.invariant.up_to c.in-Ok.ensures.given in
+    let adds = adds_piece g.P.Player.playing c.pieces.invariant.up_to c.in-Ok.ensures.given in
     let has = c.in-Ok-play_piece.ensures.played in
     let short : length piece ≡ c.in-Ok.count =
     length-take-le c.in-Ok.count c.read.new.piece (omega (arith, c.in-Ok.ensures.count)) in
@@ -66,7 +66,7 @@ pieces-preserved g c =
 
 pub returns-in-Err-clause-writes : goal.returns-in-Err-clause-writes
 returns-in-Err-clause-writes g c =
-    let adds = adds_piece g.P.Responder.playing c.pieces.invariant.up_to c.in-Ok.ensures.given in
+    let adds = adds_piece g.P.Player.playing c.pieces.invariant.up_to c.in-Ok.ensures.given in
     record {
       whole = tt;
       beginning = adds.begins _ c.in-Err.ensures.beginning;

@@ -13,7 +13,7 @@ invariant-pieces g l =
     let left = g.R.Source.remaining in
     let taken = g.W.Sink.taken_octets in
     record {
-      up_to : IsUpTo g.P.Responder.playing l.fn.player (given l.fn.reader) (given l.reader)
+      up_to : IsUpTo g.P.Player.playing l.fn.player (given l.fn.reader) (given l.reader)
           (taken l.fn.writer) (taken l.writer) (standing [] l.player l.progress);
       consumes : Consumes (left l.fn.reader) (left l.reader) (gained (given l.fn.reader) (given l.reader));
       counted : l.total ≡ length (gained (given l.fn.reader) (given l.reader));
