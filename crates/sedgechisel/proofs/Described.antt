@@ -25,7 +25,7 @@ use Rattle.tm_link.specs.declared.frame.TmFrame.{TmFrame}
 use Rattle.tm_link.specs.declared.fault.TmFault.{TmFault}
 use Rattle.tm_link.proofs.Spelled as tm_frames
 use Rattle.sedgechisel.specs.declared.command_frame.CommandFrame.{CommandFrame}
-use Rattle.sedgechisel.specs.declared.telemetry_frame.ReportFrame.{ReportFrame}
+use Rattle.sedgechisel.specs.declared.telemetry_frame.TelemetryFrame.{TelemetryFrame}
 use Rattle.sedgechisel.specs.declared.part.Part.{Part}
 use Rattle.sedgechisel.specs.Answers.{numbered}
 use Rattle.sedgechisel.specs.CommandFrames as commands
@@ -120,7 +120,7 @@ found_reports total b found octets h view k =
     let same : found ≡ view = cc in
     rw (part, again.again) same
 
-pub report_describes : (total : ℕ) (b : List ℕ) (r : Result TmFrame TmFault) (f : TmFrame) (fields : ReportFrame)
+pub report_describes : (total : ℕ) (b : List ℕ) (r : Result TmFrame TmFault) (f : TmFrame) (fields : TelemetryFrame)
     → IsOctets b → map_ok tm.frame_view r ≡ tm_reading.frame_at total b → r ≡ Ok f
     → fields ≡ telemetry.fields_of (tm.frame_view f)
     → telemetry.DescribesFrame total b fields (telemetry.part_of (tm.frame_view f))

@@ -18,7 +18,7 @@ use Rattle.tm_link.specs.Layout.{pointer_fits, FrameView}
 use Rattle.tm_link.specs.Decoding.{pointer_at}
 use Rattle.tm_link.proofs.Records.{without_idle-append}
 use Rattle.sedgechisel.specs.declared.part.Part.{Part}
-use Rattle.sedgechisel.specs.declared.telemetry_frame.ReportFrame.{ReportFrame}
+use Rattle.sedgechisel.specs.declared.telemetry_frame.TelemetryFrame.{TelemetryFrame}
 use Rattle.sedgechisel.specs.declared.telemetry_extractor.KeptExtractor.{KeptExtractor}
 use Rattle.sedgechisel.specs.declared.telemetry_extractor.TakenFrame.{TakenFrame}
 use Rattle.sedgechisel.specs.declared.telemetry_extractor.Kept.{Kept}
@@ -106,7 +106,7 @@ describes_by _ _ _ e d i f s h = absurd cc
 abbrev kept_of : Kept → ℕ → KeptExtractor
 kept_of k count = record { from = k.part.from; count = k.part.count; last = count; seen = 1 }
 
-pub frame_taken : (x : KeptExtractor) (f : ReportFrame) (payload memory after part : List ℕ) (pointer : Pointer)
+pub frame_taken : (x : KeptExtractor) (f : TelemetryFrame) (payload memory after part : List ℕ) (pointer : Pointer)
     (gap : Gap) (k : Kept) (t : TakenFrame)
     → is_extractor x (length memory) ≡ true → pointer ≡ pointer_at f.pointer
     → pointer_fits pointer (length payload) ≡ true
@@ -187,7 +187,7 @@ dropped_by s f pointer part front some lost at is before =
 abbrev pub paired : ExtractorState → FrameView → Extracted → Extracted × Bool
 paired s f e = (e, is_dropped s f)
 
-pub came_is : (x : KeptExtractor) (f : ReportFrame) (payload memory : List ℕ)
+pub came_is : (x : KeptExtractor) (f : TelemetryFrame) (payload memory : List ℕ)
     → came_from (extractor_described x memory) (length memory) (frame_described f payload)
     ≡ map_ok (paired (state_of x memory) (frame_described f payload)) (extracted_at x f payload memory)
 came_is x f payload memory = grind arith
@@ -205,14 +205,14 @@ refused_is (Ok e) number is some = absurd (some is)
 refused_is (Err n) number is some = ap (λ (k : ℕ). Err k) (sym is)
 
 -- a frame that is taken
-pub record IsTaken (x : KeptExtractor) (f : ReportFrame) (payload memory : List ℕ) (d : Extracted) : Type 0 where
+pub record IsTaken (x : KeptExtractor) (f : TelemetryFrame) (payload memory : List ℕ) (d : Extracted) : Type 0 where
   pub extractor : is_extractor x (length memory) ≡ true
   pub fits : pointer_fits (pointer_at f.pointer) (length payload) ≡ true
   pub answer : extracted_at x f payload memory ≡ Ok d
   pub came : came_from (extractor_described x memory) (length memory) (frame_described f payload)
       ≡ Ok (paired (state_of x memory) (frame_described f payload) d)
 
-pub taken_is : (x : KeptExtractor) (f : ReportFrame) (payload memory : List ℕ) (d : Extracted)
+pub taken_is : (x : KeptExtractor) (f : TelemetryFrame) (payload memory : List ℕ) (d : Extracted)
     → 0 ≡ status_of (extracted_at x f payload memory) → DescribesExtracted (extracted_at x f payload memory) d
     → IsTaken x f payload memory d
 taken_is x f payload memory d is h = grind (arith, common_steps, is, h, came_is x f payload memory)

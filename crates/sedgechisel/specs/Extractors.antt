@@ -19,7 +19,7 @@ use Rattle.tm_link.specs.declared.ending.Ending.{Ending}
 use Rattle.tm_link.specs.declared.ending.Ending.TheVariants.{Wrong, Whole, Short}
 use Rattle.tm_link.specs.Layout.{FrameView, pointer_fits}
 use Rattle.sedgechisel.specs.declared.part.Part.{Part}
-use Rattle.sedgechisel.specs.declared.telemetry_frame.ReportFrame.{ReportFrame}
+use Rattle.sedgechisel.specs.declared.telemetry_frame.TelemetryFrame.{TelemetryFrame}
 use Rattle.sedgechisel.specs.declared.telemetry_extractor.KeptExtractor.{KeptExtractor}
 use Rattle.sedgechisel.specs.declared.telemetry_extractor.TakenFrame.{TakenFrame}
 use Rattle.sedgechisel.specs.Answers.{damaged, and_then, left_by}
@@ -103,7 +103,7 @@ extracted_from s f room =
     if nat_lt room (need_of part f.pointer f.payload) then Err (fault_row Memory).0
     else Ok (extract_step s f)
 
-abbrev pub extracted_at : KeptExtractor → ReportFrame → List ℕ → List ℕ → Result Extracted ℕ
+abbrev pub extracted_at : KeptExtractor → TelemetryFrame → List ℕ → List ℕ → Result Extracted ℕ
 extracted_at x f payload memory =
     if not (is_extractor x (length memory)) then Err damaged
     else if not (pointer_fits (frame_described f payload).pointer (length payload))
@@ -247,7 +247,7 @@ came_fields (Ok came) = record {
 }
 came_fields (Err number) = record { fault = number; first = 0; lost = 0; dropped = 0; count = 0 }
 
-abbrev pub no_fields : ReportFrame
+abbrev pub no_fields : TelemetryFrame
 no_fields = record {
   scid = 0;
   pointer = 0;
@@ -257,7 +257,7 @@ no_fields = record {
   ocf = 0 ∷ 0 ∷ 0 ∷ 0 ∷ [];
 }
 
-abbrev pub record_with : Came → ReportFrame → List ℕ
+abbrev pub record_with : Came → TelemetryFrame → List ℕ
 record_with came f =
     came.count % 65536 % 256 ∷ came.count % 65536 / 256
     ∷ came.count / 65536 % 65536 % 256 ∷ came.count / 65536 % 65536 / 256

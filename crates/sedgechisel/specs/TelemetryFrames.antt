@@ -10,7 +10,7 @@ use Rattle.tm_link.specs.Layout.{FrameView, pointer_number}
 use Rattle.tm_link.specs.Decoding.{pointer_at, frame_at}
 use Rattle.tm_link.specs.Encoding.{encode_answer}
 use Rattle.sedgechisel.specs.Answers.{wrong_count, numbered, if_ok}
-use Rattle.sedgechisel.specs.declared.telemetry_frame.ReportFrame.{ReportFrame}
+use Rattle.sedgechisel.specs.declared.telemetry_frame.TelemetryFrame.{TelemetryFrame}
 use Rattle.sedgechisel.specs.declared.part.Part.{Part}
 
 -- Control words as C has them.
@@ -28,7 +28,7 @@ word_written w room =
 -- Telemetry frames as C has them.
 
 -- the frame that the fields and the data describe; the pointer is as the header has it
-abbrev pub frame_described : ReportFrame → List ℕ → FrameView
+abbrev pub frame_described : TelemetryFrame → List ℕ → FrameView
 frame_described f payload = record {
   scid = f.scid;
   vcid = f.vcid;
@@ -40,7 +40,7 @@ frame_described f payload = record {
 }
 
 -- the fields that describe the frame
-abbrev pub fields_of : FrameView → ReportFrame
+abbrev pub fields_of : FrameView → TelemetryFrame
 fields_of f = record {
   scid = f.scid;
   pointer = pointer_number f.pointer;
@@ -60,13 +60,13 @@ abbrev pub frame_read : ℕ → List ℕ → Result FrameView ℕ
 frame_read total octets = numbered fault_row (frame_at total octets)
 
 -- the frame that is written where there is so much room
-abbrev pub frame_taken : ReportFrame → List ℕ → ℕ → Result FrameView ℕ
+abbrev pub frame_taken : TelemetryFrame → List ℕ → ℕ → Result FrameView ℕ
 frame_taken f payload room =
     if_ok (numbered fault_row (encode_answer (frame_described f payload) room))
     (frame_described f payload)
 
 -- what the fields and the octets at the place describe is the frame that was read
-abbrev pub DescribesFrame : ℕ → List ℕ → ReportFrame → Part → Type 0
+abbrev pub DescribesFrame : ℕ → List ℕ → TelemetryFrame → Part → Type 0
 DescribesFrame total octets f part =
     (view : FrameView) → frame_read total octets ≡ Ok view
     → frame_described f (take part.count (drop part.from octets)) ≡ view

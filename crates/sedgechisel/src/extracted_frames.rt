@@ -15,7 +15,7 @@ use crate::telemetry_extractor::{
     KeptExtractor, TakenFrame, is_pointer_within, is_whole, last_of, packet_after,
     sedge_tm_extractor_frame,
 };
-use crate::telemetry_frame::{ReportFrame, fields_from, pointer_from};
+use crate::telemetry_frame::{TelemetryFrame, fields_from, pointer_from};
 use tm_link::{Ending, Pointer, ending_with, gap_before, is_idle_with, is_lost};
 
 /// Takes the frames of this length that stand one after another in the octets, each as `sedge_tm_decode` and then
@@ -150,7 +150,7 @@ fn refused(fault: u8) -> Came
 // Takes a frame: its packets go after this many octets.
 fn take_frame(
     extractor: &mut KeptExtractor,
-    frame: &ReportFrame,
+    frame: &TelemetryFrame,
     payload: &[u8],
     memory: &mut [u8],
     packets: &mut [u8],
@@ -200,7 +200,12 @@ fn nothing_taken() -> TakenFrame {
 }
 
 // Whether a frame that is taken drops a packet that was begun, which is not idle.
-fn is_dropped(extractor: &KeptExtractor, frame: &ReportFrame, payload: &[u8], memory: &[u8]) -> bool
+fn is_dropped(
+    extractor: &KeptExtractor,
+    frame: &TelemetryFrame,
+    payload: &[u8],
+    memory: &[u8],
+) -> bool
     ensures { is_extractor extractor.now (length memory.now) ≡ true
         → pointer_fits (frame_described frame.now payload.now).pointer (length payload.now) ≡ true
         → result ≡ is_dropped (state_of extractor.now memory.now) (frame_described frame.now payload.now) }
@@ -284,7 +289,7 @@ fn put_each(payload: &[u8], from: usize, packets: &mut [u8], at: usize) -> usize
     end
 }
 
-fn record_with(came: &Came, frame: &ReportFrame) -> [u8; 19]
+fn record_with(came: &Came, frame: &TelemetryFrame) -> [u8; 19]
     ensures { result ≡ record_with came.now frame.now }
 {
     let low = halves((came.count % 65536) as u16);
@@ -314,10 +319,10 @@ fn record_with(came: &Came, frame: &ReportFrame) -> [u8; 19]
     ]
 }
 
-fn no_fields() -> ReportFrame
+fn no_fields() -> TelemetryFrame
     ensures { result ≡ no_fields }
 {
-    ReportFrame {
+    TelemetryFrame {
         scid: 0,
         pointer: 0,
         vcid: 0,

@@ -11,7 +11,7 @@ ghost use Rattle.sedgechisel.specs.Extractors.{IsKept};
 use crate::assembly::add;
 use crate::numbers::DAMAGED;
 use crate::part::Part;
-use crate::telemetry_frame::{ReportFrame, pointer_from};
+use crate::telemetry_frame::{TelemetryFrame, pointer_from};
 use space_packet::packet_len;
 use tm_link::{
     Ending, Gap, Pointer, TmFault, ending_with, gap_before, is_idle_with, is_lost,
@@ -63,7 +63,7 @@ pub struct TakenFrame {
 #[must_use]
 pub extern "C" fn sedge_tm_extractor_frame(
     extractor: &mut KeptExtractor,
-    frame: &ReportFrame,
+    frame: &TelemetryFrame,
     payload: &[u8],
     memory: &mut [u8],
     extracted: &mut TakenFrame,

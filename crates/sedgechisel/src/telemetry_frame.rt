@@ -14,7 +14,7 @@ use tm_link::{Pointer, TmFrame};
 /// starts, or 2047 for none, or 2046 for idle data alone. For C it is `struct sedge_tm_frame`.
 #[repr(C)]
 #[derive(Clone, Copy)]
-pub struct ReportFrame {
+pub struct TelemetryFrame {
     /// The spacecraft identifier, below 1,024.
     pub scid: u16,
     /// The place in the data, from 0, where the first packet starts, or one of `sedge_pointer`.
@@ -37,7 +37,7 @@ pub struct ReportFrame {
 pub extern "C" fn sedge_tm_decode(
     octets: &[u8],
     length: usize,
-    frame: &mut ReportFrame,
+    frame: &mut TelemetryFrame,
     payload: &mut Part,
 ) -> u8
     ensures read { IsRead fields_of part_of (frame_read length octets.now)
@@ -60,7 +60,7 @@ pub extern "C" fn sedge_tm_decode(
 #[unsafe(no_mangle)]
 #[must_use]
 pub extern "C" fn sedge_tm_encode(
-    frame: &ReportFrame,
+    frame: &TelemetryFrame,
     payload: &[u8],
     out: &mut [u8],
     total: &mut usize,
@@ -74,7 +74,7 @@ pub extern "C" fn sedge_tm_encode(
     )
 }
 
-fn frame_from<'a>(fields: &ReportFrame, payload: &'a [u8]) -> TmFrame<'a>
+fn frame_from<'a>(fields: &TelemetryFrame, payload: &'a [u8]) -> TmFrame<'a>
     ensures { frame_view result ≡ frame_described fields.now payload.now }
 {
     TmFrame {
@@ -98,10 +98,10 @@ pub(crate) fn pointer_from(number: u16) -> Pointer
     }
 }
 
-pub(crate) fn fields_from(frame: &TmFrame) -> ReportFrame
+pub(crate) fn fields_from(frame: &TmFrame) -> TelemetryFrame
     ensures { result ≡ fields_of (frame_view frame.now) }
 {
-    ReportFrame {
+    TelemetryFrame {
         scid: frame.scid,
         pointer: number_of_pointer(frame.pointer),
         vcid: frame.vcid,
