@@ -1,6 +1,7 @@
 -- The table of commands, and what it says of the lines, the outcome and the end of a file. Nothing
 -- is listed of what is played.
-use Rattle.std.specs.Prelude.{List, [], ℕ, Bool, true, false, Option, Some, None}
+use Rattle.std.specs.Prelude.{◌≡◌, ◌⊎◌, List, [], ℕ, Bool, true, false, Option, Some, None}
+use Rattle.std.specs.Prelude.{Result, IfOk, OnOk}
 use Rattle.tc_frame.specs.declared.frame.Check.{Check}
 use Rattle.tc_frame.specs.declared.frame.Check.TheVariants.{On}
 use Rattle.tc_frame.specs.declared.fault.TcFault.{TcFault}
@@ -14,6 +15,8 @@ use Rattle.command_line.specs.declared.task.Searched.TheVariants as searches
 use Rattle.command_line.specs.declared.task.Task.{Task}
 use Rattle.command_line.specs.declared.task.Task.TheVariants as tasks
 use Rattle.found_frames.specs.Found.{found, found_summary}
+use Rattle.listings.specs.declared.fault.ListingFault.{ListingFault}
+use Rattle.listings.specs.Devices.{gained, HasEnded}
 use Rattle.listings.specs.FarmLines.{farm_lines}
 use Rattle.listings.specs.Filters.{keeps_frame, keeps_packet, keeps_telemetry, keeps_word, only}
 use Rattle.listings.specs.FirstNumber.{farm_begun, from_first}
@@ -27,6 +30,7 @@ use Rattle.listings.specs.TelemetryLines.{telemetry_lines, telemetry_opened}
 use Rattle.listings.specs.Layouts.{Layout, frame_layout, telemetry_layout, word_layout}
 use Rattle.listings.specs.Layouts.{packet_layout, rest_by, IsRefused}
 use Rattle.listings.specs.Listing.{Lines, fresh, text_of, summary_of}
+use Rattle.listings.specs.Streams.{Reads, WritesText}
 use Rattle.listings.specs.Totals.{totals_of}
 use Rattle.listings.specs.declared.stream.Summary.{Summary}
 use Rattle.stream_commands.specs.declared.outcome.Outcome.{Outcome}
@@ -159,3 +163,16 @@ shown_lines true task octets =
 
 abbrev pub StopsAt : Task → List ℕ → Type 0
 StopsAt task octets = WorkStops (work_of task) octets
+
+-- A file is listed as a task asks for it: what the source has given is read, the lines are
+-- written, and the answer says what was listed; all was read, or the task stops.
+pub record ListsTask {R W : Type 0} (given : R → List ℕ) (remaining : R → Option (List ℕ))
+    (read_failures : R → ℕ) (has_ended : R → Bool) (taken : W → List ℕ) (write_failures : W → ℕ)
+    (task : Task) (result : Result Summary ListingFault)
+    (reader reader' : R) (writer writer' : W) : Type 0 where
+  pub reads : Reads given remaining read_failures result reader reader'
+  pub writes : WritesText taken write_failures result writer writer'
+      (listed_lines task (gained (given reader) (given reader')))
+  pub listed : IfOk result (λ l. l ≡ task_summary task (gained (given reader) (given reader')))
+  pub end : OnOk result (HasEnded (has_ended reader') (remaining reader')
+      ⊎ StopsAt task (gained (given reader) (given reader')))

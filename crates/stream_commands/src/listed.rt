@@ -1,16 +1,13 @@
 // Lists a stream of records, as a command asks for it.
 
-ghost use Rattle.std.specs.Prelude.{◌≡◌, ◌⊎◌, ◌+◌, ℕ, List, [], true, None, OnOk, IfOk};
+ghost use Rattle.std.specs.Prelude.{◌≡◌, ◌+◌, ℕ, List, [], true, None};
 ghost use Rattle.command_line.specs.Arguments.{IsInRange};
-ghost use Rattle.listings.specs.Devices.{HasEnded};
-ghost use Rattle.listings.specs.Devices.{gained};
 ghost use Rattle.listings.specs.Layouts.{rest_by, IsRefused};
 ghost use Rattle.listings.specs.Listing.{fresh, text_of, summary_of};
-ghost use Rattle.listings.specs.Streams.{Reads, WritesText};
 ghost use Rattle.cop1.specs.Farm.{IsWidth};
 ghost use Rattle.tc_frame.specs.Splitter.{check_if};
 ghost use Rattle.listings.specs.Filters.{only};
-ghost use Rattle.stream_commands.specs.Listed.{frames_work, is_listed, listed_lines, task_summary, StopsAt};
+ghost use Rattle.stream_commands.specs.Listed.{frames_work, is_listed, listed_lines, task_summary, ListsTask, StopsAt};
 ghost use Rattle.stream_commands.specs.Listed.{work_lines, work_summary, WorkStops};
 
 use crate::noted::{Note, Noted};
@@ -39,13 +36,8 @@ pub(crate) fn list_lines<R: Source, W: Sink>(
 ) -> Result<Summary, ListingFault>
     requires range { IsInRange task }
     requires listed { is_listed task ≡ true }
-    ensures reads { Reads R.given R.remaining R.failures result reader.old reader.new }
-    ensures writes { WritesText W.taken_octets W.failures result writer.old writer.new
-        (listed_lines task (gained (R.given reader.old) (R.given reader.new))) }
-    ensures listed { IfOk result (λ l. l
-        ≡ task_summary task (gained (R.given reader.old) (R.given reader.new))) }
-    ensures end { OnOk result (HasEnded (R.has_ended reader.new) (R.remaining reader.new)
-        ⊎ StopsAt task (gained (R.given reader.old) (R.given reader.new))) }
+    ensures { ListsTask R.given R.remaining R.failures R.has_ended W.taken_octets W.failures
+        task result reader.old reader.new writer.old writer.new }
 {
     match task {
         Task::Farm {
@@ -130,13 +122,8 @@ fn list_farm<const CHECKED: bool, R: Source, W: Sink>(
 ) -> Result<Summary, ListingFault>
     requires task { task ≡ Task.Farm CHECKED width vr part }
     requires width { IsWidth width }
-    ensures reads { Reads R.given R.remaining R.failures result reader.old reader.new }
-    ensures writes { WritesText W.taken_octets W.failures result writer.old writer.new
-        (listed_lines task (gained (R.given reader.old) (R.given reader.new))) }
-    ensures listed { IfOk result (λ l. l
-        ≡ task_summary task (gained (R.given reader.old) (R.given reader.new))) }
-    ensures end { OnOk result (HasEnded (R.has_ended reader.new) (R.remaining reader.new)
-        ⊎ StopsAt task (gained (R.given reader.old) (R.given reader.new))) }
+    ensures { ListsTask R.given R.remaining R.failures R.has_ended W.taken_octets W.failures
+        task result reader.old reader.new writer.old writer.new }
 {
     let cutter = Splitter::<FrameLayout<CHECKED>>::new(alloc);
     let farm = Farm::new(width, vr).unwrap();
@@ -170,13 +157,8 @@ fn list_maps<const CHECKED: bool, R: Source, W: Sink>(
 ) -> Result<Summary, ListingFault>
     requires task { task ≡ Task.Map CHECKED width vr blocking part }
     requires width { IsWidth width }
-    ensures reads { Reads R.given R.remaining R.failures result reader.old reader.new }
-    ensures writes { WritesText W.taken_octets W.failures result writer.old writer.new
-        (listed_lines task (gained (R.given reader.old) (R.given reader.new))) }
-    ensures listed { IfOk result (λ l. l
-        ≡ task_summary task (gained (R.given reader.old) (R.given reader.new))) }
-    ensures end { OnOk result (HasEnded (R.has_ended reader.new) (R.remaining reader.new)
-        ⊎ StopsAt task (gained (R.given reader.old) (R.given reader.new))) }
+    ensures { ListsTask R.given R.remaining R.failures R.has_ended W.taken_octets W.failures
+        task result reader.old reader.new writer.old writer.new }
 {
     let cutter = Splitter::<FrameLayout<CHECKED>>::new(alloc);
     let packets = MapListing::new(alloc, width, vr, blocking);
@@ -209,13 +191,8 @@ fn list_telemetry<K: FrameLength, R: Source, W: Sink>(
 ) -> Result<Summary, ListingFault>
     requires task { task ≡ Task.Tm size report channel }
     requires size { size ≡ K.payload + 12 }
-    ensures reads { Reads R.given R.remaining R.failures result reader.old reader.new }
-    ensures writes { WritesText W.taken_octets W.failures result writer.old writer.new
-        (listed_lines task (gained (R.given reader.old) (R.given reader.new))) }
-    ensures listed { IfOk result (λ l. l
-        ≡ task_summary task (gained (R.given reader.old) (R.given reader.new))) }
-    ensures end { OnOk result (HasEnded (R.has_ended reader.new) (R.remaining reader.new)
-        ⊎ StopsAt task (gained (R.given reader.old) (R.given reader.new))) }
+    ensures { ListsTask R.given R.remaining R.failures R.has_ended W.taken_octets W.failures
+        task result reader.old reader.new writer.old writer.new }
 {
     let Ok(frames) = TelemetryListing::<K>::new(alloc, size, report) else {
         return Err(ListingFault::Memory);
@@ -242,13 +219,8 @@ fn list_words<R: Source, W: Sink>(
     vcid: Option<u8>,
 ) -> Result<Summary, ListingFault>
     requires task { task ≡ Task.Clcw vcid }
-    ensures reads { Reads R.given R.remaining R.failures result reader.old reader.new }
-    ensures writes { WritesText W.taken_octets W.failures result writer.old writer.new
-        (listed_lines task (gained (R.given reader.old) (R.given reader.new))) }
-    ensures listed { IfOk result (λ l. l
-        ≡ task_summary task (gained (R.given reader.old) (R.given reader.new))) }
-    ensures end { OnOk result (HasEnded (R.has_ended reader.new) (R.remaining reader.new)
-        ⊎ StopsAt task (gained (R.given reader.old) (R.given reader.new))) }
+    ensures { ListsTask R.given R.remaining R.failures R.has_ended W.taken_octets W.failures
+        task result reader.old reader.new writer.old writer.new }
 {
     let cutter = Splitter::<ControlWords>::new(alloc);
     match vcid {
@@ -279,13 +251,8 @@ fn list_packets<R: Source, W: Sink>(
     apid: Option<u16>,
 ) -> Result<Summary, ListingFault>
     requires task { task ≡ Task.Packets apid }
-    ensures reads { Reads R.given R.remaining R.failures result reader.old reader.new }
-    ensures writes { WritesText W.taken_octets W.failures result writer.old writer.new
-        (listed_lines task (gained (R.given reader.old) (R.given reader.new))) }
-    ensures listed { IfOk result (λ l. l
-        ≡ task_summary task (gained (R.given reader.old) (R.given reader.new))) }
-    ensures end { OnOk result (HasEnded (R.has_ended reader.new) (R.remaining reader.new)
-        ⊎ StopsAt task (gained (R.given reader.old) (R.given reader.new))) }
+    ensures { ListsTask R.given R.remaining R.failures R.has_ended W.taken_octets W.failures
+        task result reader.old reader.new writer.old writer.new }
 {
     let cutter = Splitter::<Packets>::new(alloc);
     let packets = PacketListing::new();
@@ -318,13 +285,8 @@ where
         ≡ work_summary (frames_work (check_if CHECKED) C.lines listing channel) octets }
     requires stops { (octets : List ℕ)
         → WorkStops (frames_work (check_if CHECKED) C.lines listing channel) octets → StopsAt task octets }
-    ensures reads { Reads R.given R.remaining R.failures result reader.old reader.new }
-    ensures writes { WritesText W.taken_octets W.failures result writer.old writer.new
-        (listed_lines task (gained (R.given reader.old) (R.given reader.new))) }
-    ensures listed { IfOk result (λ l. l
-        ≡ task_summary task (gained (R.given reader.old) (R.given reader.new))) }
-    ensures end { OnOk result (HasEnded (R.has_ended reader.new) (R.remaining reader.new)
-        ⊎ StopsAt task (gained (R.given reader.old) (R.given reader.new))) }
+    ensures { ListsTask R.given R.remaining R.failures R.has_ended W.taken_octets W.failures
+        task result reader.old reader.new writer.old writer.new }
 {
     let cutter = Splitter::<FrameLayout<CHECKED>>::new(alloc);
     match channel {
@@ -357,13 +319,8 @@ fn list_only<K: Kept, S: Cutter + Drop, C: Listing<S> + Drop, F: Filter + Drop, 
     requires listed { (octets : List ℕ) → task_summary task octets
         ≡ summary_of (only K.keeps C.lines) S.layout (fresh listing octets) }
     requires stops { (octets : List ℕ) → IsRefused S.layout (rest_by S.layout octets) → StopsAt task octets }
-    ensures reads { Reads R.given R.remaining R.failures result reader.old reader.new }
-    ensures writes { WritesText W.taken_octets W.failures result writer.old writer.new
-        (listed_lines task (gained (R.given reader.old) (R.given reader.new))) }
-    ensures listed { IfOk result (λ l. l
-        ≡ task_summary task (gained (R.given reader.old) (R.given reader.new))) }
-    ensures end { OnOk result (HasEnded (R.has_ended reader.new) (R.remaining reader.new)
-        ⊎ StopsAt task (gained (R.given reader.old) (R.given reader.new))) }
+    ensures { ListsTask R.given R.remaining R.failures R.has_ended W.taken_octets W.failures
+        task result reader.old reader.new writer.old writer.new }
 {
     let listing = Only::<C, F, K>::new(listing, filter);
     list_records(alloc, reader, writer, task, note, cutter, listing)
@@ -386,13 +343,8 @@ fn list_records<S: Cutter + Drop, C: Listing<S> + Drop, R: Source, W: Sink>(
     requires listed { (octets : List ℕ) → task_summary task octets
         ≡ summary_of C.lines S.layout (fresh listing octets) }
     requires stops { (octets : List ℕ) → IsRefused S.layout (rest_by S.layout octets) → StopsAt task octets }
-    ensures reads { Reads R.given R.remaining R.failures result reader.old reader.new }
-    ensures writes { WritesText W.taken_octets W.failures result writer.old writer.new
-        (listed_lines task (gained (R.given reader.old) (R.given reader.new))) }
-    ensures listed { IfOk result (λ l. l
-        ≡ task_summary task (gained (R.given reader.old) (R.given reader.new))) }
-    ensures end { OnOk result (HasEnded (R.has_ended reader.new) (R.remaining reader.new)
-        ⊎ StopsAt task (gained (R.given reader.old) (R.given reader.new))) }
+    ensures { ListsTask R.given R.remaining R.failures R.has_ended W.taken_octets W.failures
+        task result reader.old reader.new writer.old writer.new }
 {
     list_stream(alloc, reader, writer, cutter, Noted::new(listing, note))
 }
