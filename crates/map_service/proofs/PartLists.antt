@@ -15,7 +15,7 @@ use Rattle.std.specs.declared.vec.Vec.{Vec}
 use Rattle.std.proofs.lemmas.Bool.{cases_lt}
 use Rattle.std.proofs.lemmas.List.{get_or_append_left, get_or-append_right, get_or-replicate, get_or_past, get_or-map}
 use Rattle.std.proofs.lemmas.List.{set-append_left, set-get_or, length-set, length-map, map-set, length-replicate}
-use Rattle.std.proofs.lemmas.List.{replicate-append-replicate}
+use Rattle.std.proofs.lemmas.List.{replicate-append-replicate, length-append}
 use Rattle.map_service.specs.declared.limits.Limits.{Limits}
 use Rattle.map_service.specs.declared.assembler.Change.{Change}
 use Rattle.map_service.specs.declared.assembler.Change.TheVariants.{Same, Closed, Opened, Grown}
@@ -83,6 +83,17 @@ module _ {Z : Type 0} where
       (ap (λ (xs : List (Option (List ℕ))). xs ++ replicate (64 - length parts) none) (closed_view parts closed)
       ∙ replicate-append-replicate (length parts) (64 - length parts) none
       ∙ ap (λ n. replicate n none) all)
+
+  pub of_all_maps : (parts : List (Option (Vec ℕ Z))) → length parts ≤ 64 → length (parts_of parts) ≡ 64
+  of_all_maps parts most =
+      let none : Option (List ℕ) = None in
+      omega (
+        arith,
+        most,
+        length-map parts part_view,
+        length-append (map part_view parts) (replicate (64 - length (map part_view parts)) none),
+        length-replicate (64 - length (map part_view parts)) none,
+      )
 
   pub no_list : (parts : List (Option (Vec ℕ Z))) → length parts ≡ 0 → parts_of parts ≡ replicate 64 None
   no_list [] none = refl

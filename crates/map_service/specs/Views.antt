@@ -1,5 +1,5 @@
 -- What is kept and handed out, without where it lies in memory.
-use Rattle.std.specs.Prelude.{ℕ, List, map, Option, option_map}
+use Rattle.std.specs.Prelude.{ℕ, List, [], ◌∷◌, map, Option, Some, None, option_map}
 use Rattle.std.specs.declared.vec.Vec.{Vec}
 use Rattle.smallvec.specs.SmallVec.{SmallVec}
 
@@ -12,3 +12,8 @@ packets_view packets = map (λ v. v.items) packets.items
 -- the same of packets that are handed out
 abbrev pub ready_view : {Y : Type 0} → SmallVec (Vec ℕ Y) → List (List ℕ)
 ready_view packets = map (λ v. v.items) packets.items
+
+-- the same of one packet or none
+abbrev pub packet_list : {Z : Type 0} → Option (Vec ℕ Z) → List (List ℕ)
+packet_list None = []
+packet_list (Some v) = v.items ∷ []

@@ -11,11 +11,14 @@ ghost use Rattle.map_service.specs.AssemblerTable.{packets_outcome, one_fault, t
 ghost use Rattle.map_service.specs.Packets.{packets_in};
 ghost use Rattle.map_service.specs.Views.{part_view, packets_view, ready_view};
 
+mod part;
+
 use crate::decision::{Action, Decision, decide, interruption};
 use crate::dropped::Dropped;
 use crate::fault::MapFault;
 use crate::limits::Limits;
 use crate::packets::{copied_packets, fault_of_alone, fault_of_one};
+pub use part::TakenPart;
 use smallvec::SmallVec;
 use std::alloc::{AllocError, Global};
 use std::marker::Model;
@@ -566,6 +569,17 @@ fn begun(
     Ok(part)
 }
 
+// A part and the data of the last segment.
+#[inline(always)]
+fn joined(alloc: Global, part: &[u8], octets: &[u8]) -> Result<Vec<u8>, AllocError>
+    ensures { IfOk result (λ v. v.items ≡ part.now ++ octets.now) }
+{
+    let mut joined = Vec::with_capacity(alloc, part.len() + octets.len())?;
+    let _ = joined.extend_from_slice(part);
+    let _ = joined.extend_from_slice(octets);
+    Ok(joined)
+}
+
 // A part that a last segment ends, judged as a whole.
 #[inline(always)]
 fn ended(alloc: Global, limits: &Limits, part: &[u8], octets: &[u8]) -> Result<Prepared, MapFault>
@@ -576,11 +590,9 @@ fn ended(alloc: Global, limits: &Limits, part: &[u8], octets: &[u8]) -> Result<P
     ensures list { IfOk result (λ p. p.list.items ≡ []) }
     ensures fault { IfErr result (λ e. e ≡ MapFault.Memory) }
 {
-    let Ok(mut joined) = Vec::with_capacity(alloc, part.len() + octets.len()) else {
+    let Ok(joined) = joined(alloc, part, octets) else {
         return Err(MapFault::Memory);
     };
-    let _ = joined.extend_from_slice(part);
-    let _ = joined.extend_from_slice(octets);
     let dropped = fault_of_one(limits, &joined);
     let mut packets = SmallVec::new(alloc);
     if dropped.is_none() {

@@ -1,8 +1,8 @@
 // The table of the assembler: a segment of an open MAP against the part that is open there.
 
-ghost use Rattle.std.specs.Prelude.{◌≡◌, Some, option_copied, nat_lt, if◌then◌else◌};
+ghost use Rattle.std.specs.Prelude.{◌≡◌, true, Some, option_copied, nat_lt, if◌then◌else◌};
 ghost use Rattle.map_service.specs.Packets.{packets_in};
-ghost use Rattle.map_service.specs.AssemblerTable.{interruption, cell, alone_packets};
+ghost use Rattle.map_service.specs.AssemblerTable.{interruption, cell, alone_packets, hands_out_cell};
 ghost use Rattle.map_service.specs.Decision.{outcome_of, Fits};
 
 use crate::dropped::Dropped;
@@ -74,6 +74,7 @@ pub fn decide(limits: &Limits, flags: SegmentFlags, part: Option<&[u8]>, octets:
     ensures handed { result.action ≡ Action.HandOut
         → (result.dropped ≡ interruption (option_copied part.entry))
         × (packets_in octets.now ≡ alone_packets limits.now octets.now) }
+    ensures alone { result.action ≡ Action.HandOut → hands_out_cell limits.now flags octets.now ≡ true }
     ensures fits { Fits limits.now.max_packet result.action (option_copied part.entry) octets.now }
 {
     match (flags, part) {

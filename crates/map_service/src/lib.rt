@@ -13,7 +13,7 @@ mod laws;
 mod limits;
 mod packets;
 
-pub use assembler::{Assembler, Prepared, Taken, TakenInline};
+pub use assembler::{Assembler, Prepared, Taken, TakenInline, TakenPart};
 pub use cutting::{alone_segment, cut, cut_packets, group_len, segment_count};
 pub use decision::{Action, Decision, decide};
 pub use dropped::Dropped;

@@ -9,6 +9,7 @@ use Rattle.tc_frame.specs.declared.frame.Command.TheVariants.{Unlock, SetVr}
 use Rattle.tc_frame.specs.declared.fault.TcFault.{TcFault}
 use Rattle.tc_frame.specs.Layout.{SegmentView, BodyView, Ad, Bd, Bc, FrameView}
 use Rattle.tc_frame.specs.Decoding.{frame_at}
+use Rattle.map_service.specs.declared.dropped.Dropped.{Dropped}
 use Rattle.map_service.specs.Assembly.{open_part}
 use Rattle.map_service.specs.AssemblerTable.{TakeOutcome, take_step}
 use Rattle.cop1.specs.declared.farm.Verdict.{Verdict}
@@ -104,6 +105,13 @@ abbrev pub after_segment : SpacecraftState → SegmentView → SpacecraftState
 after_segment s segment = record s {
   accepted = s.accepted ++ segment ∷ [];
   ready = s.ready ++ put_on_map segment.header.map (assemble_step s segment).packets;
+}
+
+-- how many packets are ready with the segment, and what is dropped
+abbrev pub hand_on_step : SpacecraftState → SegmentView → SpacecraftOutcome (ℕ × Option Dropped)
+hand_on_step s segment = record {
+  answer = (length (assemble_step s segment).packets, (assemble_step s segment).dropped);
+  after = after_segment s segment;
 }
 
 abbrev pub sequence_outcome : SpacecraftState → ℕ → SegmentView → Verdict

@@ -4,7 +4,7 @@ ghost use Rattle.std.specs.Prelude.{◌≡◌, ◌≤◌, ◌+◌, ◌++◌, len
 ghost use Rattle.std.specs.List.{AllByRecursion};
 ghost use Rattle.std.specs.VecDeque.{deque_len, deque_capacity};
 ghost use Rattle.map_service.specs.Packets.{packets_in};
-ghost use Rattle.map_service.specs.Views.{ready_view};
+ghost use Rattle.map_service.specs.Views.{ready_view, packet_list};
 ghost use Rattle.nodes.specs.Packets.{put_on_map};
 ghost use Rattle.nodes.specs.PacketFields.{IsPacketOn};
 
@@ -71,6 +71,24 @@ pub(crate) fn make_ready(ready: &mut VecDeque<MapPacket>, on_map: u8, packets: S
     for octets in packets {
         ready.push_back_reserved(MapPacket::new(on_map, octets));
     }
+}
+
+// Puts the packet, where there is one, after those that are ready, and says how many it is.
+#[inline(always)]
+pub(crate) fn make_ready_one(
+    ready: &mut VecDeque<MapPacket>,
+    on_map: u8,
+    packet: Option<Vec<u8>>,
+) -> usize
+    requires whole { AllByRecursion IsPacketOn (put_on_map on_map (packet_list packet)) }
+    requires room { deque_len ready.old + length (packet_list packet) ≤ deque_capacity ready.old }
+    ensures items { ready.new.items ≡ ready.old.items ++ put_on_map on_map (packet_list packet) }
+    ensures number { result ≡ length (packet_list packet) }
+    ensures capacity { deque_capacity ready.new ≡ deque_capacity ready.old }
+{
+    let Some(octets) = packet else { return 0 };
+    ready.push_back_reserved(MapPacket::new(on_map, octets));
+    1
 }
 
 // Copies the packets that octets are, for which there is room, after those that are ready, and says how

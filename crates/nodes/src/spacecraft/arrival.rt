@@ -6,7 +6,7 @@ ghost use Rattle.std.specs.Option.{ForSome};
 use super::Spacecraft;
 use super::receive::obey;
 use crate::fault::LinkFault;
-use crate::map_packet::MapPacket;
+use crate::map_packet::{MapPacket, make_ready};
 use crate::received::Received;
 use cop1::{Farm, Verdict};
 use map_service::Prepared;
@@ -29,7 +29,7 @@ impl Spacecraft {
     ghost use Rattle.tc_frame.specs.Layout.{Ad, Bd, Bc, segment_view};
     ghost use Rattle.tc_frame.specs.Decoding.{frame_at};
     ghost use Rattle.nodes.specs.Arrival.{accepted_of, segment_in_body, IsAcceptable, IsArrivalOf, IsArrivalAt, after_accepting};
-    ghost use Rattle.nodes.specs.Spacecraft.{spacecraft_step, Receive, hands_on, HandsNothingOn, body_outcome};
+    ghost use Rattle.nodes.specs.Spacecraft.{spacecraft_step, Receive, hands_on, HandsNothingOn, after_segment, body_outcome};
 
     /// Finds out what comes of octets, and takes the memory that this needs. Nothing changes.
     /// Faults: 6 Memory. Memory: only for a Type-AD frame that is accepted or a Type-BD frame that is
@@ -80,6 +80,15 @@ impl Spacecraft {
         if let Some((segment, prepared)) = accepted {
             self.hand_on(&segment, prepared);
         }
+    }
+
+    fn hand_on(&mut self, segment: &Segment<'_>, prepared: Prepared)
+        requires { IsAcceptable self.old (segment_view segment.now) prepared }
+        ensures { self.new ≡ after_segment self.old (segment_view segment.now) }
+    {
+        let packets = self.assembler.commit(segment, prepared);
+        self.accepted = self.accepted.then(segment);
+        make_ready(&mut self.ready, segment.header.map, packets);
     }
 
     // The octets are no frame, or none of this channel.

@@ -7,22 +7,22 @@ ghost use Rattle.nodes.specs.Spacecraft.{command_event};
 use super::Spacecraft;
 use crate::bypass_segments::is_kept;
 use crate::fault::LinkFault;
-use crate::map_packet::{MapPacket, make_ready, make_ready_of};
+use crate::map_packet::{MapPacket, make_ready_of, make_ready_one};
 use crate::received::Received;
 use cop1::{Farm, Verdict};
-use map_service::{Dropped, Prepared};
+use map_service::{Dropped, TakenPart};
 use tc_frame::{Body, Check, Command, Segment, TcFrame, decode};
 
 impl Spacecraft {
-    ghost use Rattle.std.specs.Prelude.{◌≤◌, length, true, false, None, Some, IsOk, IfOk, IfErr, OnOk, OnErr, IfSome, if◌then◌else◌};
+    ghost use Rattle.std.specs.Prelude.{◌≤◌, length, true, false, None, Some, IsOk, IfOk, IfErr, IfSome, if◌then◌else◌};
     ghost use Rattle.tc_frame.specs.Layout.{Ad, Bd, frame_view, segment_view};
     ghost use Rattle.tc_frame.specs.Decoding.{frame_at};
     ghost use Rattle.map_service.specs.AssemblerTable.{hands_out};
-    ghost use Rattle.nodes.specs.Arrival.{IsAcceptable, after_keeping};
+    ghost use Rattle.nodes.specs.Arrival.{after_keeping};
     ghost use Rattle.nodes.specs.BypassSegments.{is_kept};
     ghost use Rattle.nodes.specs.Packets.{packet_on};
     ghost use Rattle.nodes.specs.Parameters.{limits_of};
-    ghost use Rattle.nodes.specs.Spacecraft.{spacecraft_step, Receive, is_free, is_own_frame, hands_on, HandsNothingOn, assemble_step, after_segment, body_outcome};
+    ghost use Rattle.nodes.specs.Spacecraft.{spacecraft_step, Receive, is_free, is_own_frame, hands_on, HandsNothingOn, hand_on_step, body_outcome};
     ghost use Rattle.nodes.specs.Steps.{TakesStep};
 
     /// Takes octets that came from the ground: exactly one telecommand frame, with its FECF (CCSDS
@@ -84,23 +84,13 @@ impl Spacecraft {
     fn hand_on_next(&mut self, segment: &Segment<'_>) -> Result<(usize, Option<Dropped>), LinkFault>
         requires free { is_free self.old ≡ true }
         requires short { length segment.now.payload.now ≤ 1016 }
-        ensures ready { IfOk result (λ p. p.0
-            ≡ length (assemble_step self.old (segment_view segment.now)).packets) }
-        ensures dropped { IfOk result (λ p. p.1
-            ≡ (assemble_step self.old (segment_view segment.now)).dropped) }
-        ensures after { OnOk result (self.new ≡ after_segment self.old (segment_view segment.now)) }
-        ensures same { OnErr result (self.new ≡ self.old) }
-        ensures fault { IfErr result (λ e. e ≡ LinkFault.Memory) }
+        ensures step { TakesStep
+            (hand_on_step self.old (segment_view segment.now)) self.old self.new result }
     {
         if self.assembler.hands_out(segment) {
             return self.hand_on_alone(segment);
         }
-        let Ok(prepared) = self.assembler.prepare(segment) else {
-            return Err(LinkFault::Memory);
-        };
-        let handed = (prepared.packets.len(), prepared.dropped);
-        self.hand_on(segment, prepared);
-        Ok(handed)
+        self.hand_on_part(segment)
     }
 
     // The same of an alone segment whose packets are handed out: they are copied from its octets.
@@ -111,18 +101,29 @@ impl Spacecraft {
         requires alone { hands_out (limits_of self.old.config) (segment_view segment.now) ≡ true }
         requires free { is_free self.old ≡ true }
         requires short { length segment.now.payload.now ≤ 1016 }
-        ensures ready { IfOk result (λ p. p.0
-            ≡ length (assemble_step self.old (segment_view segment.now)).packets) }
-        ensures dropped { IfOk result (λ p. p.1
-            ≡ (assemble_step self.old (segment_view segment.now)).dropped) }
-        ensures after { OnOk result (self.new ≡ after_segment self.old (segment_view segment.now)) }
-        ensures same { OnErr result (self.new ≡ self.old) }
-        ensures fault { IfErr result (λ e. e ≡ LinkFault.Memory) }
+        ensures step { TakesStep
+            (hand_on_step self.old (segment_view segment.now)) self.old self.new result }
     {
         let map = segment.header.map;
         let ready = make_ready_of(self.alloc, &mut self.ready, map, segment.payload)?;
         let dropped = self.assembler.take_alone(segment);
         self.accepted = self.accepted.then(segment);
+        Ok((ready, dropped))
+    }
+
+    // The same of any other segment: at most the packet is ready whose part it ended.
+    fn hand_on_part(&mut self, segment: &Segment<'_>) -> Result<(usize, Option<Dropped>), LinkFault>
+        requires part { hands_out (limits_of self.old.config) (segment_view segment.now) ≡ false }
+        requires free { is_free self.old ≡ true }
+        requires short { length segment.now.payload.now ≤ 1016 }
+        ensures step { TakesStep
+            (hand_on_step self.old (segment_view segment.now)) self.old self.new result }
+    {
+        let Ok(TakenPart { dropped, packet }) = self.assembler.take_part(segment) else {
+            return Err(LinkFault::Memory);
+        };
+        self.accepted = self.accepted.then(segment);
+        let ready = make_ready_one(&mut self.ready, segment.header.map, packet);
         Ok((ready, dropped))
     }
 
@@ -139,15 +140,6 @@ impl Spacecraft {
         self.farm.bd();
         self.keep(kept);
         Ok(received)
-    }
-
-    pub(super) fn hand_on(&mut self, segment: &Segment<'_>, prepared: Prepared)
-        requires { IsAcceptable self.old (segment_view segment.now) prepared }
-        ensures { self.new ≡ after_segment self.old (segment_view segment.now) }
-    {
-        let packets = self.assembler.commit(segment, prepared);
-        self.accepted = self.accepted.then(segment);
-        make_ready(&mut self.ready, segment.header.map, packets);
     }
 
     // Keeps a packet, where there is one; the oldest goes where as many wait as there are slots.

@@ -1,4 +1,4 @@
-use Rattle.std.proofs.Common.{◌≡◌, List, true, ap, sym, subst, ◌∙◌, arith}
+use Rattle.std.proofs.Common.{◌≡◌, List, true, ap, sym, subst, ◌∙◌, arith, rules}
 use Rattle.tc_frame.specs.Layout.{SegmentView, segment_view}
 use Rattle.map_service.specs.AssemblerTable.{hands_out}
 use Rattle.map_service.specs.Assembly.{open_part}
@@ -53,14 +53,21 @@ invariant_of-self-2 c =
       past = c.self.invariant.past;
     }
 
-pub returns-clause-after : goal.returns-clause-after
-returns-clause-after c =
+pub returns : goal.returns
+returns c =
     let s : SegmentView = segment_view c.args.segment.now in
     let i : Inside = c.self.inside in
-    rw (
-      c.in_ok-ready.ensures.items,
-      c.then-self-inside.ensures,
-      ← handed_packets (limits_of i.config) (open_part (limits_of i.config) s.header.map i.accepted.segments) s
-          (still_alone i c.args.self.now s c.self.view_is c.requires.alone),
-    )
-    (ap (λ (t : SpacecraftState). after_segment t s) c.self.view_is)
+    record {
+      step = record {
+        answer = search rules;
+        after = rw (
+          c.in_ok-ready.ensures.items,
+          c.then-self-inside.ensures,
+          ← handed_packets (limits_of i.config) (open_part (limits_of i.config) s.header.map i.accepted.segments) s
+              (still_alone i c.args.self.now s c.self.view_is c.requires.alone),
+        )
+            (ap (λ (t : SpacecraftState). after_segment t s) c.self.view_is);
+        err = tt;
+        fault = tt;
+      };
+    }
