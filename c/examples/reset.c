@@ -1,8 +1,8 @@
 /* A spacecraft that restarts unasked in the middle of a session, and a ground that goes on so that each command is
  * executed once and in sequence. The spacecraft begins in Lockout, so that no report of its new receiver is believed,
  * and each telemetry frame has a packet with its boot count and the number of commands that it has executed; all that
- * it has taken is executed. Each session begins by the six steps of docs/TOUR.md, "The steps". It writes what happens,
- * and ends with 0 where all is as wanted. */
+ * it has taken is executed. Each session begins by the six steps of docs/CONTROL.md, "The steps". It writes what
+ * happens, and ends with 0 where all is as wanted. */
 #include <sedgechisel_nodes.h>
 #include <stdio.h>
 

@@ -1,5 +1,5 @@
 /* The memory of libsedgechisel_nodes for programs in C: the three functions that the library calls, which the program
- * has. malloc.c has them over malloc, and static.c in static places (docs/C.md); a program may have its own. For C99
+ * has. malloc.c has them over malloc, and static.c in static places (docs/FLIGHT.md); a program may have its own. For C99
  * and later, and for C++.
  *
  * What is proved of the library rests on these functions doing what is said here. Each returns, and calls nothing of

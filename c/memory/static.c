@@ -2,7 +2,7 @@
  * library calls. SEDGE_PLACES says how many places there are of each size in octets, the smallest first, each once and
  * a multiple of 16, or the file does not compile:
  *     -D'SEDGE_PLACES=PLACES(112, 40) PLACES(352, 1) PLACES(65552, 1)'
- * docs/C.md says how many a node takes at most. What is asked for gets a free place of the first size that is enough,
+ * docs/FLIGHT.md says how many a node takes at most. What is asked for gets a free place of the first size that is enough,
  * so where there are as many of each size as are used at once, nothing is ever refused. Each call takes time in
  * proportion to the number of sizes. Nothing here is for two threads at once.
  *

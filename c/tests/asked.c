@@ -1,8 +1,8 @@
-/* The octets that nodes ask for, as docs/C.md has them, over random configurations: `asked COUNT`. When a node is
+/* The octets that nodes ask for, as docs/FLIGHT.md has them, over random configurations: `asked COUNT`. When a node is
  * opened, and at the first submission, the first packet past the sequence control, the first segment of a packet on
  * board, its last one, and the first packet of telemetry. A simulated link asks for those of both nodes and for a
  * number that is the same for all configurations. When all is closed no memory is held. Ends with 0 where all is so,
- * and writes the rows that docs/C.md has to have of it. */
+ * and writes the rows that docs/FLIGHT.md has to have of it. */
 #include "memory.h"
 #include <sedgechisel_nodes.h>
 #include <stdint.h>

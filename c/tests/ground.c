@@ -1,6 +1,6 @@
 /* A ground that plays against c/examples/board.c: `ground SEED COMMAND ..` runs the board as that command. Between them
  * are delays, and a link that loses a quarter of what goes either way and damages some of it. The sender goes through
- * sessions that end by Terminate and by Lockout, and goes on after each as docs/C.md says. What the board executes has
+ * sessions that end by Terminate and by Lockout, and goes on after each as docs/CONTROL.md says. What the board executes has
  * to be each packet of an open MAP once and in sequence, and just the packets past the sequence control that arrived;
  * its answers in telemetry have to be those of what it executed, and FARM-B what arrived. The status is 0 where all is
  * so. */

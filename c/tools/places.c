@@ -1,4 +1,4 @@
-/* Prints the static places that a configuration takes, as docs/C.md has them: `places NODE NAME=VALUE ..`.
+/* Prints the static places that a configuration takes, as docs/FLIGHT.md has them: `places NODE NAME=VALUE ..`.
  *
  * NODE is `ground` or `spacecraft`, over c/memory/static.c: the value of SEDGE_PLACES is printed in one line. Or it is
  * `board`, a receiver on board over the library without heap: a line for each place, with its octets, its alignment,

@@ -1,5 +1,5 @@
 """Sessions over a link with a delay, which loses frames: each packet is delivered once. The steps after an alert are
-those of docs/TOUR.md, "After an alert", but for the boot counter: no node restarts here. A program for a real link
+those of docs/CONTROL.md, "After an alert", but for the boot counter: no node restarts here. A program for a real link
 looks at it before it resumes, as asyncio_ground.py does.
 Run it by PYTHONPATH=DIR/lib/python python3 python/examples/alert.py, or paste it into a notebook."""
 import collections

@@ -1,6 +1,6 @@
 """A ground by asyncio on bare control words, and on a loopback socket a front end with a spacecraft after it. Both ways
 are slow and lose frames; for a while the link is dark, and once the spacecraft restarts. Each command is executed once,
-in order: each session begins by the six steps of docs/TOUR.md, "The steps". Control
+in order: each session begins by the six steps of docs/CONTROL.md, "The steps". Control
 words and housekeeping come in one ordered stream, so housekeeping that comes after a word was made after it. Where they
 come by two ways, that has to be known otherwise.
 Run it by PYTHONPATH=DIR/lib/python python3 python/examples/asyncio_ground.py."""

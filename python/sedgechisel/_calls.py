@@ -296,8 +296,8 @@ class Alert(_Numbers):
         in a session that was begun by CLCW check, Unlock or Set V(R) and is confirmed, while the conditions hold. So the
         spacecraft has restarted, the link reorders or repeats frames, or there is a second station; and before a session
         is confirmed there may be what an earlier one left, as a receiver in Lockout. After one of these nothing is known
-        of what is on board until a session begins (docs/TOUR.md, "After a reset"). After another one `Ground.resume`
-        begins the next session (docs/TOUR.md, "After an alert")."""
+        of what is on board until a session begins (docs/CONTROL.md, "After a reset"). After another one `Ground.resume`
+        begins the next session (docs/CONTROL.md, "After an alert")."""
         return bool(_alert_shows_broken_condition(self))
 
     @property

@@ -1,7 +1,7 @@
-"""Follows the ways on after an alert and after a reset (docs/TOUR.md, "After an alert", "After a reset") over random
+"""Follows the ways on after an alert and after a reset (docs/CONTROL.md, "After an alert", "After a reset") over random
 links, until that many sessions have begun: `recipe.py SESSIONS`. Frames are delayed and lost; in some runs they
 overtake each other, and in some the spacecraft restarts. In some the ground is lost at times, and another goes on at
-what was kept of it, or at an older record (docs/TOUR.md, "The ground fails over"). On board each packet has to be the
+what was kept of it, or at an older record (docs/CONTROL.md, "The ground fails over"). On board each packet has to be the
 next one that was wanted on its MAP: none twice, and none left out that was said to be on board. recipe.c and recipe.rs
 do the same, and write the same lines. A second word takes a step away, and is found out: with `early` it believes the
 first report after an alert, whenever that was made, and begins a session by it even where the ground refuses; with

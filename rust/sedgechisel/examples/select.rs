@@ -1,7 +1,7 @@
 //! A ground on bare control words, as a loop of select: it waits for what comes down, for a command to be sent, or for the
 //! next tick, whichever comes first, and after each sends up what is to be sent. On a loopback socket is a front end with
 //! a spacecraft after it. Both ways are slow and lose frames; for a while the link is dark, and once the spacecraft
-//! restarts. Each command is executed once, in order: each session begins by the six steps of docs/TOUR.md, "The steps".
+//! restarts. Each command is executed once, in order: each session begins by the steps of docs/CONTROL.md, "The steps".
 //! Control words and housekeeping come in one ordered stream, so housekeeping that comes after a word was made after it;
 //! where they come by two ways, that has to be known otherwise. All channels are std's; with an executor the arms are those
 //! of its own select.

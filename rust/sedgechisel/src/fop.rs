@@ -261,8 +261,8 @@ impl Fop {
     /// V(S) = NN(R) that is 0, whatever the value. It says so after an alert too, until V(S) is set or an initiation
     /// begins. `None` if V(S) is not NN(R) and the value is beyond V(S): then nothing is known of these units. It goes
     /// by the numbers alone: after an alert that shows a broken condition nothing is known of them, whatever it says. A
-    /// report that was made while frames were on their way up says too little for what is sent again (docs/TOUR.md, "A
-    /// session with losses").
+    /// report that was made while frames were on their way up says too little for what is sent again (docs/CONTROL.md,
+    /// "The steps").
     #[must_use]
     pub fn accepted_beyond(&self, value: u8) -> Option<u8> {
         let mut accepted = 0;
@@ -288,8 +288,8 @@ impl Alert {
     /// station; and before a session is confirmed there may be what an earlier one left, as a receiver in Lockout.
     ///
     /// After one of these nothing is known of what is on board until a session begins, and `Ground::resume` refuses
-    /// (docs/TOUR.md, "After a reset"). After another one the next session goes on by `Ground::resume` (docs/TOUR.md,
-    /// "After an alert").
+    /// (docs/CONTROL.md, "After a reset"). After another one the next session goes on by `Ground::resume`
+    /// (docs/CONTROL.md, "After an alert").
     #[must_use]
     pub const fn shows_a_broken_condition(self) -> bool {
         match self {

@@ -357,7 +357,7 @@ impl Ground {
     /// value was made: the oldest ones (CCSDS 232.1-B-2, 5.1). Where V(S) = NN(R) that is 0, whatever the value. It
     /// says so after an alert too, until V(S) is set or an initiation begins. `None` if V(S) is not NN(R) and the value
     /// is beyond V(S): then nothing is known of these segments. A report that was made while frames were on their way
-    /// up says too little for what is sent again (docs/TOUR.md, "After an alert").
+    /// up says too little for what is sent again (docs/CONTROL.md, "After an alert").
     #[must_use]
     pub fn accepted_beyond(&self, value: u8) -> Option<u8> {
         let mut accepted = 0;
