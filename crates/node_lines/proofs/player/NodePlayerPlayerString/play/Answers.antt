@@ -2,7 +2,7 @@ use Rattle.std.proofs.Common.{◌≡◌, ◌++◌, ◌∷◌, [], codes, ℕ, Li
 use Rattle.octets.specs.Beginning.{Appends}
 use Rattle.node_lines.specs.Asks.{NodeLine, Unreadable, node_line}
 use Rattle.node_lines.specs.Player.{line_step, text_step}
-use Rattle.node_lines.proofs.player.NodePlayerPlayer.play.Goals as goal
+use Rattle.node_lines.proofs.player.NodePlayerPlayerString.play.Goals as goal
 
 pub returns-in-Unreadable-clause-text : goal.returns-in-Unreadable-clause-text
 returns-in-Unreadable-clause-text g c =
