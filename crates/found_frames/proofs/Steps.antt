@@ -10,6 +10,7 @@ use Rattle.frame_search.specs.Search.{good_frame}
 use Rattle.frame_search.specs.Parts.{Part, Frame, Skipped, skipped, parts_after}
 use Rattle.frame_search.proofs.Steps.{parts_frame, parts_none}
 use Rattle.listings.specs.Listing.{Lines}
+use Rattle.listings.proofs.Listed.{begins_more}
 use Rattle.found_frames.specs.Found.{Found, with_part, with_parts, from_here, skipped_line, standing}
 use Rattle.found_frames.specs.declared.progress.Progress.{Progress}
 
@@ -38,15 +39,6 @@ module _ {S F : Type 0} (lines : Lines S F) where
   parts_behind before st (part ∷ parts) =
       ap (λ (x : Found S). with_parts lines x parts) (part_behind before st part)
       ∙ parts_behind before (with_part lines st part) parts
-
-  -- what is written begins all that is
-  pub begins_all : (st : Found S) (parts : List Part) → IsBeginning st.text (with_parts lines st parts).text
-  begins_all st parts =
-      let bare : Found S = record st { text = [] } in
-      let same : with_parts lines st parts ≡ behind_text st.text (with_parts lines bare parts) =
-      ap (λ (t : List ℕ). with_parts lines (record st { text = t }) parts) (sym (append-nil st.text))
-      ∙ parts_behind st.text bare parts in
-      ((with_parts lines bare parts).text, ap (λ (x : Found S). x.text) same)
 
   module _ (scid vcid : ℕ) where
     -- a good frame is taken, after the line of what was skipped
@@ -84,33 +76,23 @@ module _ {S F : Type 0} (lines : Lines S F) where
 
     -- ---- a text that is written
 
-    -- where a text is written after what was, the listing goes on from there
-    pub written_on : (before text now : List ℕ) (kept later : S) (p q : Progress) (n m : ℕ) (xs ys : List ℕ)
-        → now ≡ before ++ text
-        → from_here lines scid vcid (standing text later q) m xs
-        ≡ from_here lines scid vcid (standing [] kept p) n ys
-        → from_here lines scid vcid (standing now later q) m xs
-        ≡ from_here lines scid vcid (standing before kept p) n ys
-    written_on before text now kept later p q n m xs ys is same =
-        ap (λ (t : List ℕ). from_here lines scid vcid (standing t later q) m xs) is
-        ∙ parts_behind before (standing text later q) (parts_after scid vcid m 0 xs)
-        ∙ ap (behind_text before) same
-        ∙ sym (parts_behind before (standing [] kept p) (parts_after scid vcid n 0 ys))
-        ∙ ap (λ (t : List ℕ). from_here lines scid vcid (standing t kept p) n ys) (append-nil before)
+    -- a listing goes on after its text
+    pub text_on : (text : List ℕ) (kept : S) (p : Progress) (n : ℕ) (octets : List ℕ)
+        → from_here lines scid vcid (standing text kept p) n octets
+        ≡ behind_text text (from_here lines scid vcid (standing [] kept p) n octets)
+    text_on text kept p n octets =
+        ap (λ (t : List ℕ). from_here lines scid vcid (standing t kept p) n octets) (sym (append-nil text))
+        ∙ parts_behind text (standing [] kept p) (parts_after scid vcid n 0 octets)
 
-    -- and a beginning of it begins all
+    -- what begins its text begins all
     pub begins_written : (before text now : List ℕ) (kept later : S) (p q : Progress) (n m : ℕ) (xs ys : List ℕ)
         → IsBeginning now (before ++ text)
         → from_here lines scid vcid (standing text later q) m xs
         ≡ from_here lines scid vcid (standing [] kept p) n ys
-        → IsBeginning now (from_here lines scid vcid (standing before kept p) n ys).text
+        → IsBeginning now (before ++ (from_here lines scid vcid (standing [] kept p) n ys).text)
     begins_written before text now kept later p q n m xs ys begins same =
-        let whole = written_on before text (before ++ text) kept later p q n m xs ys refl same in
-        let all = begins_all (standing (before ++ text) later q) (parts_after scid vcid m 0 xs) in (
-          begins.0 ++ all.0,
-          ap (λ (x : Found S). x.text) (sym whole) ∙ all.1 ∙ ap (λ (t : List ℕ). t ++ all.0) begins.1
-              ∙ append_assoc now begins.0 all.0,
-        )
+        begins_more now before text (from_here lines scid vcid (standing [] later q) m xs).text _
+        (ap (λ (x : Found S). x.text) (sym same ∙ text_on text later q m xs)) begins
 
     -- ---- the end of a stream
 

@@ -1,6 +1,6 @@
 -- Where a text is cut at its line feeds, and how far it is played by lines and pieces.
 use Rattle.std.proofs.Common.{◌≡◌, ◌+◌, ◌≤◌, ◌++◌, ℕ, Bool, true, false, List, [], ◌∷◌, length, refl, ap, ◌∙◌, take}
-use Rattle.std.proofs.Common.{drop, arith, cond, ◌<◌, ltb, Some, None, Option, ◌==◌, sym, append_assoc, subst}
+use Rattle.std.proofs.Common.{drop, arith, cond, ◌<◌, ltb, Some, None, Option, ◌==◌, sym, append_assoc}
 use Rattle.std.specs.List.{slice_split, position_or_len, onto_first}
 use Rattle.std.proofs.lemmas.Bool.Decides.{nat_tests}
 use Rattle.std.proofs.lemmas.List.Splits.{slice_split_first, slice_split_none, length-slice_split}
@@ -8,14 +8,11 @@ use Rattle.std.proofs.lemmas.List.Splits.{slice_split-cons_yes, slice_split-cons
 use Rattle.std.proofs.lemmas.List.Sums.{fails_before_first}
 use Rattle.std.proofs.Math.Bool.{and_assoc, and-true}
 use Rattle.std.specs.Prelude.{◌&&◌}
-use Rattle.std.proofs.lemmas.List.{append-nil, length-append}
-use Rattle.std.specs.Io.KnownBytes.{Consumes}
-use Rattle.octets.specs.Beginning.{IsBeginning}
-use Rattle.listings.specs.Devices.{gained}
-use Rattle.listings.proofs.Listed.{gained_more, gained_whole, gained_none, begins_more}
+use Rattle.std.proofs.lemmas.List.{append-nil}
+use Rattle.listings.specs.Pieces.{GoesOn}
 use Rattle.line_stream.specs.Lines.{parts_of, all_but_last, last_part, ended_lines, left_of, line_left}
-use Rattle.line_stream.specs.Player.{joined, Playing, Standing, answers, after_lines, are_good, played, fed}
-use Rattle.line_stream.specs.Player.{answers_of, answers_so_far, after_text, is_all_good}
+use Rattle.line_stream.specs.Player.{joined, Playing, Standing, HasPlayed, answers, after_lines, are_good, played, fed}
+use Rattle.line_stream.specs.Player.{answers_of, after_text, is_all_good, playing_of}
 
 -- Where a text is cut at its line feeds.
 
@@ -88,6 +85,14 @@ goes_on-onto : (x : ℕ) (part : List ℕ) (parts more : List (List ℕ))
     → onto_first x (goes_on (part ∷ parts) more) ≡ goes_on (onto_first x (part ∷ parts)) more
 goes_on-onto x part parts more = grind arith
 
+joined-goes_on : (left : List ℕ) (parts more : List (List ℕ)) → HasParts parts
+    → joined left (goes_on parts more) ≡ goes_on (joined left parts) more
+joined-goes_on left parts more has = rw has.is (one left has.first has.more)
+  where
+    one : (left part : List ℕ) (parts : List (List ℕ))
+        → joined left (goes_on (part ∷ parts) more) ≡ goes_on (joined left (part ∷ parts)) more
+    one left part parts = grind (arith, append_assoc)
+
 goes_on_case : (x : ℕ) (xs ys : List ℕ) (b : Bool) → (x == 10) ≡ b
     → parts_of (xs ++ ys) ≡ goes_on (parts_of xs) (parts_of ys)
     → parts_of (x ∷ (xs ++ ys)) ≡ goes_on (parts_of (x ∷ xs)) (parts_of ys)
@@ -109,19 +114,6 @@ goes_on_case x xs ys false e ih =
 parts_more : (xs ys : List ℕ) → parts_of (xs ++ ys) ≡ goes_on (parts_of xs) (parts_of ys)
 parts_more [] ys = sym (joined-nothing (parts_of ys) (text_has_parts ys))
 parts_more (x ∷ xs) ys = goes_on_case x xs ys (x == 10) refl (parts_more xs ys)
-
-module _ (xs ys : List ℕ) where
-  -- the lines of a text with more octets
-  pub ended_lines-append : ended_lines (xs ++ ys) ≡ ended_lines xs ++ all_but_last (joined (left_of xs) (parts_of ys))
-  ended_lines-append =
-      ap all_but_last (parts_more xs ys)
-      ∙ all_but_last-append (ended_lines xs) (joined (left_of xs) (parts_of ys)) (joined_has (left_of xs) (parts_of ys))
-
-  -- what is left of a text with more octets
-  pub left_of-append : left_of (xs ++ ys) ≡ last_part (joined (left_of xs) (parts_of ys))
-  left_of-append =
-      ap last_part (parts_more xs ys)
-      ∙ last_part-append (ended_lines xs) (joined (left_of xs) (parts_of ys)) (joined_has (left_of xs) (parts_of ys))
 
 -- What a line, and what a piece, adds to a text that is played.
 
@@ -153,20 +145,7 @@ module _ {S : Type 0} (playing : Playing S) where
   fed_after st next line part rest after goes_on plays cuts =
       rw (plays, goes_on) (fed_line st part rest after cuts)
 
--- How far a stream of text is played, and what a piece adds to that.
-
--- What reads leave of the octets that are known to remain.
-
-consumes_both : (a b c : Option (List ℕ)) (t u : List ℕ) → Consumes a b t → Consumes b c u → Consumes a c (t ++ u)
-consumes_both a b c t u first second = grind (arith, append_assoc, first, second)
-
--- after a read that gave this piece
-pub consumes_piece : (a b c : Option (List ℕ)) (old given new piece : List ℕ)
-    → given ≡ old ++ gained old given → new ≡ given ++ piece
-    → Consumes a b (gained old given) → Consumes b c piece → Consumes a c (gained old new)
-consumes_piece a b c old given new piece gave gives before more =
-    subst (Consumes a c) (sym (gained_more old given new piece gave gives))
-    (consumes_both a b c (gained old given) piece before more)
+-- How a text is played on by a piece.
 
 module _ {S : Type 0} (playing : Playing S) where
   -- lines, and then more lines
@@ -190,108 +169,72 @@ module _ {S : Type 0} (playing : Playing S) where
   are_good-append s (line ∷ lines) more =
       rw (are_good-append (playing.after s line) lines more, and_assoc) refl
 
-  -- where the player stands once the answers to all lines of these octets are written
-  abbrev pub bare : S → List ℕ → Standing S
-  bare s octets = record {
-    text = [];
-    player = after_lines playing s (ended_lines octets);
-    all_good = are_good playing s (ended_lines octets);
-    left = left_of octets;
-  }
+  -- a text with an answer before its own
+  abbrev behind_text : List ℕ → Standing S → Standing S
+  behind_text before st = record st { text = before ++ st.text }
 
-  -- How far a stream is played. The reader had given `old` and has given `given`, the writer had taken `before` and has
-  -- taken `taken`: all lines that the octets between end are answered, and `code` is where the player stands.
-  pub record IsUpTo (s : S) (old given before taken : List ℕ) (code : Standing S) : Type 0 where
-    pub gave : given ≡ old ++ gained old given
-    pub wrote : taken ≡ before ++ answers_so_far playing s (gained old given)
-    pub stands : code ≡ bare s (gained old given)
+  -- a text is played on from where it stands after a piece
+  fed-piece : (st next : Standing S) (piece more : List ℕ) → next ≡ record (fed playing st piece) { text = [] }
+      → fed playing st (piece ++ more) ≡ behind_text (fed playing st piece).text (fed playing next more)
+  fed-piece st next piece more is =
+      let parts = joined st.left (parts_of piece) in
+      let lines = all_but_last parts in
+      let later = joined (last_part parts) (parts_of more) in
+      rw (
+        is,
+        parts_more piece more,
+        joined-goes_on st.left (parts_of piece) (parts_of more) (text_has_parts piece),
+        all_but_last-append lines later (joined_has (last_part parts) (parts_of more)),
+        last_part-append lines later (joined_has (last_part parts) (parts_of more)),
+        answers-append st.player lines (all_but_last later),
+        after_lines-append st.player lines (all_but_last later),
+        are_good-append st.player lines (all_but_last later),
+        append_assoc st.text (answers playing st.player lines)
+            (answers playing (after_lines playing st.player lines) (all_but_last later)),
+        and_assoc st.all_good (are_good playing st.player lines)
+            (are_good playing (after_lines playing st.player lines) (all_but_last later)),
+      ) refl
 
-  -- all that is written begins with the answers so far
-  pub answers_of-so_far : (s : S) (octets : List ℕ) → answers_of playing s octets
-      ≡ answers_so_far playing s octets
-      ++ answers playing (after_lines playing s (ended_lines octets)) (line_left (left_of octets))
-  answers_of-so_far s octets = answers-append s (ended_lines octets) (line_left (left_of octets))
-
-  pub is_all_good-so_far : (s : S) (octets : List ℕ) → is_all_good playing s octets
-      ≡ (are_good playing s (ended_lines octets)
-      && are_good playing (after_lines playing s (ended_lines octets)) (line_left (left_of octets)))
-  is_all_good-so_far s octets = are_good-append s (ended_lines octets) (line_left (left_of octets))
-
-  -- what is written so far begins all that is written
-  begins_all : (s : S) (octets before taken : List ℕ)
-      → IsBeginning taken (before ++ answers_so_far playing s octets)
-      → IsBeginning taken (before ++ answers_of playing s octets)
-  begins_all s octets before taken h = begins_more taken before (answers_so_far playing s octets)
-      (answers playing (after_lines playing s (ended_lines octets)) (line_left (left_of octets)))
-      (answers_of playing s octets) (answers_of-so_far s octets) h
-
-  -- What a piece adds to that, with which the reader has given `new`.
-  pub record AddsPiece (s : S) (old given new before taken piece : List ℕ) (code : Standing S) : Type 0 where
-    pub gave : new ≡ old ++ gained old new
-    pub counted : length (gained old new) ≡ length (gained old given) + length piece
-    pub text : taken ++ (fed playing code piece).text ≡ before ++ answers_so_far playing s (gained old new)
-    pub stands : record (fed playing code piece) { text = [] } ≡ bare s (gained old new)
-    -- what begins the answers so far begins all answers
-    pub begins : (now : List ℕ) → IsBeginning now (taken ++ (fed playing code piece).text)
-        → IsBeginning now (before ++ answers_of playing s (gained old new))
-
-  -- what is written of octets when the next are played, and where the player stands then
-  module _ (s : S) (octets piece : List ℕ) where
-    abbrev next_lines : List (List ℕ)
-    next_lines = all_but_last (joined (left_of octets) (parts_of piece))
-
-    text_more : answers_so_far playing s (octets ++ piece)
-        ≡ answers_so_far playing s octets ++ (fed playing (bare s octets) piece).text
-    text_more =
-        ap (answers playing s) (ended_lines-append octets piece) ∙ answers-append s (ended_lines octets) next_lines
-
-    fed_bare : record (fed playing (bare s octets) piece) { text = [] } ≡ bare s (octets ++ piece)
-    fed_bare =
-        rw (
-          ended_lines-append octets piece,
-          left_of-append octets piece,
-          after_lines-append s (ended_lines octets) next_lines,
-          are_good-append s (ended_lines octets) next_lines,
-        ) refl
-
-  pub adds_piece : {s : S} {old given new before taken piece : List ℕ} {code : Standing S}
-      → IsUpTo s old given before taken code → new ≡ given ++ piece
-      → AddsPiece s old given new before taken piece code
-  adds_piece {s} {old} {given} {new} {before} {taken} {piece} {code} is gives =
-      let more = gained_more old given new piece is.gave gives in
-      let octets = gained old given in
-      let text_so : taken ++ (fed playing code piece).text ≡ before ++ answers_so_far playing s (gained old new) =
-      rw (is.wrote, is.stands, more, text_more s octets piece)
-      (append_assoc before (answers_so_far playing s octets) (fed playing (bare s octets) piece).text) in
+  pub playing_goes_on : {L : Type 0} (stands : L → S → Standing S) (n : ℕ) (piece : List ℕ) (l next : L) (s later : S)
+      (before now : List ℕ) → HasPlayed (fed playing (stands l s) piece) (stands next later) before now
+      → GoesOn (playing_of playing stands) n piece l s before next later now
+  playing_goes_on stands n piece l next s later before now has =
+      let so = (fed playing (stands l s) piece).text in
+      let on = λ (more : List ℕ). fed-piece (stands l s) (stands next later) piece more has.next_is in
       record {
-        gave = gained_whole old given new piece is.gave gives;
-        counted = ap length more ∙ length-append octets piece;
-        text = text_so;
-        stands = ap (λ (x : Standing S). record (fed playing x piece) { text = [] }) is.stands
-            ∙ fed_bare s octets piece ∙ ap (bare s) (sym more);
-        begins = λ now h. begins_all s (gained old new) before now (subst (IsBeginning now) text_so h);
+        is_open = tt;
+        text = λ more.
+            let after = fed playing (stands next later) more in
+            let rest = answers playing after.player (line_left after.left) in
+            ap (λ (x : Standing S). before ++ (x.text ++ answers playing x.player (line_left x.left))) (on more)
+            ∙ ap (λ (t : List ℕ). before ++ t) (append_assoc so after.text rest)
+            ∙ sym (append_assoc before so (after.text ++ rest))
+            ∙ ap (λ (t : List ℕ). t ++ (after.text ++ rest)) (sym has.written);
+        ends = λ more good last h. (
+          h.0 ∙ ap (λ (x : Standing S). x.all_good && are_good playing x.player (line_left x.left)) (sym (on more)),
+          h.1 ∙ ap (λ (x : Standing S). after_lines playing x.player (line_left x.left)) (sym (on more)),
+        );
+        so_far = λ more text h.
+            let after = fed playing (stands next later) more in
+            h ∙ ap (λ (t : List ℕ). t ++ after.text) has.written ∙ append_assoc before so after.text
+            ∙ ap (λ (x : Standing S). before ++ x.text) (sym (on more));
+        stops = λ more h. h;
       }
 
-  -- What is written where a read gives nothing more: the answer to what is left, where it is a line.
-  module _ {s : S} {old given new before taken piece : List ℕ} {code : Standing S}
-      (is : IsUpTo s old given before taken code) (gives : new ≡ given ++ piece) (none : piece ≡ []) where
-    same : gained old new ≡ gained old given
-    same = gained_none old given new piece is.gave gives none
+  -- What is made of a text that is played from its first octet.
+  module _ (s : S) (left octets : List ℕ) (none : left ≡ []) where
+    abbrev begun : Standing S
+    begun = fed playing (record { text = []; player = s; all_good = true; left = left }) octets
 
-    pub text_at_end : taken ++ answers playing code.player (line_left code.left)
-        ≡ before ++ answers_of playing s (gained old new)
-    text_at_end =
-        let octets = gained old given in
-        rw (is.wrote, is.stands, same, answers_of-so_far s octets)
-        (append_assoc before (answers_so_far playing s octets)
-        (answers playing (after_lines playing s (ended_lines octets)) (line_left (left_of octets))))
+    pub text_of_all : begun.text ++ answers playing begun.player (line_left begun.left) ≡ answers_of playing s octets
+    text_of_all = rw (none, joined-nothing (parts_of octets) (text_has_parts octets))
+        (sym (answers-append s (ended_lines octets) (line_left (left_of octets))))
 
-    pub good_at_end : (code.all_good && are_good playing code.player (line_left code.left))
-        ≡ is_all_good playing s (gained old new)
-    good_at_end =
-        rw (is.stands, same) (sym (is_all_good-so_far s (gained old given)))
+    pub good_of_all : (begun.all_good && are_good playing begun.player (line_left begun.left))
+        ≡ is_all_good playing s octets
+    good_of_all = rw (none, joined-nothing (parts_of octets) (text_has_parts octets))
+        (sym (are_good-append s (ended_lines octets) (line_left (left_of octets))))
 
-    pub player_at_end : after_lines playing code.player (line_left code.left) ≡ after_text playing s (gained old new)
-    player_at_end =
-        let octets = gained old given in
-        rw (is.stands, same) (sym (after_lines-append s (ended_lines octets) (line_left (left_of octets))))
+    pub player_of_all : after_lines playing begun.player (line_left begun.left) ≡ after_text playing s octets
+    player_of_all = rw (none, joined-nothing (parts_of octets) (text_has_parts octets))
+        (sym (after_lines-append s (ended_lines octets) (line_left (left_of octets))))

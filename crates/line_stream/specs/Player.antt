@@ -1,6 +1,8 @@
 -- What a player does with the lines of a text, one after another.
 use Rattle.std.specs.Prelude.{◌≡◌, ℕ, Bool, true, ◌&&◌, List, [], ◌∷◌, ◌++◌}
-use Rattle.line_stream.specs.Lines.{parts_of, all_but_last, last_part, ended_lines, lines_of}
+use Rattle.listings.specs.Pieces.{Taking}
+use Rattle.line_stream.specs.Lines.{parts_of, all_but_last, last_part, ended_lines, line_left}
+use Rattle.line_stream.specs.Lines.{lines_of}
 use Rattle.line_stream.specs.declared.stream.Progress.{Progress}
 
 -- What a player does with a line. S is the player.
@@ -19,10 +21,6 @@ pub record Standing (S : Type 0) : Type 0 where
   pub player : S
   pub all_good : Bool
   pub left : List ℕ
-
--- a text of which nothing is played yet
-abbrev pub fresh : {S : Type 0} → S → Standing S
-fresh s = record { text = []; player = s; all_good = true; left = [] }
 
 -- a part of a line, and the parts of the octets that follow it
 abbrev pub joined : List ℕ → List (List ℕ) → List (List ℕ)
@@ -73,6 +71,19 @@ module _ {S : Type 0} (playing : Playing S) where
   -- a text with these octets more
   abbrev pub fed : Standing S → List ℕ → Standing S
   fed st octets = played st (joined st.left (parts_of octets))
+
+  -- What is made of a text that comes in pieces. L keeps how far it is played.
+  abbrev pub playing_of : {L : Type 0} → (L → S → Standing S) → Taking L S Bool
+  playing_of stands = record {
+    text = λ l s octets. let st = fed (stands l s) octets in
+        st.text ++ answers st.player (line_left st.left);
+    ends = λ l s n octets good last. let st = fed (stands l s) octets in
+        (good ≡ (st.all_good && are_good st.player (line_left st.left)))
+        × (last ≡ after_lines st.player (line_left st.left));
+    so_far = λ l s octets before now. now ≡ before ++ (fed (stands l s) octets).text;
+    stops = λ l s octets. ⊥;
+    is_open = λ l s n. Unit {0};
+  }
 
 -- A piece of a text was played up to here: the answers are written, and the next piece may come.
 pub record HasPlayed {S : Type 0} (st next : Standing S) (before now : List ℕ) : Type 0 where

@@ -1,26 +1,29 @@
 -- How a listing goes on by a record and by a piece of a stream, and how it ends.
 use Rattle.std.proofs.Common.{◌≡◌, ℕ, ◌+◌, ◌≤◌, Bool, true, false, List, [], ◌∷◌, ◌++◌, length, drop, Result, Ok, Err}
 use Rattle.std.proofs.Common.{refl, sym, ap, ◌∙◌, append_assoc, arith, cond, ltb, take, subst}
-use Rattle.std.specs.Prelude.{◌&&◌, Some, None, IfOk, OnOk}
+use Rattle.std.specs.Prelude.{◌&&◌, Option, Some, None, IfOk, OnOk}
 use Rattle.std.specs.List.{list_all}
-use Rattle.std.proofs.Math.Bool.{and_assoc, and-true, and-false}
-use Rattle.std.proofs.lemmas.List.{append-nil, length-drop, length-append, drop_at, drop_all}
+use Rattle.std.proofs.Math.Bool.{and_assoc, and-true}
+use Rattle.std.proofs.lemmas.List.{append-nil, length-drop, length-append}
 use Rattle.std.proofs.lemmas.Bool.{lt-ltb}
 use Rattle.octets.specs.Records.{record_of}
 use Rattle.octets.specs.Beginning.{IsBeginning}
 use Rattle.octets.proofs.Streams.{IsNoRecord, record_is, records_of-record, records_of-none, records_of-append}
 use Rattle.octets.proofs.Streams.{rest_of-append}
 use Rattle.listings.specs.Layouts.{Layout, HasHeads, first_by, records_by, rest_by, extent_fault, IsRefused}
-use Rattle.listings.specs.Listing.{Lines, Standing, fresh, fed, record_lines, kept_behind, behind, listed, rest_line}
-use Rattle.listings.specs.Listing.{text_of, is_empty, is_all_good}
-use Rattle.listings.specs.Devices.{gained}
+use Rattle.listings.specs.Listing.{Lines, Standing, fed, record_lines, kept_behind, behind, listed, rest_line}
+use Rattle.listings.specs.Listing.{is_empty, listing_of, HasListed}
+use Rattle.listings.specs.Pieces.{GoesOn}
 use Rattle.listings.specs.declared.stream.Summary.{Summary}
 
 -- How a listing goes on by a record, and how it ends.
 
--- a listing of all octets so far, without its text
-abbrev pub bare : {S F : Type 0} → Lines S F → Layout F → S → List ℕ → Standing S
-bare lines layout s octets = record (listed lines layout (fresh s octets)) { text = [] }
+-- what was listed is the same where each field is
+pub same_summary : (a b : Summary) → a.records ≡ b.records → a.octets ≡ b.octets → a.all_good ≡ b.all_good → a ≡ b
+same_summary a b records octets good =
+    ap (λ (n : ℕ). record a { records = n }) records
+    ∙ ap (λ (n : ℕ). record a { records = b.records; octets = n }) octets
+    ∙ ap (λ (x : Bool). record b { all_good = x }) good
 
 module _ {S F : Type 0} (lines : Lines S F) (layout : Layout F) (heads : HasHeads layout) where
   -- a listing with one record more
@@ -152,38 +155,55 @@ module _ {S F : Type 0} (lines : Lines S F) (layout : Layout F) (heads : HasHead
 
   -- ---- a stream in pieces
 
-  -- what a piece adds to a listing of all octets before it
-  pub record IsFed (s : S) (octets piece : List ℕ) (code : Standing S) : Type 0 where
-    pub text : (listed lines layout (fresh s (octets ++ piece))).text ≡ (listed lines layout (fresh s octets)).text
-        ++ (listed lines layout (fed code piece)).text
-    pub stands_so : record (listed lines layout (fed code piece)) { text = [] } ≡ bare lines layout s (octets ++ piece)
-    pub all : text_of lines layout (fresh s (octets ++ piece)) ≡ (listed lines layout (fresh s octets)).text
-        ++ text_of lines layout (fed code piece)
+  -- where no whole record is left, the end of the stream adds none
+  pub listed_open : (st : Standing S) → first_by layout st.octets ≡ None → listed lines layout (fed st []) ≡ st
+  listed_open st none =
+      ap (λ (o : List ℕ). listed lines layout (record st { octets = o })) (append-nil st.octets)
+      ∙ listed-none st (rw none tt)
 
-  pub is_fed : (s : S) (octets piece : List ℕ) (code : Standing S) → code ≡ bare lines layout s octets
-      → IsFed s octets piece code
-  is_fed s octets piece code is =
-      let now : Standing S = listed lines layout (fresh s octets) in
-      let later : Standing S = listed lines layout (fed now piece) in
-      let e : later ≡ listed lines layout (fresh s (octets ++ piece)) = listed-fed (fresh s octets) piece in
-      subst (IsFed s octets piece) (sym is) (record {
-        text = ap (λ (x : Standing S). x.text) (sym e);
-        stands_so = ap (λ (x : Standing S). record x { text = [] }) e;
-        all = ap (λ (x : Standing S). x.text ++ rest_line lines layout (x.count + 1) x.octets) (sym e)
-            ∙ append_assoc now.text (listed lines layout (fed (bare lines layout s octets) piece)).text
-            (rest_line lines layout (later.count + 1) later.octets);
-      })
+  -- a listing with a text before its own
+  abbrev behind_text : List ℕ → Standing S → Standing S
+  behind_text before st = record st { text = before ++ st.text }
 
-  -- nothing is listed of no octets
-  pub listed-nothing : (s : S) → listed lines layout (fresh s []) ≡ fresh s []
-  listed-nothing s = listed-none (fresh s []) (rw first_record-nothing tt)
+  -- a listing goes on from where it stands after a piece
+  listed-piece : (st next : Standing S) (piece more : List ℕ)
+      → next ≡ record (listed lines layout (fed st piece)) { text = [] }
+      → listed lines layout (fed st (piece ++ more))
+      ≡ behind_text (listed lines layout (fed st piece)).text (listed lines layout (fed next more))
+  listed-piece st next piece more is =
+      let now : Standing S = listed lines layout (fed st piece) in
+      ap (λ (o : List ℕ). listed lines layout (record st { octets = o })) (sym (append_assoc st.octets piece more))
+      ∙ sym (listed-fed (fed st piece) more)
+      ∙ ap (λ (x : Standing S). behind_text now.text (listed lines layout (fed x more))) (sym is)
 
-  -- octets that are refused are some
-  pub refused_some : (octets : List ℕ) (e : F) → first_by layout octets ≡ Some (Err e) → is_empty octets ≡ false
-  refused_some [] e h = let none = first_record-nothing in absurd cc
-  refused_some (x ∷ xs) e h = refl
-
--- What a piece of a stream adds.
+  module _ {L : Type 0} (failure : L → Option F) (stands : L → S → Standing S) where
+    pub listing_goes_on : (n : ℕ) (piece : List ℕ) (l next : L) (s later : S) (before now : List ℕ)
+        → HasListed lines layout (fed (stands l s) piece) (stands next later) before now
+        → failure next ≡ None
+        → (stands next later).count + length (stands next later).octets ≤ n + length piece
+        → GoesOn (listing_of lines layout failure stands) n piece l s before next later now
+    listing_goes_on n piece l next s later before now has going bound =
+        let on = λ (more : List ℕ). listed-piece (stands l s) (stands next later) piece more has.next_is in
+        let so = (listed lines layout (fed (stands l s) piece)).text in
+        record {
+          is_open = (
+            ap (λ (x : Standing S). first_by layout x.octets) has.next_is ∙ has.is_open,
+            going,
+            bound,
+          );
+          text = λ more.
+              let after = listed lines layout (fed (stands next later) more) in
+              let rest = rest_line lines layout (after.count + 1) after.octets in
+              ap (λ (x : Standing S). before ++ (x.text ++ rest_line lines layout (x.count + 1) x.octets)) (on more)
+              ∙ ap (λ (t : List ℕ). before ++ t) (append_assoc so after.text rest)
+              ∙ sym (append_assoc before so (after.text ++ rest))
+              ∙ ap (λ (t : List ℕ). t ++ (after.text ++ rest)) (sym has.written);
+          ends = λ more answer last h. h ∙ same_summary _ _ (ap (λ (x : Standing S). x.count) (sym (on more)))
+              (omega (arith, length-append piece more))
+              (ap (λ (x : Standing S). x.all_good && is_empty x.octets) (sym (on more)));
+          so_far = λ more text h. tt;
+          stops = λ more h. subst (IsRefused layout) (ap (λ (x : Standing S). x.octets) (sym (on more))) h;
+        }
 
 -- What begins a text begins each longer one.
 
@@ -196,99 +216,7 @@ begins_more a b t u whole e h = (
 pub begins_same : (a b t whole : List ℕ) → whole ≡ t → IsBeginning a (b ++ t) → IsBeginning a (b ++ whole)
 begins_same a b t whole e h = (h.0, ap (λ (x : List ℕ). b ++ x) e ∙ h.1)
 
--- what a device has given, with what one more read gave
-pub gained_more : (a b c t : List ℕ) → b ≡ a ++ gained a b → c ≡ b ++ t → gained a c ≡ gained a b ++ t
-gained_more a b c t e h =
-    let whole : c ≡ a ++ (gained a b ++ t) = h ∙ ap (λ (x : List ℕ). x ++ t) e ∙ append_assoc a (gained a b) t in
-    ap (drop (length a)) whole ∙ drop_at a (gained a b ++ t) (length a) refl
-
-pub gained_whole : (a b c t : List ℕ) → b ≡ a ++ gained a b → c ≡ b ++ t → c ≡ a ++ gained a c
-gained_whole a b c t e h =
-    h ∙ ap (λ (x : List ℕ). x ++ t) e ∙ append_assoc a (gained a b) t
-    ∙ ap (λ (x : List ℕ). a ++ x) (sym (gained_more a b c t e h))
-
-pub gained_none : (a b c t : List ℕ) → b ≡ a ++ gained a b → c ≡ b ++ t → t ≡ [] → gained a c ≡ gained a b
-gained_none a b c t e h none =
-    gained_more a b c t e h ∙ ap (λ (x : List ℕ). gained a b ++ x) none ∙ append-nil (gained a b)
-
-pub gained_nothing : (a : List ℕ) → gained a a ≡ []
-gained_nothing a = drop_all (length a) a (omega arith)
-
 -- what follows from each answer that is Ok
 pub on_ok_from : {T E Q : Type 0} (P : T → Type 0) (r : Result T E) → ((x : T) → P x → Q) → IfOk r P → OnOk r Q
 on_ok_from P (Ok x) h p = h x p
 on_ok_from P (Err e) h p = tt
-
--- what was listed is the same where each field is
-pub same_summary : (a b : Summary) → a.records ≡ b.records → a.octets ≡ b.octets → a.all_good ≡ b.all_good → a ≡ b
-same_summary a b records octets good =
-    ap (λ (n : ℕ). record a { records = n }) records
-    ∙ ap (λ (n : ℕ). record a { records = b.records; octets = n }) octets
-    ∙ ap (λ (x : Bool). record b { all_good = x }) good
-
--- What a piece of a stream adds to what is listed and written of it.
-
--- a text after what is written
-behind_written : (before taken t u whole : List ℕ) → taken ≡ before ++ t → whole ≡ t ++ u → taken ++ u ≡ before ++ whole
-behind_written before taken t u whole wrote e =
-    ap (λ (x : List ℕ). x ++ u) wrote ∙ append_assoc before t u ∙ ap (λ (x : List ℕ). before ++ x) (sym e)
-
-module _ {S F : Type 0} (lines : Lines S F) (layout : Layout F) where
-  -- How far a stream is listed. The reader had given `old` and has given `given`, the writer had taken `before` and has
-  -- taken `taken`: of the octets between, the records are listed and written, and `code` is where their listing stands.
-  pub record IsUpTo (s : S) (old given before taken : List ℕ) (code : Standing S) : Type 0 where
-    pub gave : given ≡ old ++ gained old given
-    pub wrote : taken ≡ before ++ (listed lines layout (fresh s (gained old given))).text
-    pub stands : code ≡ bare lines layout s (gained old given)
-
-  -- What a piece adds to that, with which the reader has given `new`.
-  pub record AddsPiece (s : S) (old given new before taken piece : List ℕ) (code : Standing S) : Type 0 where
-    pub gave : new ≡ old ++ gained old new
-    pub counted : length (gained old new) ≡ length (gained old given) + length piece
-    pub text : taken ++ (listed lines layout (fed code piece)).text ≡ before
-        ++ (listed lines layout (fresh s (gained old new))).text
-    pub stands : record (listed lines layout (fed code piece)) { text = [] } ≡ bare lines layout s (gained old new)
-    pub all : taken ++ text_of lines layout (fed code piece) ≡ before ++ text_of lines layout (fresh s (gained old new))
-
-  -- where octets after a piece are refused, those of the whole stream are
-  pub stops : {s : S} {old given new before taken piece : List ℕ} {code : Standing S}
-      → AddsPiece s old given new before taken piece code
-      → IsRefused layout (listed lines layout (fed code piece)).octets
-      → IsRefused layout (rest_by layout (gained old new))
-  stops adds refused = subst (IsRefused layout) (ap (λ (x : Standing S). x.octets) adds.stands) refused
-
-  module _ (heads : HasHeads layout) where
-    pub adds_piece : {s : S} {old given new before taken piece : List ℕ} {code : Standing S}
-        → IsUpTo s old given before taken code → new ≡ given ++ piece
-        → AddsPiece s old given new before taken piece code
-    adds_piece {s} {old} {given} {new} {before} {taken} {piece} {code} is gives =
-        let more = gained_more old given new piece is.gave gives in
-        let with = is_fed lines layout heads s (gained old given) piece code is.stands in
-        record {
-          gave = gained_whole old given new piece is.gave gives;
-          counted = ap length more ∙ length-append (gained old given) piece;
-          text = behind_written before taken _ _ _ is.wrote
-              (ap (λ (o : List ℕ). (listed lines layout (fresh s o)).text) more ∙ with.text);
-          stands = with.stands_so ∙ ap (bare lines layout s) (sym more);
-          all = behind_written before taken _ _ _ is.wrote
-              (ap (λ (o : List ℕ). text_of lines layout (fresh s o)) more ∙ with.all);
-        }
-
-    -- what is written where a read gives nothing more: the line of the rest
-    pub at_end : {s : S} {old given new before taken piece : List ℕ} {code : Standing S}
-        → IsUpTo s old given before taken code → new ≡ given ++ piece
-        → piece ≡ [] → taken ++ rest_line lines layout (code.count + 1) code.octets ≡ before
-        ++ text_of lines layout (fresh s (gained old new))
-    at_end {s} {old} {given} {new} {before} {taken} {piece} {code} is gives none =
-        let now = listed lines layout (fresh s (gained old given)) in
-        behind_written before taken now.text _ _ is.wrote
-        (ap (λ (o : List ℕ). text_of lines layout (fresh s o)) (gained_none old given new piece is.gave gives none)
-        ∙ ap (λ (x : Standing S). now.text ++ rest_line lines layout (x.count + 1) x.octets) (sym is.stands))
-
-    -- where octets are refused, not all is good
-    pub is_bad : (s : S) (whole : List ℕ) → IsRefused layout (rest_by layout whole)
-        → is_all_good lines layout (fresh s whole) ≡ false
-    is_bad s whole refused =
-        let now = listed lines layout (fresh s whole) in
-        ap (λ (b : Bool). now.all_good && b) (refused_some lines layout heads _ refused.0 refused.1)
-        ∙ and-false now.all_good

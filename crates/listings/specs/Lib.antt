@@ -1,3 +1,4 @@
+pub mod Pieces
 pub mod Streams
 pub mod FarmLines
 pub mod FrameLines

@@ -1,9 +1,10 @@
 -- What a command writes of a stream of records: the lines of each record in turn, and a line for a
 -- rest.
-use Rattle.std.specs.Prelude.{◌≡◌, None, ℕ, ◌+◌, Bool, true, false, ◌&&◌, List, [], ◌∷◌, ◌++◌}
+use Rattle.std.specs.Prelude.{◌≡◌, None, ℕ, ◌+◌, ◌≤◌, Bool, true, false, ◌&&◌, List, [], ◌∷◌, ◌++◌}
 use Rattle.std.specs.Prelude.{length, Option, Some, Result, Err}
 use Rattle.std.specs.List.{list_all}
 use Rattle.listings.specs.Layouts.{Layout, first_by, records_by, rest_by, rest_fault, IsRefused}
+use Rattle.listings.specs.Pieces.{Taking}
 use Rattle.listings.specs.declared.stream.Summary.{Summary}
 use Rattle.listings.specs.declared.stream.Progress.{Progress}
 
@@ -93,10 +94,19 @@ module _ {S F : Type 0} (lines : Lines S F) where
       pub next_is : next ≡ record (listed st) { text = [] }
       pub is_open : first_by layout (listed st).octets ≡ None
 
-    -- Octets were listed up to such that are refused: all is written, whatever octets may come.
-    pub record HasRefused (st : Standing S) (before now : List ℕ) : Type 0 where
-      pub written_all : now ≡ before ++ text_of st
-      pub refused : IsRefused layout (listed st).octets
+    -- What a listing makes of a stream that comes in pieces. L keeps where it stands, and why
+    -- octets were refused.
+    abbrev pub listing_of : {L : Type 0} → (L → Option F) → (L → S → Standing S)
+        → Taking L S Summary
+    listing_of failure stands = record {
+      text = λ l s octets. text_of (fed (stands l s) octets);
+      ends = λ l s n octets answer last.
+          answer ≡ record (summary_of (fed (stands l s) octets)) { octets = n + length octets };
+      so_far = λ l s octets before now. Unit {0};
+      stops = λ l s octets. IsRefused layout (rest_by layout ((stands l s).octets ++ octets));
+      is_open = λ l s n. (first_by layout (stands l s).octets ≡ None) × (failure l ≡ None)
+          × ((stands l s).count + length (stands l s).octets ≤ n);
+    }
 
 -- How a listing goes on, seen from the code.
 

@@ -4,7 +4,7 @@ use Rattle.std.specs.Io.KnownBytes.{Consumes}
 use Rattle.octets.specs.Beginning.{IsBeginning}
 use Rattle.listings.specs.declared.fault.ListingFault.{ListingFault}
 use Rattle.listings.specs.declared.fault.ListingFault.TheVariants.{TooLong}
-use Rattle.listings.specs.declared.stream.TheConstants.{MOST_OCTETS}
+use Rattle.listings.specs.declared.pieces.TheConstants.{MOST_OCTETS}
 use Rattle.listings.specs.Devices.{reads_failed_in, writes_failed_in}
 use Rattle.listings.specs.Devices.{gained}
 use Rattle.listings.specs.Devices.{Writes, BeginsToWrite}

@@ -1,20 +1,17 @@
 // Reads a stream in pieces, and writes the lines that a listing makes of its records.
 
-ghost use Rattle.std.specs.Prelude.{◌≡◌, ◌⊎◌, None, false, ◌+◌, ◌-◌, ◌^◌, ◌<◌, ◌≤◌, ◌&&◌, ◌++◌, [], length, Ok, Err, OnOk, IfOk, IfErr};
+ghost use Rattle.std.specs.Prelude.{◌≡◌, ◌⊎◌, None, ◌+◌, ◌^◌, ◌<◌, ◌≤◌, ◌&&◌, ◌++◌, [], length, Ok, OnOk, IfOk, IfErr};
 ghost use Rattle.listings.specs.Layouts.{first_by, rest_by, IsRefused};
-ghost use Rattle.listings.specs.Listing.{fresh, listed, text_of, rest_line, is_empty, summary_of, HasListed, HasRefused};
-ghost use Rattle.listings.specs.Devices.{HasEnded};
-ghost use Rattle.listings.specs.Devices.{writes_failed_in};
-ghost use Rattle.listings.specs.Devices.{gained};
-ghost use Rattle.listings.specs.Listing.{where_refused, standing};
+ghost use Rattle.listings.specs.Listing.{fresh, listed, listing_of, text_of, summary_of, where_refused, standing};
+ghost use Rattle.listings.specs.Devices.{HasEnded, writes_failed_in, gained, BeginsToWrite};
 ghost use Rattle.listings.specs.Streams.{Reads, WritesText};
 ghost use Rattle.listings.specs.Text.{written};
-ghost use Rattle.listings.specs.Devices.{BeginsToWrite};
 
 use crate::cutter::Cutter;
 use crate::fault::ListingFault;
 use crate::listing::Listing;
 use crate::output::{WriteFailed, write_all};
+use crate::pieces::{Taker, go_through};
 use crate::record_number::RecordNumber;
 use crate::sink::Sink;
 use crate::source::Source;
@@ -90,13 +87,6 @@ fn list_records<S: Cutter, C: Listing<S>>(
     Ok(None)
 }
 
-/// How a stream goes on: more octets may come, or they are refused.
-#[derive(Clone, Copy, Drop)]
-enum Course {
-    Open,
-    Refused,
-}
-
 /// Writes a text whole, and answers this.
 fn put<W: Sink, T: Copy>(writer: &mut W, text: &Text, answer: T) -> Result<T, ListingFault>
     ensures ok { IfOk result (λ answered. (answered ≡ answer)
@@ -112,89 +102,67 @@ fn put<W: Sink, T: Copy>(writer: &mut W, text: &Text, answer: T) -> Result<T, Li
     }
 }
 
-/// Takes a piece of the stream, and writes the lines of all records that are whole now, and the line
-/// of octets that are refused after them.
-fn list_piece<S: Cutter, C: Listing<S>, W: Sink>(
-    cutter: &mut S,
-    listing: &mut C,
-    progress: &mut Progress,
-    text: &mut Text,
-    writer: &mut W,
-    piece: &[u8],
-) -> Result<Course, ListingFault>
-    requires { progress.old.count + length (S.held cutter.old ++ piece.now) < 2 ^ 64 - 1 }
-    ensures open { result ≡ Ok Course.Open → HasListed C.lines S.layout
-        (standing [] listing.old progress.old (S.held cutter.old ++ piece.now))
-        (standing [] listing.new progress.new (S.held cutter.new))
-        (W.taken_octets writer.old) (W.taken_octets writer.new) }
-    ensures going { result ≡ Ok Course.Open → S.failure cutter.new ≡ S.failure cutter.old }
-    ensures count { result ≡ Ok Course.Open → progress.new.count + length (S.held cutter.new)
-        ≤ progress.old.count + length (S.held cutter.old ++ piece.now) }
-    ensures refused { result ≡ Ok Course.Refused → HasRefused C.lines S.layout
-        (standing [] listing.old progress.old (S.held cutter.old ++ piece.now))
-        (W.taken_octets writer.old) (W.taken_octets writer.new) }
-    ensures records { result ≡ Ok Course.Refused → progress.new.count ≡ (listed C.lines S.layout
-        (standing [] listing.old progress.old (S.held cutter.old ++ piece.now))).count }
-    ensures beginning { BeginsToWrite result (W.taken_octets writer.old) (W.taken_octets writer.new)
-        (text_of C.lines S.layout
-        (standing [] listing.old progress.old (S.held cutter.old ++ piece.now))) }
-    ensures failures { W.failures writer.new ≡ W.failures writer.old + writes_failed_in result }
-    ensures faults { IfErr result (λ e. (e ≡ ListingFault.Write) ⊎ (e ≡ ListingFault.Memory)) }
-{
-    text.clear();
-    let Ok(()) = cutter.feed(piece) else {
-        return Err(ListingFault::Memory);
-    };
-    let Ok(fault) = list_records(cutter, listing, progress, text) else {
-        return Err(ListingFault::Memory);
-    };
-    let Some(fault) = fault else {
-        return put(writer, text, Course::Open);
-    };
-    let next = progress.count.following();
-    let Ok(()) = C::refuse(text, &next, fault) else {
-        return Err(ListingFault::Memory);
-    };
-    put(writer, text, Course::Refused)
-}
-
-/// Writes the line of what is left when the input has ended, where anything is, and answers what was
-/// listed of this many octets.
-fn list_rest<S: Cutter, C: Listing<S>, W: Sink>(
-    cutter: &S,
+/// A stream that is cut into records and listed.
+#[derive(Drop)]
+struct Lister<S> {
+    cutter: S,
     progress: Progress,
-    octets: u64,
-    text: &mut Text,
-    writer: &mut W,
-) -> Result<Summary, ListingFault>
-    requires open { first_by S.layout (S.held cutter.now) ≡ None }
-    requires going { S.failure cutter.now ≡ None }
-    requires count { progress.count < 2 ^ 64 - 1 }
-    ensures ok { IfOk result (λ all. (all ≡ record {
-      records = progress.count;
-      octets = octets;
-      all_good = progress.all_good && is_empty (S.held cutter.now);
-    })
-        × (W.taken_octets writer.new ≡ W.taken_octets writer.old
-        ++ rest_line C.lines S.layout (progress.count + 1) (S.held cutter.now))) }
-    ensures beginning { BeginsToWrite result (W.taken_octets writer.old) (W.taken_octets writer.new)
-        (rest_line C.lines S.layout (progress.count + 1) (S.held cutter.now)) }
-    ensures failures { W.failures writer.new ≡ W.failures writer.old + writes_failed_in result }
-    ensures faults { IfErr result (λ e. (e ≡ ListingFault.Write) ⊎ (e ≡ ListingFault.Memory)) }
-{
-    let Err(fault) = cutter.finish() else {
-        return Ok(progress.of_all(octets, progress.all_good));
-    };
-    text.clear();
-    let next = progress.count.following();
-    let Ok(()) = C::refuse(text, &next, fault) else {
-        return Err(ListingFault::Memory);
-    };
-    put(writer, text, progress.of_all(octets, false))
+    text: Text,
 }
 
-/// The most octets that are read of a stream.
-pub const MOST_OCTETS: u64 = 9_223_372_036_854_775_807;
+impl<S: Cutter, C: Listing<S>, W: Sink> Taker<C, W> for Lister<S> {
+    type Answer = Summary;
+
+    ghost taking = { listing_of C.lines S.layout (λ l. S.failure l.cutter)
+        (λ l c. standing [] c l.progress (S.held l.cutter)) };
+
+    // Writes the lines of all records that are whole now, and the line of octets that are refused after them.
+    fn take(
+        &mut self,
+        listing: &mut C,
+        writer: &mut W,
+        before: u64,
+        piece: &[u8],
+    ) -> Result<Option<Summary>, ListingFault> {
+        self.text.clear();
+        let Ok(()) = self.cutter.feed(piece) else {
+            return Err(ListingFault::Memory);
+        };
+        let Ok(fault) = list_records(
+            &mut self.cutter,
+            listing,
+            &mut self.progress,
+            &mut self.text,
+        ) else {
+            return Err(ListingFault::Memory);
+        };
+        let Some(fault) = fault else {
+            return put(writer, &self.text, None);
+        };
+        let next = self.progress.count.following();
+        let Ok(()) = C::refuse(&mut self.text, &next, fault) else {
+            return Err(ListingFault::Memory);
+        };
+        let all = self.progress.of_all(before + piece.len() as u64, false);
+        put(writer, &self.text, Some(all))
+    }
+
+    // Writes the line of what is left, where anything is.
+    fn end(&mut self, _: &mut C, writer: &mut W, octets: u64) -> Result<Summary, ListingFault> {
+        let all_good = self.progress.all_good;
+        let Err(fault) = self.cutter.finish() else {
+            return Ok(self.progress.of_all(octets, all_good));
+        };
+        self.text.clear();
+        let next = self.progress.count.following();
+        let Ok(()) = C::refuse(&mut self.text, &next, fault) else {
+            return Err(ListingFault::Memory);
+        };
+        put(writer, &self.text, self.progress.of_all(octets, false))
+    }
+
+    ghost of_nothing = { λ l c text. tt };
+}
 
 /// Reads a stream in pieces, and writes the lines of each piece before it reads the next. It answers
 /// how many whole records and octets there were, and whether every record was good and nothing was left after
@@ -208,7 +176,7 @@ pub fn list_stream<S: Cutter + Drop, C: Listing<S> + Drop, R: Source, W: Sink>(
     alloc: Global,
     reader: &mut R,
     writer: &mut W,
-    mut cutter: S,
+    cutter: S,
     mut listing: C,
 ) -> Result<Summary, ListingFault>
     requires held { S.held cutter ≡ [] }
@@ -223,58 +191,13 @@ pub fn list_stream<S: Cutter + Drop, C: Listing<S> + Drop, R: Source, W: Sink>(
         ⊎ IsRefused S.layout
         (rest_by S.layout (gained (R.given reader.old) (R.given reader.new)))) }
 {
-    let mut text = Text::new(alloc);
-    list_pieces(reader, writer, &mut cutter, &mut listing, &mut text)
-}
-
-// Lists a stream with a text for the lines of a piece.
-fn list_pieces<S: Cutter, C: Listing<S>, R: Source, W: Sink>(
-    reader: &mut R,
-    writer: &mut W,
-    cutter: &mut S,
-    listing: &mut C,
-    text: &mut Text,
-) -> Result<Summary, ListingFault>
-    requires held { S.held cutter.old ≡ [] }
-    requires going { S.failure cutter.old ≡ None }
-    ensures reads { Reads R.given R.remaining R.failures result reader.old reader.new }
-    ensures writes { WritesText W.taken_octets W.failures result writer.old writer.new
-        (text_of C.lines S.layout
-        (fresh listing.old (gained (R.given reader.old) (R.given reader.new)))) }
-    ensures listed { IfOk result (λ l. l ≡ summary_of C.lines S.layout
-        (fresh listing.old (gained (R.given reader.old) (R.given reader.new)))) }
-    ensures end { OnOk result (HasEnded (R.has_ended reader.new) (R.remaining reader.new)
-        ⊎ IsRefused S.layout
-        (rest_by S.layout (gained (R.given reader.old) (R.given reader.new)))) }
-{
-    let mut progress = Progress {
-        count: RecordNumber::new(),
-        all_good: true,
+    let mut stream = Lister {
+        cutter,
+        progress: Progress {
+            count: RecordNumber::new(),
+            all_good: true,
+        },
+        text: Text::new(alloc),
     };
-    let mut piece = [0u8; 4096];
-    let mut total: u64 = 0;
-    loop {
-        let Ok(count) = reader.read(&mut piece) else {
-            return Err(ListingFault::Read);
-        };
-        if count == 0 {
-            return list_rest::<S, C, W>(cutter, progress, total, text, writer);
-        }
-        if count as u64 > MOST_OCTETS - total {
-            return Err(ListingFault::TooLong);
-        }
-        total += count as u64;
-        match list_piece(
-            cutter,
-            listing,
-            &mut progress,
-            text,
-            writer,
-            &piece[..count],
-        ) {
-            Ok(Course::Open) => {}
-            Ok(Course::Refused) => return Ok(progress.of_all(total, false)),
-            Err(fault) => return Err(fault),
-        }
-    }
+    go_through(reader, writer, &mut stream, &mut listing)
 }

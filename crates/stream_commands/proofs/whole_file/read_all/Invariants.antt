@@ -1,7 +1,7 @@
 use Rattle.std.proofs.Common.{◌≡◌, ◌≤◌, ◌++◌, ◌-◌, length}
 use Rattle.std.specs.Io.KnownBytes.{Consumes}
 use Rattle.listings.specs.Devices.{gained}
-use Rattle.listings.specs.declared.stream.TheConstants.{MOST_OCTETS}
+use Rattle.listings.specs.declared.pieces.TheConstants.{MOST_OCTETS}
 use Rattle.stream_commands.proofs.whole_file.read_all.Given as goal
 
 -- what was given is kept
