@@ -1,8 +1,7 @@
 -- What a line says to a node: a line of a script, or one of `frame HEX`, `clcw HEX` and `help`.
 use Rattle.std.specs.Prelude.{◌≤◌, ℕ, if◌then◌else◌, List, [], codes, Option, Some, None}
-use Rattle.std.specs.Prelude.{option_map, ◌≡◌, Result, String, OnOk}
+use Rattle.std.specs.Prelude.{option_map, ◌≡◌, Result, String, OnOk, Bool, true, false}
 use Rattle.octets.specs.Beginning.{Appends}
-use Rattle.cop1.specs.declared.vocabulary.Directive.{Directive}
 use Rattle.nodes.specs.declared.event.Event.{Event}
 use Rattle.nodes.specs.declared.event.Event.TheVariants as events
 use Rattle.nodes.specs.declared.parameter.Parameter.{Parameter}
@@ -11,7 +10,7 @@ use Rattle.nodes.specs.Steps.{Outcome}
 use Rattle.std.specs.Str.{bytes_eq}
 use Rattle.script_lines.specs.Causes.{cause_in}
 use Rattle.script_lines.specs.Words.{octets_in_word, rest_after, after_words}
-use Rattle.script_lines.specs.Lines.{ScriptLine, line_in, octets_of_digits}
+use Rattle.script_lines.specs.Lines.{ScriptLine, digits_of, line_in, octets_of_digits, with_octets}
 use Rattle.script_lines.specs.Lines as scripts
 use Rattle.node_lines.specs.declared.ask.Ask as code
 use Rattle.node_lines.specs.declared.ask.Ask.TheVariants as asks
@@ -20,22 +19,13 @@ use Rattle.node_lines.specs.declared.ask.NodeLine.TheVariants as lines
 
 -- what a line asks of a node
 pub data Ask : Type 0 where
-  Submit : (on_map : ℕ) (octets : List ℕ) → Ask
-  Bypass : (on_map : ℕ) (octets : List ℕ) → Ask
-  Direct : (directive : Directive) → Ask
-  Send : Ask
-  Report : Ask
-  Tick : Ask
-  Take : Ask
-  TakeBypass : Ask
-  -- of a ground: these octets come as telemetry; of a spacecraft: this packet is queued
-  Telemetry : (octets : List ℕ) → Ask
+  -- an event of this node; `Telemetry` is of a ground: these octets come as telemetry; of a
+  -- spacecraft: this packet is queued
+  Happening : Event → Ask
   -- these octets come as a telecommand frame
   Frame : (octets : List ℕ) → Ask
   -- these octets come as a control word by itself
   ControlWord : (octets : List ℕ) → Ask
-  -- a session goes on after an alert, by a report's value
-  Resume : (value : ℕ) → Ask
   Show : Ask
 
 pub data NodeLine : Type 0 where
@@ -51,29 +41,23 @@ pub data NodeLine : Type 0 where
 
 -- ---- a line of a script
 
--- what an event asks of a node; the other events are a link's
-abbrev pub ask_of : Event → Option Ask
-ask_of (events.Submit m octets) = Some (Submit m octets.now)
-ask_of (events.Bypass m octets) = Some (Bypass m octets.now)
-ask_of (events.Directive directive) = Some (Direct directive)
-ask_of (events.Resume value) = Some (Resume value)
-ask_of events.Send = Some Send
-ask_of events.Report = Some Report
-ask_of events.Tick = Some Tick
-ask_of events.Take = Some Take
-ask_of events.TakeBypass = Some TakeBypass
-ask_of (events.Telemetry octets) = Some (Telemetry octets.now)
-ask_of event = None
-
-abbrev pub asking : List ℕ → Option Ask → NodeLine
-asking cause (Some ask) = Asking ask
-asking cause None = Unreadable cause
+-- an event on the way between two nodes
+abbrev pub is_of_a_link : Event → Bool
+is_of_a_link events.UpDeliver = true
+is_of_a_link events.UpLose = true
+is_of_a_link (events.UpDamage octets) = true
+is_of_a_link events.DownDeliver = true
+is_of_a_link events.DownLose = true
+is_of_a_link (events.DownDamage octets) = true
+is_of_a_link events.DownClcw = true
+is_of_a_link event = false
 
 -- where it says nothing to a node it is unreadable, for this cause
 abbrev pub line_of_script : List ℕ → ScriptLine → NodeLine
 line_of_script cause scripts.Skipped = Skipped
 line_of_script cause (scripts.Setting parameter n) = Setting parameter n
-line_of_script cause (scripts.Happening event) = asking cause (ask_of event)
+line_of_script cause (scripts.Happening event) =
+    if is_of_a_link event then Unreadable cause else Asking (Happening event)
 line_of_script cause scripts.Showing = Asking Show
 line_of_script cause scripts.Unreadable = Unreadable cause
 
@@ -98,20 +82,16 @@ node_line line =
 
 -- ---- an ask as the code has it
 
+-- an event wherever its octets lie in memory
+abbrev pub event_view : Event → Event
+event_view event = with_octets event (digits_of event)
+
 -- where its octets become these
 abbrev pub ask_with : (List ℕ → List ℕ) → code.Ask → Ask
-ask_with octets_for (asks.Submit m octets) = Submit m (octets_for octets.now)
-ask_with octets_for (asks.Bypass m octets) = Bypass m (octets_for octets.now)
-ask_with octets_for (asks.Direct directive) = Direct directive
-ask_with octets_for asks.Send = Send
-ask_with octets_for asks.Report = Report
-ask_with octets_for asks.Tick = Tick
-ask_with octets_for asks.Take = Take
-ask_with octets_for asks.TakeBypass = TakeBypass
-ask_with octets_for (asks.Telemetry octets) = Telemetry (octets_for octets.now)
+ask_with octets_for (asks.Happening event) =
+    Happening (with_octets event (octets_for (digits_of event)))
 ask_with octets_for (asks.Frame octets) = Frame (octets_for octets.now)
 ask_with octets_for (asks.ControlWord octets) = ControlWord (octets_for octets.now)
-ask_with octets_for (asks.Resume value) = Resume value
 ask_with octets_for asks.Show = Show
 
 abbrev pub ask_view : code.Ask → Ask
@@ -123,12 +103,10 @@ ask_said ask = ask_with octets_of_digits ask
 
 -- its octets, or the digits in their place; none where it carries none
 abbrev pub octets_in : code.Ask → List ℕ
-octets_in (asks.Submit m octets) = octets.now
-octets_in (asks.Bypass m octets) = octets.now
-octets_in (asks.Telemetry octets) = octets.now
+octets_in (asks.Happening event) = digits_of event
 octets_in (asks.Frame octets) = octets.now
 octets_in (asks.ControlWord octets) = octets.now
-octets_in ask = []
+octets_in asks.Show = []
 
 abbrev pub line_view : code_line.NodeLine → NodeLine
 line_view lines.Skipped = Skipped

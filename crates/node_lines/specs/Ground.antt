@@ -9,6 +9,7 @@ use Rattle.cop1.specs.declared.fault.CopFault.{CopFault}
 use Rattle.cop1.specs.declared.vocabulary.Alert.{Alert}
 use Rattle.cop1.specs.Faults as cop
 use Rattle.cop1.specs.Units.{due_units}
+use Rattle.nodes.specs.declared.event.Event.TheVariants as events
 use Rattle.nodes.specs.declared.fault.LinkFault.{LinkFault}
 use Rattle.nodes.specs.declared.heard.HeardClcw.{HeardClcw}
 use Rattle.nodes.specs.Faults as link
@@ -18,8 +19,7 @@ use Rattle.nodes.specs.Ground.{outstanding, sent_beyond, unsent_segments}
 use Rattle.nodes.specs.Ground as calls
 use Rattle.node_answers.specs.Answers.{fault_text, sent_text, heard_text, reported_text, tick_text}
 use Rattle.node_answers.specs.Answers.{fop_state_word}
-use Rattle.node_lines.specs.Asks.{Ask, Submit, Bypass, Direct, Send, Tick, Take, Telemetry}
-use Rattle.node_lines.specs.Asks.{ControlWord, Resume, Show, Turn, NodeRules, told}
+use Rattle.node_lines.specs.Asks.{Ask, Happening, ControlWord, Show, Turn, NodeRules, told}
 
 -- ---- the answers to calls, as texts
 
@@ -91,16 +91,21 @@ ground_show s = sender_text s ++ (count_text s ++ (queues_text s ++ submissions_
 -- ---- what is asked of a ground; a control word has four octets
 
 abbrev pub ground_asked : Ask → Option (GroundState → Turn GroundState)
-ground_asked (Submit m octets) = Some (ground_call (calls.Submit m octets) done_text)
-ground_asked (Bypass m octets) = Some (ground_call (calls.Bypass m octets) done_text)
-ground_asked (Direct directive) = Some (ground_call (calls.Direct directive) obeyed_text)
-ground_asked Send = Some (ground_call calls.Pull pulled_text)
-ground_asked Tick = Some (ground_call calls.Tick tick_text)
-ground_asked Take = Some (ground_call calls.TakeTelemetry taken_text)
-ground_asked (Telemetry octets) = Some (ground_call (calls.Telemetry octets) heard_text)
+ground_asked (Happening (events.Submit m octets)) =
+    Some (ground_call (calls.Submit m octets.now) done_text)
+ground_asked (Happening (events.Bypass m octets)) =
+    Some (ground_call (calls.Bypass m octets.now) done_text)
+ground_asked (Happening (events.Directive directive)) =
+    Some (ground_call (calls.Direct directive) obeyed_text)
+ground_asked (Happening (events.Resume value)) =
+    Some (ground_call (calls.Resume value) resumed_text)
+ground_asked (Happening events.Send) = Some (ground_call calls.Pull pulled_text)
+ground_asked (Happening events.Tick) = Some (ground_call calls.Tick tick_text)
+ground_asked (Happening events.Take) = Some (ground_call calls.TakeTelemetry taken_text)
+ground_asked (Happening (events.Telemetry octets)) =
+    Some (ground_call (calls.Telemetry octets.now) heard_text)
 ground_asked (ControlWord octets) =
     if length octets == 4 then Some (ground_call (calls.ControlWord octets) word_text) else None
-ground_asked (Resume value) = Some (ground_call (calls.Resume value) resumed_text)
 ground_asked Show = Some (told ground_show)
 ground_asked _ = None
 

@@ -8,6 +8,7 @@ use Rattle.tm_link.specs.declared.fault.TmFault.{TmFault}
 use Rattle.tm_link.specs.Layout.{FrameView}
 use Rattle.tm_link.specs.Encoding.{spelling}
 use Rattle.tm_link.specs.Faults as tm
+use Rattle.nodes.specs.declared.event.Event.TheVariants as events
 use Rattle.nodes.specs.Packets.{PacketOn}
 use Rattle.nodes.specs.Spacecraft.{SpacecraftState, SpacecraftEvent, SpacecraftAnswer}
 use Rattle.nodes.specs.Spacecraft.{spacecraft_step, new_spacecraft}
@@ -16,8 +17,7 @@ use Rattle.listings.specs.FarmLines.{state_word}
 use Rattle.listings.specs.Text.{flag_number}
 use Rattle.node_answers.specs.Answers.{fault_text, sent_text, packet_text, report_text}
 use Rattle.node_answers.specs.Answers.{received_text}
-use Rattle.node_lines.specs.Asks.{Ask, Frame, Send, Report, Take, TakeBypass, Telemetry, Show, Turn}
-use Rattle.node_lines.specs.Asks.{NodeRules, told}
+use Rattle.node_lines.specs.Asks.{Ask, Happening, Frame, Show, Turn, NodeRules, told}
 
 -- ---- the answers to calls, as texts
 
@@ -69,12 +69,13 @@ spacecraft_show s = receiver_text s.farm ++ (farm_flags_text s.farm ++ waiting_t
 -- ---- what is asked of a spacecraft
 
 abbrev pub spacecraft_asked : Ask → Option (SpacecraftState → Turn SpacecraftState)
+spacecraft_asked (Happening (events.Telemetry packet)) =
+    Some (spacecraft_call (calls.Telemetry packet.now) queued_text)
+spacecraft_asked (Happening events.Send) = Some (spacecraft_call calls.Report telemetry_text)
+spacecraft_asked (Happening events.Report) = Some (told word_text)
+spacecraft_asked (Happening events.Take) = Some (spacecraft_call calls.Take handed_text)
+spacecraft_asked (Happening events.TakeBypass) = Some (spacecraft_call calls.TakeBypass handed_text)
 spacecraft_asked (Frame octets) = Some (spacecraft_call (calls.Receive octets) received_text)
-spacecraft_asked (Telemetry packet) = Some (spacecraft_call (calls.Telemetry packet) queued_text)
-spacecraft_asked Send = Some (spacecraft_call calls.Report telemetry_text)
-spacecraft_asked Report = Some (told word_text)
-spacecraft_asked Take = Some (spacecraft_call calls.Take handed_text)
-spacecraft_asked TakeBypass = Some (spacecraft_call calls.TakeBypass handed_text)
 spacecraft_asked Show = Some (told spacecraft_show)
 spacecraft_asked _ = None
 

@@ -1,39 +1,21 @@
 // What a line says to a node.
 
 ghost use Rattle.std.specs.Prelude.{◌≡◌};
-ghost use Rattle.script_lines.specs.Lines.{octets_of_digits};
-ghost use Rattle.node_lines.specs.Asks.{ask_view, ask_said, octets_in};
+ghost use Rattle.script_lines.specs.Lines.{octets_of_digits, with_octets};
+ghost use Rattle.node_lines.specs.Asks.{ask_view, ask_said, event_view, octets_in};
 
-use cop1::Directive;
-use nodes::Parameter;
+use nodes::{Event, Parameter};
+use script_lines::digits_of;
 
 /// What a line asks of a node.
 #[derive(Clone, Copy, Drop)]
 pub enum Ask<'a> {
-    /// Packets are submitted on a MAP.
-    Submit(u8, &'a [u8]),
-    /// A packet is to go past the sequence control, on a MAP.
-    Bypass(u8, &'a [u8]),
-    /// A directive to the sender.
-    Direct(Directive),
-    /// The node sends its next frame.
-    Send,
-    /// The control word is read.
-    Report,
-    /// A tick of the clock passes.
-    Tick,
-    /// The oldest packet is taken.
-    Take,
-    /// The oldest packet of frames past the sequence control is taken.
-    TakeBypass,
-    /// Octets come to a ground as a telemetry frame; a packet is queued on board to be sent as telemetry.
-    Telemetry(&'a [u8]),
+    /// An event happens at this node. To a ground `Telemetry` is octets that come as a telemetry frame.
+    Happening(Event<'a>),
     /// Octets come as a telecommand frame.
     Frame(&'a [u8]),
     /// Octets come as a control word by itself.
     ControlWord(&'a [u8]),
-    /// A session goes on after an alert, by a report's value.
-    Resume(u8),
     /// How the node stands is shown.
     Show,
 }
@@ -58,9 +40,23 @@ pub(crate) fn octets_in(ask: Ask<'_>) -> &[u8]
     ensures { result.now ≡ octets_in ask.entry }
 {
     match ask {
-        Ask::Submit(_, octets) | Ask::Bypass(_, octets) => octets,
-        Ask::Telemetry(octets) | Ask::Frame(octets) | Ask::ControlWord(octets) => octets,
-        _ => b"",
+        Ask::Happening(event) => digits_of(event),
+        Ask::Frame(octets) | Ask::ControlWord(octets) => octets,
+        Ask::Show => b"",
+    }
+}
+
+// The event with these octets in place of its own.
+fn event_with<'a>(event: Event<'a>, octets: &'a [u8]) -> Event<'a>
+    ensures { event_view result ≡ with_octets event.entry octets.now }
+{
+    match event {
+        Event::Submit(map, _) => Event::Submit(map, octets),
+        Event::Bypass(map, _) => Event::Bypass(map, octets),
+        Event::UpDamage(_) => Event::UpDamage(octets),
+        Event::DownDamage(_) => Event::DownDamage(octets),
+        Event::Telemetry(_) => Event::Telemetry(octets),
+        event => event,
     }
 }
 
@@ -70,11 +66,9 @@ pub(crate) fn with_octets<'a>(ask: Ask<'a>, octets: &'a [u8]) -> Ask<'a>
     ensures { ask_view result ≡ ask_said ask.entry }
 {
     match ask {
-        Ask::Submit(map, _) => Ask::Submit(map, octets),
-        Ask::Bypass(map, _) => Ask::Bypass(map, octets),
-        Ask::Telemetry(_) => Ask::Telemetry(octets),
+        Ask::Happening(event) => Ask::Happening(event_with(event, octets)),
         Ask::Frame(_) => Ask::Frame(octets),
         Ask::ControlWord(_) => Ask::ControlWord(octets),
-        ask => ask,
+        Ask::Show => Ask::Show,
     }
 }

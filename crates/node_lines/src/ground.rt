@@ -15,7 +15,7 @@ use cop1::Directive;
 use node_answers::{
     fop_state_word, push_alert, push_digits, push_fault, push_heard, push_reported, push_sent,
 };
-use nodes::{Ground, LinkFault, ValidConfig};
+use nodes::{Event, Ground, LinkFault, ValidConfig};
 use std::alloc::{AllocError, Global};
 use std::fmt::Write;
 
@@ -31,10 +31,15 @@ impl Node for Ground {
 
     fn takes(ask: Ask<'_>) -> bool {
         match ask {
-            Ask::Submit(..) | Ask::Bypass(..) | Ask::Direct(_) | Ask::Send | Ask::Tick => true,
-            Ask::Take | Ask::Telemetry(_) | Ask::Resume(_) | Ask::Show => true,
+            Ask::Happening(event) => match event {
+                Event::Submit(..) | Event::Bypass(..) | Event::Directive(_) => true,
+                Event::Resume(_) | Event::Send | Event::Tick => true,
+                Event::Take | Event::Telemetry(_) => true,
+                _ => false,
+            },
             Ask::ControlWord(octets) => octets.len() == 4,
-            Ask::Report | Ask::TakeBypass | Ask::Frame(_) => false,
+            Ask::Frame(_) => false,
+            Ask::Show => true,
         }
     }
 
@@ -52,17 +57,17 @@ impl Node for Ground {
 
     fn answer(&mut self, alloc: Global, ask: Ask<'_>, text: &mut String) -> Result<(), AllocError> {
         match ask {
-            Ask::Submit(map, octets) => submit(self, text, map, octets),
-            Ask::Bypass(map, octets) => bypass(self, text, map, octets),
-            Ask::Direct(directive) => direct(self, text, directive),
-            Ask::Send => send(self, alloc, text),
-            Ask::Tick => push_alert(text, self.tick()),
-            Ask::Take => take(self, alloc, text),
-            Ask::Telemetry(octets) => telemetry(self, text, octets),
+            Ask::Happening(Event::Submit(map, octets)) => submit(self, text, map, octets),
+            Ask::Happening(Event::Bypass(map, octets)) => bypass(self, text, map, octets),
+            Ask::Happening(Event::Directive(directive)) => direct(self, text, directive),
+            Ask::Happening(Event::Resume(value)) => resume(self, text, value),
+            Ask::Happening(Event::Send) => send(self, alloc, text),
+            Ask::Happening(Event::Tick) => push_alert(text, self.tick()),
+            Ask::Happening(Event::Take) => take(self, alloc, text),
+            Ask::Happening(Event::Telemetry(octets)) => telemetry(self, text, octets),
             Ask::ControlWord(octets) => control_word(self, text, octets),
-            Ask::Resume(value) => resume(self, text, value),
             Ask::Show => push_show(text, self),
-            Ask::Report | Ask::TakeBypass | Ask::Frame(_) => Ok(()),
+            Ask::Happening(_) | Ask::Frame(_) => Ok(()),
         }
     }
 }

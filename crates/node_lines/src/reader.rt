@@ -5,7 +5,7 @@ ghost use Rattle.nodes.specs.declared.event.Event.{Event};
 ghost use Rattle.script_lines.specs.Lines.{event_said, octets_of_digits};
 ghost use Rattle.script_lines.specs.Lines as scripts;
 ghost use Rattle.script_lines.specs.Words.{octets_in_word};
-ghost use Rattle.node_lines.specs.Asks.{ask_of, asking, ask_said, own_ask, line_of_script, node_line, line_view, IsWellRead};
+ghost use Rattle.node_lines.specs.Asks.{ask_said, is_of_a_link, own_ask, line_of_script, node_line, line_view, IsWellRead};
 
 use crate::ask::{Ask, NodeLine};
 use nodes::Event;
@@ -36,31 +36,21 @@ fn line_of_script<'a>(cause: &'static str, line: Line<'a>) -> NodeLine<'a>
     match line {
         Line::Skipped => NodeLine::Skipped,
         Line::Setting(parameter, number) => NodeLine::Setting(parameter, number),
-        Line::Happening(event) => match ask_of(event) {
-            Some(ask) => NodeLine::Asking(ask),
-            None => NodeLine::Unreadable(cause),
-        },
+        Line::Happening(event) if is_of_a_link(event) => NodeLine::Unreadable(cause),
+        Line::Happening(event) => NodeLine::Asking(Ask::Happening(event)),
         Line::Showing => NodeLine::Asking(Ask::Show),
         Line::Unreadable => NodeLine::Unreadable(cause),
     }
 }
 
-// What an event asks of a node, if it is none of a link's.
-fn ask_of(event: Event<'_>) -> Option<Ask<'_>>
-    ensures { option_map ask_said result ≡ ask_of (event_said event.entry) }
+// Whether an event is one on the way between two nodes.
+fn is_of_a_link(event: Event<'_>) -> bool
+    ensures { result ≡ is_of_a_link (event_said event.entry) }
 {
     match event {
-        Event::Submit(map, digits) => Some(Ask::Submit(map, digits)),
-        Event::Bypass(map, digits) => Some(Ask::Bypass(map, digits)),
-        Event::Directive(directive) => Some(Ask::Direct(directive)),
-        Event::Resume(value) => Some(Ask::Resume(value)),
-        Event::Send => Some(Ask::Send),
-        Event::Report => Some(Ask::Report),
-        Event::Tick => Some(Ask::Tick),
-        Event::Take => Some(Ask::Take),
-        Event::TakeBypass => Some(Ask::TakeBypass),
-        Event::Telemetry(digits) => Some(Ask::Telemetry(digits)),
-        _ => None,
+        Event::UpDeliver | Event::UpLose | Event::UpDamage(_) => true,
+        Event::DownDeliver | Event::DownLose | Event::DownDamage(_) | Event::DownClcw => true,
+        _ => false,
     }
 }
 

@@ -17,7 +17,7 @@ use bitflags::Flags;
 use clcw::{Clcw, ClcwFlags};
 use cop1::FarmMode;
 use node_answers::{push_fault, push_packet, push_received, push_report, push_sent};
-use nodes::{Spacecraft, ValidConfig};
+use nodes::{Event, Spacecraft, ValidConfig};
 use std::alloc::{AllocError, Global};
 use std::fmt::Write;
 use tm_link::TmFault;
@@ -34,10 +34,13 @@ impl Node for Spacecraft {
 
     fn takes(ask: Ask<'_>) -> bool {
         match ask {
-            Ask::Frame(_) | Ask::Telemetry(_) | Ask::Send | Ask::Report => true,
-            Ask::Take | Ask::TakeBypass | Ask::Show => true,
-            Ask::Submit(..) | Ask::Bypass(..) | Ask::Direct(_) | Ask::Tick => false,
-            Ask::ControlWord(_) | Ask::Resume(_) => false,
+            Ask::Happening(event) => match event {
+                Event::Telemetry(_) | Event::Send | Event::Report => true,
+                Event::Take | Event::TakeBypass => true,
+                _ => false,
+            },
+            Ask::Frame(_) | Ask::Show => true,
+            Ask::ControlWord(_) => false,
         }
     }
 
@@ -51,15 +54,14 @@ impl Node for Spacecraft {
 
     fn answer(&mut self, alloc: Global, ask: Ask<'_>, text: &mut String) -> Result<(), AllocError> {
         match ask {
+            Ask::Happening(Event::Telemetry(packet)) => queue(self, text, packet),
+            Ask::Happening(Event::Send) => send(self, alloc, text),
+            Ask::Happening(Event::Report) => push_report(text, alloc, &self.control_word()),
+            Ask::Happening(Event::Take) => take(self, alloc, text),
+            Ask::Happening(Event::TakeBypass) => take_bypass(self, alloc, text),
             Ask::Frame(octets) => receive(self, text, octets),
-            Ask::Telemetry(packet) => queue(self, text, packet),
-            Ask::Send => send(self, alloc, text),
-            Ask::Report => push_report(text, alloc, &self.control_word()),
-            Ask::Take => take(self, alloc, text),
-            Ask::TakeBypass => take_bypass(self, alloc, text),
             Ask::Show => push_show(text, self),
-            Ask::Submit(..) | Ask::Bypass(..) | Ask::Direct(_) | Ask::Tick => Ok(()),
-            Ask::ControlWord(_) | Ask::Resume(_) => Ok(()),
+            Ask::Happening(_) | Ask::ControlWord(_) => Ok(()),
         }
     }
 }
