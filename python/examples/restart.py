@@ -12,7 +12,7 @@ def hear(ground: sc.Ground, spacecraft: sc.Spacecraft, boots: int) -> tuple[sc.H
 
 
 def deliver(ground: sc.Ground, spacecraft: sc.Spacecraft, boots: int, count: int) -> None:
-    """A session by the steps above, where nothing is on its way. The boot counter has to be this one."""
+    """A session by the steps of docs/CONTROL.md, where nothing is on its way. The boot counter has to be this one."""
     heard, before = hear(ground, spacecraft, boots)
     _, after = hear(ground, spacecraft, boots)
     if not (before == after == boots and heard.word):
