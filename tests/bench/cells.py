@@ -65,13 +65,15 @@ FOP_WORDS = {
 class Cell:
     """A line of a table."""
 
+    by_book = False  # whether the model does what the book does: then the profile departs nowhere
+
     def __init__(self, line, row, words):
         self.line, self.row = line, row
         self.fields = [(column, words[column][row[column]]) for column in words]
 
     def __str__(self):
         own = ("" if self.row["profile_says"] == "as in the book" else "; the book has no such event"
-               if self.row["event"] == "-" else "; the profile departs from the book here")
+               if self.row["event"] == "-" else "" if self.by_book else "; the profile departs from the book here")
         return f"line {self.line}, {self.row['event']} ({self.row['what']}) in {self.row['before']}{own}"
 
     def wrong(self, before, after, x, answer):

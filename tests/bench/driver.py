@@ -293,7 +293,8 @@ def main():
     words.add_argument("--node", required=True, choices=("spacecraft", "ground"))
     words.add_argument("--events", type=int, default=20000, metavar="N", help="random events, by default 20,000")
     words.add_argument("--seed", type=int, default=1, metavar="S", help="by default 1")
-    words.add_argument("--most", type=int, default=5, metavar="D", help="ends after D differences; by default 5")
+    words.add_argument("--most", type=int, default=5, metavar="D",
+                       help="ends after D differences are shown, one of each cell; by default 5")
     words.add_argument("--no-cells", action="store_true", help="plays random events alone")
     words.add_argument("--ignore", default="", metavar="FIELDS",
                        help="fields of `show` that are not compared, as count,timer,due")
@@ -308,6 +309,7 @@ def main():
         words.error("--book and --fixed need --link")
     fixed = {field: int(number) for field, _, number in (it.partition("=") for it in given.fixed.split(",") if it)}
     speaks = Link(given.node, given.book, fixed) if given.link else Whole(given.ignore.split(","))
+    cells.Cell.by_book = given.book
     bench = Bench(given.node, given.against, speaks, given.most, given.whole)
     if not given.no_cells:
         bench.play_cells()
