@@ -121,7 +121,8 @@ class Scope:
             return self.own[first]
         if first in self.names:
             return find(*self.names[first])
-        return self.rust(first) or (first in self.uses and ("Rust", first))
+        own = self.file.endswith(".rt") and constant(self.file, first)
+        return self.rust(first) or own or (first in self.uses and ("Rust", first))
 
     def rust(self, name):
         """The type that a name stands for in Rust, where it is one of this repository."""
@@ -149,7 +150,8 @@ class Spec(Scope):
     """A file of specs/: its head, its definitions, and the lines that were not understood."""
 
     def __init__(self, file):
-        text = text_of(file)
+        # (the parameters of a module may go on in further lines)
+        text = re.sub(r"^ *module [^\n]*(?:\n +[({][^\n]*)* where$", lambda it: re.sub(r"\n +", " ", it[0]), text_of(file), flags=re.M)
         super().__init__(file, text)
         self.handed = set(TOKEN.findall(" ".join(re.findall(r"^pub use .*", text, re.M))))
         self.head, self.unread, self.own = [], [], {}
