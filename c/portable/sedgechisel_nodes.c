@@ -182,6 +182,11 @@ static uint32_t extend32(uint32_t x, uint32_t highest)
     return ((x & (2 * highest - 1)) ^ highest) - highest;
 }
 
+static uint64_t ordered64(uint64_t x)
+{
+    return x ^ 0x8000000000000000ULL;
+}
+
 static uint64_t clz64(uint64_t x)
 {
     uint64_t count = 64;
@@ -757,23 +762,23 @@ static uint32_t std_alloc_vec_Vec_grow_amortized_cf5a566ef03a1ac9(uint64_t p0, u
 static uint32_t std_alloc_vec_Vec_grow_amortized_5ff1a26cbddecd5f(uint64_t p0, uint64_t p1);
 static uint32_t octets_frame_check_check(uint64_t p0, uint64_t p1);
 static void nodes_ground_node_Ground_tick(uint64_t p0, uint64_t p1);
-static uint32_t std_alloc_vec_Vec_grow_amortized_49bbd27f022ae39a(uint64_t p0, uint64_t p1);
-static uint32_t std_alloc_vec_Vec_grow_amortized_1598ebf9113514c4(uint64_t p0, uint64_t p1);
-static uint32_t std_alloc_vec_Vec_grow_amortized_722da43a23cbcade(uint64_t p0);
-static void simulated_link_map_lists_append_on(uint64_t p0, uint32_t p1, uint64_t p2);
+static void simulated_link_world_World_step(uint64_t p0, uint64_t p1, uint64_t p2);
 static uint32_t simulated_link_world_World_is_idle(uint64_t p0);
 static void simulated_link_world_World_begin(uint64_t p0, uint64_t p1, uint32_t p2, uint32_t p3);
 static void tc_frame_encoding_encode(uint64_t p0, uint64_t p1, uint64_t p2, uint64_t p3);
 static uint32_t std_alloc_vec_deque_VecDeque_grow_1598ebf9113514c4(uint64_t p0);
-static void map_service_assembler_Assembler_prepare(uint64_t p0, uint64_t p1, uint64_t p2);
+static uint32_t std_alloc_vec_Vec_grow_amortized_1598ebf9113514c4(uint64_t p0, uint64_t p1);
 static void map_service_packets_fault_of_alone(uint64_t p0, uint64_t p1, uint64_t p2, uint64_t p3);
 static uint32_t std_alloc_vec_Vec_extend_from_slice_672334860c861157(uint64_t p0, uint64_t p1, uint64_t p2);
 static uint32_t std_alloc_vec_Vec_grow_amortized_a351ad16c7c032ee(uint64_t p0, uint64_t p1);
 static void smallvec_small_vec_SmallVec_push_reserved_ed127ccbaaf726c4(uint64_t p0, uint64_t p1);
-static void std_alloc_vec_Vec_drop_555ceec2fcbf3849(uint64_t p0);
-static void nodes_spacecraft_Spacecraft_hand_on(uint64_t p0, uint64_t p1, uint64_t p2);
 static void tm_link_turn_put_next(uint64_t p0, uint64_t p1, uint64_t p2, uint32_t p3, uint64_t p4, uint64_t p5);
+static uint32_t std_alloc_vec_Vec_grow_amortized_49bbd27f022ae39a(uint64_t p0, uint64_t p1);
 static void nodes_spacecraft_Spacecraft_telemetry(uint64_t p0, uint64_t p1, uint64_t p2, uint64_t p3);
+static void std_alloc_vec_Vec_drop_555ceec2fcbf3849(uint64_t p0);
+static uint32_t std_alloc_vec_Vec_grow_amortized_722da43a23cbcade(uint64_t p0);
+static void simulated_link_map_lists_append_on(uint64_t p0, uint32_t p1, uint64_t p2);
+static void std_alloc_vec_Vec_drop_53a4c03472232ebd(uint64_t p0);
 static uint32_t std_alloc_vec_deque_VecDeque_grow_ee377714b7165a56(uint64_t p0);
 static uint32_t std_alloc_vec_Vec_grow_amortized_ee377714b7165a56(uint64_t p0);
 static uint32_t sedgechisel_nodes_spacecraft_take_taken(uint64_t p0, uint32_t p1, uint64_t p2, uint64_t p3, uint64_t
@@ -5041,142 +5046,3006 @@ l1:;
     return;
 }
 
-static uint32_t std_alloc_vec_Vec_grow_amortized_49bbd27f022ae39a(uint64_t p0, uint64_t p1)
+/* simulated_link::world::World::step, crates/simulated_link/src/world/step.rt:19 */
+static void simulated_link_world_World_step(uint64_t p0, uint64_t p1, uint64_t p2)
 {
-    unsigned char frame_octets[32 + 15];
-    uint64_t v2 = 0, v4 = 0, v5 = 0, v6 = 0;
-    v2 = aligned(frame_octets);
-    v4 = get64(p0 + 8);
-    if (p1 > ~v4) return 0;
-    p1 = v4 + p1;
-    p1 = (p1 > 8) ? p1 : 8ULL;
-    v5 = get64(p0 + 16);
-    v6 = v5 << 1;
-    v6 = (p1 > v6) ? p1 : v6;
-    p1 = (v5 < 0x4000000000000000ULL) ? v6 : p1;
-    if (p1 > 0x7fffffffffffffffULL) return 0;
-    if (v5 != 0) {
-        rattle_realloc_at(v2 + 16, get64(p0), v4, p1, 1);
-        if (((uint32_t)get64(v2 + 16) & 1) == 0) return 0;
-        v4 = get64(v2 + 24);
-    } else {
-        rattle_alloc_at(v2, v6, 1);
-        if (((uint32_t)get64(v2) & 1) == 0) return 0;
-        v4 = get64(v2 + 8);
-    }
-    put64(p0 + 16, p1);
-    put64(p0, v4);
-    return 1;
-}
-
-static uint32_t std_alloc_vec_Vec_grow_amortized_1598ebf9113514c4(uint64_t p0, uint64_t p1)
-{
-    unsigned char frame_octets[32 + 15];
-    uint64_t v2 = 0, v4 = 0, v5 = 0, v6 = 0;
-    v2 = aligned(frame_octets);
-    v4 = get64(p0 + 8);
-    if (p1 > ~v4) return 0;
-    p1 = v4 + p1;
-    p1 = (p1 > 4) ? p1 : 4ULL;
-    v5 = get64(p0 + 16);
-    v6 = v5 << 1;
-    v6 = (p1 > v6) ? p1 : v6;
-    p1 = (v5 < 0x4000000000000000ULL) ? v6 : p1;
-    if (p1 > 0x555555555555555ULL) return 0;
-    if (v5 != 0) {
-        rattle_realloc_at(v2 + 16, get64(p0), v4 * 24, p1 * 24, 8);
-        if (((uint32_t)get64(v2 + 16) & 1) == 0) return 0;
-        v4 = get64(v2 + 24);
-    } else {
-        rattle_alloc_at(v2, v6 * 24, 8);
-        if (((uint32_t)get64(v2) & 1) == 0) return 0;
-        v4 = get64(v2 + 8);
-    }
-    put64(p0 + 16, p1);
-    put64(p0, v4);
-    return 1;
-}
-
-static uint32_t std_alloc_vec_Vec_grow_amortized_722da43a23cbcade(uint64_t p0)
-{
-    unsigned char frame_octets[32 + 15];
-    uint64_t v1 = 0, v3 = 0, v4 = 0, v5 = 0, v6 = 0;
-    v1 = aligned(frame_octets);
-    v3 = get64(p0 + 8);
-    if (v3 == ~0ULL) return 0;
-    v4 = ((v3 > 3) ? v3 : 3ULL) + 1;
-    v5 = get64(p0 + 16);
-    v6 = v5 << 1;
-    v6 = (v4 > v6) ? v4 : v6;
-    v4 = (v5 < 0x4000000000000000ULL) ? v6 : v4;
-    if (v4 > 0x3ffffffffffffffULL) return 0;
-    if (v5 != 0) {
-        rattle_realloc_at(v1 + 16, get64(p0), v3 << 5, v4 << 5, 8);
-        if (((uint32_t)get64(v1 + 16) & 1) == 0) return 0;
-        v3 = get64(v1 + 24);
-    } else {
-        rattle_alloc_at(v1, v6 << 5, 8);
-        if (((uint32_t)get64(v1) & 1) == 0) return 0;
-        v3 = get64(v1 + 8);
-    }
-    put64(p0 + 16, v4);
-    put64(p0, v3);
-    return 1;
-}
-
-/* simulated_link::map_lists::append_on, crates/simulated_link/src/map_lists.rt:43 */
-static void simulated_link_map_lists_append_on(uint64_t p0, uint32_t p1, uint64_t p2)
-{
-    uint64_t v3 = 0, v4 = 0, v5 = 0, v6 = 0, v7 = 0, v8 = 0, v9 = 0, v10 = 0, v11 = 0, v12 = 0, v13 = 0, v14 = 0;
-    v3 = get64(p2 + 16);
-    v4 = get64(p2);
-    p2 = get64(p2 + 8);
-    if (p2 != 0) {
-        v5 = p0 + (((uint64_t)p1 & 255) * 24);
-        v6 = v5 + 8;
-        v7 = get64(v6);
+    unsigned char frame_octets[3040 + 15];
+    uint32_t v5 = 0, v8 = 0, v13 = 0, v14 = 0, v15 = 0, v16 = 0, v17 = 0, v22 = 0, v23 = 0, v24 = 0, v25 = 0, v26 = 0,
+        v27 = 0, v29 = 0, v30 = 0, v31 = 0, v32 = 0, t1, t4, t5, t6, t7, t10, t11, t14, t17, t18, t19, t20, t21, t22,
+        t23;
+    uint64_t v3 = 0, v4 = 0, v6 = 0, v7 = 0, v9 = 0, v10 = 0, v11 = 0, v12 = 0, v18 = 0, v19 = 0, v20 = 0, v21 = 0,
+        v28 = 0, v33 = 0, v34 = 0, v35 = 0, v36 = 0, v37 = 0, v38 = 0, v39 = 0, v40 = 0, v41 = 0, v42 = 0, v43 = 0,
+        v44 = 0, v45 = 0, t12, t13, t15, t16;
+    v3 = aligned(frame_octets);
+    v4 = 1;
+    v5 = get8(p2 + 1);
+    v6 = get64(p2 + 16);
+    v7 = get64(p2 + 8);
+    switch ((uint32_t)(uint64_t)get8(p2)) {
+    case 1:
+        nodes_ground_node_Ground_bypass(v3 + 56, p1, v5, v7, v6);
+        v14 = 0;
+        v5 = get8(v3 + 56);
+        v13 = get8(v3 + 57);
+        v8 = v13 == 5;
+        v4 = (uint64_t)((uint32_t)(v5 != 0) & v8);
+        v13 = (v5 != 0) ? ((v8 != 0) ? 0U : v13) : 0U;
+        v8 = (v5 != 0) ? ((v8 != 0) ? 0U : 3U) : 0U;
+        v12 = 0;
+        v5 = 0;
+        goto l5;
+    case 2:
+        v5 = get8(p2 + 2);
+        v13 = get8(p2 + 3);
+        put16(v3 + 986, get16(p2 + 4));
+        put8(v3 + 985, v13);
         v8 = 0;
-        if (p2 != 1) {
-            v9 = p2 & 1;
-            p0 = v7 * 24;
-            v10 = p2 & ~1ULL;
-            v8 = 0;
-            p2 = v4;
-            do {
-                v11 = get64(p2);
-                v12 = get64(p2 + 8);
-                v13 = get64(v5) + p0;
-                put64(v13 + 16, get64(p2 + 16));
-                put64(v13 + 8, v12);
-                put64(v13, v11);
-                v11 = v7 + v8;
-                put64(v6, v11 + 1);
-                v12 = get64(p2 + 24);
-                v14 = get64(p2 + 32);
-                v13 = get64(v5) + p0;
-                put64(v13 + 40, get64(p2 + 40));
-                put64(v13 + 32, v14);
-                put64(v13 + 24, v12);
-                put64(v6, v11 + 2);
-                p2 = p2 + 48;
-                p0 = p0 + 48;
-                v8 = v8 + 2;
-            } while (v10 != v8);
-            if (v9 == 0) goto l1;
-            v7 = v7 + v8;
+        put16(v3 + 344, 0);
+        put8(v3 + 346, 0);
+        put8(v3 + 984, v5);
+        v13 = v5 & 255;
+        if (v13 == 0) {
+            v15 = 0;
+            if (get8(p1 + 473) == get8(p1 + 74)) goto l84;
+            goto l83;
         }
-        p2 = v4 + (v8 * 24);
-        v8 = get64(p2);
-        v13 = get64(p2 + 8);
-        p0 = get64(v5) + (v7 * 24);
-        put64(p0 + 16, get64(p2 + 16));
-        put64(p0 + 8, v13);
-        put64(p0, v8);
-        put64(v6, v7 + 1);
+        v15 = 0;
+        if (v13 > 3) goto l83;
+    l84:;
+        v8 = 0;
+        if (get64(p1 + 752) == 0) v8 = get64(p1 + 792) == 0;
+        if ((v5 & 255) == 0) {
+            v15 = 0;
+            if (get8(p1 + 473) != get8(p1 + 74)) goto l83;
+        }
+        v15 = simulated_link_world_World_is_idle(p1);
+    l83:;
+        nodes_ground_node_Ground_directive(v3 + 344, p1, v3 + 984);
+        v13 = get8(v3 + 345);
+        if (get8(v3 + 344) != 0) {
+            v14 = 1;
+            v8 = 3;
+        } else {
+            v14 = get8(v3 + 346);
+            if ((v5 & 255) <= 3) simulated_link_world_World_begin(p1, v3 + 984, v8, v15);
+            v5 = v13 & 255;
+            v13 = 0;
+            v8 = (v5 != 0) ? 4U : 0U;
+            v14 = (v5 != 0) ? v14 : 0U;
+        }
+        v5 = 0;
+        v4 = 0;
+        goto l33;
+    case 3:
+        put64(v3 + 984, 0);
+        put64(v3 + 992, 0);
+        put32(v3 + 344, 2);
+        v13 = 0;
+        if (get64(p1 + 752) == 0) v13 = get64(p1 + 792) == 0;
+        v8 = simulated_link_world_World_is_idle(p1);
+        nodes_ground_node_Ground_resume(v3 + 984, p1, v5);
+        if (get8(v3 + 984) == 0) {
+            p2 = get64(v3 + 992);
+            simulated_link_world_World_begin(p1, v3 + 344, v13, v8);
+            v13 = 0;
+            v8 = 10;
+        } else {
+            p2 = 0;
+            v8 = 3;
+            v13 = get8(v3 + 985);
+        }
+        v12 = p2 & 0xffffffffff000000ULL;
+        v16 = (uint32_t)(p2 >> 16);
+        v15 = (uint32_t)(p2 >> 8);
+        v17 = (uint32_t)p2;
+        v14 = 0;
+        v4 = 0;
+        v5 = 0;
+        goto l2;
+    case 4:
+        v4 = 0;
+        put64(v3 + 352, 0);
+        put64(v3 + 344, 0);
+        nodes_ground_node_Ground_peek(v3 + 984, p1);
+        v8 = 1;
+        if (get8(v3 + 984) != 1) {
+            nodes_ground_node_Ground_advance(p1);
+            goto l35;
+        }
+        v18 = get64(v3 + 1016);
+        v15 = get8(v3 + 1009);
+        v14 = get8(v3 + 1008);
+        v5 = get8(v3 + 1001);
+        v9 = get64(v3 + 1024);
+        v13 = get8(v3 + 1000);
+        p2 = (v13 == 2) ? ((v5 != 0) ? 4ULL : 2ULL) : (v9 + 2);
+        v19 = p2 + 6;
+        v8 = v19 == 0;
+        if (v8 != 0) {
+            p2 = 0;
+            v10 = v3 + 0xbd8;
+        } else {
+            if (v19 > 0x7fffffffffffffffULL) goto l97;
+            rattle_alloc_at(v3 + 96, v19, 1);
+            if (((uint32_t)get64(v3 + 96) & 1) == 0) goto l97;
+            v10 = get64(v3 + 104);
+            v4 = 0;
+            if (v19 != 1) {
+                v4 = p2 + 5;
+                if (v4 != 0) fill(v10, 0, v4);
+            }
+            put8(v10 + v4, 0);
+            p2 = v4 + 1;
+        }
+        tc_frame_encoding_encode(v3 + 344, v3 + 992, v10, p2);
+        if (get8(v3 + 344) != 0) UNREACHABLE;
+        v16 = p2 == 0;
+        if (v16 != 0) {
+            v11 = v3 + 0xbd8;
+        } else {
+            rattle_alloc_at(v3 + 80, p2, 1);
+            if (((uint32_t)get64(v3 + 80) & 1) == 0) {
+                if (v8 == 0) goto l101;
+                goto l97;
+            }
+            v11 = get64(v3 + 88);
+        }
+        if ((v11 - v10) < p2) {
+            v6 = p2 & 3;
+            v7 = 0;
+            if (p2 >= 4) {
+                v20 = p2 & ~3ULL;
+                v7 = 0;
+                do {
+                    v4 = v11 + v7;
+                    v12 = v10 + v7;
+                    put8(v4, get8(v12));
+                    put8(v4 + 1, get8(v12 + 1));
+                    put8(v4 + 2, get8(v12 + 2));
+                    put8(v4 + 3, get8(v12 + 3));
+                    v7 = v7 + 4;
+                } while (v20 != v7);
+                if (v6 == 0) goto l106;
+            }
+            v4 = v11 + v7;
+            v7 = v10 + v7;
+            do {
+                put8(v4, get8(v7));
+                v4 = v4 + 1;
+                v7 = v7 + 1;
+                v6 = v6 - 1;
+            } while (v6 != 0);
+        } else if (v16 == 0) copy(v11, v10, p2);
+    l106:;
+        v21 = 0;
+        v6 = 0;
+        v5 = v13 != 0 || (v5 & 255) != (get8(p1 + 74) & 255);
+        if (v5 == 0) {
+            v6 = v3 + 0xbd8;
+            v21 = v9 + 1;
+            if (v21 != 0) {
+                if (v21 > 0x7fffffffffffffffULL) goto l102;
+                rattle_alloc_at(v3 + 64, v21, 1);
+                if (((uint32_t)get64(v3 + 64) & 1) == 0) goto l102;
+                v6 = get64(v3 + 72);
+            }
+            put8(v6, (v14 << 6) + v15);
+            v4 = v6 + 1;
+            if ((v4 - v18) < v9) {
+                v20 = v9 & 3;
+                v4 = 0;
+                if (v9 >= 4) {
+                    v9 = v9 & ~3ULL;
+                    v4 = 0;
+                    do {
+                        v7 = v6 + v4;
+                        v12 = v18 + v4;
+                        put8(v7 + 1, get8(v12));
+                        put8(v7 + 2, get8(v12 + 1));
+                        put8(v7 + 3, get8(v12 + 2));
+                        put8(v7 + 4, get8(v12 + 3));
+                        v4 = v4 + 4;
+                    } while (v9 != v4);
+                    if (v20 == 0) goto l111;
+                }
+                do {
+                    put8(v6 + v4 + 1, get8(v18 + v4));
+                    v4 = v4 + 1;
+                    v20 = v20 - 1;
+                } while (v20 != 0);
+            } else if (v9 != 0) copy(v4, v18, v9);
+        }
+    l111:;
+        if (get64(p1 + 760) == get64(p1 + 752)) {
+            t4 = std_alloc_vec_deque_VecDeque_grow_1598ebf9113514c4(p1 + 744);
+            if (t4 == 0) goto l117;
+        }
+        if (get64(p1 + 0xf70) != get64(p1 + 0xf68)) goto l94;
+        t5 = std_alloc_vec_Vec_grow_amortized_1598ebf9113514c4(p1 + 0xf60, 1);
+        if (t5 != 0) goto l94;
+    l117:;
+        if (v8 == 0) rattle_dealloc_at(v10);
+        if (v16 == 0) rattle_dealloc_at(v11);
+        v12 = 0;
+        v8 = 0;
+        v4 = 1;
+        if ((v5 | (uint32_t)(v21 == 0)) == 0) {
+            rattle_dealloc_at(v6);
+            v8 = 0;
+            v14 = 0;
+            goto l28;
+        }
+        v14 = 0;
+        goto l28;
+    l102:;
+        if (v16 == 0) rattle_dealloc_at(v11);
+        if (v8 != 0) goto l97;
+    l101:;
+        rattle_dealloc_at(v10);
+    l97:;
+        v12 = 0;
+        goto l47;
+    l94:;
+        nodes_ground_node_Ground_advance(p1);
+        v4 = get64(p1 + 744);
+        v7 = get64(p1 + 752);
+        v18 = p1 + 776;
+        v12 = get64(v18);
+        v20 = v7 - v12;
+        v9 = get64(p1 + 768);
+        if (v20 < (get64(p1 + 760) - v9)) {
+            v4 = v4 + ((v9 + v20) * 24);
+            put64(v4 + 16, v19);
+            put64(v4 + 8, p2);
+            put64(v4, v10);
+        } else {
+            v4 = v4 + (v12 * 24);
+            put64(v4 + 16, v19);
+            put64(v4 + 8, p2);
+            put64(v4, v10);
+            put64(v18, v12 + 1);
+        }
+        put64(p1 + 752, v7 + 1);
+        if (v5 == 0) {
+            v4 = p1 + 0xf68;
+            v7 = get64(v4);
+            p1 = get64(p1 + 0xf60) + (v7 * 24);
+            put64(p1 + 16, v21);
+            put64(p1 + 8, v21);
+            put64(p1, v6);
+            put64(v4, v7 + 1);
+        }
+        v12 = v11 & 0xffffffffff000000ULL;
+        v16 = (uint32_t)(v11 >> 16);
+        v15 = (uint32_t)(v11 >> 8);
+        v17 = (uint32_t)v11;
+        v14 = 0;
+        v8 = 5;
+        v4 = 0;
+        v13 = 0;
+        v5 = 0;
+        v7 = p2;
+        goto l1;
+    case 5:
+        v14 = 0;
+        fill(v3 + 984, 0, 224);
+        put8(v3 + 588, 0);
+        put32(v3 + 584, 0);
+        put32(v3 + 576, 0);
+        put16(v3 + 580, 0);
+        put32(v3 + 568, 0);
+        put16(v3 + 572, 0);
+        v12 = 0;
+        put64(v3 + 544, 0);
+        put64(v3 + 552, 0);
+        put64(v3 + 560, 0);
+        put32(v3 + 536, 0);
+        put32(v3 + 539, 0);
+        put64(v3 + 512, 0);
+        put64(v3 + 520, 0);
+        put64(v3 + 528, 0);
+        put64(v3 + 488, 0);
+        put64(v3 + 496, 0);
+        put64(v3 + 504, 0);
+        put64(v3 + 480, 0);
+        put64(v3 + 472, 0);
+        put64(v3 + 464, 0);
+        v4 = get64(p1 + 752);
+        if (v4 == 0) {
+            v8 = 1;
+            v4 = 1;
+            goto l40;
+        }
+        p2 = get64(p1 + 744);
+        if (v4 != get64(p1 + 776)) p2 = p2 + (get64(p1 + 768) * 24);
+        v7 = get64(p2 + 8);
+        v11 = get64(p2);
+        v22 = 0;
+        put32(v3 + 640, 0);
+        put8(v3 + 644, 0);
+        put32(v3 + 632, 0);
+        put16(v3 + 636, 0);
+        put32(v3 + 624, 0);
+        put16(v3 + 628, 0);
+        v4 = 0;
+        put64(v3 + 600, 0);
+        put64(v3 + 608, 0);
+        put64(v3 + 616, 0);
+        put32(v3 + 592, 0);
+        put32(v3 + 595, 0);
+        v15 = 0;
+        v16 = 0;
+        if (v7 < 5) goto l127;
+        v5 = get8(v11);
+        if (v5 > 63) {
+            v16 = 1;
+            goto l128;
+        }
+        if ((v5 & 48) == 16) {
+            v16 = 2;
+            goto l128;
+        }
+        if ((v5 & 12) != 0) {
+            v16 = 3;
+            goto l128;
+        }
+        v16 = 4;
+        v23 = get8(v11 + 2);
+        v13 = ((v23 << 8) & 768) | get8(v11 + 3);
+        if (v7 != (uint64_t)(v13 + 1)) goto l128;
+        v15 = 0;
+        if (v13 < 6) goto l127;
+        v24 = get8(v11 + 1);
+        p2 = v7 - 2;
+        v13 = get16(v11 + p2);
+        t6 = octets_frame_check_check(v11, p2);
+        if ((((v13 << 8) | (v13 >> 8)) & 0xffff) != (t6 & 0xffff)) {
+            v16 = 5;
+            goto l128;
+        }
+        v13 = get8(v11 + 4);
+        if (v5 >= 32 && (v13 & 255) != 0) {
+            v16 = 6;
+            goto l128;
+        }
+        if ((v5 & 16) != 0) {
+            p2 = v7 - 7;
+            if (p2 > 3) goto l134;
+            v16 = 7;
+            v15 = 0;
+            switch ((uint32_t)p2) {
+            case 1:
+                v15 = 0;
+                if (get8(v11 + 5) != 0) {
+                    v16 = 8;
+                    goto l127;
+                }
+                v25 = 2;
+                v10 = 0;
+                v8 = 0;
+                p2 = 0;
+                v17 = 0;
+                v26 = 0;
+                v27 = 0;
+                goto l135;
+            case 2:
+                goto l134;
+            case 3:
+                v16 = 8;
+                if (get8(v11 + 5) != 130) goto l128;
+                v15 = 0;
+                if (get8(v11 + 6) != 0) goto l127;
+                v27 = get8(v11 + 7);
+                v26 = 1;
+                v25 = 2;
+                v10 = 0;
+                v8 = 0;
+                p2 = 0;
+                v17 = 0;
+                goto l135;
+            default:
+                goto l127;
+            }
+        }
+        if ((v7 - 9) > ~2ULL) {
+            v16 = 7;
+            goto l128;
+        }
+        v27 = 0;
+        v26 = (v5 < 32) ? v13 : 0U;
+        v25 = v5 > 31;
+        p2 = v7 - 8;
+        v10 = v11 + 6;
+        v13 = get8(v11 + 5);
+        v8 = v13 & 63;
+        v17 = v13 >> 6;
+    l135:;
+        v15 = 1;
+        if (get32(p1 + 400) != (((v5 << 8) & 768) | v24)) {
+            v16 = 0;
+            goto l127;
+        }
+        v16 = 0;
+        if (get32(p1 + 404) != ((v23 & 252) >> 2)) goto l127;
+        switch (v25) {
+        case 1:
+            v5 = get8(p1 + 477);
+            v29 = 1;
+            v15 = 3;
+            v31 = get8(p1 + 476);
+            v24 = get8(p1 + 475);
+            v25 = get8(p1 + 474);
+            v23 = get8(p1 + 473);
+            v32 = get8(p1 + 472);
+            v28 = 0;
+            v27 = 0;
+            if (v17 != 3 || ((uint32_t)(get64(p1 + 440) >> ((uint64_t)v8 & 63)) & 1) == 0 || p2 > (uint64_t)get32(p1 +
+                432)) {
+                v16 = 0;
+                v38 = 0;
+                goto l25;
+            }
+            v16 = 0;
+            v38 = 0;
+            v22 = 0;
+            v21 = 0;
+            v4 = 0;
+            if (p2 < 6) goto l24;
+            v13 = get8(v10);
+            if (v13 > 31 || (((v13 & 8) != 0 && (((v13 << 8) & 0x700) | get8(v10 + 1)) == 0x7ff) ||
+                ((((uint64_t)get8(v10 + 4) << 8) | (uint64_t)get8(v10 + 5)) + 7) != p2)) {
+                v38 = 0;
+                v16 = 0;
+                goto l25;
+            }
+            v4 = 1;
+            rattle_alloc_at(v3 + 264, p2, 1);
+            if (((uint32_t)get64(v3 + 264) & 1) == 0) {
+                v8 = 0;
+                put8(v3 + 644, 0);
+                put32(v3 + 640, 0);
+                put32(v3 + 632, 0);
+                put16(v3 + 636, 0);
+                put16(v3 + 628, 0);
+                p2 = 0;
+                put64(v3 + 600, 0);
+                put64(v3 + 608, 0);
+                put64(v3 + 616, 0);
+                put32(v3 + 592, 0);
+                put32(v3 + 595, 0);
+                put32(v3 + 584, 0);
+                put8(v3 + 588, 0);
+                put32(v3 + 576, 0);
+                put16(v3 + 580, 0);
+                put32(v3 + 624, 0);
+                put32(v3 + 568, 0);
+                put16(v3 + 572, 0);
+                put64(v3 + 560, get64(v3 + 616));
+                put64(v3 + 552, get64(v3 + 608));
+                put64(v3 + 544, get64(v3 + 600));
+                put32(v3 + 539, get32(v3 + 595));
+                put32(v3 + 536, get32(v3 + 592));
+                goto l10;
+            }
+            v21 = get64(v3 + 272);
+            if ((v21 - v10) < p2) {
+                v20 = p2 & 3;
+                v4 = 0;
+                if (p2 >= 4) {
+                    v19 = p2 & ~3ULL;
+                    v4 = 0;
+                    do {
+                        v6 = v21 + v4;
+                        v18 = v10 + v4;
+                        put8(v6, get8(v18));
+                        put8(v6 + 1, get8(v18 + 1));
+                        put8(v6 + 2, get8(v18 + 2));
+                        put8(v6 + 3, get8(v18 + 3));
+                        v4 = v4 + 4;
+                    } while (v19 != v4);
+                    if (v20 == 0) goto l235;
+                }
+                do {
+                    put8(v21 + v4, get8(v10 + v4));
+                    v38 = 1;
+                    v4 = v4 + 1;
+                    v16 = 1;
+                    v20 = v20 - 1;
+                } while (v20 != 0);
+                goto l234;
+            }
+            if (p2 != 0) copy(v21, v10, p2);
+        l235:;
+            v38 = 1;
+            v16 = 1;
+        l234:;
+            v22 = v8;
+            v4 = p2;
+            goto l24;
+        case 2:
+            v13 = get8(p1 + 477);
+            v23 = get8(p1 + 473);
+            p2 = p1 + 472;
+            v5 = 0;
+            if ((v26 & 255) != 0) {
+                v25 = 1;
+                if ((get8(p1 + 474) & 1) != 0) {
+                    v24 = get8(p1 + 475);
+                    v31 = get8(p1 + 476);
+                    goto l240;
+                }
+                v23 = v27;
+            }
+            v25 = 0;
+            v24 = 0;
+            v31 = 0;
+        l240:;
+            v32 = get8(p2);
+            put8(v3 + 644, 0);
+            put32(v3 + 640, 0);
+            put32(v3 + 632, 0);
+            put16(v3 + 636, 0);
+            put32(v3 + 624, 0);
+            put16(v3 + 628, 0);
+            v28 = 0;
+            put64(v3 + 600, 0);
+            put64(v3 + 608, 0);
+            put64(v3 + 616, 0);
+            put32(v3 + 592, 0);
+            put32(v3 + 595, 0);
+            v29 = 1;
+            v30 = (v13 + 1) & 3;
+            v15 = 4;
+            v16 = v26;
+            v13 = 0;
+            v6 = 0;
+            v17 = 0;
+            v8 = 0;
+            v10 = 0;
+            p2 = 0;
+            v18 = 0;
+            v9 = 0;
+            v19 = 0;
+            v33 = 0;
+            v20 = 0;
+            v37 = 0;
+            v36 = 0;
+            v34 = 0;
+            v35 = 0;
+            v38 = 0;
+            v22 = 0;
+            goto l14;
+        default:
+            break;
+        }
+        v5 = 0;
+        put32(v3 + 776, 0);
+        put8(v3 + 780, 0);
+        put32(v3 + 768, 0);
+        put16(v3 + 772, 0);
+        put32(v3 + 760, 0);
+        put16(v3 + 764, 0);
+        v28 = 0;
+        put64(v3 + 736, 0);
+        put64(v3 + 744, 0);
+        put64(v3 + 752, 0);
+        put32(v3 + 728, 0);
+        put32(v3 + 731, 0);
+        put64(v3 + 712, 0);
+        put64(v3 + 704, 0);
+        put64(v3 + 696, 0);
+        put64(v3 + 688, 0);
+        put64(v3 + 680, 0);
+        put64(v3 + 672, 0);
+        put32(v3 + 667, 0);
+        put32(v3 + 664, 0);
+        put8(v3 + 660, 0);
+        put32(v3 + 656, 0);
+        put16(v3 + 652, 0);
+        put32(v3 + 648, 0);
+        put16(v3 + 724, 0);
+        put32(v3 + 720, 0);
+        v29 = 1;
+        v30 = get8(p1 + 477);
+        v31 = get8(p1 + 476);
+        v24 = get8(p1 + 475);
+        v23 = get8(p1 + 473);
+        v32 = get8(p1 + 472);
+        v27 = 5;
+        if ((get8(p1 + 474) & 1) != 0) {
+            v25 = 1;
+        } else if ((v26 & 255) == (v23 & 255)) {
+            v25 = 0;
+            if ((v24 & 1) != 0) {
+                v24 = 1;
+                goto l146;
+            }
+            if (get64(p1 + 568) < (uint64_t)get32(p1 + 448)) {
+                put64(v3 + 800, 0);
+                put64(v3 + 792, 0);
+                put64(v3 + 784, 0);
+                v20 = get64(p1 + 504);
+                v18 = get64(p1 + 512);
+                if (v18 == 0) {
+                    v15 = 0;
+                } else {
+                    v6 = v18 - 1;
+                    v4 = v20;
+                    do {
+                        v15 = get8(v4) == 1;
+                        if (v15 != 0) break;
+                        v4 = v4 + 32;
+                        v5 = v6 != 0;
+                        v6 = v6 - 1;
+                    } while (v5 != 0);
+                }
+                put64(v3 + 824, 0);
+                put64(v3 + 816, 0);
+                put64(v3 + 808, 0);
+                v6 = get64(p1 + 488);
+                v4 = (uint64_t)v8;
+                if (((uint32_t)(v6 >> (v4 & 63)) & 1) == 0) {
+                    v20 = 0;
+                    put64(v3 + 696, 0);
+                    put64(v3 + 704, 0);
+                    put64(v3 + 712, 0);
+                    v13 = 0;
+                    v5 = 1;
+                    v33 = 0;
+                    v19 = 0;
+                    v34 = 0;
+                    v35 = 0;
+                    v9 = v3 + 0xbd8;
+                    v36 = v9;
+                    v18 = 0;
+                    v37 = 0;
+                    v28 = 0;
+                    goto l16;
+                }
+                v13 = 0;
+                if (v18 <= v4) {
+                    v16 = 1;
+                    v9 = 0;
+                    v19 = 0;
+                } else {
+                    v16 = 1;
+                    v9 = 0;
+                    v19 = 0;
+                    v4 = v20 + (v4 << 5);
+                    if (get8(v4) == 1) {
+                        v19 = get64(v4 + 16);
+                        v9 = get64(v4 + 8);
+                        v13 = 1;
+                        v16 = 0;
+                    }
+                }
+                put64(v3 + 832, 0);
+                put64(v3 + 840, 0);
+                put64(v3 + 848, 0);
+                put64(v3 + 952, 0);
+                put64(v3 + 960, 0);
+                put64(v3 + 968, 0);
+                put64(v3 + 975, 0);
+                switch (v17) {
+                case 1:
+                    v5 = get32(p1 + 484);
+                    v4 = (uint64_t)v5;
+                    if (p2 > v4) {
+                        v36 = v3 + 0xbd8;
+                        v5 = 1;
+                        v13 = 4;
+                        goto l20;
+                    }
+                    v34 = 0;
+                    v20 = v3 + 0xbd8;
+                    if (v15 != 0) {
+                        v36 = v20;
+                        v35 = 0;
+                    } else {
+                        v18 = clz64(v6);
+                        v35 = 64 - v18;
+                        if (v6 == 0) {
+                            v36 = v20;
+                        } else {
+                            rattle_alloc_at(v3 + 232, v35 << 5, 8);
+                            if (((uint32_t)get64(v3 + 232) & 1) == 0) goto l23;
+                            v36 = get64(v3 + 240);
+                            v4 = 0x800 - (v18 << 5);
+                            if (v4 != 0) fill(v36, 0, v4);
+                            v5 = get32(p1 + 484);
+                            v4 = (uint64_t)v5;
+                            v34 = v35;
+                        }
+                    }
+                    if (v5 != 0) {
+                        rattle_alloc_at(v3 + 216, v4, 1);
+                        if (((uint32_t)get64(v3 + 216) & 1) == 0) goto l206;
+                        v20 = get64(v3 + 224);
+                    }
+                    put64(v3 + 360, v4);
+                    v18 = 0;
+                    put64(v3 + 352, 0);
+                    put64(v3 + 344, v20);
+                    t7 = std_alloc_vec_Vec_extend_from_slice_672334860c861157(v3 + 344, v10, p2);
+                    if ((t7 & 255) == 0) {
+                        v4 = get64(v3 + 360);
+                        put64(v3 + 975, v4);
+                        v6 = get64(v3 + 352);
+                        put64(v3 + 967, v6);
+                        v20 = get64(v3 + 344);
+                        put64(v3 + 959, v20);
+                        put64(v3 + 832, v20);
+                        put64(v3 + 840, v6);
+                        put64(v3 + 848, v4);
+                        v9 = v3 + 0xbd8;
+                        v37 = 2;
+                        v5 = v13;
+                        goto l18;
+                    }
+                    if (get64(v3 + 360) != 0) rattle_dealloc_at(get64(v3 + 344));
+                l206:;
+                    if (v34 != 0) {
+                        p2 = v36;
+                        do {
+                            if (get8(p2) != 0 && get64(p2 + 24) != 0) rattle_dealloc_at(get64(p2 + 8));
+                            p2 = p2 + 32;
+                            v34 = v34 - 1;
+                        } while (v34 != 0);
+                    }
+                    if (v35 == 0) goto l23;
+                    rattle_dealloc_at(v36);
+                    goto l23;
+                case 2:
+                    v5 = 1;
+                    v18 = 0;
+                    v37 = 1;
+                    if (v16 != 0) {
+                        v36 = v3 + 0xbd8;
+                        goto l21;
+                    }
+                    v21 = v19 + p2;
+                    if (v21 > (uint64_t)get32(p1 + 484)) {
+                        v36 = v3 + 0xbd8;
+                        v13 = 4;
+                        goto l19;
+                    }
+                    v34 = 0;
+                    put64(v3 + 344, 0);
+                    put64(v3 + 352, 0);
+                    put64(v3 + 360, 0);
+                    put64(v3 + 368, 0);
+                    put64(v3 + 376, 0);
+                    put64(v3 + 896, 0);
+                    put64(v3 + 904, 0);
+                    put64(v3 + 912, 0);
+                    put64(v3 + 928, 0);
+                    put64(v3 + 936, 0);
+                    put64(v3 + 944, 0);
+                    if (v21 == 0) {
+                        v36 = v3 + 0xbd8;
+                    } else {
+                        rattle_alloc_at(v3 + 248, v21, 1);
+                        if (((uint32_t)get64(v3 + 248) & 1) == 0) goto l23;
+                        v36 = get64(v3 + 256);
+                    }
+                    put64(v3 + 864, 0);
+                    put64(v3 + 856, v36);
+                    put64(v3 + 872, v21);
+                    if (v19 > v21) {
+                        v5 = std_alloc_vec_Vec_grow_amortized_a351ad16c7c032ee(v3 + 856, v19);
+                        v34 = get64(v3 + 864);
+                        v21 = get64(v3 + 872);
+                        if (v5 == 0) {
+                            v28 = v34;
+                            goto l213;
+                        }
+                        v36 = get64(v3 + 856);
+                    }
+                    v28 = v34 + v19;
+                    v38 = v36 + v34;
+                    if ((v38 - v9) < v19) {
+                        v20 = v19 & 3;
+                        v6 = 0;
+                        if (v19 >= 4) {
+                            v19 = v19 & ~3ULL;
+                            v6 = 0;
+                            do {
+                                v4 = v38 + v6;
+                                v18 = v9 + v6;
+                                put8(v4, get8(v18));
+                                put8(v4 + 1, get8(v18 + 1));
+                                put8(v4 + 2, get8(v18 + 2));
+                                put8(v4 + 3, get8(v18 + 3));
+                                v6 = v6 + 4;
+                            } while (v19 != v6);
+                            if (v20 == 0) goto l216;
+                        }
+                        v4 = v9 + v6;
+                        v6 = v36 + (v34 + v6);
+                        do {
+                            put8(v6, get8(v4));
+                            v6 = v6 + 1;
+                            v4 = v4 + 1;
+                            v20 = v20 - 1;
+                        } while (v20 != 0);
+                    } else if (v19 != 0) copy(v38, v9, v19);
+                l216:;
+                    put64(v3 + 872, v21);
+                    put64(v3 + 864, v28);
+                l213:;
+                    if (p2 > (v21 - v28)) {
+                        v5 = std_alloc_vec_Vec_grow_amortized_a351ad16c7c032ee(v3 + 856, p2);
+                        v21 = get64(v3 + 872);
+                        v38 = get64(v3 + 864);
+                        if (v5 == 0) {
+                            v34 = get64(v3 + 856);
+                            goto l221;
+                        }
+                        v28 = v38;
+                    }
+                    v38 = v28 + p2;
+                    v34 = get64(v3 + 856);
+                    v19 = v34 + v28;
+                    if ((v19 - v10) >= p2) {
+                        if (p2 != 0) copy(v19, v10, p2);
+                    } else {
+                        v20 = p2 & 3;
+                        v6 = 0;
+                        if ((p2 - 1) >= 3) {
+                            v9 = p2 & ~3ULL;
+                            v6 = 0;
+                            do {
+                                v4 = v19 + v6;
+                                v18 = v10 + v6;
+                                put8(v4, get8(v18));
+                                put8(v4 + 1, get8(v18 + 1));
+                                put8(v4 + 2, get8(v18 + 2));
+                                put8(v4 + 3, get8(v18 + 3));
+                                v6 = v6 + 4;
+                            } while (v9 != v6);
+                            if (v20 == 0) goto l221;
+                        }
+                        v4 = v10 + v6;
+                        v6 = v34 + (v28 + v6);
+                        do {
+                            put8(v6, get8(v4));
+                            v6 = v6 + 1;
+                            v4 = v4 + 1;
+                            v20 = v20 - 1;
+                        } while (v20 != 0);
+                    }
+                l221:;
+                    v13 = 4;
+                    if (v38 <= (uint64_t)get32(p1 + 484)) {
+                        v13 = 3;
+                        if (v38 >= 6) {
+                            v5 = get8(v34);
+                            if (v5 <= 31 && ((v5 & 8) == 0 || (((v5 << 8) & 0x700) | get8(v34 + 1)) != 0x7ff)) {
+                                put64(v3 + 360, 0);
+                                put64(v3 + 344, 0);
+                                put64(v3 + 368, 0);
+                                put64(v3 + 376, 0);
+                                v6 = (uint64_t)get8(v34 + 4);
+                                v18 = (uint64_t)get8(v34 + 5);
+                                put64(v3 + 352, v3 + 0xbd8);
+                                v4 = v3 + 360;
+                                v13 = 3;
+                                if (((v18 | (v6 << 8)) + 7) != v38) goto l229;
+                                put64(v3 + 912, v21);
+                                put64(v3 + 904, v38);
+                                put64(v3 + 896, v34);
+                                smallvec_small_vec_SmallVec_push_reserved_ed127ccbaaf726c4(v3 + 344, v3 + 896);
+                                v13 = 0;
+                                v18 = (uint64_t)get8(v3 + 344);
+                                v9 = get64(v3 + 352);
+                                v5 = 0;
+                                goto l228;
+                            }
+                        }
+                    }
+                    put64(v3 + 360, 0);
+                    put64(v3 + 344, 0);
+                    put64(v3 + 368, 0);
+                    put64(v3 + 376, 0);
+                    put64(v3 + 352, v3 + 0xbd8);
+                    v4 = v3 + 360;
+                l229:;
+                    v5 = 1;
+                    v9 = v3 + 0xbd8;
+                    v18 = 0;
+                    if (v21 != 0) rattle_dealloc_at(v34);
+                l228:;
+                    put64(v3 + 832, get64(v3 + 928));
+                    v33 = get64(v4 + 8);
+                    put64(v3 + 840, get64(v3 + 936));
+                    v20 = get64(v4 + 16);
+                    put64(v3 + 848, get64(v3 + 944));
+                    v19 = get64(v3 + 360);
+                    v35 = 0;
+                    v36 = v3 + 0xbd8;
+                    goto l159;
+                case 3:
+                    map_service_packets_fault_of_alone(v3 + 208, p1 + 480, v10, p2);
+                    v5 = 1;
+                    if (get8(v3 + 208) == 1) {
+                        v13 = get8(v3 + 209);
+                        v36 = v3 + 0xbd8;
+                        goto l20;
+                    }
+                    break;
+                default:
+                    v5 = 1;
+                    v18 = 0;
+                    v37 = 1;
+                    if (v16 != 0) {
+                        v36 = v3 + 0xbd8;
+                        goto l21;
+                    }
+                    if ((v19 + p2) <= (uint64_t)get32(p1 + 484)) {
+                        v36 = v3 + 0xbd8;
+                        v13 = 0;
+                        v37 = 3;
+                        v5 = 0;
+                        goto l19;
+                    }
+                    v36 = v3 + 0xbd8;
+                    v13 = 4;
+                    goto l19;
+                }
+                if (get8(p1 + 496) != 1) {
+                    v5 = p2 == 0;
+                    if (v5 != 0) {
+                        v9 = v3 + 0xbd8;
+                    } else {
+                        if (p2 > 0x7fffffffffffffffULL) goto l23;
+                        rattle_alloc_at(v3 + 192, p2, 1);
+                        if (((uint32_t)get64(v3 + 192) & 1) == 0) goto l23;
+                        v9 = get64(v3 + 200);
+                    }
+                    if ((v9 - v10) < p2) {
+                        v20 = p2 & 3;
+                        v6 = 0;
+                        if ((p2 - 1) >= 3) {
+                            v19 = p2 & ~3ULL;
+                            v6 = 0;
+                            do {
+                                v4 = v9 + v6;
+                                v18 = v10 + v6;
+                                put8(v4, get8(v18));
+                                put8(v4 + 1, get8(v18 + 1));
+                                put8(v4 + 2, get8(v18 + 2));
+                                put8(v4 + 3, get8(v18 + 3));
+                                v6 = v6 + 4;
+                            } while (v19 != v6);
+                            if (v20 == 0) goto l197;
+                        }
+                        v4 = v9 + v6;
+                        v6 = v10 + v6;
+                        do {
+                            put8(v4, get8(v6));
+                            v4 = v4 + 1;
+                            v6 = v6 + 1;
+                            v20 = v20 - 1;
+                        } while (v20 != 0);
+                    } else if (v5 == 0) copy(v9, v10, p2);
+                l197:;
+                    v4 = v3 + 872;
+                    put64(v3 + 888, 1);
+                    put64(v3 + 880, p2);
+                    put64(v3 + 872, p2);
+                    v18 = 0;
+                    v19 = p2;
+                    goto l170;
+                }
+                v20 = 0;
+                put64(v3 + 376, 0);
+                put64(v3 + 368, 0);
+                put64(v3 + 360, 0);
+                put64(v3 + 352, 0);
+                put64(v3 + 344, 0);
+                if (p2 < 6) {
+                    v18 = 0;
+                    put64(v3 + 376, 0);
+                    put64(v3 + 368, 0);
+                    put64(v3 + 360, 0);
+                    v9 = v3 + 0xbd8;
+                    goto l171;
+                }
+                v6 = p2;
+                v4 = v10;
+                do {
+                    v5 = get8(v4);
+                    if (v5 > 31 || ((v5 & 8) != 0 && (((v5 << 8) & 0x700) | get8(v4 + 1)) == 0x7ff)) break;
+                    v18 = (((uint64_t)get8(v4 + 4) << 8) | (uint64_t)get8(v4 + 5)) + 7;
+                    if (v6 < v18) break;
+                    v4 = v4 + v18;
+                    v20 = v20 + 1;
+                    v6 = v6 - v18;
+                } while (v6 > 5);
+                v4 = v3 + 0xbd8;
+                v6 = 0;
+                v18 = 0;
+                if (v20 >= 2) {
+                    if (v20 > 0x555555555555555ULL) goto l23;
+                    rattle_alloc_at(v3 + 176, v20 * 24, 8);
+                    if (((uint32_t)get64(v3 + 176) & 1) == 0) goto l23;
+                    v4 = get64(v3 + 184);
+                    v6 = 1;
+                    v18 = v20;
+                }
+                put64(v3 + 376, 0);
+                put64(v3 + 368, v18);
+                put64(v3 + 360, 0);
+                put64(v3 + 352, v4);
+                put64(v3 + 344, v6);
+                v36 = v3 + 344 + 8;
+                v34 = 0;
+                v19 = v10;
+                v28 = p2;
+                do {
+                    v5 = get8(v19);
+                    if (v5 > 31 || ((v5 & 8) != 0 && (((v5 << 8) & 0x700) | get8(v19 + 1)) == 0x7ff)) break;
+                    v4 = (uint64_t)get8(v19 + 4) << 8;
+                    v18 = (uint64_t)get8(v19 + 5);
+                    v21 = (v4 | v18) + 7;
+                    if (v28 < v21) break;
+                    rattle_alloc_at(v3 + 160, v21, 1);
+                    if (((uint32_t)get64(v3 + 160) & 1) == 0) goto l178;
+                    v9 = get64(v3 + 168);
+                    if ((v9 - v19) < v21) {
+                        v20 = v21 & 3;
+                        v6 = 0;
+                        if ((v18 + v4 + 6) >= 3) {
+                            v38 = v21 & 0x1fffc;
+                            v6 = 0;
+                            do {
+                                v4 = v9 + v6;
+                                v18 = v19 + v6;
+                                put8(v4, get8(v18));
+                                put8(v4 + 1, get8(v18 + 1));
+                                put8(v4 + 2, get8(v18 + 2));
+                                put8(v4 + 3, get8(v18 + 3));
+                                v6 = v6 + 4;
+                            } while (v38 != v6);
+                            if (v20 == 0) goto l182;
+                        }
+                        v4 = v9 + v6;
+                        v6 = v19 + v6;
+                        do {
+                            put8(v4, get8(v6));
+                            v4 = v4 + 1;
+                            v6 = v6 + 1;
+                            v20 = v20 - 1;
+                        } while (v20 != 0);
+                    } else if (v21 != 0) copy(v9, v19, v21);
+                l182:;
+                    v28 = v28 - v21;
+                    if (get8(v3 + 344) == 0) {
+                        v4 = v36 + (v34 * 24);
+                        put64(v4 + 8, v21);
+                        v6 = get64(v4 + 16);
+                        put64(v4 + 16, v21);
+                        v18 = get64(v4);
+                        put64(v4, v9);
+                        if (v6 != 0) rattle_dealloc_at(v18);
+                        v34 = v34 + 1;
+                        put64(v3 + 376, v34);
+                    } else {
+                        v6 = get64(v3 + 360);
+                        v4 = get64(v3 + 352) + (v6 * 24);
+                        put64(v4 + 16, v21);
+                        put64(v4 + 8, v21);
+                        put64(v4, v9);
+                        put64(v3 + 360, v6 + 1);
+                    }
+                    v19 = v19 + v21;
+                } while (v28 >= 6);
+                v18 = (uint64_t)get8(v3 + 344);
+                v9 = get64(v3 + 352);
+                goto l171;
+            l178:;
+                v6 = get64(v3 + 368);
+                v7 = get64(v3 + 352);
+                if (get8(v3 + 344) == 0) {
+                    if (v6 != 0) goto l190;
+                    goto l23;
+                }
+                v4 = get64(v3 + 360);
+                if (v4 != 0) {
+                    p2 = v7;
+                    do {
+                        if (get64(p2 + 16) != 0) rattle_dealloc_at(get64(p2));
+                        p2 = p2 + 24;
+                        v4 = v4 - 1;
+                    } while (v4 != 0);
+                }
+                if (v6 == 0) goto l23;
+            l190:;
+                rattle_dealloc_at(v7);
+                goto l23;
+            l171:;
+                put64(v3 + 912, get64(v3 + 376));
+                put64(v3 + 904, get64(v3 + 368));
+                v19 = get64(v3 + 360);
+                put64(v3 + 896, v19);
+                v4 = v3 + 896;
+            l170:;
+                v35 = 0;
+                put64(v3 + 832, 0);
+                put64(v3 + 840, 0);
+                put64(v3 + 848, 0);
+                v20 = get64(v4 + 16);
+                v33 = get64(v4 + 8);
+                v36 = v3 + 0xbd8;
+                v37 = 1;
+                v5 = v13;
+            l159:;
+                v34 = 0;
+                goto l17;
+            }
+            v27 = 2;
+            v24 = 1;
+            v31 = 1;
+        } else {
+            v25 = 1;
+            v13 = v26 - v23;
+            v8 = (v32 >> 1) & 127;
+            if ((v13 & 255) >= v8) {
+                if ((v13 & 255) > (~v8 & 255)) {
+                    v27 = ((v24 & 1) != 0) ? 5U : 3U;
+                    v25 = 0;
+                } else {
+                    v27 = 4;
+                }
+            } else if ((v24 & 1) != 0) {
+                v25 = 0;
+                v24 = 1;
+            } else {
+                v31 = 1;
+                v25 = 0;
+                v24 = 0;
+                v27 = 1;
+            }
+        }
+    l146:;
+        put8(v3 + 644, 0);
+        put32(v3 + 640, 0);
+        put32(v3 + 632, 0);
+        put16(v3 + 636, 0);
+        put32(v3 + 624, 0);
+        put16(v3 + 628, 0);
+        put64(v3 + 600, 0);
+        put64(v3 + 608, 0);
+        put64(v3 + 616, 0);
+        put32(v3 + 592, 0);
+        put32(v3 + 595, 0);
+        v15 = 2;
+        v13 = 0;
+        goto l22;
+    l134:;
+        v16 = 8;
+    l128:;
+        v15 = 0;
+    l127:;
+        put32(v3 + 584, 0);
+        put8(v3 + 588, 0);
+        put32(v3 + 576, 0);
+        put16(v3 + 580, 0);
+        put32(v3 + 568, 0);
+        put16(v3 + 572, 0);
+        put64(v3 + 544, 0);
+        put64(v3 + 552, 0);
+        put64(v3 + 560, 0);
+        put32(v3 + 536, 0);
+        put32(v3 + 539, 0);
+        v30 = get8(p1 + 477);
+        v31 = get8(p1 + 476);
+        v24 = get8(p1 + 475);
+        v25 = get8(p1 + 474);
+        v23 = get8(p1 + 473);
+        v32 = get8(p1 + 472);
+        v21 = 0;
+        v38 = 0;
+        v35 = 0;
+        v34 = 0;
+        v36 = 0;
+        v37 = 0;
+        v20 = 0;
+        v33 = 0;
+        v19 = 0;
+        v9 = 0;
+        v18 = 0;
+        v13 = 0;
+        v5 = 0;
+        p2 = 0;
+        v10 = 0;
+        v8 = 0;
+        v17 = 0;
+        v6 = 0;
+        v28 = 0;
+        v27 = 0;
+        goto l12;
+    case 6:
+        p2 = get64(p1 + 752);
+        if (p2 == 0) goto l31;
+        v4 = p1 + 776;
+        if (get64(v4) != p2) {
+            v7 = get64(p1 + 768);
+        } else {
+            v7 = 0;
+            put64(v4, 0);
+        }
+        put64(p1 + 752, p2 - 1);
+        put64(p1 + 768, v7 + 1);
+        v8 = 2;
+        v4 = 0;
+        p1 = get64(p1 + 744) + (v7 * 24);
+        if (get64(p1 + 16) == 0) goto l35;
+        rattle_dealloc_at(get64(p1));
+        goto l35;
+    case 7:
+        v12 = 0;
+        p2 = get64(p1 + 752);
+        if (p2 == 0) goto l30;
+        if (v6 < 5) {
+            v15 = 0;
+            goto l245;
+        }
+        v5 = get8(v7);
+        if (v5 > 63) {
+            v15 = 1;
+            goto l245;
+        }
+        if ((v5 & 48) == 16) {
+            v15 = 2;
+            goto l245;
+        }
+        if ((v5 & 12) != 0) {
+            v15 = 3;
+            goto l245;
+        }
+        v15 = 4;
+        v4 = (((uint64_t)get8(v7 + 2) << 8) & 768) | (uint64_t)get8(v7 + 3);
+        if (v6 != (v4 + 1) || v4 < 6) goto l245;
+        v4 = v6 - 2;
+        v13 = get16(v7 + v4);
+        t10 = octets_frame_check_check(v7, v4);
+        if ((((v13 << 8) | (v13 >> 8)) & 0xffff) != (t10 & 0xffff)) {
+            v15 = 5;
+            goto l245;
+        }
+        if (v5 >= 32 && (get8(v7 + 4) & 255) != 0) {
+            v15 = 6;
+            goto l245;
+        }
+        if ((v5 & 16) != 0) {
+            v4 = v6 - 7;
+            if (v4 <= 3) {
+                v15 = 7;
+                switch ((uint32_t)v4) {
+                case 1:
+                    if (get8(v7 + 5) == 0) goto l36;
+                    break;
+                case 2:
+                    break;
+                case 3:
+                    v15 = 8;
+                    if (get8(v7 + 5) != 130 || get8(v7 + 6) != 0) goto l245;
+                    goto l36;
+                default:
+                    goto l245;
+                }
+            }
+            v15 = 8;
+        } else {
+            if ((v6 - 9) < ~1ULL) goto l36;
+            v15 = 7;
+        }
+    l245:;
+        v4 = p1 + 776;
+        if (get64(v4) != p2) {
+            v7 = get64(p1 + 768);
+        } else {
+            v7 = 0;
+            put64(v4, 0);
+        }
+        put64(p1 + 752, p2 - 1);
+        put64(p1 + 768, v7 + 1);
+        v8 = 7;
+        v4 = 0;
+        p1 = get64(p1 + 744) + (v7 * 24);
+        if (get64(p1 + 16) == 0) goto l37;
+        rattle_dealloc_at(get64(p1));
+        goto l37;
+    case 8:
+        put64(v3 + 952, 0);
+        put64(v3 + 960, 0);
+        put64(v3 + 968, 0);
+        put64(v3 + 344, 0);
+        put64(v3 + 352, 0);
+        put64(v3 + 360, 0);
+        put16(v3 + 368, 0);
+        v5 = get32(p1 + 460);
+        v11 = (uint64_t)v5;
+        if (v5 == 0) {
+            v9 = v3 + 0xbd8;
+        } else {
+            v4 = 1;
+            rattle_alloc_at(v3 + 280, v11, 1);
+            if (((uint32_t)get64(v3 + 280) & 1) == 0) {
+                p1 = 0;
+                put64(v3 + 960, 0);
+                put64(v3 + 952, 0);
+                p2 = v3 + 952;
+                goto l39;
+            }
+            v9 = get64(v3 + 288);
+        }
+        put64(v3 + 912, v11);
+        put64(v3 + 904, 0);
+        put64(v3 + 896, v9);
+        if (get64(p1 + 800) == get64(p1 + 792)) {
+            t11 = std_alloc_vec_deque_VecDeque_grow_1598ebf9113514c4(p1 + 784);
+            if (t11 == 0) {
+                p1 = 0;
+                put64(v3 + 960, 0);
+                put64(v3 + 952, 0);
+                p2 = v3 + 952;
+                v4 = 1;
+                if (v5 == 0) goto l39;
+                rattle_dealloc_at(v9);
+                goto l39;
+            }
+        }
+        v15 = get8(p1 + 473);
+        v8 = get8(p1 + 477);
+        v13 = get32(p1 + 404);
+        v5 = get8(p1 + 476);
+        v14 = get8(p1 + 475);
+        v16 = get8(p1 + 474);
+        fill(v3 + 984, 0, 0x800);
+        if ((v13 & 192) != 0 || (v8 & 255) > 3) UNREACHABLE;
+        put16(v3 + 861, 0);
+        put8(v3 + 863, 0);
+        put8(v3 + 860, get8(p1 + 649));
+        put8(v3 + 859, get8(p1 + 648));
+        put8(v3 + 858, get8(p1 + 634));
+        put16(v3 + 856, get16(p1 + 632));
+        put64(v3 + 872, (uint64_t)get32(p1 + 696));
+        v7 = p1 + 656;
+        put64(v3 + 864, get64(v7));
+        p2 = p1 + 688;
+        v4 = get64(p2);
+        v12 = p1 + 672;
+        v16 = v16 << 5;
+        v14 = v14 << 4;
+        v17 = v5 << 3;
+        t12 = get64(p1 + 664) + v4;
+        t13 = get64(v12) - v4;
+        v4 = p1 + 640;
+        tm_link_turn_put_next(v3 + 856, t12, t13, (((((((v16 | (v8 << 1)) | v14) | v17) & 255) << 16) | ((v13 << 10) &
+            0xfc00)) | (v15 << 24)) | 1, v3 + 984, get64(v4));
+        v18 = get64(v4);
+        p2 = get64(p2);
+        v4 = get64(v12);
+        v7 = get64(v7);
+        if (v7 == 0 && v4 == p2) goto l261;
+        v12 = v4 - p2;
+        v4 = v18 - 12;
+        v10 = (v4 < v7) ? v4 : v7;
+        v4 = v4 - v10;
+        v6 = (v12 < v4) ? v12 : v4;
+        if (v4 <= v12) {
+            v7 = v7 - v10;
+        } else {
+            v7 = v4 - v12;
+            v7 = (v7 < 7) ? (v7 ^ 7) : 0ULL;
+        }
+        put64(p1 + 688, v6 + p2);
+        put64(p1 + 656, v7);
+        v5 = get32(p1 + 696);
+        v12 = (uint64_t)v5;
+        if (v4 > v12) {
+            v20 = p1 + 712;
+            p2 = get64(v20);
+            v6 = p1 + 736;
+            v10 = p1 + 728;
+            v19 = p1 + 704;
+            do {
+                if (p2 == 0) {
+                    v5 = 0;
+                    goto l265;
+                }
+                if (p2 != get64(v6)) {
+                    v7 = get64(v10);
+                } else {
+                    v7 = 0;
+                    put64(v6, 0);
+                }
+                p2 = p2 - 1;
+                put64(v20, p2);
+                put64(v10, v7 + 1);
+                v4 = v4 - v12;
+                v5 = get32(get64(v19) + (v7 << 2));
+                v7 = (uint64_t)v5;
+                v12 = v7;
+            } while (v4 > v7);
+        }
+        v5 = v5 - (uint32_t)v4;
+    l265:;
+        put32(p1 + 696, v5);
+    l261:;
+        v5 = v14 | v16;
+        p2 = p1 + 648;
+        put8(p2, get8(p2) + 1);
+        p2 = p1 + 649;
+        put8(p2, get8(p2) + 1);
+        p2 = 0;
+        if (v18 > v11) {
+            t14 = std_alloc_vec_Vec_grow_amortized_49bbd27f022ae39a(v3 + 896, v18);
+            if (t14 == 0) goto l271;
+            v9 = get64(v3 + 896);
+            v11 = get64(v3 + 912);
+            p2 = get64(v3 + 904);
+        }
+        if (v18 != 0) copy(v9 + p2, v3 + 984, v18);
+        put64(v3 + 912, v11);
+        put64(v3 + 904, p2 + v18);
+    l271:;
+        v5 = v5 | v17;
+        p2 = get64(p1 + 784);
+        v4 = get64(p1 + 792);
+        v12 = p1 + 816;
+        v7 = get64(v12);
+        v6 = v4 - v7;
+        v10 = get64(p1 + 808);
+        if (v6 < (get64(p1 + 800) - v10)) {
+            p2 = p2 + ((v10 + v6) * 24);
+            put64(p2 + 16, get64(v3 + 912));
+            put64(p2 + 8, get64(v3 + 904));
+            put64(p2, get64(v3 + 896));
+        } else {
+            p2 = p2 + (v7 * 24);
+            put64(p2 + 16, get64(v3 + 912));
+            put64(p2 + 8, get64(v3 + 904));
+            put64(p2, get64(v3 + 896));
+            put64(v12, v7 + 1);
+        }
+        put64(p1 + 792, v4 + 1);
+        t15 = (((((uint64_t)v8 & 255) << 24) | (uint64_t)((v13 << 8) & 0x3f00)) | ((uint64_t)v15 << 32)) |
+            (((uint64_t)v5 & 255) << 16);
+        v13 = (uint32_t)(t15 >> 8);
+        p2 = (v3 + 344) | 2;
+        v8 = 6;
+        v4 = 0;
+        p1 = get64(v3 + 346);
+        goto l38;
+    case 9:
+        v12 = 0;
+        put64(v3 + 1008, 0);
+        put64(v3 + 1000, 0);
+        put64(v3 + 992, 0);
+        put64(v3 + 984, 0);
+        v14 = 0;
+        v4 = 1;
+        v7 = get64(p1 + 792);
+        if (v7 == 0) {
+            v8 = 1;
+            goto l40;
+        }
+        p2 = get64(p1 + 784);
+        if (v7 != get64(p1 + 816)) p2 = p2 + (get64(p1 + 808) * 24);
+        v5 = get8(p1 + 75);
+        v13 = get8(p1 + 73);
+        nodes_ground_node_Ground_telemetry(v3 + 984, p1, get64(p2), get64(p2 + 8));
+        if (get8(v3 + 984) != 0) {
+            v8 = 0;
+            goto l40;
+        }
+        v7 = (uint64_t)get32(v3 + 1008);
+        p2 = get64(v3 + 1000);
+        v16 = get8(v3 + 994);
+        v15 = get8(v3 + 993);
+        v17 = get8(v3 + 992);
+        v4 = get64(p1 + 792);
+        if (v4 != 0) {
+            v10 = p1 + 816;
+            if (get64(v10) != v4) {
+                v6 = get64(p1 + 808);
+            } else {
+                v6 = 0;
+                put64(v10, 0);
+            }
+            put64(p1 + 792, v4 - 1);
+            put64(p1 + 808, v6 + 1);
+            v4 = get64(p1 + 784) + (v6 * 24);
+            if (get64(v4 + 16) != 0) rattle_dealloc_at(get64(v4));
+        }
+        v4 = p1 + 0xf78;
+        put64(v4, get64(v4) + ((uint64_t)(get8(p1 + 75) - v5) & 255));
+        v5 = 1;
+        v4 = p1 + 832;
+        if (get8(v4) == 0) v5 = ((v13 - 3) & 255) < 2 && get8(p1 + 73) == 0;
+        put8(v4, v5);
+        v8 = 8;
+        goto l11;
+    case 10:
+        p2 = get64(p1 + 792);
+        if (p2 == 0) goto l31;
+        v4 = p1 + 816;
+        if (get64(v4) != p2) {
+            v7 = get64(p1 + 808);
+        } else {
+            v7 = 0;
+            put64(v4, 0);
+        }
+        put64(p1 + 792, p2 - 1);
+        put64(p1 + 808, v7 + 1);
+        v8 = 2;
+        v4 = 0;
+        p1 = get64(p1 + 784) + (v7 * 24);
+        if (get64(p1 + 16) == 0) goto l35;
+        rattle_dealloc_at(get64(p1));
+        goto l35;
+    case 11:
+        v12 = 0;
+        put64(v3 + 1024, 0);
+        put64(v3 + 1016, 0);
+        put64(v3 + 1008, 0);
+        put64(v3 + 1000, 0);
+        put64(v3 + 992, 0);
+        put64(v3 + 984, 0);
+        v14 = 0;
+        v4 = 1;
+        if (get64(p1 + 792) == 0) {
+            v8 = 1;
+            v15 = 0;
+        } else {
+            tm_link_decoding_decode(v3 + 984, v7, v6, (uint64_t)get32(p1 + 60));
+            if (get8(v3 + 984) != 1) {
+                v8 = 2;
+                v15 = 0;
+            } else {
+                v8 = 8;
+                v4 = 0;
+                v15 = get8(v3 + 985);
+                p2 = get64(p1 + 792);
+                if (p2 != 0) {
+                    v6 = p1 + 816;
+                    if (get64(v6) != p2) {
+                        v7 = get64(p1 + 808);
+                    } else {
+                        v7 = 0;
+                        put64(v6, 0);
+                    }
+                    put64(p1 + 792, p2 - 1);
+                    put64(p1 + 808, v7 + 1);
+                    p1 = get64(p1 + 784) + (v7 * 24);
+                    if (get64(p1 + 16) != 0) rattle_dealloc_at(get64(p1));
+                }
+            }
+        }
+        v13 = 0;
+        v5 = 0;
+        v17 = 0;
+        goto l3;
+    case 12:
+        v12 = 0;
+        put64(v3 + 1024, 0);
+        put64(v3 + 1016, 0);
+        put64(v3 + 1008, 0);
+        put64(v3 + 1000, 0);
+        put64(v3 + 992, 0);
+        put64(v3 + 984, 0);
+        v17 = 0;
+        v7 = get64(p1 + 792);
+        if (v7 == 0) {
+            v8 = 1;
+            v14 = 0;
+            v13 = 0;
+            v5 = 0;
+            goto l4;
+        }
+        p2 = get64(p1 + 784);
+        if (v7 != get64(p1 + 816)) p2 = p2 + (get64(p1 + 808) * 24);
+        tm_link_decoding_decode(v3 + 984, get64(p2), get64(p2 + 8), (uint64_t)get32(p1 + 60));
+        v15 = get8(v3 + 985);
+        v13 = get32(v3 + 1024);
+        v5 = get8(v3 + 984);
+        p2 = get64(p1 + 792);
+        if (p2 != 0) {
+            v7 = p1 + 816;
+            if (get64(v7) != p2) {
+                v4 = get64(p1 + 808);
+            } else {
+                v4 = 0;
+                put64(v7, 0);
+            }
+            put64(p1 + 792, p2 - 1);
+            put64(p1 + 808, v4 + 1);
+            p2 = get64(p1 + 784) + (v4 * 24);
+            if (get64(p2 + 16) != 0) rattle_dealloc_at(get64(p2));
+        }
+        if ((v5 & 255) != 0) {
+            v14 = 0;
+            v8 = 8;
+            v13 = 0;
+            goto l295;
+        }
+        v5 = get8(p1 + 75);
+        v8 = get8(p1 + 73);
+        put32(v3 + 856, 0);
+        put32(v3 + 344, 0);
+        put16(v3 + 348, 0);
+        if (extend32(v13, 0x80) > 0x7fffffffU) {
+            put32(v3 + 345, 0);
+            put8(v3 + 344, 1);
+            put8(v3 + 349, 0);
+        } else if ((v13 & 255) >= 32) {
+            put16(v3 + 344, 257);
+        } else if ((v13 & 3) != 1) {
+            put16(v3 + 344, 513);
+        } else {
+            v15 = v13 >> 8;
+            if ((v15 & 3) != 0) {
+                put16(v3 + 344, 769);
+            } else {
+                v14 = v13 >> 16;
+                if ((v14 & 1) != 0) {
+                    put16(v3 + 344, 769);
+                } else {
+                    put8(v3 + 349, v13 >> 24);
+                    put8(v3 + 347, v14 & 248);
+                    put8(v3 + 348, (v14 >> 1) & 3);
+                    put8(v3 + 346, (v15 & 252) >> 2);
+                    put8(v3 + 345, (v13 & 252) >> 2);
+                }
+            }
+        }
+        nodes_ground_node_Ground_report(v3 + 856, p1, v3 + 344);
+        v14 = get32(v3 + 856);
+        p2 = p1 + 0xf78;
+        put64(p2, get64(p2) + ((uint64_t)(get8(p1 + 75) - v5) & 255));
+        v5 = 1;
+        p2 = p1 + 832;
+        if (get8(p2) == 0) v5 = ((v8 - 3) & 255) < 2 && get8(p1 + 73) == 0;
+        put8(p2, v5);
+        v13 = v14 >> 8;
+        v15 = 0;
+        v8 = 9;
+    l295:;
+        v5 = v13 & 0xffff00;
+        v4 = 0;
+        goto l3;
+    case 13:
+        nodes_ground_node_Ground_tick(v3 + 296, p1);
+        v13 = 0;
+        v5 = get8(v3 + 296);
+        v8 = (v5 != 0) ? 4U : 0U;
+        v14 = (v5 != 0) ? get8(v3 + 297) : 0U;
+        v4 = 0;
+        goto l34;
+    case 14:
+        v13 = 0;
+        v4 = 0;
+        p2 = get64(p1 + 568);
+        if (p2 == 0) {
+            v8 = 1;
+            v6 = 0;
+            p2 = 0;
+            v7 = 0;
+            v14 = 0;
+            goto l41;
+        }
+        v12 = p1 + 592;
+        if (get64(v12) != p2) {
+            v7 = get64(p1 + 584);
+        } else {
+            v7 = 0;
+            put64(v12, 0);
+        }
+        v10 = p2 - 1;
+        put64(p1 + 568, v10);
+        put64(p1 + 584, v7 + 1);
+        p2 = get64(p1 + 560) + (v7 << 5);
+        v12 = get64(p2 + 24);
+        v7 = get64(p2 + 16);
+        v6 = get64(p2 + 8);
+        v14 = get8(p2);
+        if (v10 < (uint64_t)get32(p1 + 448)) put8(p1 + 475, 0);
+        v8 = 11;
+        if (v12 <= v7) goto l42;
+        p2 = 0;
+        if (v7 == 0) {
+            rattle_dealloc_at(v6);
+            v6 = v3 + 0xbd8;
+            v7 = 0;
+            goto l41;
+        }
+        rattle_realloc_at(v3 + 304, v6, v7, v7, 1);
+        if (((uint32_t)get64(v3 + 304) & 1) == 0) goto l42;
+        v6 = get64(v3 + 312);
+        p2 = v7;
+        goto l41;
+    case 15:
+        v13 = 0;
+        v4 = 0;
+        p2 = p1 + 616;
+        v7 = get64(p2);
+        if (v7 == 0) {
+            v8 = 1;
+            p1 = 0;
+            p2 = 0;
+            v7 = 0;
+            v14 = 0;
+        } else {
+            put64(p2, v7 - 1);
+            p2 = p1 + 624;
+            t16 = p2;
+            p2 = get64(p2);
+            v7 = p2 + 1;
+            v12 = get64(p1 + 608);
+            put64(t16, v7 - ((v7 < v12) ? 0ULL : v12));
+            p2 = get64(p1 + 600) + (p2 << 5);
+            p1 = get64(p2 + 8);
+            v14 = get8(p2);
+            v8 = 11;
+            v7 = get64(p2 + 24);
+            p2 = get64(p2 + 16);
+            if (v7 > p2) {
+                if (p2 == 0) {
+                    rattle_dealloc_at(p1);
+                    p2 = 0;
+                    p1 = v3 + 0xbd8;
+                    v7 = 0;
+                } else {
+                    rattle_realloc_at(v3 + 320, p1, p2, p2, 1);
+                    if (((uint32_t)get64(v3 + 320) & 1) != 0) {
+                        p1 = get64(v3 + 328);
+                        v7 = p2;
+                    }
+                }
+            }
+        }
+        v12 = p1 & 0xffffffffff000000ULL;
+        v16 = (uint32_t)(p1 >> 16);
+        v15 = (uint32_t)(p1 >> 8);
+        v17 = (uint32_t)p1;
+        v5 = 0;
+        goto l1;
+    case 16:
+        nodes_spacecraft_Spacecraft_telemetry(v3 + 336, p1 + 400, v7, v6);
+        v12 = 0;
+        if (get8(v3 + 336) == 0) {
+            v8 = 0;
+            v4 = 0;
+            v14 = 0;
+            goto l28;
+        }
+        v13 = get8(v3 + 337);
+        if ((v13 & 255) == 6) goto l47;
+        v5 = 0;
+        v14 = 2;
+        v8 = 3;
+        v4 = 0;
+        goto l5;
+    default:
+        break;
     }
+    fill(v3 + 984, 0, 128);
+    put64(v3 + 968, 0);
+    put64(v3 + 960, 0);
+    put64(v3 + 952, 0);
+    nodes_ground_node_Ground_prepare(v3 + 984, p1, v5, v7, v6);
+    if (get8(v3 + 984) != 0) {
+        v5 = get8(v3 + 985);
+        t1 = v5;
+        v5 = v5 == 5;
+        v13 = (v5 != 0) ? 0U : t1;
+        v8 = (v5 != 0) ? 0U : 3U;
+        v4 = (uint64_t)v5;
+        goto l6;
+    }
+    copy(v3 + 344, v3 + 992, 120);
+    v8 = v6 == 0;
+    if (v8 != 0) {
+        v9 = v3 + 0xbd8;
+    } else {
+        if (v6 > 0x7fffffffffffffffULL) goto l65;
+        rattle_alloc_at(v3 + 40, v6, 1);
+        if (((uint32_t)get64(v3 + 40) & 1) == 0) goto l65;
+        v9 = get64(v3 + 48);
+    }
+    if ((v9 - v7) >= v6) {
+        if (v8 != 0) goto l8;
+        copy(v9, v7, v6);
+        goto l8;
+    }
+    v10 = v6 & 3;
+    v4 = 0;
+    if (v6 >= 4) {
+        v11 = v6 & ~3ULL;
+        v4 = 0;
+        do {
+            p2 = v9 + v4;
+            v12 = v7 + v4;
+            put8(p2, get8(v12));
+            put8(p2 + 1, get8(v12 + 1));
+            put8(p2 + 2, get8(v12 + 2));
+            put8(p2 + 3, get8(v12 + 3));
+            v4 = v4 + 4;
+        } while (v11 != v4);
+        if (v10 == 0) goto l8;
+    }
+    p2 = v9 + v4;
+    v4 = v7 + v4;
+    do {
+        put8(p2, get8(v4));
+        p2 = p2 + 1;
+        v4 = v4 + 1;
+        v10 = v10 - 1;
+    } while (v10 != 0);
+    goto l8;
+l65:;
+    if (get8(v3 + 384) == 1 && get64(v3 + 408) != 0) rattle_dealloc_at(get64(v3 + 392));
+    p1 = get64(v3 + 448);
+    v4 = get64(v3 + 432);
+    if (get8(v3 + 416) == 0) {
+        if (p1 != 0) {
+            v7 = v4;
+            goto l74;
+        }
+        goto l7;
+    }
+    v12 = get64(v3 + 440);
+    v7 = get64(v3 + 424);
+    if (v4 != 0) {
+        p2 = get64(v3 + 456);
+        v4 = v4 - p2;
+        if (p1 < (v4 + p1)) {
+            p1 = ((p1 << 5) + v7) + 24;
+            do {
+                if (get64(p1) != 0) rattle_dealloc_at(get64(p1 - 16));
+                p1 = p1 + 32;
+                v4 = v4 - 1;
+            } while (v4 != 0);
+        }
+        if (p2 != 0) {
+            p1 = v7 + 24;
+            do {
+                if (get64(p1) != 0) rattle_dealloc_at(get64(p1 - 16));
+                p1 = p1 + 32;
+                p2 = p2 - 1;
+            } while (p2 != 0);
+        }
+    }
+    if (v12 == 0) goto l7;
+l74:;
+    rattle_dealloc_at(v7);
+    goto l7;
+l47:;
+    v8 = 0;
+    v4 = 1;
+    v14 = 0;
+    goto l28;
+l42:;
+    p2 = v7;
+    v7 = v12;
+l41:;
+    v12 = v6 & 0xffffffffff000000ULL;
+    v16 = (uint32_t)(v6 >> 16);
+    v15 = (uint32_t)(v6 >> 8);
+    v17 = (uint32_t)v6;
+    v5 = 0;
+    goto l1;
+l40:;
+    v17 = 0;
+    v15 = 0;
+    v16 = 0;
+    p2 = 0;
+    v7 = 0;
+    goto l9;
+l39:;
+    v8 = 0;
+    v13 = 0;
+l38:;
+    v12 = p1 & 0xffffffffff000000ULL;
+    v5 = v13 & ~255U;
+    v16 = (uint32_t)(p1 >> 16);
+    v15 = (uint32_t)(p1 >> 8);
+    v7 = get64(p2 + 16);
+    p2 = get64(p2 + 8);
+    v17 = (uint32_t)p1;
+    v14 = 0;
+    goto l1;
+l37:;
+    v14 = 0;
+    v13 = 0;
+    v5 = 0;
+    v17 = 0;
+    goto l32;
+l36:;
+    v14 = 0;
+    v8 = 2;
+    goto l29;
+l35:;
+    v14 = 0;
+    v13 = 0;
+l34:;
+    v5 = 0;
+l33:;
+    v17 = 0;
+    v15 = 0;
+l32:;
+    v16 = 0;
+    v12 = 0;
+    goto l2;
+l31:;
+    v12 = 0;
+l30:;
+    v14 = 0;
+    v8 = 1;
+l29:;
+    v4 = 1;
+l28:;
+    v13 = 0;
+    v5 = 0;
+    goto l5;
+l25:;
+    v22 = 0;
+    v21 = 0;
+    v4 = 0;
+l24:;
+    v30 = (v5 + 1) & 3;
+    put32(v3 + 595, 0);
+    put32(v3 + 592, 0);
+    put32(v3 + 640, 0);
+    put8(v3 + 644, 0);
+    put32(v3 + 632, 0);
+    put16(v3 + 636, 0);
+    put32(v3 + 624, 0);
+    put16(v3 + 628, 0);
+    put64(v3 + 600, 0);
+    put64(v3 + 608, 0);
+    put64(v3 + 616, 0);
+    v5 = 0;
+    v13 = 0;
+    v6 = 0;
+    v17 = 0;
+    v8 = 0;
+    v10 = 0;
+    p2 = 0;
+    v18 = 0;
+    v9 = 0;
+    v19 = 0;
+    v33 = 0;
+    v20 = 0;
+    v37 = 0;
+    v36 = 0;
+    v34 = 0;
+    v35 = 0;
+    goto l13;
+l23:;
+    put32(v3 + 640, get32(v3 + 776));
+    put8(v3 + 644, get8(v3 + 780));
+    put32(v3 + 632, get32(v3 + 768));
+    put16(v3 + 636, get16(v3 + 772));
+    put32(v3 + 624, get32(v3 + 760));
+    put16(v3 + 628, get16(v3 + 764));
+    put64(v3 + 616, get64(v3 + 752));
+    put64(v3 + 608, get64(v3 + 744));
+    put64(v3 + 600, get64(v3 + 736));
+    put32(v3 + 595, get32(v3 + 731));
+    put32(v3 + 592, get32(v3 + 728));
+    v29 = 0;
+    v11 = 0;
+    v7 = 0;
+    v15 = 0;
+    v26 = 0;
+    v27 = 0;
+    v28 = 0;
+    v5 = 0;
+    v13 = 0;
+    v32 = 0;
+    v23 = 0;
+    v25 = 0;
+    v24 = 0;
+    v31 = 0;
+    v30 = 0;
+l22:;
+    v6 = 0;
+    v17 = 0;
+    v8 = 0;
+    v10 = 0;
+    p2 = 0;
+    v18 = 0;
+    v9 = 0;
+    v19 = 0;
+    v33 = 0;
+    v20 = 0;
+    v37 = 0;
+    v36 = 0;
+    v34 = 0;
+    v35 = 0;
+    goto l15;
+l21:;
+    v13 = 2;
+    goto l19;
+l20:;
+    v18 = 0;
+    v37 = 1;
+l19:;
+    v9 = v36;
+    v35 = 0;
+    v34 = 0;
+l18:;
+    v19 = 0;
+    v33 = 0;
+    v20 = 0;
+l17:;
+    v4 = get64(v3 + 832);
+    put64(v3 + 672, v4);
+    v6 = get64(v3 + 840);
+    put64(v3 + 680, v6);
+    v21 = get64(v3 + 848);
+    put64(v3 + 688, v21);
+    put64(v3 + 696, v4);
+    put64(v3 + 704, v6);
+    put64(v3 + 712, v21);
+    v28 = (v18 == 0) ? v20 : v19;
+l16:;
+    v23 = v26 + 1;
+    put8(v3 + 644, get8(v3 + 660));
+    put32(v3 + 640, get32(v3 + 656));
+    put32(v3 + 632, get32(v3 + 648));
+    put16(v3 + 636, get16(v3 + 652));
+    put32(v3 + 624, get32(v3 + 720));
+    put16(v3 + 628, get16(v3 + 724));
+    put64(v3 + 600, get64(v3 + 696));
+    put64(v3 + 608, get64(v3 + 704));
+    put64(v3 + 616, get64(v3 + 712));
+    put32(v3 + 595, get32(v3 + 667));
+    put32(v3 + 592, get32(v3 + 664));
+    v6 = 1;
+    v27 = 0;
+    v15 = 2;
+    v29 = 1;
+    v25 = 0;
+    v24 = 0;
+    v31 = 0;
+l15:;
+    v38 = 0;
+    v22 = 0;
+    v16 = v26;
+l14:;
+    v21 = 0;
+    v4 = 0;
+l13:;
+    put8(v3 + 588, get8(v3 + 644));
+    put32(v3 + 584, get32(v3 + 640));
+    put32(v3 + 576, get32(v3 + 632));
+    put16(v3 + 580, get16(v3 + 636));
+    put32(v3 + 568, get32(v3 + 624));
+    put16(v3 + 572, get16(v3 + 628));
+    put64(v3 + 544, get64(v3 + 600));
+    put64(v3 + 552, get64(v3 + 608));
+    put64(v3 + 560, get64(v3 + 616));
+    put32(v3 + 539, get32(v3 + 595));
+    put32(v3 + 536, get32(v3 + 592));
+    if (v29 == 0) {
+        p2 = 0;
+        v8 = 0;
+        v4 = 1;
+        goto l10;
+    }
+l12:;
+    put8(v3 + 1002, v27);
+    put8(v3 + 1001, v16);
+    put8(v3 + 1000, v15);
+    put64(v3 + 992, v7);
+    put64(v3 + 984, v11);
+    put32(v3 + 1003, get32(v3 + 584));
+    put8(v3 + 1007, get8(v3 + 588));
+    put8(v3 + 1017, v13);
+    put8(v3 + 1016, v5);
+    put64(v3 + 1008, v28);
+    put32(v3 + 1018, get32(v3 + 576));
+    put16(v3 + 1022, get16(v3 + 580));
+    put8(v3 + 1041, v8);
+    put8(v3 + 1040, v17);
+    v26 = 0;
+    put16(v3 + 1030, 0);
+    put8(v3 + 1029, v30);
+    put8(v3 + 1028, v31);
+    put8(v3 + 1027, v24);
+    put8(v3 + 1026, v25);
+    put8(v3 + 1025, v23);
+    put8(v3 + 1024, v32);
+    put64(v3 + 1032, v6);
+    v39 = 0;
+    put16(v3 + 0x42e, 0);
+    put32(v3 + 1066, 0);
+    put64(v3 + 1048, v10);
+    put64(v3 + 1056, p2);
+    put64(v3 + 1072, v18);
+    put64(v3 + 1080, v9);
+    put64(v3 + 1088, v19);
+    put64(v3 + 1096, v33);
+    put64(v3 + 1104, v20);
+    put64(v3 + 1112, v37);
+    put8(v3 + 1065, v13);
+    put8(v3 + 1064, v5);
+    put16(v3 + 1046, get16(v3 + 572));
+    put32(v3 + 1042, get32(v3 + 568));
+    put64(v3 + 1120, get64(v3 + 544));
+    put64(v3 + 1128, get64(v3 + 552));
+    put64(v3 + 1136, get64(v3 + 560));
+    put8(v3 + 1176, v22);
+    put64(v3 + 1168, v38);
+    put64(v3 + 1160, v35);
+    put64(v3 + 1152, v34);
+    put64(v3 + 1144, v36);
+    put64(v3 + 1200, v4);
+    put64(v3 + 1192, v4);
+    put64(v3 + 1184, v21);
+    put32(v3 + 1177, get32(v3 + 536));
+    put32(v3 + 1180, get32(v3 + 539));
+    v27 = v6 == 0;
+    if (v27 != 0) {
+        v34 = 0;
+        v40 = 0;
+        v36 = 0;
+        v35 = 0;
+        goto l313;
+    }
+    v36 = v3 + 0xbd8;
+    v35 = p2 + 1;
+    v13 = v35 == 0;
+    if (v13 == 0) {
+        if (ordered64(p2) < 0x7fffffffffffffffULL) goto l321;
+        rattle_alloc_at(v3 + 144, v35, 1);
+        if (((uint32_t)get64(v3 + 144) & 1) == 0) goto l321;
+        v36 = get64(v3 + 152);
+    }
+    v5 = (v18 & 255) == 0;
+    v21 = (v5 != 0) ? v20 : v19;
+    put8(v36, (v17 << 6) | v8);
+    v4 = v36 + 1;
+    if ((v4 - v10) < p2) {
+        v6 = p2 & 3;
+        v4 = 0;
+        if (p2 >= 4) {
+            v11 = p2 & ~3ULL;
+            v4 = 0;
+            do {
+                p2 = v36 + v4;
+                v7 = v10 + v4;
+                put8(p2 + 1, get8(v7));
+                put8(p2 + 2, get8(v7 + 1));
+                put8(p2 + 3, get8(v7 + 2));
+                put8(p2 + 4, get8(v7 + 3));
+                v4 = v4 + 4;
+            } while (v11 != v4);
+            if (v6 == 0) goto l323;
+        }
+        p2 = v10 + v4;
+        v4 = v4 + v36 + 1;
+        do {
+            put8(v4, get8(p2));
+            v4 = v4 + 1;
+            p2 = p2 + 1;
+            v6 = v6 - 1;
+        } while (v6 != 0);
+    } else if (p2 != 0) copy(v4, v10, p2);
+l323:;
+    if (v21 == 0) {
+        v39 = v3 + 0xbd8;
+        v40 = 0;
+        v34 = 0;
+        goto l332;
+    }
+    if (v21 > 0x555555555555555ULL) goto l328;
+    rattle_alloc_at(v3 + 128, v21 * 24, 8);
+    if (((uint32_t)get64(v3 + 128) & 1) == 0) goto l328;
+    v38 = (v5 != 0) ? (v3 + 0x438) : v9;
+    v9 = get64(v3 + 136);
+    put64(v3 + 360, v21);
+    put64(v3 + 352, 0);
+    put64(v3 + 344, v9);
+    v34 = 0;
+    v19 = 0;
+    do {
+        p2 = v38 + (v19 * 24);
+        v11 = get64(p2);
+        v20 = get64(p2 + 8);
+        v5 = v20 == 0;
+        if (v5 != 0) {
+            v10 = v3 + 0xbd8;
+        } else {
+            if (v20 > 0x7fffffffffffffffULL) goto l331;
+            rattle_alloc_at(v3 + 112, v20, 1);
+            if (((uint32_t)get64(v3 + 112) & 1) == 0) goto l331;
+            v10 = get64(v3 + 120);
+        }
+        if ((v10 - v11) < v20) {
+            v6 = v20 & 3;
+            v4 = 0;
+            if (v20 >= 4) {
+                v18 = v20 & ~3ULL;
+                v4 = 0;
+                do {
+                    p2 = v10 + v4;
+                    v7 = v11 + v4;
+                    put8(p2, get8(v7));
+                    put8(p2 + 1, get8(v7 + 1));
+                    put8(p2 + 2, get8(v7 + 2));
+                    put8(p2 + 3, get8(v7 + 3));
+                    v4 = v4 + 4;
+                } while (v18 != v4);
+                if (v6 == 0) goto l337;
+            }
+            p2 = v10 + v4;
+            v4 = v11 + v4;
+            do {
+                put8(p2, get8(v4));
+                p2 = p2 + 1;
+                v4 = v4 + 1;
+                v6 = v6 - 1;
+            } while (v6 != 0);
+        } else if (v5 == 0) copy(v10, v11, v20);
+    l337:;
+        if (get64(v3 + 360) == v34) {
+            t17 = std_alloc_vec_Vec_grow_amortized_1598ebf9113514c4(v3 + 344, 1);
+            if (t17 == 0) goto l330;
+            v9 = get64(v3 + 344);
+            v34 = get64(v3 + 352);
+        }
+        p2 = v9 + (v34 * 24);
+        put64(p2 + 16, v20);
+        put64(p2 + 8, v20);
+        put64(p2, v10);
+        v34 = v34 + 1;
+        put64(v3 + 352, v34);
+        v19 = v19 + 1;
+    } while (v19 != v21);
+    v40 = get64(v3 + 360);
+    v39 = get64(v3 + 344);
+l332:;
+    if (get64(p1 + 0xf98) == get64(p1 + 0xf90)) {
+        t18 = std_alloc_vec_Vec_grow_amortized_1598ebf9113514c4(p1 + 0xf88, 1);
+        if (t18 == 0) goto l315;
+    }
+    p2 = p1 + 0x960 + ((uint64_t)v8 * 24);
+    if (v34 > (get64(p2 + 16) - get64(p2 + 8))) {
+        t19 = std_alloc_vec_Vec_grow_amortized_1598ebf9113514c4(p2, v34);
+        if (t19 == 0) goto l315;
+        v26 = v8;
+        goto l313;
+    }
+    v26 = v8;
+    goto l313;
+l331:;
+    p2 = get64(v3 + 360);
+    if (v34 != 0) {
+        p1 = v9;
+        do {
+            if (get64(p1 + 16) != 0) rattle_dealloc_at(get64(p1));
+            p1 = p1 + 24;
+            v34 = v34 - 1;
+        } while (v34 != 0);
+    }
+    if (p2 != 0) goto l329;
+    goto l328;
+l330:;
+    if (v5 == 0) rattle_dealloc_at(v10);
+    v4 = get64(v3 + 360);
+    v9 = get64(v3 + 344);
+    p2 = get64(v3 + 352);
+    if (p2 != 0) {
+        p1 = v9;
+        do {
+            if (get64(p1 + 16) != 0) rattle_dealloc_at(get64(p1));
+            p1 = p1 + 24;
+            p2 = p2 - 1;
+        } while (p2 != 0);
+    }
+    if (v4 == 0) goto l328;
+l329:;
+    rattle_dealloc_at(v9);
+l328:;
+    if (v13 == 0) rattle_dealloc_at(v36);
+l321:;
+    if (get8(v3 + 1032) != 1) goto l316;
+    v10 = get64(v3 + 1160);
+    p2 = get64(v3 + 1152);
+    v7 = get64(v3 + 1144);
+    v18 = get64(v3 + 1136);
+    v20 = get64(v3 + 1120);
+    v5 = get8(v3 + 1112);
+    v11 = get64(v3 + 1096);
+    v6 = get64(v3 + 1080);
+    if (get8(v3 + 1072) == 0) {
+        if (v11 != 0) goto l318;
+        goto l317;
+    }
+    v4 = get64(v3 + 1088);
+    if (v4 != 0) {
+        p1 = v6;
+        do {
+            if (get64(p1 + 16) != 0) rattle_dealloc_at(get64(p1));
+            p1 = p1 + 24;
+            v4 = v4 - 1;
+        } while (v4 != 0);
+    }
+    if (v11 == 0) goto l317;
+l318:;
+    rattle_dealloc_at(v6);
+l317:;
+    if ((v5 & 255) == 2 && v18 != 0) rattle_dealloc_at(v20);
+    if (p2 != 0) {
+        p1 = v7;
+        do {
+            if (get8(p1) != 0 && get64(p1 + 24) != 0) rattle_dealloc_at(get64(p1 + 8));
+            p1 = p1 + 32;
+            p2 = p2 - 1;
+        } while (p2 != 0);
+    }
+    if (v10 != 0) rattle_dealloc_at(v7);
+l316:;
+    p2 = 0;
+    v8 = 0;
+    v4 = 1;
+    if (get8(v3 + 1168) != 1 || get64(v3 + 1200) == 0) goto l10;
+    rattle_dealloc_at(get64(v3 + 1184));
+    goto l10;
+l315:;
+    if (v13 == 0) rattle_dealloc_at(v36);
+    put64(v3 + 528, v40);
+    put64(v3 + 520, v34);
+    put64(v3 + 512, v39);
+    std_alloc_vec_Vec_drop_b0c2e3ac61d256b1(v3 + 512);
+    if (get8(v3 + 1032) == 1) {
+        v7 = get64(v3 + 1136);
+        v10 = get64(v3 + 1120);
+        v5 = get8(v3 + 1112);
+        p2 = get64(v3 + 1096);
+        v6 = get64(v3 + 1088);
+        v4 = get64(v3 + 1080);
+        p1 = v3 + 0x478;
+        put64(v3 + 488, get64(p1));
+        put64(v3 + 496, get64(p1 + 8));
+        put64(v3 + 504, get64(p1 + 16));
+        if (get8(v3 + 1072) == 0) {
+            if (p2 != 0) rattle_dealloc_at(v4);
+        } else {
+            put64(v3 + 480, p2);
+            put64(v3 + 472, v6);
+            put64(v3 + 464, v4);
+            std_alloc_vec_Vec_drop_b0c2e3ac61d256b1(v3 + 464);
+        }
+        if ((v5 & 255) == 2 && v7 != 0) rattle_dealloc_at(v10);
+        std_alloc_vec_Vec_drop_555ceec2fcbf3849(v3 + 488);
+    }
+    p2 = 0;
+    v8 = 0;
+    v4 = 1;
+    if (get8(v3 + 1168) != 1 || get64(v3 + 1200) == 0) goto l10;
+    rattle_dealloc_at(get64(v3 + 1184));
+    goto l10;
+l313:;
+    v41 = get64(v3 + 1200);
+    v42 = get64(v3 + 1192);
+    v43 = get64(v3 + 1184);
+    v44 = get64(v3 + 1176);
+    v22 = get8(v3 + 1168);
+    v10 = get64(v3 + 1160);
+    v7 = get64(v3 + 1152);
+    v6 = get64(v3 + 1144);
+    v11 = get64(v3 + 1136);
+    v9 = get64(v3 + 1128);
+    v18 = get64(v3 + 1120);
+    v23 = get8(v3 + 1112);
+    v19 = get64(v3 + 1056);
+    v20 = get64(v3 + 1048);
+    v37 = (uint64_t)get8(v3 + 1017);
+    v33 = (uint64_t)get8(v3 + 1016);
+    p2 = get64(v3 + 1008);
+    v16 = get8(v3 + 1002);
+    v15 = get8(v3 + 1001);
+    v17 = get8(v3 + 1000);
+    v13 = get8(v3 + 1032);
+    v8 = get8(v3 + 1041);
+    v5 = get8(v3 + 1072);
+    v4 = v3 + 0x3fa;
+    put32(v3 + 840, get32(v4 + 8));
+    put64(v3 + 832, get64(v4));
+    if (v13 != 1) goto l363;
+    v21 = (uint64_t)v5 & 255;
+    put64(v3 + 880, 0);
+    put64(v3 + 872, 0);
+    put64(v3 + 864, 0);
+    put64(v3 + 856, 0);
+    put64(v3 + 375, get64(v3 + 1104));
+    put64(v3 + 368, get64(v3 + 1097));
+    put64(v3 + 360, get64(v3 + 1089));
+    put64(v3 + 352, get64(v3 + 1081));
+    put64(v3 + 344, get64(v3 + 1073));
+    if ((v8 & 255) <= 63) {
+        v38 = (uint64_t)v8 & 255;
+        if (((uint32_t)(get64(p1 + 488) >> (v38 & 63)) & 1) != 0) {
+            v4 = p1 + 512;
+            if (get64(v4) == 0) {
+                put64(v4, v7);
+                v4 = p1 + 520;
+                v7 = get64(v4);
+                put64(v4, v10);
+                v4 = p1 + 504;
+                v10 = get64(v4);
+                put64(v4, v6);
+                v6 = v10;
+                if (v7 != 0) goto l372;
+                goto l371;
+            }
+            if (v7 != 0) {
+                v4 = v6;
+                do {
+                    if (get8(v4) != 0 && get64(v4 + 24) != 0) rattle_dealloc_at(get64(v4 + 8));
+                    v4 = v4 + 32;
+                    v7 = v7 - 1;
+                } while (v7 != 0);
+            }
+            if (v10 == 0) goto l371;
+        l372:;
+            rattle_dealloc_at(v6);
+        l371:;
+            if (get64(p1 + 512) <= v38) {
+                if (v23 != 2 || v11 == 0) goto l364;
+                rattle_dealloc_at(v18);
+                goto l364;
+            }
+            v6 = get64(p1 + 504) + (v38 << 5);
+            switch (v23) {
+            case 1:
+                put64(v6 + 16, 0);
+                v13 = get8(v6);
+                put64(v6, 0);
+                v4 = v6 + 8;
+                v7 = get64(v4);
+                put64(v4, 0);
+                v6 = v6 + 24;
+                v4 = get64(v6);
+                put64(v6, 0);
+                break;
+            case 2:
+                put64(v6 + 16, v9);
+                v13 = get8(v6);
+                put64(v6, 1);
+                v7 = v6 + 24;
+                v4 = get64(v7);
+                put64(v7, v11);
+                v6 = v6 + 8;
+                v7 = get64(v6);
+                put64(v6, v18);
+                break;
+            case 3:
+                if (get8(v6) != 1) goto l364;
+                v28 = get64(v6 + 24);
+                v4 = v6 + 16;
+                v9 = get64(v4);
+                if (v19 > (v28 - v9)) {
+                    t20 = std_alloc_vec_Vec_grow_amortized_a351ad16c7c032ee(v6 + 8, v19);
+                    if (t20 == 0) goto l364;
+                    v28 = get64(v6 + 24);
+                    v9 = get64(v6 + 16);
+                }
+                v7 = 0;
+                put64(v4, 0);
+                put64(v4 + 8, 0);
+                v45 = v9 + v19;
+                v38 = get64(v6 + 8);
+                v18 = v38 + v9;
+                if ((v18 - v20) < v19) {
+                    v11 = v19 & 3;
+                    if (v19 >= 4) {
+                        v19 = v19 & ~3ULL;
+                        v7 = 0;
+                        do {
+                            v4 = v18 + v7;
+                            v10 = v20 + v7;
+                            put8(v4, get8(v10));
+                            put8(v4 + 1, get8(v10 + 1));
+                            put8(v4 + 2, get8(v10 + 2));
+                            put8(v4 + 3, get8(v10 + 3));
+                            v7 = v7 + 4;
+                        } while (v19 != v7);
+                        if (v11 == 0) goto l383;
+                    }
+                    v4 = v20 + v7;
+                    v7 = v38 + (v9 + v7);
+                    do {
+                        put8(v7, get8(v4));
+                        v7 = v7 + 1;
+                        v4 = v4 + 1;
+                        v11 = v11 - 1;
+                    } while (v11 != 0);
+                } else if (v19 != 0) copy(v18, v20, v19);
+            l383:;
+                put64(v6 + 24, v28);
+                put64(v6 + 16, v45);
+                put64(v6 + 8, v38);
+                goto l364;
+            default:
+                goto l364;
+            }
+            if ((v13 & 255) == 1 && v4 != 0) rattle_dealloc_at(v7);
+            goto l364;
+        }
+    }
+    if (v7 != 0) {
+        v4 = v6;
+        do {
+            if (get8(v4) != 0 && get64(v4 + 24) != 0) rattle_dealloc_at(get64(v4 + 8));
+            v4 = v4 + 32;
+            v7 = v7 - 1;
+        } while (v7 != 0);
+    }
+    if (v10 != 0) rattle_dealloc_at(v6);
+    if (v23 == 2 && v11 != 0) rattle_dealloc_at(v18);
+l364:;
+    v4 = get64(v3 + 375);
+    put64(v3 + 880, v4);
+    v7 = get64(v3 + 367);
+    put64(v3 + 872, v7);
+    v6 = get64(v3 + 359);
+    put64(v3 + 864, v6);
+    v10 = get64(v3 + 351);
+    put64(v3 + 856, v10);
+    put64(v3 + 360, v10);
+    put64(v3 + 368, v6);
+    put64(v3 + 376, v7);
+    put64(v3 + 384, v4);
+    put64(v3 + 352, v21);
+    v13 = v5 & 255;
+    if (((v13 != 0) ? v6 : v4) != 0) {
+        v13 = v13 == 0;
+        v9 = v3 + 360;
+        v7 = v3 + 959;
+        v21 = p1 + 584;
+        v38 = p1 + 576;
+        v20 = p1 + 592;
+        v11 = p1 + 568;
+        v28 = p1 + 560;
+        v4 = 0;
+        do {
+            put64(v3 + 344, v4 + 1);
+            v4 = (((v13 & 1) != 0) ? v9 : get64(v3 + 360)) + (v4 * 24);
+            v6 = get64(v4 + 16);
+            put64(v4 + 16, 0);
+            v10 = get64(v4 + 8);
+            put64(v4 + 8, 0);
+            v18 = get64(v4);
+            put64(v3 + 928, v18);
+            put64(v3 + 936, v10);
+            put64(v3 + 944, v6);
+            put64(v4, v3 + 0xbd8);
+            put64(v7 + 16, v6);
+            put64(v7 + 8, v10);
+            put64(v7, v18);
+            put32(v3 + 955, 0);
+            put32(v3 + 952, 0);
+            put64(v3 + 919, get64(v3 + 975));
+            put64(v3 + 912, get64(v3 + 968));
+            put64(v3 + 904, get64(v3 + 960));
+            put64(v3 + 896, get64(v3 + 952));
+            v4 = get64(v28);
+            v6 = get64(v11);
+            v10 = get64(v20);
+            v18 = v6 - v10;
+            v19 = get64(v21);
+            if (v18 < (get64(v38) - v19)) {
+                v4 = v4 + ((v19 + v18) << 5);
+                put8(v4, v8);
+                put64(v4 + 1, get64(v3 + 896));
+                put64(v4 + 9, get64(v3 + 904));
+                put64(v4 + 17, get64(v3 + 912));
+                put64(v4 + 24, get64(v3 + 919));
+            } else {
+                v4 = v4 + (v10 << 5);
+                put64(v4 + 1, get64(v3 + 896));
+                put8(v4, v8);
+                put64(v4 + 9, get64(v3 + 904));
+                put64(v4 + 17, get64(v3 + 912));
+                put64(v4 + 24, get64(v3 + 919));
+                put64(v20, v10 + 1);
+            }
+            put64(v11, v6 + 1);
+            v5 = get8(v3 + 352);
+            v13 = v5 == 0;
+            v4 = get64(v3 + 344);
+            v6 = get64(v3 + 368);
+        } while (v4 != ((v5 != 0) ? v6 : get64(v3 + 384)));
+    }
+    v10 = get64(v3 + 376);
+    v7 = get64(v3 + 360);
+    if ((v5 & 255) == 0) {
+        if (v10 != 0) goto l392;
+        goto l363;
+    }
+    if (v6 != 0) {
+        v4 = v7;
+        do {
+            if (get64(v4 + 16) != 0) rattle_dealloc_at(get64(v4));
+            v4 = v4 + 24;
+            v6 = v6 - 1;
+        } while (v6 != 0);
+    }
+    if (v10 == 0) goto l363;
+l392:;
+    rattle_dealloc_at(v7);
+l363:;
+    if ((v22 & 255) == 1) {
+        v4 = get64(p1 + 608);
+        if (v4 == 0) {
+            v4 = v41;
+            v6 = v43;
+        } else {
+            v11 = p1 + 624;
+            v6 = get64(v11);
+            v7 = p1 + 616;
+            v10 = get64(v7);
+            if (v4 > v10) {
+                v6 = v6 + v10;
+                v4 = get64(p1 + 600) + ((v6 - ((v6 < v4) ? 0ULL : v4)) << 5);
+                put64(v4 + 24, v41);
+                put64(v4 + 16, v42);
+                put64(v4 + 8, v43);
+                put64(v4, v44);
+                put64(v7, get64(v7) + 1);
+                goto l397;
+            }
+            v10 = v10 - 1;
+            put64(v7, v10);
+            v18 = v6 + 1;
+            v18 = v18 - ((v18 < v4) ? 0ULL : v4);
+            put64(v11, v18);
+            v11 = get64(p1 + 600);
+            v10 = v18 + v10;
+            v10 = v11 + ((v10 - ((v10 < v4) ? 0ULL : v4)) << 5);
+            put64(v10, v44);
+            v4 = v11 + (v6 << 5);
+            v6 = get64(v4 + 8);
+            put64(v10 + 8, v43);
+            put64(v10 + 16, v42);
+            v4 = get64(v4 + 24);
+            put64(v10 + 24, v41);
+            put64(v7, get64(v7) + 1);
+        }
+        if (v4 != 0) rattle_dealloc_at(v6);
+    }
+l397:;
+    put16(p1 + 476, get16(v3 + 842));
+    put32(p1 + 472, get32(v3 + 838));
+    v4 = get64(p1 + 752);
+    if (v4 != 0) {
+        v6 = p1 + 776;
+        if (get64(v6) != v4) {
+            v7 = get64(p1 + 768);
+        } else {
+            v7 = 0;
+            put64(v6, 0);
+        }
+        put64(p1 + 752, v4 - 1);
+        put64(p1 + 768, v7 + 1);
+        v4 = get64(p1 + 744) + (v7 * 24);
+        if (get64(v4 + 16) != 0) rattle_dealloc_at(get64(v4));
+    }
+    if (v27 != 0) goto l404;
+    v7 = p1 + 0xf90;
+    v6 = get64(v7);
+    v4 = get64(p1 + 0xf88) + (v6 * 24);
+    put64(v4 + 16, v35);
+    put64(v4 + 8, v35);
+    put64(v4, v36);
+    put64(v7, v6 + 1);
+    if (v34 != 0) {
+        v10 = (p1 + ((uint64_t)v26 * 24)) + 0x960;
+        v11 = v10 + 8;
+        v9 = get64(v11);
+        v7 = 0;
+        if (v34 != 1) {
+            v38 = v34 & 1;
+            v4 = v9 * 24;
+            v21 = v34 & ~1ULL;
+            v7 = 0;
+            p1 = v39;
+            do {
+                v18 = get64(p1);
+                v20 = get64(p1 + 8);
+                v6 = get64(v10) + v4;
+                put64(v6 + 16, get64(p1 + 16));
+                put64(v6 + 8, v20);
+                put64(v6, v18);
+                v18 = v9 + v7;
+                put64(v11, v18 + 1);
+                v20 = get64(p1 + 24);
+                v19 = get64(p1 + 32);
+                v6 = get64(v10) + v4;
+                put64(v6 + 40, get64(p1 + 40));
+                put64(v6 + 32, v19);
+                put64(v6 + 24, v20);
+                put64(v11, v18 + 2);
+                p1 = p1 + 48;
+                v4 = v4 + 48;
+                v7 = v7 + 2;
+            } while (v21 != v7);
+            if (v38 == 0) goto l405;
+            v9 = v9 + v7;
+        }
+        p1 = v39 + (v7 * 24);
+        v7 = get64(p1);
+        v6 = get64(p1 + 8);
+        v4 = get64(v10) + (v9 * 24);
+        put64(v4 + 16, get64(p1 + 16));
+        put64(v4 + 8, v6);
+        put64(v4, v7);
+        put64(v11, v9 + 1);
+    }
+l405:;
+    if (v40 != 0) rattle_dealloc_at(v39);
+l404:;
+    v7 = (v37 << 8) | v33;
+    v8 = 7;
+l11:;
+    v4 = 0;
+    goto l9;
+l10:;
+    v17 = 0;
+    v15 = 0;
+    v16 = 0;
+    v7 = 0;
+l9:;
+    v13 = 0;
+    v5 = 0;
+    goto l1;
+l8:;
+    v13 = get8(v3 + 384) == 1;
+    v38 = (v13 != 0) ? get64(v3 + 400) : 1ULL;
+    if (v38 == 0) {
+        p2 = v3 + 0xbd8;
+        v4 = 0;
+        v20 = 0;
+        goto l415;
+    }
+    if (v38 > 0x555555555555555ULL) goto l408;
+    p2 = get64(v3 + 392);
+    rattle_alloc_at(v3 + 24, v38 * 24, 8);
+    if (((uint32_t)get64(v3 + 24) & 1) == 0) goto l408;
+    v34 = (v13 != 0) ? p2 : (v3 + 368);
+    v28 = get64(v3 + 32);
+    put64(v3 + 872, v38);
+    put64(v3 + 864, 0);
+    put64(v3 + 856, v28);
+    v20 = 0;
+    v21 = 0;
+    do {
+        p2 = v34 + (v21 << 4);
+        v11 = get64(p2);
+        v19 = get64(p2 + 8);
+        v13 = v19 == 0;
+        if (v13 != 0) {
+            v10 = v3 + 0xbd8;
+        } else {
+            if (v19 > 0x7fffffffffffffffULL) goto l414;
+            rattle_alloc_at(v3 + 8, v19, 1);
+            if (((uint32_t)get64(v3 + 8) & 1) == 0) goto l414;
+            v10 = get64(v3 + 16);
+        }
+        if ((v10 - v11) < v19) {
+            v12 = v19 & 3;
+            v4 = 0;
+            if (v19 >= 4) {
+                v18 = v19 & ~3ULL;
+                v4 = 0;
+                do {
+                    p2 = v10 + v4;
+                    v7 = v11 + v4;
+                    put8(p2, get8(v7));
+                    put8(p2 + 1, get8(v7 + 1));
+                    put8(p2 + 2, get8(v7 + 2));
+                    put8(p2 + 3, get8(v7 + 3));
+                    v4 = v4 + 4;
+                } while (v18 != v4);
+                if (v12 == 0) goto l420;
+            }
+            p2 = v10 + v4;
+            v4 = v11 + v4;
+            do {
+                put8(p2, get8(v4));
+                p2 = p2 + 1;
+                v4 = v4 + 1;
+                v12 = v12 - 1;
+            } while (v12 != 0);
+        } else if (v13 == 0) copy(v10, v11, v19);
+    l420:;
+        if (get64(v3 + 872) == v20) {
+            t21 = std_alloc_vec_Vec_grow_amortized_1598ebf9113514c4(v3 + 856, 1);
+            if (t21 == 0) goto l413;
+            v28 = get64(v3 + 856);
+            v20 = get64(v3 + 864);
+        }
+        p2 = v28 + (v20 * 24);
+        put64(p2 + 16, v19);
+        put64(p2 + 8, v19);
+        put64(p2, v10);
+        v20 = v20 + 1;
+        put64(v3 + 864, v20);
+        v21 = v21 + 1;
+    } while (v21 != v38);
+    v4 = get64(v3 + 872);
+    p2 = get64(v3 + 856);
+l415:;
+    if (get64(p1 + 856) == get64(p1 + 848)) {
+        t22 = std_alloc_vec_Vec_grow_amortized_722da43a23cbcade(p1 + 840);
+        if (t22 == 0) {
+            if (v20 == 0) goto l410;
+            goto l411;
+        }
+    }
+    v12 = p1 + 864;
+    v7 = v12 + (((uint64_t)v5 & 255) * 24);
+    if (v20 > (get64(v7 + 16) - get64(v7 + 8))) {
+        t23 = std_alloc_vec_Vec_grow_amortized_1598ebf9113514c4(v7, v20);
+        if (t23 == 0) goto l411;
+    }
+    nodes_ground_node_Ground_commit(p1, v3 + 344);
+    v8 = 0;
+    v7 = p1 + 848;
+    v10 = get64(v7);
+    p1 = get64(p1 + 840) + (v10 << 5);
+    put32(p1 + 1, 0);
+    put8(p1, v5);
+    put32(p1 + 4, 0);
+    put64(p1 + 24, v6);
+    put64(p1 + 16, v6);
+    put64(p1 + 8, v9);
+    put64(v7, v10 + 1);
+    put64(v3 + 968, v4);
+    put64(v3 + 960, v20);
+    put64(v3 + 952, p2);
+    simulated_link_map_lists_append_on(v12, v5, v3 + 952);
+    v4 = 0;
+    v13 = 0;
+    goto l6;
+l414:;
+    p2 = get64(v3 + 872);
+    if (v20 != 0) {
+        p1 = v28;
+        do {
+            if (get64(p1 + 16) != 0) rattle_dealloc_at(get64(p1));
+            p1 = p1 + 24;
+            v20 = v20 - 1;
+        } while (v20 != 0);
+    }
+    if (p2 == 0) goto l408;
+    goto l409;
+l413:;
+    if (v13 == 0) rattle_dealloc_at(v10);
+    v4 = get64(v3 + 872);
+    v28 = get64(v3 + 856);
+    p2 = get64(v3 + 864);
+    if (p2 != 0) {
+        p1 = v28;
+        do {
+            if (get64(p1 + 16) != 0) rattle_dealloc_at(get64(p1));
+            p1 = p1 + 24;
+            p2 = p2 - 1;
+        } while (p2 != 0);
+    }
+    if (v4 != 0) goto l409;
+    goto l408;
+l411:;
+    p1 = p2;
+    do {
+        if (get64(p1 + 16) != 0) rattle_dealloc_at(get64(p1));
+        p1 = p1 + 24;
+        v20 = v20 - 1;
+    } while (v20 != 0);
+l410:;
+    if (v4 != 0) rattle_dealloc_at(p2);
+    if (v8 == 0) rattle_dealloc_at(v9);
+    if (get8(v3 + 384) == 1 && get64(v3 + 408) != 0) rattle_dealloc_at(get64(v3 + 392));
+    p1 = get64(v3 + 448);
+    v4 = get64(v3 + 432);
+    if (get8(v3 + 416) == 0) {
+        if (p1 == 0) goto l7;
+        rattle_dealloc_at(v4);
+        goto l7;
+    }
+    v12 = get64(v3 + 440);
+    v7 = get64(v3 + 424);
+    if (v4 != 0) {
+        p2 = get64(v3 + 456);
+        v4 = v4 - p2;
+        if (p1 < (v4 + p1)) {
+            p1 = ((p1 << 5) + v7) + 24;
+            do {
+                if (get64(p1) != 0) rattle_dealloc_at(get64(p1 - 16));
+                p1 = p1 + 32;
+                v4 = v4 - 1;
+            } while (v4 != 0);
+        }
+        if (p2 != 0) {
+            p1 = v7 + 24;
+            do {
+                if (get64(p1) != 0) rattle_dealloc_at(get64(p1 - 16));
+                p1 = p1 + 32;
+                p2 = p2 - 1;
+            } while (p2 != 0);
+        }
+    }
+    if (v12 == 0) goto l7;
+    rattle_dealloc_at(v7);
+    goto l7;
+l409:;
+    rattle_dealloc_at(v28);
+l408:;
+    if (v8 == 0) rattle_dealloc_at(v9);
+    if (get8(v3 + 384) == 1 && get64(v3 + 408) != 0) rattle_dealloc_at(get64(v3 + 392));
+    p1 = get64(v3 + 448);
+    v4 = get64(v3 + 432);
+    if (get8(v3 + 416) == 0) {
+        if (p1 == 0) goto l7;
+        rattle_dealloc_at(v4);
+    } else {
+        v12 = get64(v3 + 440);
+        v7 = get64(v3 + 424);
+        if (v4 != 0) {
+            p2 = get64(v3 + 456);
+            v4 = v4 - p2;
+            if (p1 < (v4 + p1)) {
+                p1 = ((p1 << 5) + v7) + 24;
+                do {
+                    if (get64(p1) != 0) rattle_dealloc_at(get64(p1 - 16));
+                    p1 = p1 + 32;
+                    v4 = v4 - 1;
+                } while (v4 != 0);
+            }
+            if (p2 != 0) {
+                p1 = v7 + 24;
+                do {
+                    if (get64(p1) != 0) rattle_dealloc_at(get64(p1 - 16));
+                    p1 = p1 + 32;
+                    p2 = p2 - 1;
+                } while (p2 != 0);
+            }
+        }
+        if (v12 != 0) rattle_dealloc_at(v7);
+    }
+l7:;
+    v8 = 0;
+    v4 = 1;
+    v13 = 0;
+l6:;
+    v12 = 0;
+    v14 = 0;
+    v5 = 0;
+l5:;
+    v17 = 0;
+l4:;
+    v15 = 0;
+l3:;
+    v16 = 0;
+l2:;
+    p2 = 0;
+    v7 = 0;
 l1:;
-    if (v3 == 0) return;
-    rattle_dealloc_at(v4);
+    put64(p0, v4);
+    put64(p0 + 32, v7);
+    put64(p0 + 24, p2);
+    put8(p0 + 8, v8);
+    put8(p0 + 13, (uint32_t)(uint64_t)(v5 >> 24));
+    put32(p0 + 9, (uint32_t)((uint64_t)((v5 | (v13 & 255)) << 8) | ((uint64_t)v14 & 255)));
+    put64(p0 + 16, (((((uint64_t)v16 & 255) << 16) | v12) | (((uint64_t)v15 & 255) << 8)) | ((uint64_t)v17 & 255));
     return;
 }
 
@@ -5735,682 +8604,32 @@ l3:;
     return 1;
 }
 
-/* map_service::assembler::Assembler::prepare, crates/map_service/src/assembler.rt:201 */
-static void map_service_assembler_Assembler_prepare(uint64_t p0, uint64_t p1, uint64_t p2)
+static uint32_t std_alloc_vec_Vec_grow_amortized_1598ebf9113514c4(uint64_t p0, uint64_t p1)
 {
-    unsigned char frame_octets[496 + 15];
-    uint32_t v6 = 0, v9 = 0, v10 = 0, v11 = 0, t1;
-    uint64_t v3 = 0, v4 = 0, v5 = 0, v7 = 0, v8 = 0, v12 = 0, v13 = 0, v14 = 0, v15 = 0, v16 = 0, v17 = 0, v18 = 0,
-        v19 = 0;
-    v3 = aligned(frame_octets);
-    put64(v3 + 152, 0);
-    put64(v3 + 144, 0);
-    put64(v3 + 136, 0);
-    put64(v3 + 112, 0);
-    put64(v3 + 120, 0);
-    put64(v3 + 128, 0);
-    v4 = get64(p1 + 24);
-    v5 = get64(p1 + 32);
-    if (v5 == 0) {
-        v6 = 0;
+    unsigned char frame_octets[32 + 15];
+    uint64_t v2 = 0, v4 = 0, v5 = 0, v6 = 0;
+    v2 = aligned(frame_octets);
+    v4 = get64(p0 + 8);
+    if (p1 > ~v4) return 0;
+    p1 = v4 + p1;
+    p1 = (p1 > 4) ? p1 : 4ULL;
+    v5 = get64(p0 + 16);
+    v6 = v5 << 1;
+    v6 = (p1 > v6) ? p1 : v6;
+    p1 = (v5 < 0x4000000000000000ULL) ? v6 : p1;
+    if (p1 > 0x555555555555555ULL) return 0;
+    if (v5 != 0) {
+        rattle_realloc_at(v2 + 16, get64(p0), v4 * 24, p1 * 24, 8);
+        if (((uint32_t)get64(v2 + 16) & 1) == 0) return 0;
+        v4 = get64(v2 + 24);
     } else {
-        v7 = v5 - 1;
-        v8 = v4;
-        do {
-            v6 = get8(v8) == 1;
-            if (v6 != 0) break;
-            v8 = v8 + 32;
-            v9 = v7 != 0;
-            v7 = v7 - 1;
-        } while (v9 != 0);
+        rattle_alloc_at(v2, v6 * 24, 8);
+        if (((uint32_t)get64(v2) & 1) == 0) return 0;
+        v4 = get64(v2 + 8);
     }
-    put64(v3 + 184, 0);
-    put64(v3 + 192, 0);
-    put64(v3 + 200, 0);
-    put64(v3 + 160, 0);
-    put64(v3 + 168, 0);
-    put64(v3 + 176, 0);
-    v8 = (uint64_t)get8(p2 + 1);
-    if (v8 <= 63) {
-        v10 = 1;
-        v7 = get64(p1 + 8);
-        if (((uint32_t)(v7 >> (v8 & 63)) & 1) != 0) {
-            v9 = 0;
-            if (v5 <= v8) {
-                v12 = 0;
-                v5 = 0;
-            } else {
-                v10 = 1;
-                v12 = 0;
-                v5 = 0;
-                v8 = v4 + (v8 << 5);
-                if (get8(v8) == 1) {
-                    v5 = get64(v8 + 16);
-                    v12 = get64(v8 + 8);
-                    v9 = 1;
-                    v10 = 0;
-                }
-            }
-            put64(v3 + 360, 0);
-            put64(v3 + 368, 0);
-            put64(v3 + 376, 0);
-            put64(v3 + 336, 0);
-            put64(v3 + 344, 0);
-            put64(v3 + 352, 0);
-            put64(v3 + 312, 0);
-            put64(v3 + 320, 0);
-            put64(v3 + 328, 0);
-            put64(v3 + 288, 0);
-            put64(v3 + 296, 0);
-            put64(v3 + 304, 0);
-            put64(v3 + 264, 0);
-            put64(v3 + 272, 0);
-            put64(v3 + 280, 0);
-            put64(v3 + 256, 0);
-            put64(v3 + 248, 0);
-            put64(v3 + 240, 0);
-            put64(v3 + 231, 0);
-            put64(v3 + 224, 0);
-            put64(v3 + 216, 0);
-            put64(v3 + 208, 0);
-            v13 = get64(p2 + 16);
-            v4 = get64(p2 + 8);
-            switch ((uint32_t)(uint64_t)get8(p2)) {
-            case 1:
-                v10 = get32(p1 + 4);
-                v12 = (uint64_t)v10;
-                if (v13 <= v12) {
-                    v8 = 0;
-                    v14 = v3 + 488;
-                    if (v6 != 0) {
-                        v5 = v14;
-                        p2 = 0;
-                        goto l18;
-                    }
-                    v15 = clz64(v7);
-                    p2 = 64 - v15;
-                    if (v7 == 0) {
-                        v5 = v14;
-                    } else {
-                        rattle_alloc_at(v3 + 80, p2 << 5, 8);
-                        v6 = 1;
-                        if (((uint32_t)get64(v3 + 80) & 1) == 0) {
-                            v8 = 0;
-                            put64(v3 + 200, 0);
-                            put64(v3 + 192, 0);
-                            put64(v3 + 184, 0);
-                            put64(v3 + 160, 0);
-                            put64(v3 + 168, 0);
-                            put64(v3 + 176, 0);
-                            v9 = 0;
-                            v11 = 2;
-                            goto l10;
-                        }
-                        v5 = get64(v3 + 88);
-                        v8 = 0x800 - (v15 << 5);
-                        if (v8 != 0) fill(v5, 0, v8);
-                        v10 = get32(p1 + 4);
-                        v12 = (uint64_t)v10;
-                        v8 = p2;
-                    }
-                    goto l18;
-                }
-                break;
-            case 2:
-                if (v10 != 0) {
-                    v10 = 2;
-                    goto l22;
-                }
-                v15 = v13 + v5;
-                if (v15 <= (uint64_t)get32(p1 + 4)) {
-                    v17 = 0;
-                    put64(v3 + 448, 0);
-                    put64(v3 + 456, 0);
-                    put64(v3 + 464, 0);
-                    put64(v3 + 472, 0);
-                    put64(v3 + 480, 0);
-                    put64(v3 + 424, 0);
-                    put64(v3 + 432, 0);
-                    put64(v3 + 440, 0);
-                    if (v15 == 0) {
-                        v18 = v3 + 488;
-                    } else {
-                        rattle_alloc_at(v3 + 96, v15, 1);
-                        v6 = 1;
-                        if (((uint32_t)get64(v3 + 96) & 1) == 0) {
-                            p1 = 0;
-                            put64(v3 + 328, 0);
-                            put64(v3 + 320, 0);
-                            put64(v3 + 312, 0);
-                            put64(v3 + 288, 0);
-                            put64(v3 + 296, 0);
-                            put64(v3 + 304, 0);
-                            v9 = 0;
-                            v11 = 2;
-                            v10 = 0;
-                            v7 = 0;
-                            v4 = 0;
-                            v5 = 0;
-                            goto l70;
-                        }
-                        v18 = get64(v3 + 104);
-                    }
-                    put64(v3 + 392, 0);
-                    put64(v3 + 384, v18);
-                    put64(v3 + 400, v15);
-                    if (v5 > v15) {
-                        v9 = std_alloc_vec_Vec_grow_amortized_a351ad16c7c032ee(v3 + 384, v5);
-                        v17 = get64(v3 + 392);
-                        v15 = get64(v3 + 400);
-                        if (v9 == 0) {
-                            v19 = v17;
-                            goto l74;
-                        }
-                        v18 = get64(v3 + 384);
-                    }
-                    v19 = v17 + v5;
-                    v16 = v18 + v17;
-                    if ((v16 - v12) < v5) {
-                        v14 = v5 & 3;
-                        v7 = 0;
-                        if (v5 >= 4) {
-                            v5 = v5 & ~3ULL;
-                            v7 = 0;
-                            do {
-                                v8 = v16 + v7;
-                                p2 = v12 + v7;
-                                put8(v8, get8(p2));
-                                put8(v8 + 1, get8(p2 + 1));
-                                put8(v8 + 2, get8(p2 + 2));
-                                put8(v8 + 3, get8(p2 + 3));
-                                v7 = v7 + 4;
-                            } while (v5 != v7);
-                            if (v14 == 0) goto l77;
-                        }
-                        v8 = v12 + v7;
-                        v7 = v18 + (v17 + v7);
-                        do {
-                            put8(v7, get8(v8));
-                            v7 = v7 + 1;
-                            v8 = v8 + 1;
-                            v14 = v14 - 1;
-                        } while (v14 != 0);
-                    } else if (v5 != 0) copy(v16, v12, v5);
-                l77:;
-                    put64(v3 + 400, v15);
-                    put64(v3 + 392, v19);
-                l74:;
-                    if (v13 > (v15 - v19)) {
-                        v9 = std_alloc_vec_Vec_grow_amortized_a351ad16c7c032ee(v3 + 384, v13);
-                        v19 = get64(v3 + 392);
-                        if (v9 == 0) {
-                            v16 = get64(v3 + 384);
-                            v14 = v19;
-                            goto l82;
-                        }
-                        v15 = get64(v3 + 400);
-                    }
-                    v14 = v19 + v13;
-                    v16 = get64(v3 + 384);
-                    v12 = v16 + v19;
-                    if ((v12 - v4) < v13) {
-                        v5 = v13 & 3;
-                        v7 = 0;
-                        if (v13 >= 4) {
-                            v13 = v13 & ~3ULL;
-                            v7 = 0;
-                            do {
-                                v8 = v12 + v7;
-                                p2 = v4 + v7;
-                                put8(v8, get8(p2));
-                                put8(v8 + 1, get8(p2 + 1));
-                                put8(v8 + 2, get8(p2 + 2));
-                                put8(v8 + 3, get8(p2 + 3));
-                                v7 = v7 + 4;
-                            } while (v13 != v7);
-                            if (v5 == 0) goto l85;
-                        }
-                        v8 = v4 + v7;
-                        v7 = v16 + (v19 + v7);
-                        do {
-                            put8(v7, get8(v8));
-                            v7 = v7 + 1;
-                            v8 = v8 + 1;
-                            v5 = v5 - 1;
-                        } while (v5 != 0);
-                    } else if (v13 != 0) copy(v12, v4, v13);
-                l85:;
-                    put64(v3 + 400, v15);
-                    put64(v3 + 392, v14);
-                l82:;
-                    if (v14 > (uint64_t)get32(p1 + 4)) {
-                        v9 = 1;
-                        v10 = 4;
-                        goto l90;
-                    }
-                    v8 = 0;
-                    if (v14 < 6) {
-                        v9 = 0;
-                    } else {
-                        v6 = get8(v16);
-                        if (v6 > 31) {
-                            v9 = 0;
-                        } else {
-                            if ((v6 & 8) != 0) {
-                                v9 = 0;
-                                if ((((v6 << 8) & 0x700) | get8(v16 + 1)) == 0x7ff) goto l92;
-                            }
-                            v8 = (((uint64_t)get8(v16 + 4) << 8) | (uint64_t)get8(v16 + 5)) + 7;
-                            v9 = v14 >= v8;
-                            v8 = (v9 != 0) ? v8 : 0ULL;
-                        }
-                    }
-                l92:;
-                    v9 = v9 & (uint32_t)(v8 == v14);
-                    v10 = (v9 != 0) ? 0U : 3U;
-                    v9 = v9 ^ 1;
-                l90:;
-                    p1 = 0;
-                    put64(v3 + 464, 0);
-                    put64(v3 + 448, 0);
-                    put64(v3 + 472, 0);
-                    put64(v3 + 480, 0);
-                    put64(v3 + 456, v3 + 488);
-                    v7 = v3 + 488;
-                    if (v9 == 0) {
-                        smallvec_small_vec_SmallVec_push_reserved_ed127ccbaaf726c4(v3 + 448, v3 + 384);
-                        p1 = (uint64_t)get8(v3 + 448);
-                        v7 = get64(v3 + 456);
-                    }
-                    v8 = v3 + 464;
-                    if (v9 != 0 && get64(v3 + 400) != 0) rattle_dealloc_at(v16);
-                    put64(v3 + 288, get64(v3 + 424));
-                    put64(v3 + 296, get64(v3 + 432));
-                    put64(v3 + 304, get64(v3 + 440));
-                    put64(v3 + 328, get64(v8 + 16));
-                    put64(v3 + 320, get64(v8 + 8));
-                    put64(v3 + 312, get64(v8));
-                    v5 = v3 + 488;
-                    v4 = 1;
-                    v6 = 0;
-                    v11 = 0;
-                l70:;
-                    v8 = 0;
-                    p2 = 0;
-                    goto l13;
-                }
-                break;
-            case 3:
-                map_service_packets_fault_of_alone(v3 + 56, p1, v4, v13);
-                if (get8(v3 + 56) == 1) {
-                    v10 = get8(v3 + 57);
-                    goto l22;
-                }
-                if (get8(p1 + 16) != 1) {
-                    v6 = v13 == 0;
-                    if (v6 != 0) {
-                        v7 = v3 + 488;
-                    } else {
-                        if (v13 > 0x7fffffffffffffffULL) goto l11;
-                        rattle_alloc_at(v3 + 40, v13, 1);
-                        if (((uint32_t)get64(v3 + 40) & 1) == 0) goto l11;
-                        v7 = get64(v3 + 48);
-                    }
-                    if ((v7 - v4) < v13) {
-                        v5 = v13 & 3;
-                        p1 = 0;
-                        if ((v13 - 1) >= 3) {
-                            v12 = v13 & ~3ULL;
-                            p1 = 0;
-                            do {
-                                v8 = v7 + p1;
-                                p2 = v4 + p1;
-                                put8(v8, get8(p2));
-                                put8(v8 + 1, get8(p2 + 1));
-                                put8(v8 + 2, get8(p2 + 2));
-                                put8(v8 + 3, get8(p2 + 3));
-                                p1 = p1 + 4;
-                            } while (v12 != p1);
-                            if (v5 == 0) goto l57;
-                        }
-                        v8 = v7 + p1;
-                        p1 = v4 + p1;
-                        do {
-                            put8(v8, get8(p1));
-                            v8 = v8 + 1;
-                            p1 = p1 + 1;
-                            v5 = v5 - 1;
-                        } while (v5 != 0);
-                    } else if (v6 == 0) copy(v7, v4, v13);
-                l57:;
-                    v8 = v3 + 384 + 16;
-                    put64(v3 + 416, 1);
-                    put64(v3 + 408, v13);
-                    put64(v3 + 400, v13);
-                    p1 = 0;
-                    goto l30;
-                }
-                p2 = 0;
-                put64(v3 + 480, 0);
-                put64(v3 + 472, 0);
-                put64(v3 + 464, 0);
-                put64(v3 + 456, 0);
-                put64(v3 + 448, 0);
-                if (v13 < 6) {
-                    p1 = 0;
-                    put64(v3 + 480, 0);
-                    put64(v3 + 472, 0);
-                    put64(v3 + 464, 0);
-                    v7 = v3 + 488;
-                    goto l31;
-                }
-                v7 = v13;
-                v8 = v4;
-                do {
-                    v6 = get8(v8);
-                    if (v6 > 31 || ((v6 & 8) != 0 && (((v6 << 8) & 0x700) | get8(v8 + 1)) == 0x7ff)) break;
-                    p1 = (((uint64_t)get8(v8 + 4) << 8) | (uint64_t)get8(v8 + 5)) + 7;
-                    if (v7 < p1) break;
-                    v8 = v8 + p1;
-                    p2 = p2 + 1;
-                    v7 = v7 - p1;
-                } while (v7 > 5);
-                v8 = v3 + 488;
-                v7 = 0;
-                p1 = 0;
-                if (p2 >= 2) {
-                    if (p2 > 0x555555555555555ULL) goto l12;
-                    rattle_alloc_at(v3 + 24, p2 * 24, 8);
-                    if (((uint32_t)get64(v3 + 24) & 1) == 0) goto l12;
-                    v8 = get64(v3 + 32);
-                    v7 = 1;
-                    p1 = p2;
-                }
-                put64(v3 + 480, 0);
-                put64(v3 + 472, p1);
-                put64(v3 + 464, 0);
-                put64(v3 + 456, v8);
-                put64(v3 + 448, v7);
-                v16 = v3 + 448 + 8;
-                v15 = 0;
-                do {
-                    v6 = get8(v4);
-                    if (v6 > 31 || ((v6 & 8) != 0 && (((v6 << 8) & 0x700) | get8(v4 + 1)) == 0x7ff)) break;
-                    v8 = (uint64_t)get8(v4 + 4) << 8;
-                    p1 = (uint64_t)get8(v4 + 5);
-                    v12 = (v8 | p1) + 7;
-                    if (v13 < v12) break;
-                    rattle_alloc_at(v3 + 8, v12, 1);
-                    if (((uint32_t)get64(v3 + 8) & 1) == 0) goto l38;
-                    v5 = get64(v3 + 16);
-                    if ((v5 - v4) < v12) {
-                        p2 = v12 & 3;
-                        v7 = 0;
-                        if ((p1 + v8 + 6) >= 3) {
-                            v14 = v12 & 0x1fffc;
-                            v7 = 0;
-                            do {
-                                v8 = v5 + v7;
-                                p1 = v4 + v7;
-                                put8(v8, get8(p1));
-                                put8(v8 + 1, get8(p1 + 1));
-                                put8(v8 + 2, get8(p1 + 2));
-                                put8(v8 + 3, get8(p1 + 3));
-                                v7 = v7 + 4;
-                            } while (v14 != v7);
-                            if (p2 == 0) goto l42;
-                        }
-                        v8 = v5 + v7;
-                        v7 = v4 + v7;
-                        do {
-                            put8(v8, get8(v7));
-                            v8 = v8 + 1;
-                            v7 = v7 + 1;
-                            p2 = p2 - 1;
-                        } while (p2 != 0);
-                    } else if (v12 != 0) copy(v5, v4, v12);
-                l42:;
-                    v13 = v13 - v12;
-                    if (get8(v3 + 448) == 0) {
-                        v8 = v16 + (v15 * 24);
-                        put64(v8 + 8, v12);
-                        v7 = get64(v8 + 16);
-                        put64(v8 + 16, v12);
-                        p1 = get64(v8);
-                        put64(v8, v5);
-                        if (v7 != 0) rattle_dealloc_at(p1);
-                        v15 = v15 + 1;
-                        put64(v3 + 480, v15);
-                    } else {
-                        v7 = get64(v3 + 464);
-                        v8 = get64(v3 + 456) + (v7 * 24);
-                        put64(v8 + 16, v12);
-                        put64(v8 + 8, v12);
-                        put64(v8, v5);
-                        put64(v3 + 464, v7 + 1);
-                    }
-                    v4 = v4 + v12;
-                } while (v13 >= 6);
-                p1 = (uint64_t)get8(v3 + 448);
-                v7 = get64(v3 + 456);
-                goto l31;
-            l38:;
-                p2 = get64(v3 + 472);
-                p1 = get64(v3 + 456);
-                if (get8(v3 + 448) == 0) {
-                    if (p2 != 0) goto l50;
-                    goto l12;
-                }
-                v7 = get64(v3 + 464);
-                if (v7 != 0) {
-                    v8 = p1;
-                    do {
-                        if (get64(v8 + 16) != 0) rattle_dealloc_at(get64(v8));
-                        v8 = v8 + 24;
-                        v7 = v7 - 1;
-                    } while (v7 != 0);
-                }
-                if (p2 == 0) goto l12;
-            l50:;
-                rattle_dealloc_at(p1);
-                goto l12;
-            l31:;
-                put64(v3 + 440, get64(v3 + 480));
-                put64(v3 + 432, get64(v3 + 472));
-                put64(v3 + 424, get64(v3 + 464));
-                v8 = v3 + 424;
-            l30:;
-                p2 = get64(v8 + 16);
-                put64(v3 + 280, p2);
-                v5 = get64(v8 + 8);
-                put64(v3 + 272, v5);
-                v8 = get64(v8);
-                put64(v3 + 264, v8);
-                put64(v3 + 288, get64(v3 + 240));
-                put64(v3 + 296, get64(v3 + 248));
-                put64(v3 + 304, get64(v3 + 256));
-                put64(v3 + 312, v8);
-                put64(v3 + 320, v5);
-                put64(v3 + 328, p2);
-                v5 = v3 + 488;
-                v4 = 1;
-                v6 = 0;
-                v8 = 0;
-                p2 = 0;
-                goto l15;
-            default:
-                if (v10 != 0) {
-                    v10 = 2;
-                    goto l22;
-                }
-                if ((v13 + v5) <= (uint64_t)get32(p1 + 4)) {
-                    v8 = 0;
-                    put64(v3 + 328, 0);
-                    put64(v3 + 320, 0);
-                    put64(v3 + 312, 0);
-                    put64(v3 + 288, 0);
-                    put64(v3 + 296, 0);
-                    put64(v3 + 304, 0);
-                    v7 = v3 + 488;
-                    v4 = 3;
-                    v6 = 0;
-                    p2 = 0;
-                    v11 = 0;
-                    v9 = 0;
-                    v10 = 0;
-                    goto l21;
-                }
-                break;
-            }
-            v10 = 4;
-        l22:;
-            v8 = 0;
-            put64(v3 + 328, 0);
-            put64(v3 + 320, 0);
-            put64(v3 + 312, 0);
-            put64(v3 + 288, 0);
-            put64(v3 + 296, 0);
-            put64(v3 + 304, 0);
-            v7 = v3 + 488;
-            v4 = 1;
-            v9 = 1;
-            v6 = 0;
-            p2 = 0;
-            v11 = 0;
-        l21:;
-            p1 = 0;
-            v5 = v7;
-            goto l13;
-        l18:;
-            if (v10 != 0) {
-                rattle_alloc_at(v3 + 64, v12, 1);
-                if (((uint32_t)get64(v3 + 64) & 1) == 0) goto l64;
-                v14 = get64(v3 + 72);
-            }
-            put64(v3 + 464, v12);
-            p1 = 0;
-            put64(v3 + 456, 0);
-            put64(v3 + 448, v14);
-            t1 = std_alloc_vec_Vec_extend_from_slice_672334860c861157(v3 + 448, v4, v13);
-            if ((t1 & 255) == 0) {
-                v7 = get64(v3 + 464);
-                put64(v3 + 231, v7);
-                v4 = get64(v3 + 456);
-                put64(v3 + 223, v4);
-                v13 = get64(v3 + 448);
-                put64(v3 + 215, v13);
-                put64(v3 + 312, 0);
-                put64(v3 + 320, 0);
-                put64(v3 + 328, 0);
-                put64(v3 + 288, v13);
-                put64(v3 + 296, v4);
-                put64(v3 + 304, v7);
-                v4 = 2;
-                v7 = v3 + 488;
-                v6 = 0;
-                goto l15;
-            }
-            if (get64(v3 + 464) != 0) rattle_dealloc_at(get64(v3 + 448));
-        l64:;
-            if (v8 != 0) {
-                v7 = v5;
-                do {
-                    if (get8(v7) != 0 && get64(v7 + 24) != 0) rattle_dealloc_at(get64(v7 + 8));
-                    v7 = v7 + 32;
-                    v8 = v8 - 1;
-                } while (v8 != 0);
-            }
-            if (p2 != 0) rattle_dealloc_at(v5);
-            v8 = 0;
-            put64(v3 + 200, 0);
-            put64(v3 + 192, 0);
-            put64(v3 + 184, 0);
-            put64(v3 + 160, 0);
-            put64(v3 + 168, 0);
-            put64(v3 + 176, 0);
-            v9 = 0;
-            v11 = 2;
-            v6 = 1;
-            goto l10;
-        l15:;
-            v11 = 0;
-            v10 = v9;
-        l13:;
-            put64(v3 + 200, get64(v3 + 328));
-            put64(v3 + 192, get64(v3 + 320));
-            put64(v3 + 184, get64(v3 + 312));
-            put64(v3 + 160, get64(v3 + 288));
-            put64(v3 + 168, get64(v3 + 296));
-            put64(v3 + 176, get64(v3 + 304));
-            goto l9;
-        l12:;
-            put64(v3 + 440, 0);
-            put64(v3 + 432, 0);
-            put64(v3 + 424, 0);
-        l11:;
-            put64(v3 + 184, get64(v3 + 360));
-            put64(v3 + 192, get64(v3 + 368));
-            put64(v3 + 200, get64(v3 + 376));
-            put64(v3 + 160, get64(v3 + 336));
-            put64(v3 + 168, get64(v3 + 344));
-            put64(v3 + 176, get64(v3 + 352));
-            v9 = 0;
-            v11 = 2;
-            v6 = 1;
-            v8 = 0;
-        l10:;
-            p2 = 0;
-            v7 = 0;
-            v5 = 0;
-            v10 = 0;
-            p1 = 0;
-            v4 = 0;
-        l9:;
-            put64(v3 + 136, get64(v3 + 184));
-            put64(v3 + 144, get64(v3 + 192));
-            put64(v3 + 152, get64(v3 + 200));
-            put64(v3 + 112, get64(v3 + 160));
-            put64(v3 + 120, get64(v3 + 168));
-            put64(v3 + 128, get64(v3 + 176));
-            goto l4;
-        }
-    }
-    v8 = 0;
-    put64(v3 + 152, 0);
-    put64(v3 + 144, 0);
-    put64(v3 + 136, 0);
-    put64(v3 + 112, 0);
-    put64(v3 + 120, 0);
-    put64(v3 + 128, 0);
-    v10 = 0;
-    v9 = 1;
-    p2 = 0;
-    v7 = v3 + 488;
-    v5 = v7;
-    p1 = 0;
-    v4 = 0;
-    v6 = 0;
-    v11 = 0;
-l4:;
-    put16(p0 + 14, 0);
-    put32(p0 + 10, 0);
-    put64(p0 + 24, v7);
     put64(p0 + 16, p1);
-    put8(p0 + 9, v10);
-    put8(p0 + 8, v9);
-    put8(p0 + 1, v11);
-    put8(p0, v6);
-    put64(p0 + 32, get64(v3 + 136));
-    put64(p0 + 40, get64(v3 + 144));
-    put64(p0 + 48, get64(v3 + 152));
-    put64(p0 + 56, v4);
-    put64(p0 + 64, get64(v3 + 112));
-    put64(p0 + 72, get64(v3 + 120));
-    put64(p0 + 80, get64(v3 + 128));
-    put64(p0 + 104, p2);
-    put64(p0 + 96, v8);
-    put64(p0 + 88, v5);
-    return;
+    put64(p0, v4);
+    return 1;
 }
 
 /* map_service::packets::fault_of_alone, crates/map_service/src/packets.rt:76 */
@@ -6594,269 +8813,6 @@ static void smallvec_small_vec_SmallVec_push_reserved_ed127ccbaaf726c4(uint64_t 
     return;
 }
 
-static void std_alloc_vec_Vec_drop_555ceec2fcbf3849(uint64_t p0)
-{
-    uint64_t v1 = 0, v2 = 0, v3 = 0;
-    v1 = get64(p0 + 16);
-    v2 = get64(p0);
-    v3 = get64(p0 + 8);
-    if (v3 != 0) {
-        p0 = v2;
-        do {
-            if (get8(p0) != 0 && get64(p0 + 24) != 0) rattle_dealloc_at(get64(p0 + 8));
-            p0 = p0 + 32;
-            v3 = v3 - 1;
-        } while (v3 != 0);
-    }
-    if (v1 == 0) return;
-    rattle_dealloc_at(v2);
-    return;
-}
-
-/* nodes::spacecraft::Spacecraft::hand_on, crates/nodes/src/spacecraft/receive.rt:144 */
-static void nodes_spacecraft_Spacecraft_hand_on(uint64_t p0, uint64_t p1, uint64_t p2)
-{
-    unsigned char frame_octets[176 + 15];
-    uint32_t v10 = 0, v11 = 0, v18 = 0, t1;
-    uint64_t v3 = 0, v4 = 0, v5 = 0, v6 = 0, v7 = 0, v8 = 0, v9 = 0, v12 = 0, v13 = 0, v14 = 0, v15 = 0, v16 = 0,
-        v17 = 0;
-    v3 = aligned(frame_octets);
-    put64(v3 + 8, 0);
-    put64(v3 + 16, 0);
-    put64(v3 + 24, 0);
-    put64(v3 + 32, 0);
-    v4 = get64(p2 + 96);
-    v5 = get64(p2 + 88);
-    v6 = get64(p2 + 80);
-    v7 = get64(p2 + 72);
-    v8 = get64(p2 + 64);
-    v9 = get64(p2 + 56);
-    v10 = get8(p2 + 48);
-    v11 = get8(p2 + 8);
-    put64(v3 + 127, get64(p2 + 40));
-    put64(v3 + 120, get64(p2 + 33));
-    put64(v3 + 112, get64(p2 + 25));
-    put64(v3 + 104, get64(p2 + 17));
-    put64(v3 + 96, get64(p2 + 9));
-    v12 = (uint64_t)v11 & 255;
-    v13 = (uint64_t)get8(p1 + 1);
-    if (v13 > 63 || ((uint32_t)(get64(p0 + 88) >> (v13 & 63)) & 1) == 0) {
-        if (v5 != 0) {
-            p2 = v6;
-            do {
-                if (get8(p2) != 0 && get64(p2 + 24) != 0) rattle_dealloc_at(get64(p2 + 8));
-                p2 = p2 + 32;
-                v5 = v5 - 1;
-            } while (v5 != 0);
-        }
-        if (v4 != 0) rattle_dealloc_at(v6);
-        if (v10 != 2 || v7 == 0) goto l1;
-        rattle_dealloc_at(v9);
-        goto l1;
-    }
-    p2 = p0 + 112;
-    if (get64(p2) == 0) {
-        put64(p2, v5);
-        p2 = p0 + 120;
-        v5 = get64(p2);
-        put64(p2, v4);
-        p2 = p0 + 104;
-        v4 = get64(p2);
-        put64(p2, v6);
-        v6 = v4;
-        if (v5 != 0) goto l9;
-        goto l8;
-    }
-    if (v5 != 0) {
-        p2 = v6;
-        do {
-            if (get8(p2) != 0 && get64(p2 + 24) != 0) rattle_dealloc_at(get64(p2 + 8));
-            p2 = p2 + 32;
-            v5 = v5 - 1;
-        } while (v5 != 0);
-    }
-    if (v4 == 0) goto l8;
-l9:;
-    rattle_dealloc_at(v6);
-l8:;
-    if (get64(p0 + 112) <= v13) {
-        if (v10 != 2 || v7 == 0) goto l1;
-        rattle_dealloc_at(v9);
-        goto l1;
-    }
-    v6 = get64(p0 + 104) + (v13 << 5);
-    switch (v10) {
-    case 1:
-        break;
-    case 2:
-        put64(v6 + 16, v8);
-        v10 = get8(v6);
-        put64(v6, 1);
-        v5 = v6 + 24;
-        p2 = get64(v5);
-        put64(v5, v7);
-        v6 = v6 + 8;
-        v5 = get64(v6);
-        put64(v6, v9);
-        goto l15;
-    case 3:
-        if (get8(v6) != 1) goto l1;
-        v7 = get64(p1 + 8);
-        p2 = get64(p1 + 16);
-        v14 = get64(v6 + 24);
-        v4 = v6 + 16;
-        v15 = get64(v4);
-        if (p2 > (v14 - v15)) {
-            t1 = std_alloc_vec_Vec_grow_amortized_a351ad16c7c032ee(v6 + 8, p2);
-            if (t1 == 0) goto l1;
-            v14 = get64(v6 + 24);
-            v15 = get64(v6 + 16);
-        }
-        v5 = 0;
-        put64(v4, 0);
-        put64(v4 + 8, 0);
-        v16 = v15 + p2;
-        v17 = get64(v6 + 8);
-        v9 = v17 + v15;
-        if ((v9 - v7) < p2) {
-            v13 = p2 & 3;
-            if (p2 >= 4) {
-                v8 = p2 & ~3ULL;
-                v5 = 0;
-                do {
-                    p2 = v9 + v5;
-                    v4 = v7 + v5;
-                    put8(p2, get8(v4));
-                    put8(p2 + 1, get8(v4 + 1));
-                    put8(p2 + 2, get8(v4 + 2));
-                    put8(p2 + 3, get8(v4 + 3));
-                    v5 = v5 + 4;
-                } while (v8 != v5);
-                if (v13 == 0) goto l20;
-            }
-            p2 = v7 + v5;
-            v5 = v17 + (v15 + v5);
-            do {
-                put8(v5, get8(p2));
-                v5 = v5 + 1;
-                p2 = p2 + 1;
-                v13 = v13 - 1;
-            } while (v13 != 0);
-        } else if (p2 != 0) copy(v9, v7, p2);
-    l20:;
-        put64(v6 + 24, v14);
-        put64(v6 + 16, v16);
-        put64(v6 + 8, v17);
-        goto l1;
-    default:
-        goto l1;
-    }
-    put64(v6 + 16, 0);
-    v10 = get8(v6);
-    put64(v6, 0);
-    p2 = v6 + 8;
-    v5 = get64(p2);
-    put64(p2, 0);
-    v6 = v6 + 24;
-    p2 = get64(v6);
-    put64(v6, 0);
-l15:;
-    if ((v10 & 255) == 1 && p2 != 0) rattle_dealloc_at(v5);
-l1:;
-    p2 = get64(v3 + 127);
-    put64(v3 + 32, p2);
-    v5 = get64(v3 + 119);
-    put64(v3 + 24, v5);
-    v6 = get64(v3 + 111);
-    put64(v3 + 16, v6);
-    v4 = get64(v3 + 103);
-    put64(v3 + 8, v4);
-    v18 = get8(p1 + 1);
-    put64(v3 + 112, v4);
-    put64(v3 + 120, v6);
-    put64(v3 + 128, v5);
-    put64(v3 + 136, p2);
-    put64(v3 + 104, v12);
-    v10 = v11 & 255;
-    if (((v10 != 0) ? v6 : p2) != 0) {
-        v10 = v10 == 0;
-        v7 = v3 + 112;
-        v5 = v3 + 151;
-        v9 = p0 + 184;
-        v8 = p0 + 176;
-        v12 = p0 + 192;
-        p1 = p0 + 168;
-        v15 = p0 + 160;
-        p2 = 0;
-        do {
-            put64(v3 + 96, p2 + 1);
-            p2 = (((v10 & 1) != 0) ? v7 : get64(v3 + 112)) + (p2 * 24);
-            v6 = get64(p2 + 16);
-            put64(p2 + 16, 0);
-            p0 = get64(p2 + 8);
-            put64(p2 + 8, 0);
-            v4 = get64(p2);
-            put64(v3 + 72, v4);
-            put64(v3 + 80, p0);
-            put64(v3 + 88, v6);
-            put64(p2, v3 + 175);
-            put64(v5 + 16, v6);
-            put64(v5 + 8, p0);
-            put64(v5, v4);
-            put32(v3 + 147, 0);
-            put32(v3 + 144, 0);
-            put64(v3 + 63, get64(v3 + 167));
-            put64(v3 + 56, get64(v3 + 160));
-            put64(v3 + 48, get64(v3 + 152));
-            put64(v3 + 40, get64(v3 + 144));
-            p2 = get64(v15);
-            v6 = get64(p1);
-            p0 = get64(v12);
-            v4 = v6 - p0;
-            v13 = get64(v9);
-            if (v4 < (get64(v8) - v13)) {
-                p2 = p2 + ((v13 + v4) << 5);
-                put8(p2, v18);
-                put64(p2 + 1, get64(v3 + 40));
-                put64(p2 + 9, get64(v3 + 48));
-                put64(p2 + 17, get64(v3 + 56));
-                put64(p2 + 24, get64(v3 + 63));
-            } else {
-                p2 = p2 + (p0 << 5);
-                put64(p2 + 1, get64(v3 + 40));
-                put8(p2, v18);
-                put64(p2 + 9, get64(v3 + 48));
-                put64(p2 + 17, get64(v3 + 56));
-                put64(p2 + 24, get64(v3 + 63));
-                put64(v12, p0 + 1);
-            }
-            put64(p1, v6 + 1);
-            v11 = get8(v3 + 104);
-            v10 = v11 == 0;
-            p2 = get64(v3 + 96);
-            v6 = get64(v3 + 120);
-        } while (p2 != ((v11 != 0) ? v6 : get64(v3 + 136)));
-    }
-    p0 = get64(v3 + 128);
-    v5 = get64(v3 + 112);
-    if ((v11 & 255) == 0) {
-        if (p0 != 0) goto l30;
-        return;
-    }
-    if (v6 != 0) {
-        p2 = v5;
-        do {
-            if (get64(p2 + 16) != 0) rattle_dealloc_at(get64(p2));
-            p2 = p2 + 24;
-            v6 = v6 - 1;
-        } while (v6 != 0);
-    }
-    if (p0 == 0) return;
-l30:;
-    rattle_dealloc_at(v5);
-    return;
-}
-
 /* tm_link::turn::put_next, crates/tm_link/src/turn.rt:36 */
 static void tm_link_turn_put_next(uint64_t p0, uint64_t p1, uint64_t p2, uint32_t p3, uint64_t p4, uint64_t p5)
 {
@@ -7000,6 +8956,34 @@ l1:;
     v10 = octets_frame_check_check(p4, v11);
     put16(p4 + v11, (v10 << 8) | ((v10 & 0xff00) >> 8));
     return;
+}
+
+static uint32_t std_alloc_vec_Vec_grow_amortized_49bbd27f022ae39a(uint64_t p0, uint64_t p1)
+{
+    unsigned char frame_octets[32 + 15];
+    uint64_t v2 = 0, v4 = 0, v5 = 0, v6 = 0;
+    v2 = aligned(frame_octets);
+    v4 = get64(p0 + 8);
+    if (p1 > ~v4) return 0;
+    p1 = v4 + p1;
+    p1 = (p1 > 8) ? p1 : 8ULL;
+    v5 = get64(p0 + 16);
+    v6 = v5 << 1;
+    v6 = (p1 > v6) ? p1 : v6;
+    p1 = (v5 < 0x4000000000000000ULL) ? v6 : p1;
+    if (p1 > 0x7fffffffffffffffULL) return 0;
+    if (v5 != 0) {
+        rattle_realloc_at(v2 + 16, get64(p0), v4, p1, 1);
+        if (((uint32_t)get64(v2 + 16) & 1) == 0) return 0;
+        v4 = get64(v2 + 24);
+    } else {
+        rattle_alloc_at(v2, v6, 1);
+        if (((uint32_t)get64(v2) & 1) == 0) return 0;
+        v4 = get64(v2 + 8);
+    }
+    put64(p0 + 16, p1);
+    put64(p0, v4);
+    return 1;
 }
 
 /* nodes::spacecraft::Spacecraft::telemetry, crates/nodes/src/spacecraft.rt:235 */
@@ -7159,6 +9143,127 @@ l18:;
     v4 = 0;
     put8(p0 + 1, v5);
     put8(p0, v4);
+    return;
+}
+
+static void std_alloc_vec_Vec_drop_555ceec2fcbf3849(uint64_t p0)
+{
+    uint64_t v1 = 0, v2 = 0, v3 = 0;
+    v1 = get64(p0 + 16);
+    v2 = get64(p0);
+    v3 = get64(p0 + 8);
+    if (v3 != 0) {
+        p0 = v2;
+        do {
+            if (get8(p0) != 0 && get64(p0 + 24) != 0) rattle_dealloc_at(get64(p0 + 8));
+            p0 = p0 + 32;
+            v3 = v3 - 1;
+        } while (v3 != 0);
+    }
+    if (v1 == 0) return;
+    rattle_dealloc_at(v2);
+    return;
+}
+
+static uint32_t std_alloc_vec_Vec_grow_amortized_722da43a23cbcade(uint64_t p0)
+{
+    unsigned char frame_octets[32 + 15];
+    uint64_t v1 = 0, v3 = 0, v4 = 0, v5 = 0, v6 = 0;
+    v1 = aligned(frame_octets);
+    v3 = get64(p0 + 8);
+    if (v3 == ~0ULL) return 0;
+    v4 = ((v3 > 3) ? v3 : 3ULL) + 1;
+    v5 = get64(p0 + 16);
+    v6 = v5 << 1;
+    v6 = (v4 > v6) ? v4 : v6;
+    v4 = (v5 < 0x4000000000000000ULL) ? v6 : v4;
+    if (v4 > 0x3ffffffffffffffULL) return 0;
+    if (v5 != 0) {
+        rattle_realloc_at(v1 + 16, get64(p0), v3 << 5, v4 << 5, 8);
+        if (((uint32_t)get64(v1 + 16) & 1) == 0) return 0;
+        v3 = get64(v1 + 24);
+    } else {
+        rattle_alloc_at(v1, v6 << 5, 8);
+        if (((uint32_t)get64(v1) & 1) == 0) return 0;
+        v3 = get64(v1 + 8);
+    }
+    put64(p0 + 16, v4);
+    put64(p0, v3);
+    return 1;
+}
+
+/* simulated_link::map_lists::append_on, crates/simulated_link/src/map_lists.rt:43 */
+static void simulated_link_map_lists_append_on(uint64_t p0, uint32_t p1, uint64_t p2)
+{
+    uint64_t v3 = 0, v4 = 0, v5 = 0, v6 = 0, v7 = 0, v8 = 0, v9 = 0, v10 = 0, v11 = 0, v12 = 0, v13 = 0, v14 = 0;
+    v3 = get64(p2 + 16);
+    v4 = get64(p2);
+    p2 = get64(p2 + 8);
+    if (p2 != 0) {
+        v5 = p0 + (((uint64_t)p1 & 255) * 24);
+        v6 = v5 + 8;
+        v7 = get64(v6);
+        v8 = 0;
+        if (p2 != 1) {
+            v9 = p2 & 1;
+            p0 = v7 * 24;
+            v10 = p2 & ~1ULL;
+            v8 = 0;
+            p2 = v4;
+            do {
+                v11 = get64(p2);
+                v12 = get64(p2 + 8);
+                v13 = get64(v5) + p0;
+                put64(v13 + 16, get64(p2 + 16));
+                put64(v13 + 8, v12);
+                put64(v13, v11);
+                v11 = v7 + v8;
+                put64(v6, v11 + 1);
+                v12 = get64(p2 + 24);
+                v14 = get64(p2 + 32);
+                v13 = get64(v5) + p0;
+                put64(v13 + 40, get64(p2 + 40));
+                put64(v13 + 32, v14);
+                put64(v13 + 24, v12);
+                put64(v6, v11 + 2);
+                p2 = p2 + 48;
+                p0 = p0 + 48;
+                v8 = v8 + 2;
+            } while (v10 != v8);
+            if (v9 == 0) goto l1;
+            v7 = v7 + v8;
+        }
+        p2 = v4 + (v8 * 24);
+        v8 = get64(p2);
+        v13 = get64(p2 + 8);
+        p0 = get64(v5) + (v7 * 24);
+        put64(p0 + 16, get64(p2 + 16));
+        put64(p0 + 8, v13);
+        put64(p0, v8);
+        put64(v6, v7 + 1);
+    }
+l1:;
+    if (v3 == 0) return;
+    rattle_dealloc_at(v4);
+    return;
+}
+
+static void std_alloc_vec_Vec_drop_53a4c03472232ebd(uint64_t p0)
+{
+    uint64_t v1 = 0, v2 = 0, v3 = 0;
+    v1 = get64(p0 + 16);
+    v2 = get64(p0);
+    v3 = get64(p0 + 8);
+    if (v3 != 0) {
+        p0 = v2;
+        do {
+            if (get8(p0) != 0 && get64(p0 + 24) != 0) rattle_dealloc_at(get64(p0 + 8));
+            p0 = p0 + 32;
+            v3 = v3 - 1;
+        } while (v3 != 0);
+    }
+    if (v1 == 0) return;
+    rattle_dealloc_at(v2);
     return;
 }
 
@@ -9964,3062 +12069,751 @@ static uint32_t sedge_sim_spacecraft_read_at(uint64_t sim, uint64_t read)
 /* sedge_sim_step, crates/sedgechisel_nodes/src/sim/events.rt:74 */
 static uint32_t sedge_sim_step_at(uint64_t sim, uint64_t event, uint64_t reply)
 {
-    unsigned char frame_octets[2752 + 15];
-    uint32_t v4 = 0, v5 = 0, v6 = 0, v9 = 0, v10 = 0, v11 = 0, v12 = 0, v13 = 0, v14 = 0, v15 = 0, v16 = 0, v17 = 0,
-        v24 = 0, v25 = 0, v27 = 0, v28 = 0, v32 = 0, v33 = 0, v34 = 0, v35 = 0, v36 = 0, v37 = 0, v39 = 0, v46 = 0,
-        v47 = 0, v48 = 0, v49 = 0, t2, t3, t4, t5, t6, t9, t12, t13, t14, t16, t17, t18;
-    uint64_t v3 = 0, v7 = 0, v8 = 0, v18 = 0, v19 = 0, v20 = 0, v21 = 0, v22 = 0, v23 = 0, v26 = 0, v29 = 0, v30 = 0,
-        v31 = 0, v38 = 0, v40 = 0, v41 = 0, v42 = 0, v43 = 0, v44 = 0, v45 = 0, t7, t8, t10, t11, t19;
+    unsigned char frame_octets[96 + 15];
+    uint32_t v4 = 0, v6 = 0, v7 = 0, v8 = 0, v9 = 0, v10 = 0, v11 = 0, v12 = 0, v13 = 0, v14 = 0, v15 = 0, v16 = 0,
+        v17 = 0, v18 = 0, v19 = 0, v20 = 0, v21 = 0, v22 = 0, v27 = 0, v28 = 0, v29 = 0, v30 = 0, v31 = 0, v32 = 0,
+        v33 = 0, v35 = 0, v36 = 0, v37 = 0, v38 = 0, v39 = 0, v40 = 0, v41 = 0, v42 = 0, v43 = 0, v44 = 0, v45 = 0,
+        v46 = 0;
+    uint64_t v3 = 0, v5 = 0, v23 = 0, v24 = 0, v25 = 0, v26 = 0, v34 = 0;
     v3 = aligned(frame_octets);
-    v4 = 1;
-    v5 = 0;
-    v6 = 255;
-    v7 = 0;
-    v8 = 0;
-    v9 = 0;
-    v10 = 1;
-    v11 = 0;
-    v12 = 0;
-    v13 = get8(event);
-    switch (v13 - 1) {
+    v4 = 0;
+    put16(v3 + 64, 0);
+    put64(v3 + 56, 0);
+    put64(v3 + 48, 0);
+    v5 = event + 8;
+    switch (get8(event) - 1) {
     case 0:
-        v8 = get64(event + 16);
-        v7 = get64(event + 8);
-        v12 = get8(event + 1);
-        v5 = 0;
-        v9 = 0;
-        v10 = 1;
+        put64(v3 + 50, get64(v5));
+        put64(v3 + 58, get64(v5 + 8));
+        v6 = get8(event + 1);
+        v4 = 0;
         v11 = 0;
-        v13 = 0;
+        v10 = 0;
+        v7 = 0;
         goto l2;
     case 1:
-        v8 = get64(event + 16);
-        v7 = get64(event + 8);
-        v12 = get8(event + 1);
-        v10 = 1;
-        v5 = 0;
-        v9 = 0;
-        v4 = 1;
-        v11 = 0;
-        v13 = 1;
-        goto l2;
-    case 2:
+        put64(v3 + 50, get64(v5));
+        put64(v3 + 58, get64(v5 + 8));
+        v6 = get8(event + 1);
+        v7 = 1;
         break;
+    case 2:
+        v7 = get16(event + 4);
+        v8 = v7 < 256;
+        v9 = (v8 != 0) ? v7 : 256U;
+        v6 = 0;
+        v10 = 0;
+        v11 = 0;
+        v4 = 0;
+        switch (get8(event + 2) - 1) {
+        case 0:
+            goto l3;
+        case 1:
+            v11 = 0;
+            v10 = 1;
+            v4 = 0;
+            goto l3;
+        case 2:
+            v11 = 0;
+            v10 = 2;
+            v4 = 0;
+            goto l3;
+        case 3:
+            if (v8 == 0) {
+                v4 = 255;
+                return 255;
+            }
+            v10 = 3;
+            goto l4;
+        case 4:
+            v11 = 0;
+            v10 = 4;
+            v4 = 0;
+            goto l3;
+        case 5:
+            if (v8 == 0) {
+                v4 = 255;
+                return 255;
+            }
+            v10 = 5;
+            goto l4;
+        case 6:
+            v10 = 6;
+            goto l4;
+        case 7:
+            v10 = 7;
+            goto l4;
+        case 8:
+            v11 = 0;
+            v10 = 8;
+            v4 = v7;
+            goto l3;
+        default:
+            v4 = 255;
+            return 255;
+        }
     case 3:
+        put64(v3 + 58, 0);
+        put64(v3 + 50, 0);
+        v7 = 4;
+        goto l6;
     case 4:
+        put64(v3 + 58, 0);
+        put64(v3 + 50, 0);
+        v7 = 5;
+        goto l6;
     case 5:
-    case 7:
-    case 8:
-    case 9:
-        goto l2;
+        put64(v3 + 58, 0);
+        put64(v3 + 50, 0);
+        v7 = 6;
+        goto l6;
     case 6:
-        v8 = get64(event + 16);
-        v7 = get64(event + 8);
-        v13 = 7;
+        put64(v3 + 58, get64(v5 + 8));
+        put64(v3 + 50, get64(v5));
+        v7 = 7;
+        goto l6;
+    case 7:
+        put64(v3 + 58, 0);
+        put64(v3 + 50, 0);
+        v7 = 8;
+        goto l6;
+    case 8:
+        put64(v3 + 58, 0);
+        put64(v3 + 50, 0);
+        v7 = 9;
+        goto l6;
+    case 9:
+        put64(v3 + 58, 0);
+        put64(v3 + 50, 0);
+        v7 = 10;
         goto l6;
     case 10:
-        v8 = get64(event + 16);
-        v7 = get64(event + 8);
-        v13 = 11;
+        put64(v3 + 58, get64(v5 + 8));
+        put64(v3 + 50, get64(v5));
+        v7 = 11;
         goto l6;
     case 11:
-        v13 = 13;
-        goto l7;
+        put64(v3 + 58, 0);
+        put64(v3 + 50, 0);
+        v7 = 13;
+        goto l6;
     case 12:
-        v13 = 14;
-        goto l7;
+        put64(v3 + 58, 0);
+        put64(v3 + 50, 0);
+        v7 = 14;
+        goto l6;
     case 13:
-        v13 = 15;
-        goto l7;
+        put64(v3 + 58, 0);
+        put64(v3 + 50, 0);
+        v7 = 15;
+        goto l6;
     case 14:
-        v8 = get64(event + 16);
-        v7 = get64(event + 8);
-        v13 = 16;
+        put64(v3 + 58, get64(v5 + 8));
+        put64(v3 + 50, get64(v5));
+        v7 = 16;
         goto l6;
     case 15:
-        v13 = 12;
-        goto l7;
+        put64(v3 + 58, 0);
+        put64(v3 + 50, 0);
+        v7 = 12;
+        goto l5;
     case 16:
-        v6 = 255;
-        v12 = get16(event + 4);
-        if (v12 > 255) return 255;
-        v13 = 3;
-        v5 = 0;
-        v8 = 0;
-        v7 = 0;
-        v9 = 0;
-        v10 = 1;
-        v11 = 0;
-        goto l2;
+        v6 = get16(event + 4);
+        if (v6 > 255) {
+            v4 = 255;
+            return 255;
+        }
+        put64(v3 + 58, 0);
+        put64(v3 + 50, 0);
+        v7 = 3;
+        break;
     default:
+        v4 = 255;
         return 255;
     }
-    v14 = get16(event + 4);
-    v15 = v14 < 256;
-    v16 = (v15 != 0) ? v14 : 256U;
-    v13 = 2;
-    v5 = 0;
-    v7 = 0;
-    v8 = 0;
-    v9 = 0;
-    v10 = 1;
+    v4 = 0;
     v11 = 0;
-    v12 = 0;
-    switch (get8(event + 2) - 1) {
-    case 0:
-        goto l2;
-    case 1:
-        v4 = 1;
-        v5 = 0;
-        v7 = 0;
-        v8 = 0;
-        v9 = 0;
-        v10 = 0;
-        v11 = 1;
-        v12 = 0;
-        goto l2;
-    case 2:
-        v11 = 2;
-        v5 = 0;
-        v7 = 0;
-        v8 = 0;
-        v9 = 0;
-        v10 = 0;
-        v12 = 0;
-        v13 = 2;
-        goto l2;
-    case 3:
-        if (v15 == 0) return v6;
-        v5 = 0;
-        v11 = 3;
-        v7 = 0;
-        v8 = 0;
-        v9 = v16;
-        v10 = 0;
-        v12 = 0;
-        goto l2;
-    case 4:
-        v11 = 4;
-        v5 = 0;
-        v7 = 0;
-        v8 = 0;
-        v9 = 0;
-        goto l3;
-    case 5:
-        if (v15 == 0) return v6;
-        v5 = 0;
-        v11 = 5;
-        goto l4;
-    case 6:
-        v5 = 0;
-        v11 = 6;
-        goto l4;
-    case 7:
-        v5 = 0;
-        v11 = 7;
-        goto l4;
-    case 8:
-        v11 = 8;
-        v9 = 0;
-        v7 = 0;
-        v8 = 0;
-        v5 = v14;
-        goto l3;
-    default:
-        return v6;
-    }
-l7:;
-    v5 = 0;
-    v7 = 0;
-    v8 = 0;
-    goto l5;
+    v10 = 0;
+    goto l2;
 l6:;
-    v5 = 0;
+    v4 = 0;
 l5:;
-    v9 = 0;
-    v10 = 1;
     v11 = 0;
-    v12 = 0;
+    v10 = 0;
+    v6 = 0;
     goto l2;
 l4:;
-    v7 = 0;
-    v8 = 0;
-    v9 = v16;
-l3:;
-    v10 = 0;
+    v11 = v9;
     v4 = 0;
-    v12 = 0;
+l3:;
+    put64(v3 + 58, 0);
+    put64(v3 + 50, 0);
+    v7 = 2;
 l2:;
+    put64(v3 + 16, get64(v3 + 58));
+    put64(v3 + 8, get64(v3 + 50));
     event = get64(sim /* link */);
     put64(sim /* link */, 0);
-    v6 = 255;
-    if (event == 0) return 255;
-    v17 = 0;
-    put16(v3 + 244, 0);
-    put32(v3 + 240, 0);
-    switch (v13) {
-    case 1:
-        nodes_ground_node_Ground_bypass(v3 + 56, event, v12, v7, v8);
-        v25 = 0;
-        v11 = get8(v3 + 57);
-        v13 = v11 == 5;
-        v12 = get8(v3 + 56);
-        v6 = (v12 != 0) ? ((v13 != 0) ? 0U : 3U) : 0U;
-        if ((v13 & (uint32_t)(v12 != 0)) != 0) goto l51;
-        v24 = (v12 != 0) ? ((v13 != 0) ? 0U : v11) : 0U;
-        v22 = 0;
-        goto l52;
-    case 2:
-        put16(v3 + 698, v5);
-        put8(v3 + 697, v9);
-        put8(v3 + 696, v11);
-        v6 = 0;
-        put16(v3 + 248, 0);
-        put8(v3 + 250, 0);
-        if (v10 != 0) {
-            v13 = 0;
-            v12 = 0;
-            v6 = 0;
-            if (get8(event + 473) != get8(event + 74)) goto l56;
-            goto l57;
-        }
-        if (v4 != 0) goto l57;
-        v13 = v11;
-        v12 = 0;
-        goto l56;
-    case 3:
-        put64(v3 + 696, 0);
-        put64(v3 + 704, 0);
-        put32(v3 + 248, 2);
-        v6 = 0;
-        if (get64(event + 752) == 0) v6 = get64(event + 792) == 0;
-        v13 = simulated_link_world_World_is_idle(event);
-        nodes_ground_node_Ground_resume(v3 + 696, event, v12);
-        if (get8(v3 + 696) == 0) {
-            v7 = get64(v3 + 704);
-            simulated_link_world_World_begin(event, v3 + 248, v6, v13);
-            v24 = 0;
-            v6 = 10;
-        } else {
-            v7 = 0;
-            v6 = 3;
-            v24 = get8(v3 + 697);
-        }
-        v26 = v7 & 0xffffffffff000000ULL;
-        v25 = (uint32_t)(v7 >> 16);
-        v27 = (uint32_t)(v7 >> 8);
-        v28 = (uint32_t)v7;
-        v13 = 0;
-        v22 = 0;
-        v7 = 0;
-        v17 = 0;
-        goto l50;
-    case 4:
-        v26 = 0;
-        put64(v3 + 256, 0);
-        put64(v3 + 248, 0);
-        nodes_ground_node_Ground_peek(v3 + 696, event);
-        if (get8(v3 + 696) != 1) {
-            nodes_ground_node_Ground_advance(event);
-            v28 = 0;
-            v27 = 0;
-            v25 = 0;
-            v7 = 0;
-            v22 = 0;
-            goto l48;
-        }
-        v26 = get64(v3 + 728);
-        v11 = get8(v3 + 721);
-        v10 = get8(v3 + 720);
-        v6 = get8(v3 + 713);
-        v18 = get64(v3 + 736);
-        v13 = get8(v3 + 712);
-        v7 = (v13 == 2) ? ((v6 != 0) ? 4ULL : 2ULL) : (v18 + 2);
-        v29 = v7 + 6;
-        v12 = v29 == 0;
-        if (v12 != 0) {
-            v7 = 0;
-            v19 = v3 + 0xab8;
-        } else {
-            if (v29 > 0x7fffffffffffffffULL) goto l58;
-            rattle_alloc_at(v3 + 96, v29, 1);
-            if (((uint32_t)get64(v3 + 96) & 1) == 0) goto l58;
-            v19 = get64(v3 + 104);
-            v8 = 0;
-            if (v29 != 1) {
-                v8 = v7 + 5;
-                if (v8 != 0) fill(v19, 0, v8);
-            }
-            put8(v19 + v8, 0);
-            v7 = v8 + 1;
-        }
-        tc_frame_encoding_encode(v3 + 248, v3 + 704, v19, v7);
-        if (get8(v3 + 248) != 0) UNREACHABLE;
-        v5 = v7 == 0;
-        if (v5 != 0) {
-            v21 = v3 + 0xab8;
-        } else {
-            rattle_alloc_at(v3 + 80, v7, 1);
-            if (((uint32_t)get64(v3 + 80) & 1) == 0) {
-                if (v12 == 0) goto l126;
-                goto l58;
-            }
-            v21 = get64(v3 + 88);
-        }
-        if ((v21 - v19) < v7) {
-            v23 = v7 & 3;
-            v22 = 0;
-            if (v7 >= 4) {
-                v30 = v7 & ~3ULL;
-                v22 = 0;
-                do {
-                    v8 = v21 + v22;
-                    v20 = v19 + v22;
-                    put8(v8, get8(v20));
-                    put8(v8 + 1, get8(v20 + 1));
-                    put8(v8 + 2, get8(v20 + 2));
-                    put8(v8 + 3, get8(v20 + 3));
-                    v22 = v22 + 4;
-                } while (v30 != v22);
-                if (v23 == 0) goto l131;
-            }
-            v8 = v21 + v22;
-            v22 = v19 + v22;
-            do {
-                put8(v8, get8(v22));
-                v8 = v8 + 1;
-                v22 = v22 + 1;
-                v23 = v23 - 1;
-            } while (v23 != 0);
-        } else if (v5 == 0) copy(v21, v19, v7);
-    l131:;
-        v31 = 0;
-        v23 = 0;
-        v13 = v13 != 0 || (v6 & 255) != (get8(event + 74) & 255);
-        if (v13 == 0) {
-            v23 = v3 + 0xab8;
-            v31 = v18 + 1;
-            if (v31 != 0) {
-                if (v31 > 0x7fffffffffffffffULL) goto l127;
-                rattle_alloc_at(v3 + 64, v31, 1);
-                if (((uint32_t)get64(v3 + 64) & 1) == 0) goto l127;
-                v23 = get64(v3 + 72);
-            }
-            put8(v23, (v10 << 6) + v11);
-            v8 = v23 + 1;
-            if ((v8 - v26) < v18) {
-                v30 = v18 & 3;
-                v8 = 0;
-                if (v18 >= 4) {
-                    v18 = v18 & ~3ULL;
-                    v8 = 0;
-                    do {
-                        v22 = v23 + v8;
-                        v20 = v26 + v8;
-                        put8(v22 + 1, get8(v20));
-                        put8(v22 + 2, get8(v20 + 1));
-                        put8(v22 + 3, get8(v20 + 2));
-                        put8(v22 + 4, get8(v20 + 3));
-                        v8 = v8 + 4;
-                    } while (v18 != v8);
-                    if (v30 == 0) goto l136;
-                }
-                do {
-                    put8(v23 + v8 + 1, get8(v26 + v8));
-                    v8 = v8 + 1;
-                    v30 = v30 - 1;
-                } while (v30 != 0);
-            } else if (v18 != 0) copy(v8, v26, v18);
-        }
-    l136:;
-        if (get64(event + 760) == get64(event + 752)) {
-            t2 = std_alloc_vec_deque_VecDeque_grow_1598ebf9113514c4(event + 744);
-            if (t2 == 0) goto l142;
-        }
-        if (get64(event + 0xf70) != get64(event + 0xf68)) goto l125;
-        t3 = std_alloc_vec_Vec_grow_amortized_1598ebf9113514c4(event + 0xf60, 1);
-        if (t3 != 0) goto l125;
-    l142:;
-        if (v12 == 0) rattle_dealloc_at(v19);
-        if (v5 == 0) rattle_dealloc_at(v21);
-        v6 = 0;
-        if ((v13 | (uint32_t)(v31 == 0)) != 0) goto l51;
-        rattle_dealloc_at(v23);
-        goto l51;
-    l127:;
-        if (v5 == 0) rattle_dealloc_at(v21);
-        if (v12 != 0) goto l58;
-    l126:;
-        rattle_dealloc_at(v19);
-        goto l58;
-    l125:;
-        nodes_ground_node_Ground_advance(event);
-        v8 = get64(event + 744);
-        v22 = get64(event + 752);
-        v26 = event + 776;
-        v20 = get64(v26);
-        v30 = v22 - v20;
-        v18 = get64(event + 768);
-        if (v30 < (get64(event + 760) - v18)) {
-            v8 = v8 + ((v18 + v30) * 24);
-            put64(v8 + 16, v29);
-            put64(v8 + 8, v7);
-            put64(v8, v19);
-        } else {
-            v8 = v8 + (v20 * 24);
-            put64(v8 + 16, v29);
-            put64(v8 + 8, v7);
-            put64(v8, v19);
-            put64(v26, v20 + 1);
-        }
-        put64(event + 752, v22 + 1);
-        if (v13 == 0) {
-            v22 = event + 0xf68;
-            v20 = get64(v22);
-            v8 = get64(event + 0xf60) + (v20 * 24);
-            put64(v8 + 16, v31);
-            put64(v8 + 8, v31);
-            put64(v8, v23);
-            put64(v22, v20 + 1);
-        }
-        v13 = 0;
-        put16(v3 + 700, 0);
-        put32(v3 + 696, 0);
-        v26 = v21 & 0xffffffffff000000ULL;
-        v25 = (uint32_t)(v21 >> 16);
-        v27 = (uint32_t)(v21 >> 8);
-        v28 = (uint32_t)v21;
-        v8 = 0;
-        v6 = 5;
-        v22 = v7;
-        v20 = v7;
-        v23 = 0;
-        v19 = 0;
-        v12 = 0;
-        v11 = 0;
-        v10 = 0;
-        v5 = 0;
-        v9 = 0;
-        v4 = 0;
-        v14 = 0;
-        v21 = 0;
-        v16 = 0;
-        v15 = 0;
-        v32 = 0;
-        v33 = 0;
-        v34 = 0;
-        v35 = 0;
-        v36 = 0;
-        v37 = 5;
-        goto l30;
-    case 5:
-        v28 = 0;
-        fill(v3 + 696, 0, 224);
-        put32(v3 + 443, 0);
-        put32(v3 + 440, 0);
-        v26 = 0;
-        put64(v3 + 416, 0);
-        put64(v3 + 424, 0);
-        put64(v3 + 432, 0);
-        put64(v3 + 392, 0);
-        put64(v3 + 400, 0);
-        put64(v3 + 408, 0);
-        put64(v3 + 368, 0);
-        put64(v3 + 376, 0);
-        put64(v3 + 384, 0);
-        v8 = get64(event + 752);
-        if (v8 == 0) {
-            v13 = 1;
-            v6 = 1;
-            goto l61;
-        }
-        v7 = get64(event + 744);
-        if (v8 != get64(event + 776)) v7 = v7 + (get64(event + 768) * 24);
-        v38 = event + 400;
-        v22 = get64(v7);
-        v9 = 0;
-        v12 = 0;
-        v11 = 0;
-        v23 = get64(v7 + 8);
-        if (v23 < 5) goto l152;
-        v6 = get8(v22);
-        if (v6 > 63) {
-            v11 = 1;
-            goto l153;
-        }
-        if ((v6 & 48) == 16) {
-            v11 = 2;
-            goto l153;
-        }
-        if ((v6 & 12) != 0) {
-            v11 = 3;
-            goto l153;
-        }
-        v11 = 4;
-        v10 = get8(v22 + 2);
-        v13 = ((v10 << 8) & 768) | get8(v22 + 3);
-        if (v23 != (uint64_t)(v13 + 1)) goto l153;
-        v12 = 0;
-        if (v13 < 6) goto l152;
-        v4 = get8(v22 + 1);
-        v7 = v23 - 2;
-        v13 = get16(v22 + v7);
-        t4 = octets_frame_check_check(v22, v7);
-        if ((((v13 << 8) | (v13 >> 8)) & 0xffff) != (t4 & 0xffff)) {
-            v11 = 5;
-            goto l153;
-        }
-        v13 = get8(v22 + 4);
-        if (v6 >= 32 && (v13 & 255) != 0) {
-            v11 = 6;
-            goto l153;
-        }
-        if ((v6 & 16) != 0) {
-            v7 = v23 - 7;
-            if (v7 > 3) goto l159;
-            v11 = 7;
-            v12 = 0;
-            switch ((uint32_t)v7) {
-            case 1:
-                v12 = 0;
-                if (get8(v22 + 5) != 0) {
-                    v11 = 8;
-                    goto l152;
-                }
-                v14 = 2;
-                v20 = 0;
-                v33 = 0;
-                v8 = 0;
-                v13 = 0;
-                v34 = 0;
-                v5 = 0;
-                goto l160;
-            case 2:
-                goto l159;
-            case 3:
-                v11 = 8;
-                if (get8(v22 + 5) != 130) goto l153;
-                v12 = 0;
-                if (get8(v22 + 6) != 0) goto l152;
-                v5 = get8(v22 + 7);
-                v34 = 1;
-                v14 = 2;
-                v20 = 0;
-                v33 = 0;
-                v8 = 0;
-                v13 = 0;
-                goto l160;
-            default:
-                goto l152;
-            }
-        }
-        if ((v23 - 9) > ~2ULL) {
-            v11 = 7;
-            goto l153;
-        }
-        v5 = 0;
-        v34 = (v6 < 32) ? v13 : 0U;
-        v14 = v6 > 31;
-        v8 = v23 - 8;
-        v20 = v22 + 6;
-        v13 = get8(v22 + 5);
-        v33 = v13 & 63;
-        v13 = v13 >> 6;
-    l160:;
-        v12 = 1;
-        if (get32(v38) != (((v6 << 8) & 768) | v4)) {
-            v11 = 0;
-            goto l152;
-        }
-        v11 = 0;
-        if (get32(event + 404) != ((v10 & 252) >> 2)) goto l152;
-        switch (v14) {
-        case 1:
-            v6 = get8(event + 477);
-            v35 = 1;
-            v12 = 3;
-            v32 = get8(event + 476);
-            v14 = get8(event + 475);
-            v16 = get8(event + 474);
-            v4 = get8(event + 473);
-            v15 = get8(event + 472);
-            v29 = 0;
-            v5 = 0;
-            if (v13 != 3 || ((uint32_t)(get64(event + 440) >> ((uint64_t)v33 & 63)) & 1) == 0 || v8 >
-                (uint64_t)get32(event + 432)) {
-                v11 = 0;
-                v30 = 0;
-                goto l67;
-            }
-            v11 = 0;
-            v30 = 0;
-            v9 = 0;
-            v21 = 0;
-            v7 = 0;
-            if (v8 < 6) goto l66;
-            v13 = get8(v20);
-            if (v13 > 31 || (((v13 & 8) != 0 && (((v13 << 8) & 0x700) | get8(v20 + 1)) == 0x7ff) ||
-                ((((uint64_t)get8(v20 + 4) << 8) | (uint64_t)get8(v20 + 5)) + 7) != v8)) {
-                v30 = 0;
-                v11 = 0;
-                goto l67;
-            }
-            rattle_alloc_at(v3 + 160, v8, 1);
-            if (((uint32_t)get64(v3 + 160) & 1) == 0) {
-                v35 = 0;
-                put8(v3 + 668, 0);
-                put32(v3 + 664, 0);
-                put32(v3 + 656, 0);
-                put16(v3 + 660, 0);
-                v29 = 0;
-                put64(v3 + 672, 0);
-                put64(v3 + 680, 0);
-                put64(v3 + 688, 0);
-                put32(v3 + 648, 0);
-                put16(v3 + 652, 0);
-                put64(v3 + 632, 0);
-                put64(v3 + 639, 0);
-                put64(v3 + 576, 0);
-                put64(v3 + 584, 0);
-                put64(v3 + 592, 0);
-                put64(v3 + 600, 0);
-                put64(v3 + 608, 0);
-                put64(v3 + 616, 0);
-                put64(v3 + 624, 0);
-                put32(v3 + 571, 0);
-                put32(v3 + 568, 0);
-                v22 = 0;
-                v23 = 0;
-                v12 = 0;
-                v11 = 0;
-                v5 = 0;
-                v6 = 0;
-                v13 = 0;
-                v15 = 0;
-                v4 = 0;
-                v16 = 0;
-                v14 = 0;
-                v32 = 0;
-                v33 = 0;
-                goto l167;
-            }
-            v21 = get64(v3 + 168);
-            if ((v21 - v20) < v8) {
-                v18 = v8 & 3;
-                v7 = 0;
-                if (v8 >= 4) {
-                    v31 = v8 & ~3ULL;
-                    v7 = 0;
-                    do {
-                        v19 = v21 + v7;
-                        v30 = v20 + v7;
-                        put8(v19, get8(v30));
-                        put8(v19 + 1, get8(v30 + 1));
-                        put8(v19 + 2, get8(v30 + 2));
-                        put8(v19 + 3, get8(v30 + 3));
-                        v7 = v7 + 4;
-                    } while (v31 != v7);
-                    if (v18 == 0) goto l185;
-                }
-                do {
-                    put8(v21 + v7, get8(v20 + v7));
-                    v30 = 1;
-                    v7 = v7 + 1;
-                    v11 = 1;
-                    v18 = v18 - 1;
-                } while (v18 != 0);
-                goto l184;
-            }
-            if (v8 != 0) copy(v21, v20, v8);
-        l185:;
-            v30 = 1;
-            v11 = 1;
-        l184:;
-            v9 = v33;
-            v7 = v8;
-            goto l66;
-        case 2:
-            v13 = get8(event + 477);
-            v4 = get8(event + 473);
-            v7 = event + 472;
-            v6 = 0;
-            if ((v34 & 255) != 0) {
-                v16 = 1;
-                if ((get8(event + 474) & 1) != 0) {
-                    v14 = get8(event + 475);
-                    v32 = get8(event + 476);
-                    goto l190;
-                }
-                v4 = v5;
-            }
-            v16 = 0;
-            v14 = 0;
-            v32 = 0;
-        l190:;
-            v15 = get8(v7);
-            put8(v3 + 668, 0);
-            put32(v3 + 664, 0);
-            put32(v3 + 656, 0);
-            put16(v3 + 660, 0);
-            v29 = 0;
-            put64(v3 + 672, 0);
-            put64(v3 + 680, 0);
-            put64(v3 + 688, 0);
-            put32(v3 + 648, 0);
-            put16(v3 + 652, 0);
-            put64(v3 + 632, 0);
-            put64(v3 + 639, 0);
-            put64(v3 + 576, 0);
-            put64(v3 + 584, 0);
-            put64(v3 + 592, 0);
-            put64(v3 + 600, 0);
-            put64(v3 + 608, 0);
-            put64(v3 + 616, 0);
-            put64(v3 + 624, 0);
-            put32(v3 + 571, 0);
-            put32(v3 + 568, 0);
-            v35 = 1;
-            v33 = (v13 + 1) & 3;
-            v12 = 4;
-            v11 = v34;
-            v13 = 0;
-            goto l167;
-        default:
-            break;
-        }
-        v6 = 0;
-        fill(v3 + 248, 0, 112);
-        put32(v3 + 450, 0);
-        put8(v3 + 449, v33);
-        put8(v3 + 448, v13);
-        put16(v3 + 454, 0);
-        put64(v3 + 464, v8);
-        put64(v3 + 456, v20);
-        v35 = 1;
-        v33 = get8(event + 477);
-        v32 = get8(event + 476);
-        v14 = get8(event + 475);
-        v4 = get8(event + 473);
-        v15 = get8(event + 472);
-        v5 = 5;
-        if ((get8(event + 474) & 1) != 0) {
-            v16 = 1;
-        } else if ((v34 & 255) == (v4 & 255)) {
-            v16 = 0;
-            if ((v14 & 1) != 0) {
-                v14 = 1;
-            } else {
-                if (get64(event + 568) < (uint64_t)get32(event + 448)) {
-                    map_service_assembler_Assembler_prepare(v3 + 248, event + 480, v3 + 448);
-                    if (get8(v3 + 248) == 0) {
-                        v5 = 0;
-                        put32(v3 + 664, 0);
-                        put8(v3 + 668, 0);
-                        put32(v3 + 656, 0);
-                        put16(v3 + 660, 0);
-                        put64(v3 + 672, get64(v3 + 448));
-                        put64(v3 + 680, get64(v3 + 456));
-                        put64(v3 + 688, get64(v3 + 464));
-                        put16(v3 + 652, get16(v3 + 262));
-                        put32(v3 + 648, get32(v3 + 258));
-                        v18 = get64(v3 + 288);
-                        v13 = get8(v3 + 257);
-                        v6 = get8(v3 + 256);
-                        v20 = get64(v3 + 296);
-                        v19 = get64(v3 + 280);
-                        v10 = get8(v3 + 264);
-                        put64(v3 + 639, get64(v3 + 272));
-                        put64(v3 + 632, get64(v3 + 265));
-                        put64(v3 + 576, get64(v3 + 304));
-                        put64(v3 + 584, get64(v3 + 312));
-                        put64(v3 + 592, get64(v3 + 320));
-                        put64(v3 + 600, get64(v3 + 328));
-                        put64(v3 + 608, get64(v3 + 336));
-                        put64(v3 + 616, get64(v3 + 344));
-                        put64(v3 + 624, get64(v3 + 352));
-                        v29 = (v10 != 0) ? v19 : v20;
-                        v35 = 1;
-                        v4 = v34 + 1;
-                        v8 = 1;
-                        v12 = 2;
-                        v16 = 0;
-                        v14 = 0;
-                        v32 = 0;
-                        goto l171;
-                    }
-                    v35 = 0;
-                    put8(v3 + 668, 0);
-                    put32(v3 + 664, 0);
-                    put32(v3 + 656, 0);
-                    put16(v3 + 660, 0);
-                    v22 = 0;
-                    put64(v3 + 672, 0);
-                    put64(v3 + 680, 0);
-                    put64(v3 + 688, 0);
-                    put32(v3 + 648, 0);
-                    put16(v3 + 652, 0);
-                    put64(v3 + 632, 0);
-                    put64(v3 + 639, 0);
-                    put64(v3 + 576, 0);
-                    put64(v3 + 584, 0);
-                    put64(v3 + 592, 0);
-                    put64(v3 + 600, 0);
-                    put64(v3 + 608, 0);
-                    put64(v3 + 616, 0);
-                    put64(v3 + 624, 0);
-                    v23 = 0;
-                    v12 = 0;
-                    v34 = 0;
-                    v5 = 0;
-                    v29 = 0;
-                    v6 = 0;
-                    v13 = 0;
-                    v15 = 0;
-                    v4 = 0;
-                    v16 = 0;
-                    v14 = 0;
-                    v32 = 0;
-                    v33 = 0;
-                    goto l172;
-                }
-                v5 = 2;
-                v14 = 1;
-                v32 = 1;
-            }
-        } else {
-            v16 = 1;
-            v13 = v34 - v4;
-            v12 = (v15 >> 1) & 127;
-            if ((v13 & 255) >= v12) {
-                if ((v13 & 255) > (~v12 & 255)) {
-                    v5 = ((v14 & 1) != 0) ? 5U : 3U;
-                    v16 = 0;
-                } else {
-                    v5 = 4;
-                }
-            } else if ((v14 & 1) != 0) {
-                v16 = 0;
-                v14 = 1;
-            } else {
-                v32 = 1;
-                v16 = 0;
-                v14 = 0;
-                v5 = 1;
-            }
-        }
-        put8(v3 + 668, 0);
-        put32(v3 + 664, 0);
-        put32(v3 + 656, 0);
-        put16(v3 + 660, 0);
-        v29 = 0;
-        put64(v3 + 672, 0);
-        put64(v3 + 680, 0);
-        put64(v3 + 688, 0);
-        put32(v3 + 648, 0);
-        put16(v3 + 652, 0);
-        put64(v3 + 632, 0);
-        put64(v3 + 639, 0);
-        put64(v3 + 576, 0);
-        put64(v3 + 584, 0);
-        put64(v3 + 592, 0);
-        put64(v3 + 600, 0);
-        put64(v3 + 608, 0);
-        put64(v3 + 616, 0);
-        put64(v3 + 624, 0);
-        v12 = 2;
-        v13 = 0;
-    l172:;
-        v8 = 0;
-        v10 = 0;
-        v19 = 0;
-        v18 = 0;
-        v20 = 0;
-    l171:;
-        v9 = 0;
-        put32(v3 + 571, 0);
-        put32(v3 + 568, 0);
-        v30 = 0;
-        v11 = v34;
-        goto l65;
-    l167:;
-        v8 = 0;
-        v10 = 0;
-        v19 = 0;
-        v18 = 0;
-        v20 = 0;
-        v30 = 0;
-        v9 = 0;
-        goto l65;
-    l159:;
-        v11 = 8;
-    l153:;
-        v12 = 0;
-    l152:;
-        put32(v3 + 560, 0);
-        put8(v3 + 564, 0);
-        put32(v3 + 552, 0);
-        put16(v3 + 556, 0);
-        v7 = 0;
-        put64(v3 + 528, 0);
-        put64(v3 + 536, 0);
-        put64(v3 + 544, 0);
-        put32(v3 + 520, 0);
-        put16(v3 + 524, 0);
-        put64(v3 + 504, 0);
-        put64(v3 + 511, 0);
-        v33 = get8(event + 477);
-        v32 = get8(event + 476);
-        v14 = get8(event + 475);
-        v16 = get8(event + 474);
-        v4 = get8(event + 473);
-        v15 = get8(event + 472);
-        put64(v3 + 496, 0);
-        put64(v3 + 488, 0);
-        put64(v3 + 480, 0);
-        put64(v3 + 472, 0);
-        put64(v3 + 464, 0);
-        put64(v3 + 456, 0);
-        put64(v3 + 448, 0);
-        put32(v3 + 440, 0);
-        put32(v3 + 443, 0);
-        v21 = 0;
-        v30 = 0;
-        v20 = 0;
-        v18 = 0;
-        v19 = 0;
-        v10 = 0;
-        v13 = 0;
-        v6 = 0;
-        v8 = 0;
-        v29 = 0;
-        v5 = 0;
-        goto l63;
-    case 6:
-        v7 = get64(event + 752);
-        if (v7 == 0) {
-            v6 = 1;
-            goto l51;
-        }
-        v22 = event + 776;
-        if (get64(v22) != v7) {
-            v8 = get64(event + 768);
-        } else {
-            v8 = 0;
-            put64(v22, 0);
-        }
-        put64(event + 752, v7 - 1);
-        put64(event + 768, v8 + 1);
-        v7 = get64(event + 744) + (v8 * 24);
-        if (get64(v7 + 16) != 0) goto l88;
-        goto l70;
-    case 7:
-        v22 = get64(event + 752);
-        if (v22 == 0) {
-            v6 = 1;
-            goto l51;
-        }
-        if (v8 < 5) {
-            v27 = 0;
-            goto l197;
-        }
-        v6 = get8(v7);
-        if (v6 > 63) {
-            v27 = 1;
-            goto l197;
-        }
-        if ((v6 & 48) == 16) {
-            v27 = 2;
-            goto l197;
-        }
-        if ((v6 & 12) != 0) {
-            v27 = 3;
-            goto l197;
-        }
-        v27 = 4;
-        v20 = (((uint64_t)get8(v7 + 2) << 8) & 768) | (uint64_t)get8(v7 + 3);
-        if (v8 != (v20 + 1) || v20 < 6) goto l197;
-        v20 = v8 - 2;
-        v13 = get16(v7 + v20);
-        t5 = octets_frame_check_check(v7, v20);
-        if ((((v13 << 8) | (v13 >> 8)) & 0xffff) != (t5 & 0xffff)) {
-            v27 = 5;
-            goto l197;
-        }
-        if (v6 >= 32 && (get8(v7 + 4) & 255) != 0) {
-            v27 = 6;
-            goto l197;
-        }
-        if ((v6 & 16) != 0) {
-            v8 = v8 - 7;
-            if (v8 <= 3) {
-                v27 = 7;
-                switch ((uint32_t)v8) {
-                case 1:
-                    if (get8(v7 + 5) == 0) goto l71;
-                    break;
-                case 2:
-                    break;
-                case 3:
-                    v27 = 8;
-                    if (get8(v7 + 5) != 130 || get8(v7 + 6) != 0) goto l197;
-                    goto l71;
-                default:
-                    goto l197;
-                }
-            }
-            v27 = 8;
-        } else {
-            if ((v8 - 9) < ~1ULL) goto l71;
-            v27 = 7;
-        }
-    l197:;
-        v8 = event + 776;
-        if (get64(v8) != v22) {
-            v7 = get64(event + 768);
-        } else {
-            v7 = 0;
-            put64(v8, 0);
-        }
-        put64(event + 752, v22 - 1);
-        put64(event + 768, v7 + 1);
-        v7 = get64(event + 744) + (v7 * 24);
-        if (get64(v7 + 16) != 0) rattle_dealloc_at(get64(v7));
-        v25 = 0;
-        put16(v3 + 700, 0);
-        put32(v3 + 696, 0);
-        v22 = 0;
-        v7 = 0;
-        v26 = 0;
+    if (event == 0) {
+        v4 = 255;
+        return 255;
+    }
+    put64(v3 + 24, 0);
+    put64(v3 + 48, 0);
+    put64(v3 + 56, 0);
+    put64(v3 + 64, 0);
+    put64(v3 + 72, 0);
+    put64(v3 + 80, 0);
+    put8(v3 + 24, v7);
+    put8(v3 + 25, v6);
+    put8(v3 + 26, v10);
+    put8(v3 + 27, v11);
+    put16(v3 + 28, v4);
+    v5 = v3 + 8;
+    put64(v3 + 32, get64(v5));
+    put64(v3 + 40, get64(v5 + 8));
+    simulated_link_world_World_step(v3 + 48, event, v3 + 24);
+    v4 = get8(v3 + 56);
+    if (get8(v3 + 48) != 0) {
+        v4 = v4 + 6;
         goto l35;
-    case 8:
-        put64(v3 + 448, 0);
-        put64(v3 + 456, 0);
-        put64(v3 + 464, 0);
-        put64(v3 + 248, 0);
-        put64(v3 + 256, 0);
-        put64(v3 + 264, 0);
-        put16(v3 + 272, 0);
-        v6 = get32(event + 460);
-        v21 = (uint64_t)v6;
-        if (v6 == 0) {
-            v18 = v3 + 0xab8;
-        } else {
-            rattle_alloc_at(v3 + 176, v21, 1);
-            v13 = 1;
-            if (((uint32_t)get64(v3 + 176) & 1) == 0) {
-                v8 = 0;
-                put64(v3 + 456, 0);
-                put64(v3 + 448, 0);
-                v7 = v3 + 448;
-                goto l73;
-            }
-            v18 = get64(v3 + 184);
-        }
-        put64(v3 + 688, v21);
-        put64(v3 + 680, 0);
-        put64(v3 + 672, v18);
-        if (get64(event + 800) == get64(event + 792)) {
-            t6 = std_alloc_vec_deque_VecDeque_grow_1598ebf9113514c4(event + 784);
-            if (t6 == 0) {
-                v8 = 0;
-                put64(v3 + 456, 0);
-                put64(v3 + 448, 0);
-                v7 = v3 + 448;
-                v13 = 1;
-                if (v6 == 0) goto l73;
-                rattle_dealloc_at(v18);
-                goto l73;
-            }
-        }
-        v11 = get8(event + 473);
-        v12 = get8(event + 477);
-        v13 = get32(event + 404);
-        v6 = get8(event + 476);
-        v10 = get8(event + 475);
-        v5 = get8(event + 474);
-        fill(v3 + 696, 0, 0x800);
-        if ((v13 & 192) != 0 || (v12 & 255) > 3) UNREACHABLE;
-        put16(v3 + 581, 0);
-        put8(v3 + 583, 0);
-        put8(v3 + 580, get8(event + 649));
-        put8(v3 + 579, get8(event + 648));
-        put8(v3 + 578, get8(event + 634));
-        put16(v3 + 576, get16(event + 632));
-        put64(v3 + 592, (uint64_t)get32(event + 696));
-        v22 = event + 656;
-        put64(v3 + 584, get64(v22));
-        v7 = event + 688;
-        v8 = get64(v7);
-        v20 = event + 672;
-        v5 = v5 << 5;
-        v10 = v10 << 4;
-        v9 = v6 << 3;
-        t7 = get64(event + 664) + v8;
-        t8 = get64(v20) - v8;
-        v8 = event + 640;
-        tm_link_turn_put_next(v3 + 576, t7, t8, (((((((v5 | (v12 << 1)) | v10) | v9) & 255) << 16) | ((v13 << 10) &
-            0xfc00)) | (v11 << 24)) | 1, v3 + 696, get64(v8));
-        v26 = get64(v8);
-        v7 = get64(v7);
-        v8 = get64(v20);
-        v22 = get64(v22);
-        if (v22 == 0 && v8 == v7) goto l214;
-        v20 = v8 - v7;
-        v8 = v26 - 12;
-        v19 = (v8 < v22) ? v8 : v22;
-        v8 = v8 - v19;
-        v23 = (v20 < v8) ? v20 : v8;
-        if (v8 <= v20) {
-            v22 = v22 - v19;
-        } else {
-            v22 = v8 - v20;
-            v22 = (v22 < 7) ? (v22 ^ 7) : 0ULL;
-        }
-        put64(event + 688, v23 + v7);
-        put64(event + 656, v22);
-        v6 = get32(event + 696);
-        v20 = (uint64_t)v6;
-        if (v8 > v20) {
-            v30 = event + 712;
-            v7 = get64(v30);
-            v23 = event + 736;
-            v19 = event + 728;
-            v29 = event + 704;
-            do {
-                if (v7 == 0) {
-                    v6 = 0;
-                    goto l218;
-                }
-                if (v7 != get64(v23)) {
-                    v22 = get64(v19);
-                } else {
-                    v22 = 0;
-                    put64(v23, 0);
-                }
-                v7 = v7 - 1;
-                put64(v30, v7);
-                put64(v19, v22 + 1);
-                v8 = v8 - v20;
-                v6 = get32(get64(v29) + (v22 << 2));
-                v22 = (uint64_t)v6;
-                v20 = v22;
-            } while (v8 > v22);
-        }
-        v6 = v6 - (uint32_t)v8;
-    l218:;
-        put32(event + 696, v6);
-    l214:;
-        v6 = v10 | v5;
-        v7 = event + 648;
-        put8(v7, get8(v7) + 1);
-        v7 = event + 649;
-        put8(v7, get8(v7) + 1);
-        v7 = 0;
-        if (v26 > v21) {
-            t9 = std_alloc_vec_Vec_grow_amortized_49bbd27f022ae39a(v3 + 672, v26);
-            if (t9 == 0) goto l224;
-            v18 = get64(v3 + 672);
-            v21 = get64(v3 + 688);
-            v7 = get64(v3 + 680);
-        }
-        if (v26 != 0) copy(v18 + v7, v3 + 696, v26);
-        put64(v3 + 688, v21);
-        put64(v3 + 680, v7 + v26);
-    l224:;
-        v6 = v6 | v9;
-        v7 = get64(event + 784);
-        v8 = get64(event + 792);
-        v20 = event + 816;
-        v22 = get64(v20);
-        v23 = v8 - v22;
-        v19 = get64(event + 808);
-        if (v23 < (get64(event + 800) - v19)) {
-            v7 = v7 + ((v19 + v23) * 24);
-            put64(v7 + 16, get64(v3 + 688));
-            put64(v7 + 8, get64(v3 + 680));
-            put64(v7, get64(v3 + 672));
-        } else {
-            v7 = v7 + (v22 * 24);
-            put64(v7 + 16, get64(v3 + 688));
-            put64(v7 + 8, get64(v3 + 680));
-            put64(v7, get64(v3 + 672));
-            put64(v20, v22 + 1);
-        }
-        put64(event + 792, v8 + 1);
-        t10 = (((((uint64_t)v12 & 255) << 24) | (uint64_t)((v13 << 8) & 0x3f00)) | ((uint64_t)v11 << 32)) |
-            (((uint64_t)v6 & 255) << 16);
-        v24 = (uint32_t)(t10 >> 8);
-        v7 = (v3 + 248) | 2;
-        v6 = 6;
-        v13 = 0;
-        v8 = get64(v3 + 250);
-        goto l72;
-    case 9:
-        v26 = 0;
-        put64(v3 + 720, 0);
-        put64(v3 + 712, 0);
-        put64(v3 + 704, 0);
-        put64(v3 + 696, 0);
-        v8 = get64(event + 792);
-        if (v8 == 0) {
-            v28 = 0;
-            v6 = 1;
-            goto l74;
-        }
-        v7 = get64(event + 784);
-        if (v8 != get64(event + 816)) v7 = v7 + (get64(event + 808) * 24);
-        v6 = get8(event + 75);
-        v13 = get8(event + 73);
-        nodes_ground_node_Ground_telemetry(v3 + 696, event, get64(v7), get64(v7 + 8));
-        if (get8(v3 + 696) != 0) {
-            v6 = 0;
-            v28 = 0;
-            goto l74;
-        }
-        v22 = (uint64_t)get32(v3 + 720);
-        v7 = get64(v3 + 712);
-        v25 = get8(v3 + 706);
-        v27 = get8(v3 + 705);
-        v28 = get8(v3 + 704);
-        v8 = get64(event + 792);
-        if (v8 != 0) {
-            v23 = event + 816;
-            if (get64(v23) != v8) {
-                v20 = get64(event + 808);
-            } else {
-                v20 = 0;
-                put64(v23, 0);
-            }
-            put64(event + 792, v8 - 1);
-            put64(event + 808, v20 + 1);
-            v8 = get64(event + 784) + (v20 * 24);
-            if (get64(v8 + 16) != 0) rattle_dealloc_at(get64(v8));
-        }
-        v8 = event + 0xf78;
-        put64(v8, get64(v8) + ((uint64_t)(get8(event + 75) - v6) & 255));
-        v6 = 1;
-        v8 = event + 832;
-        if (get8(v8) == 0) v6 = ((v13 - 3) & 255) < 2 && get8(event + 73) == 0;
-        put8(v8, v6);
-        v6 = 8;
-        goto l59;
-    case 10:
-        v7 = get64(event + 792);
-        if (v7 == 0) {
-            v6 = 1;
-            goto l51;
-        }
-        v22 = event + 816;
-        if (get64(v22) != v7) {
-            v8 = get64(event + 808);
-        } else {
-            v8 = 0;
-            put64(v22, 0);
-        }
-        put64(event + 792, v7 - 1);
-        put64(event + 808, v8 + 1);
-        v7 = get64(event + 784) + (v8 * 24);
-        if (get64(v7 + 16) == 0) goto l70;
-        goto l88;
-    case 11:
-        put64(v3 + 736, 0);
-        put64(v3 + 728, 0);
-        put64(v3 + 720, 0);
-        put64(v3 + 712, 0);
-        put64(v3 + 704, 0);
-        put64(v3 + 696, 0);
-        v27 = 0;
-        if (get64(event + 792) == 0) {
-            v13 = 1;
-            v6 = 1;
-        } else {
-            tm_link_decoding_decode(v3 + 696, v7, v8, (uint64_t)get32(event + 60));
-            v13 = 1;
-            if (get8(v3 + 696) != 1) {
-                v6 = 2;
-            } else {
-                v6 = 8;
-                v13 = 0;
-                v27 = get8(v3 + 697);
-                v7 = get64(event + 792);
-                if (v7 != 0) {
-                    v22 = event + 816;
-                    if (get64(v22) != v7) {
-                        v8 = get64(event + 808);
-                    } else {
-                        v8 = 0;
-                        put64(v22, 0);
-                    }
-                    put64(event + 792, v7 - 1);
-                    put64(event + 808, v8 + 1);
-                    v7 = get64(event + 784) + (v8 * 24);
-                    if (get64(v7 + 16) != 0) rattle_dealloc_at(get64(v7));
-                }
-            }
-        }
-        if (v13 != 0) goto l51;
-        v22 = 0;
-        v25 = 0;
-        v7 = 0;
-        v26 = 0;
-        v28 = 0;
-        goto l59;
-    case 12:
-        put64(v3 + 736, 0);
-        put64(v3 + 728, 0);
-        put64(v3 + 720, 0);
-        put64(v3 + 712, 0);
-        put64(v3 + 704, 0);
-        put64(v3 + 696, 0);
-        v8 = get64(event + 792);
-        if (v8 == 0) {
-            v17 = 0;
-            v12 = 1;
-            v6 = 1;
-            v24 = 0;
-            v13 = 0;
-            v27 = 0;
-            goto l244;
-        }
-        v7 = get64(event + 784);
-        if (v8 != get64(event + 816)) v7 = v7 + (get64(event + 808) * 24);
-        tm_link_decoding_decode(v3 + 696, get64(v7), get64(v7 + 8), (uint64_t)get32(event + 60));
-        v27 = get8(v3 + 697);
-        v13 = get32(v3 + 736);
-        v6 = get8(v3 + 696);
-        v7 = get64(event + 792);
-        if (v7 != 0) {
-            v22 = event + 816;
-            if (get64(v22) != v7) {
-                v8 = get64(event + 808);
-            } else {
-                v8 = 0;
-                put64(v22, 0);
-            }
-            put64(event + 792, v7 - 1);
-            put64(event + 808, v8 + 1);
-            v7 = get64(event + 784) + (v8 * 24);
-            if (get64(v7 + 16) != 0) rattle_dealloc_at(get64(v7));
-        }
-        v12 = 0;
-        if ((v6 & 255) != 0) {
-            v6 = 8;
-            v17 = 0;
-            v24 = 0;
-            goto l250;
-        }
-        v6 = get8(event + 75);
-        v11 = get8(event + 73);
-        put32(v3 + 576, 0);
-        put32(v3 + 248, 0);
-        put16(v3 + 252, 0);
-        if (extend32(v13, 0x80) > 0x7fffffffU) {
-            put32(v3 + 249, 0);
-            put8(v3 + 248, 1);
-            put8(v3 + 253, 0);
-        } else if ((v13 & 255) >= 32) {
-            put16(v3 + 248, 257);
-        } else if ((v13 & 3) != 1) {
-            put16(v3 + 248, 513);
-        } else {
-            v10 = v13 >> 8;
-            if ((v10 & 3) != 0) {
-                put16(v3 + 248, 769);
-            } else {
-                v5 = v13 >> 16;
-                if ((v5 & 1) != 0) {
-                    put16(v3 + 248, 769);
-                } else {
-                    put8(v3 + 253, v13 >> 24);
-                    put8(v3 + 251, v5 & 248);
-                    put8(v3 + 252, (v5 >> 1) & 3);
-                    put8(v3 + 250, (v10 & 252) >> 2);
-                    put8(v3 + 249, (v13 & 252) >> 2);
-                }
-            }
-        }
-        nodes_ground_node_Ground_report(v3 + 576, event, v3 + 248);
-        v17 = get32(v3 + 576);
-        v7 = event + 0xf78;
-        put64(v7, get64(v7) + ((uint64_t)(get8(event + 75) - v6) & 255));
-        v6 = 1;
-        v7 = event + 832;
-        if (get8(v7) == 0) v6 = ((v11 - 3) & 255) < 2 && get8(event + 73) == 0;
-        put8(v7, v6);
-        v24 = v17 >> 8;
-        v27 = 0;
-        v6 = 9;
-    l250:;
-        v13 = v24 & 0xffff00;
-    l244:;
-        if (v12 != 0) goto l51;
-        v22 = 0;
-        v25 = 0;
-        v7 = 0;
-        v26 = 0;
-        v28 = 0;
-        goto l50;
-    case 13:
-        nodes_ground_node_Ground_tick(v3 + 192, event);
-        if (get8(v3 + 192) == 0) goto l81;
-        v17 = get8(v3 + 193);
-        v28 = 0;
-        put16(v3 + 700, 0);
-        put32(v3 + 696, 0);
-        v26 = 0;
-        v27 = 0;
-        v25 = 0;
-        v7 = 0;
-        v22 = 0;
-        goto l36;
-    case 14:
-        v13 = 0;
-        v7 = get64(event + 568);
-        if (v7 == 0) {
-            v6 = 1;
-            v8 = 0;
-            v7 = 0;
-            v22 = 0;
-            v17 = 0;
-            goto l76;
-        }
-        v22 = event + 592;
-        if (get64(v22) != v7) {
-            v8 = get64(event + 584);
-        } else {
-            v8 = 0;
-            put64(v22, 0);
-        }
-        v23 = v7 - 1;
-        put64(event + 568, v23);
-        put64(event + 584, v8 + 1);
-        v7 = get64(event + 560) + (v8 << 5);
-        v20 = get64(v7 + 24);
-        v22 = get64(v7 + 16);
-        v8 = get64(v7 + 8);
-        v17 = get8(v7);
-        if (v23 < (uint64_t)get32(event + 448)) put8(event + 475, 0);
-        v6 = 11;
-        if (v20 <= v22) goto l77;
-        v7 = 0;
-        if (v22 == 0) {
-            rattle_dealloc_at(v8);
-            v8 = v3 + 0xab8;
-            v22 = 0;
-            goto l76;
-        }
-        rattle_realloc_at(v3 + 200, v8, v22, v22, 1);
-        if (((uint32_t)get64(v3 + 200) & 1) == 0) goto l77;
-        v8 = get64(v3 + 208);
-        v7 = v22;
-        goto l76;
-    case 15:
-        v7 = event + 616;
-        v8 = get64(v7);
-        if (v8 == 0) {
-            v6 = 1;
-            v8 = 0;
-            v7 = 0;
-            v22 = 0;
-        } else {
-            put64(v7, v8 - 1);
-            v7 = event + 624;
-            t11 = v7;
-            v7 = get64(v7);
-            v8 = v7 + 1;
-            v22 = get64(event + 608);
-            put64(t11, v8 - ((v8 < v22) ? 0ULL : v22));
-            v7 = get64(event + 600) + (v7 << 5);
-            v8 = get64(v7 + 8);
-            v17 = get8(v7);
-            v6 = 11;
-            v22 = get64(v7 + 24);
-            v7 = get64(v7 + 16);
-            if (v22 > v7) {
-                if (v7 == 0) {
-                    rattle_dealloc_at(v8);
-                    v7 = 0;
-                    v8 = v3 + 0xab8;
-                    v22 = 0;
-                } else {
-                    rattle_realloc_at(v3 + 216, v8, v7, v7, 1);
-                    if (((uint32_t)get64(v3 + 216) & 1) != 0) {
-                        v8 = get64(v3 + 224);
-                        v22 = v7;
-                    }
-                }
-            }
-        }
-        v26 = v8 & 0xffffffffff000000ULL;
-        v25 = (uint32_t)(v8 >> 16);
-        v27 = (uint32_t)(v8 >> 8);
-        v28 = (uint32_t)v8;
-        v13 = 0;
-        goto l75;
-    case 16:
-        nodes_spacecraft_Spacecraft_telemetry(v3 + 232, event + 400, v7, v8);
-        if (get8(v3 + 232) == 0) goto l81;
-        v39 = get8(v3 + 233);
-        if ((v39 & 255) == 6) goto l58;
-        v25 = 0;
-        put16(v3 + 700, 0);
-        put32(v3 + 696, 0);
-        v22 = 0;
-        v7 = 0;
-        v26 = 0;
-        v27 = 0;
-        v28 = 0;
-        goto l37;
-    default:
-        break;
     }
-    fill(v3 + 696, 0, 128);
-    put64(v3 + 464, 0);
-    put64(v3 + 456, 0);
-    put64(v3 + 448, 0);
-    nodes_ground_node_Ground_prepare(v3 + 696, event, v12, v7, v8);
-    if (get8(v3 + 696) != 0) {
-        v6 = get8(v3 + 697);
-        v13 = v6 == 5;
-        v24 = (v13 != 0) ? 0U : v6;
-        v6 = (v13 != 0) ? 0U : 3U;
-        goto l53;
-    }
-    copy(v3 + 248, v3 + 704, 120);
-    v13 = v8 == 0;
-    if (v13 != 0) {
-        v18 = v3 + 0xab8;
-    } else {
-        if (v8 > 0x7fffffffffffffffULL) goto l100;
-        rattle_alloc_at(v3 + 40, v8, 1);
-        if (((uint32_t)get64(v3 + 40) & 1) == 0) goto l100;
-        v18 = get64(v3 + 48);
-    }
-    if ((v18 - v7) >= v8) {
-        if (v13 != 0) goto l55;
-        copy(v18, v7, v8);
-        goto l55;
-    }
-    v19 = v8 & 3;
-    v20 = 0;
-    if (v8 >= 4) {
-        v21 = v8 & ~3ULL;
-        v20 = 0;
-        do {
-            v22 = v18 + v20;
-            v23 = v7 + v20;
-            put8(v22, get8(v23));
-            put8(v22 + 1, get8(v23 + 1));
-            put8(v22 + 2, get8(v23 + 2));
-            put8(v22 + 3, get8(v23 + 3));
-            v20 = v20 + 4;
-        } while (v21 != v20);
-        if (v19 == 0) goto l55;
-    }
-    v22 = v18 + v20;
-    v7 = v7 + v20;
-    do {
-        put8(v22, get8(v7));
-        v22 = v22 + 1;
-        v7 = v7 + 1;
-        v19 = v19 - 1;
-    } while (v19 != 0);
-    goto l55;
-l100:;
-    if (get8(v3 + 288) == 1 && get64(v3 + 312) != 0) rattle_dealloc_at(get64(v3 + 296));
-    v7 = get64(v3 + 352);
-    v22 = get64(v3 + 336);
-    if (get8(v3 + 320) == 0) {
-        if (v7 != 0) {
-            v20 = v22;
-            goto l109;
-        }
-        goto l54;
-    }
-    v23 = get64(v3 + 344);
-    v20 = get64(v3 + 328);
-    if (v22 != 0) {
-        v8 = get64(v3 + 360);
-        v22 = v22 - v8;
-        if (v7 < (v22 + v7)) {
-            v7 = ((v7 << 5) + v20) + 24;
-            do {
-                if (get64(v7) != 0) rattle_dealloc_at(get64(v7 - 16));
-                v7 = v7 + 32;
-                v22 = v22 - 1;
-            } while (v22 != 0);
-        }
-        if (v8 != 0) {
-            v7 = v20 + 24;
-            do {
-                if (get64(v7) != 0) rattle_dealloc_at(get64(v7 - 16));
-                v7 = v7 + 32;
-                v8 = v8 - 1;
-            } while (v8 != 0);
-        }
-    }
-    if (v23 == 0) goto l54;
-l109:;
-    rattle_dealloc_at(v20);
-    goto l54;
-l88:;
-    rattle_dealloc_at(get64(v7));
-    goto l70;
-l81:;
-    v26 = 0;
-    v28 = 0;
-    v27 = 0;
-    v25 = 0;
-    v7 = 0;
-    v22 = 0;
-    goto l49;
-l77:;
-    v7 = v22;
-    v22 = v20;
-l76:;
-    v26 = v8 & 0xffffffffff000000ULL;
-    v25 = (uint32_t)(v8 >> 16);
-    v27 = (uint32_t)(v8 >> 8);
-    v28 = (uint32_t)v8;
-l75:;
-    v24 = 0;
-    goto l50;
-l74:;
-    v27 = 0;
-    v25 = 0;
-    v7 = 0;
-    v22 = 0;
-    goto l51;
-l73:;
-    v6 = 0;
-    v24 = 0;
-l72:;
-    if (v13 != 0) goto l51;
-    v26 = v8 & 0xffffffffff000000ULL;
-    v13 = v24 & ~255U;
-    v25 = (uint32_t)(v8 >> 16);
-    v27 = (uint32_t)(v8 >> 8);
-    v22 = get64(v7 + 16);
-    v7 = get64(v7 + 8);
-    v28 = (uint32_t)v8;
-    v17 = 0;
-    goto l50;
-l71:;
-    v6 = 2;
-    goto l51;
-l70:;
-    v26 = 0;
-    v28 = 0;
-    v27 = 0;
-    v25 = 0;
-    v7 = 0;
-    v22 = 0;
-    goto l31;
-l67:;
-    v9 = 0;
-    v21 = 0;
-    v7 = 0;
-l66:;
-    v33 = (v6 + 1) & 3;
-    put32(v3 + 571, 0);
-    put32(v3 + 568, 0);
-    put32(v3 + 664, 0);
-    put8(v3 + 668, 0);
-    put32(v3 + 656, 0);
-    put16(v3 + 660, 0);
-    put64(v3 + 672, 0);
-    put64(v3 + 680, 0);
-    put64(v3 + 688, 0);
-    put32(v3 + 648, 0);
-    put16(v3 + 652, 0);
-    put64(v3 + 632, 0);
-    put64(v3 + 639, 0);
-    put64(v3 + 624, 0);
-    put64(v3 + 616, 0);
-    put64(v3 + 608, 0);
-    put64(v3 + 600, 0);
-    put64(v3 + 592, 0);
-    put64(v3 + 584, 0);
-    put64(v3 + 576, 0);
-    v6 = 0;
-    v13 = 0;
-    v8 = 0;
+    v12 = get8(v3 + 83);
+    v13 = get8(v3 + 82);
+    v14 = get8(v3 + 81);
+    v15 = get8(v3 + 80);
+    v16 = get8(v3 + 60);
+    v17 = get8(v3 + 59);
+    v18 = get8(v3 + 58);
+    v19 = get8(v3 + 57);
+    v5 = get64(v3 + 64);
+    v20 = (uint32_t)(v5 >> 16);
+    v21 = (uint32_t)(v5 >> 8);
+    v22 = (uint32_t)v5;
+    v23 = 0;
     v10 = 0;
-    v19 = 0;
-    v18 = 0;
-    v20 = 0;
-    goto l64;
-l65:;
-    v21 = 0;
+    v11 = 0;
+    v6 = 0;
     v7 = 0;
-l64:;
-    put8(v3 + 564, get8(v3 + 668));
-    put32(v3 + 560, get32(v3 + 664));
-    put32(v3 + 552, get32(v3 + 656));
-    put16(v3 + 556, get16(v3 + 660));
-    put64(v3 + 528, get64(v3 + 672));
-    put64(v3 + 536, get64(v3 + 680));
-    put64(v3 + 544, get64(v3 + 688));
-    put32(v3 + 520, get32(v3 + 648));
-    put16(v3 + 524, get16(v3 + 652));
-    put64(v3 + 511, get64(v3 + 639));
-    put64(v3 + 504, get64(v3 + 632));
-    put64(v3 + 448, get64(v3 + 576));
-    put64(v3 + 456, get64(v3 + 584));
-    put64(v3 + 464, get64(v3 + 592));
-    put64(v3 + 472, get64(v3 + 600));
-    put64(v3 + 480, get64(v3 + 608));
-    put64(v3 + 488, get64(v3 + 616));
-    put64(v3 + 496, get64(v3 + 624));
-    put32(v3 + 443, get32(v3 + 571));
-    put32(v3 + 440, get32(v3 + 568));
-    if (v35 == 0) {
-        v6 = 0;
-        v13 = 1;
-        goto l62;
-    }
-l63:;
-    put8(v3 + 714, v5);
-    put8(v3 + 713, v11);
-    put8(v3 + 712, v12);
-    put64(v3 + 704, v23);
-    put64(v3 + 696, v22);
-    put32(v3 + 715, get32(v3 + 560));
-    put8(v3 + 719, get8(v3 + 564));
-    put8(v3 + 729, v13);
-    put8(v3 + 728, v6);
-    put64(v3 + 720, v29);
-    put32(v3 + 730, get32(v3 + 552));
-    put16(v3 + 734, get16(v3 + 556));
-    v12 = 0;
-    put16(v3 + 742, 0);
-    put8(v3 + 741, v33);
-    put8(v3 + 740, v32);
-    put8(v3 + 739, v14);
-    put8(v3 + 738, v16);
-    put8(v3 + 737, v4);
-    put8(v3 + 736, v15);
-    put64(v3 + 744, v8);
-    put8(v3 + 777, v13);
-    put8(v3 + 776, v6);
-    put8(v3 + 784, v10);
-    put64(v3 + 816, v20);
-    put64(v3 + 808, v18);
-    put64(v3 + 800, v19);
-    put64(v3 + 768, get64(v3 + 544));
-    put64(v3 + 760, get64(v3 + 536));
-    put64(v3 + 752, get64(v3 + 528));
-    put32(v3 + 778, get32(v3 + 520));
-    put16(v3 + 782, get16(v3 + 524));
-    put64(v3 + 785, get64(v3 + 504));
-    put64(v3 + 792, get64(v3 + 511));
-    put8(v3 + 888, v9);
-    put64(v3 + 880, v30);
-    put64(v3 + 872, get64(v3 + 496));
-    put64(v3 + 864, get64(v3 + 488));
-    put64(v3 + 856, get64(v3 + 480));
-    put64(v3 + 848, get64(v3 + 472));
-    put64(v3 + 840, get64(v3 + 464));
-    put64(v3 + 832, get64(v3 + 456));
-    put64(v3 + 824, get64(v3 + 448));
-    put32(v3 + 889, get32(v3 + 440));
-    put32(v3 + 892, get32(v3 + 443));
-    put64(v3 + 912, v7);
-    put64(v3 + 904, v7);
-    put64(v3 + 896, v21);
-    v6 = v8 == 0;
-    if (v6 != 0) {
-        v42 = 0;
-        v30 = 0;
-        v43 = 0;
-        v18 = 0;
-        v40 = 0;
-        goto l268;
-    }
-    v21 = get64(v3 + 792);
-    v12 = get8(v3 + 753);
-    v23 = get64(v3 + 760);
-    v13 = get8(v3 + 752);
-    v7 = get64(v3 + 768);
-    v40 = v7 + 1;
-    v11 = v40 == 0;
-    if (v11 != 0) {
-        v18 = v3 + 0xab8;
-    } else {
-        if (v40 > 0x7fffffffffffffffULL) goto l273;
-        rattle_alloc_at(v3 + 144, v40, 1);
-        if (((uint32_t)get64(v3 + 144) & 1) == 0) goto l273;
-        v18 = get64(v3 + 152);
-    }
-    v41 = (v10 != 0) ? v19 : v20;
-    put8(v18, (v13 << 6) + v12);
-    v8 = v18 + 1;
-    if ((v8 - v23) < v7) {
-        v20 = v7 & 3;
-        v8 = 0;
-        if (v7 >= 4) {
-            v19 = v7 & ~3ULL;
-            v8 = 0;
-            do {
-                v7 = v18 + v8;
-                v22 = v23 + v8;
-                put8(v7 + 1, get8(v22));
-                put8(v7 + 2, get8(v22 + 1));
-                put8(v7 + 3, get8(v22 + 2));
-                put8(v7 + 4, get8(v22 + 3));
-                v8 = v8 + 4;
-            } while (v19 != v8);
-            if (v20 == 0) goto l276;
-        }
-        v7 = v23 + v8;
-        v8 = v8 + v18 + 1;
-        do {
-            put8(v8, get8(v7));
-            v8 = v8 + 1;
-            v7 = v7 + 1;
-            v20 = v20 - 1;
-        } while (v20 != 0);
-    } else if (v7 != 0) copy(v8, v23, v7);
-l276:;
-    if (v41 == 0) {
-        v42 = v3 + 0xab8;
-        v43 = 0;
-        v30 = 0;
-        goto l285;
-    }
-    if (v41 > 0x555555555555555ULL) goto l281;
-    rattle_alloc_at(v3 + 128, v41 * 24, 8);
-    if (((uint32_t)get64(v3 + 128) & 1) == 0) goto l281;
-    v42 = (v10 != 0) ? v21 : (v3 + 792);
-    v44 = get64(v3 + 136);
-    put64(v3 + 264, v41);
-    put64(v3 + 256, 0);
-    put64(v3 + 248, v44);
+    v9 = 0;
+    v24 = get64(v3 + 72);
+    v25 = v24;
+    v26 = 0;
+    v8 = 0;
+    v27 = 0;
+    v28 = 0;
+    v29 = 0;
     v30 = 0;
     v31 = 0;
-    do {
-        v7 = v42 + (v31 * 24);
-        v19 = get64(v7);
-        v29 = get64(v7 + 8);
-        v13 = v29 == 0;
-        if (v13 != 0) {
-            v23 = v3 + 0xab8;
-        } else {
-            if (v29 > 0x7fffffffffffffffULL) goto l284;
-            rattle_alloc_at(v3 + 112, v29, 1);
-            if (((uint32_t)get64(v3 + 112) & 1) == 0) goto l284;
-            v23 = get64(v3 + 120);
-        }
-        if ((v23 - v19) < v29) {
-            v20 = v29 & 3;
-            v8 = 0;
-            if (v29 >= 4) {
-                v21 = v29 & ~3ULL;
-                v8 = 0;
-                do {
-                    v7 = v23 + v8;
-                    v22 = v19 + v8;
-                    put8(v7, get8(v22));
-                    put8(v7 + 1, get8(v22 + 1));
-                    put8(v7 + 2, get8(v22 + 2));
-                    put8(v7 + 3, get8(v22 + 3));
-                    v8 = v8 + 4;
-                } while (v21 != v8);
-                if (v20 == 0) goto l290;
-            }
-            v7 = v23 + v8;
-            v8 = v19 + v8;
-            do {
-                put8(v7, get8(v8));
-                v7 = v7 + 1;
-                v8 = v8 + 1;
-                v20 = v20 - 1;
-            } while (v20 != 0);
-        } else if (v13 == 0) copy(v23, v19, v29);
-    l290:;
-        if (get64(v3 + 264) == v30) {
-            t12 = std_alloc_vec_Vec_grow_amortized_1598ebf9113514c4(v3 + 248, 1);
-            if (t12 == 0) goto l283;
-            v44 = get64(v3 + 248);
-            v30 = get64(v3 + 256);
-        }
-        v7 = v44 + (v30 * 24);
-        put64(v7 + 16, v29);
-        put64(v7 + 8, v29);
-        put64(v7, v23);
-        v30 = v30 + 1;
-        put64(v3 + 256, v30);
-        v31 = v31 + 1;
-    } while (v31 != v41);
-    v43 = get64(v3 + 264);
-    v42 = get64(v3 + 248);
-l285:;
-    if (get64(event + 0xf98) == get64(event + 0xf90)) {
-        t13 = std_alloc_vec_Vec_grow_amortized_1598ebf9113514c4(event + 0xf88, 1);
-        if (t13 == 0) goto l296;
-    }
-    v7 = event + 0x960 + (((uint64_t)v12 & 255) * 24);
-    if (v30 <= (get64(v7 + 16) - get64(v7 + 8))) goto l268;
-    t14 = std_alloc_vec_Vec_grow_amortized_1598ebf9113514c4(v7, v30);
-    if (t14 != 0) goto l268;
-l296:;
-    if (v11 == 0) rattle_dealloc_at(v18);
-    put64(v3 + 432, v43);
-    put64(v3 + 424, v30);
-    put64(v3 + 416, v42);
-    std_alloc_vec_Vec_drop_b0c2e3ac61d256b1(v3 + 416);
-    v13 = 1;
-    if (get8(v3 + 744) != 1) goto l270;
-    v22 = get64(v3 + 848);
-    v23 = get64(v3 + 832);
-    v6 = get8(v3 + 824);
-    v7 = get64(v3 + 808);
-    v20 = get64(v3 + 800);
-    v8 = get64(v3 + 792);
-    put64(v3 + 392, get64(v3 + 856));
-    put64(v3 + 400, get64(v3 + 864));
-    put64(v3 + 408, get64(v3 + 872));
-    if (get8(v3 + 784) != 0) {
-        put64(v3 + 384, v7);
-        put64(v3 + 376, v20);
-        put64(v3 + 368, v8);
-        std_alloc_vec_Vec_drop_b0c2e3ac61d256b1(v3 + 368);
-        goto l271;
-    }
-    if (v7 == 0) goto l271;
-    rattle_dealloc_at(v8);
-    goto l271;
-l284:;
-    v8 = get64(v3 + 264);
-    if (v30 != 0) {
-        v7 = v44;
-        do {
-            if (get64(v7 + 16) != 0) rattle_dealloc_at(get64(v7));
-            v7 = v7 + 24;
-            v30 = v30 - 1;
-        } while (v30 != 0);
-    }
-    if (v8 != 0) goto l282;
-    goto l281;
-l283:;
-    if (v13 == 0) rattle_dealloc_at(v23);
-    v22 = get64(v3 + 264);
-    v44 = get64(v3 + 248);
-    v8 = get64(v3 + 256);
-    if (v8 != 0) {
-        v7 = v44;
-        do {
-            if (get64(v7 + 16) != 0) rattle_dealloc_at(get64(v7));
-            v7 = v7 + 24;
-            v8 = v8 - 1;
-        } while (v8 != 0);
-    }
-    if (v22 == 0) goto l281;
-l282:;
-    rattle_dealloc_at(v44);
-l281:;
-    if (v11 == 0) rattle_dealloc_at(v18);
-l273:;
-    v13 = 1;
-    if (get8(v3 + 744) != 1) goto l306;
-    v19 = get64(v3 + 872);
-    v8 = get64(v3 + 864);
-    v20 = get64(v3 + 856);
-    v30 = get64(v3 + 848);
-    v29 = get64(v3 + 832);
-    v6 = get8(v3 + 824);
-    v21 = get64(v3 + 808);
-    v23 = get64(v3 + 792);
-    if (get8(v3 + 784) == 0) {
-        if (v21 != 0) goto l308;
-        goto l307;
-    }
-    v22 = get64(v3 + 800);
-    if (v22 != 0) {
-        v7 = v23;
-        do {
-            if (get64(v7 + 16) != 0) rattle_dealloc_at(get64(v7));
-            v7 = v7 + 24;
-            v22 = v22 - 1;
-        } while (v22 != 0);
-    }
-    if (v21 == 0) goto l307;
-l308:;
-    rattle_dealloc_at(v23);
-l307:;
-    if ((v6 & 255) == 2 && v30 != 0) rattle_dealloc_at(v29);
-    if (v8 != 0) {
-        v7 = v20;
-        do {
-            if (get8(v7) != 0 && get64(v7 + 24) != 0) rattle_dealloc_at(get64(v7 + 8));
-            v7 = v7 + 32;
-            v8 = v8 - 1;
-        } while (v8 != 0);
-    }
-    if (v19 != 0) rattle_dealloc_at(v20);
-l306:;
-    v6 = 0;
-    if (get8(v3 + 880) != 1 || get64(v3 + 912) == 0) goto l62;
-    rattle_dealloc_at(get64(v3 + 896));
-    goto l62;
-l271:;
-    if ((v6 & 255) == 2 && v22 != 0) rattle_dealloc_at(v23);
-    std_alloc_vec_Vec_drop_555ceec2fcbf3849(v3 + 392);
-l270:;
-    v7 = 0;
-    v6 = 0;
-    if (get8(v3 + 880) != 1 || get64(v3 + 912) == 0) goto l267;
-    rattle_dealloc_at(get64(v3 + 896));
-    goto l267;
-l268:;
-    v22 = get64(v3 + 912);
-    v23 = get64(v3 + 904);
-    v20 = get64(v3 + 896);
-    v19 = get64(v3 + 888);
-    v13 = get8(v3 + 880);
-    v41 = (uint64_t)get8(v3 + 729);
-    v44 = (uint64_t)get8(v3 + 728);
-    v7 = get64(v3 + 720);
-    v25 = get8(v3 + 714);
-    v27 = get8(v3 + 713);
-    v28 = get8(v3 + 712);
-    v11 = get8(v3 + 744);
-    v8 = v3 + 730;
-    put32(v3 + 680, get32(v8 + 8));
-    put64(v3 + 672, get64(v8));
-    if (v11 == 1) {
-        v8 = v3 + 752;
-        put64(v3 + 592, get64(v8 + 16));
-        put64(v3 + 584, get64(v8 + 8));
-        put64(v3 + 576, get64(v8));
-        copy(v3 + 248, v3 + 776, 104);
-        nodes_spacecraft_Spacecraft_hand_on(v38, v3 + 576, v3 + 248);
-    }
-    if ((v13 & 255) == 1) {
-        v8 = get64(event + 608);
-        if (v8 == 0) {
-            v8 = v22;
-            v19 = v20;
-        } else {
-            v38 = event + 624;
-            v29 = get64(v38);
-            v21 = event + 616;
-            v31 = get64(v21);
-            if (v8 > v31) {
-                v29 = v29 + v31;
-                v8 = get64(event + 600) + ((v29 - ((v29 < v8) ? 0ULL : v8)) << 5);
-                put64(v8 + 24, v22);
-                put64(v8 + 16, v23);
-                put64(v8 + 8, v20);
-                put64(v8, v19);
-                put64(v21, get64(v21) + 1);
-                goto l319;
-            }
-            v31 = v31 - 1;
-            put64(v21, v31);
-            v45 = v29 + 1;
-            v45 = v45 - ((v45 < v8) ? 0ULL : v8);
-            put64(v38, v45);
-            v38 = get64(event + 600);
-            v31 = v45 + v31;
-            v31 = v38 + ((v31 - ((v31 < v8) ? 0ULL : v8)) << 5);
-            put64(v31, v19);
-            v8 = v38 + (v29 << 5);
-            v19 = get64(v8 + 8);
-            put64(v31 + 8, v20);
-            put64(v31 + 16, v23);
-            v8 = get64(v8 + 24);
-            put64(v31 + 24, v22);
-            put64(v21, get64(v21) + 1);
-        }
-        if (v8 != 0) rattle_dealloc_at(v19);
-    }
-l319:;
-    put16(event + 476, get16(v3 + 682));
-    put32(event + 472, get32(v3 + 678));
-    v8 = get64(event + 752);
-    if (v8 != 0) {
-        v20 = event + 776;
-        if (get64(v20) != v8) {
-            v22 = get64(event + 768);
-        } else {
-            v22 = 0;
-            put64(v20, 0);
-        }
-        put64(event + 752, v8 - 1);
-        put64(event + 768, v22 + 1);
-        v8 = get64(event + 744) + (v22 * 24);
-        if (get64(v8 + 16) != 0) rattle_dealloc_at(get64(v8));
-    }
-    if (v6 != 0) goto l326;
-    v22 = event + 0xf90;
-    v20 = get64(v22);
-    v8 = get64(event + 0xf88) + (v20 * 24);
-    put64(v8 + 16, v40);
-    put64(v8 + 8, v40);
-    put64(v8, v18);
-    put64(v22, v20 + 1);
-    if (v30 != 0) {
-        v19 = (event + (((uint64_t)v12 & 255) * 24)) + 0x960;
-        v21 = v19 + 8;
-        v31 = get64(v21);
-        v20 = 0;
-        if (v30 != 1) {
-            v38 = v30 & 1;
-            v22 = v31 * 24;
-            v40 = v30 & ~1ULL;
-            v20 = 0;
-            v8 = v42;
-            do {
-                v30 = get64(v8);
-                v29 = get64(v8 + 8);
-                v23 = get64(v19) + v22;
-                put64(v23 + 16, get64(v8 + 16));
-                put64(v23 + 8, v29);
-                put64(v23, v30);
-                v30 = v31 + v20;
-                put64(v21, v30 + 1);
-                v29 = get64(v8 + 24);
-                v18 = get64(v8 + 32);
-                v23 = get64(v19) + v22;
-                put64(v23 + 40, get64(v8 + 40));
-                put64(v23 + 32, v18);
-                put64(v23 + 24, v29);
-                put64(v21, v30 + 2);
-                v8 = v8 + 48;
-                v22 = v22 + 48;
-                v20 = v20 + 2;
-            } while (v40 != v20);
-            if (v38 == 0) goto l327;
-            v31 = v31 + v20;
-        }
-        v8 = v42 + (v20 * 24);
-        v20 = get64(v8);
-        v23 = get64(v8 + 8);
-        v22 = get64(v19) + (v31 * 24);
-        put64(v22 + 16, get64(v8 + 16));
-        put64(v22 + 8, v23);
-        put64(v22, v20);
-        put64(v21, v31 + 1);
-    }
-l327:;
-    if (v43 != 0) rattle_dealloc_at(v42);
-l326:;
-    v22 = (v41 << 8) | v44;
-    v6 = 7;
-    v13 = 0;
-    goto l60;
-l267:;
-    v28 = 0;
-    v27 = 0;
-    v25 = 0;
-    v22 = 0;
-    goto l60;
-l62:;
-    v28 = 0;
-l61:;
-    v27 = 0;
-    v25 = 0;
-    v7 = 0;
-    v22 = 0;
-l60:;
-    if (v13 != 0) goto l51;
-l59:;
-    v13 = 0;
-    v24 = 0;
-    v17 = 0;
-    goto l50;
-l58:;
-    v6 = 0;
-    goto l51;
-l57:;
-    v12 = 0;
-    if (get64(event + 752) == 0) v12 = get64(event + 792) == 0;
-    if (v10 != 0) {
-        v13 = 0;
-        if (get8(event + 473) != get8(event + 74)) {
-            v6 = 0;
-            goto l56;
-        }
-    }
-    v6 = simulated_link_world_World_is_idle(event);
-    v13 = v11;
-l56:;
-    nodes_ground_node_Ground_directive(v3 + 248, event, v3 + 696);
-    v24 = get8(v3 + 249);
-    if (get8(v3 + 248) != 0) {
-        v17 = 1;
-        v6 = 3;
-    } else {
-        v11 = get8(v3 + 250);
-        if (v13 <= 3) simulated_link_world_World_begin(event, v3 + 696, v12, v6);
-        v13 = v24 & 255;
-        v24 = 0;
-        v6 = (v13 != 0) ? 4U : 0U;
-        v17 = (v13 != 0) ? v11 : 0U;
-    }
-    v25 = 0;
-    v22 = 0;
-    v7 = 0;
-    v26 = 0;
-    v27 = 0;
-    v28 = 0;
-    v13 = 0;
-    goto l50;
-l55:;
-    v6 = get8(v3 + 288) == 1;
-    v40 = (v6 != 0) ? get64(v3 + 304) : 1ULL;
-    if (v40 == 0) {
-        v22 = v3 + 0xab8;
-        v20 = 0;
-        v30 = 0;
-        goto l342;
-    }
-    if (v40 > 0x555555555555555ULL) goto l335;
-    v7 = get64(v3 + 296);
-    rattle_alloc_at(v3 + 24, v40 * 24, 8);
-    if (((uint32_t)get64(v3 + 24) & 1) == 0) goto l335;
-    v38 = (v6 != 0) ? v7 : (v3 + 272);
-    v41 = get64(v3 + 32);
-    put64(v3 + 592, v40);
-    put64(v3 + 584, 0);
-    put64(v3 + 576, v41);
-    v30 = 0;
-    v31 = 0;
-    do {
-        v7 = v38 + (v31 << 4);
-        v21 = get64(v7);
-        v29 = get64(v7 + 8);
-        v6 = v29 == 0;
-        if (v6 != 0) {
-            v19 = v3 + 0xab8;
-        } else {
-            if (v29 > 0x7fffffffffffffffULL) goto l341;
-            rattle_alloc_at(v3 + 8, v29, 1);
-            if (((uint32_t)get64(v3 + 8) & 1) == 0) goto l341;
-            v19 = get64(v3 + 16);
-        }
-        if ((v19 - v21) < v29) {
-            v23 = v29 & 3;
-            v22 = 0;
-            if (v29 >= 4) {
-                v26 = v29 & ~3ULL;
-                v22 = 0;
-                do {
-                    v7 = v19 + v22;
-                    v20 = v21 + v22;
-                    put8(v7, get8(v20));
-                    put8(v7 + 1, get8(v20 + 1));
-                    put8(v7 + 2, get8(v20 + 2));
-                    put8(v7 + 3, get8(v20 + 3));
-                    v22 = v22 + 4;
-                } while (v26 != v22);
-                if (v23 == 0) goto l347;
-            }
-            v7 = v19 + v22;
-            v22 = v21 + v22;
-            do {
-                put8(v7, get8(v22));
-                v7 = v7 + 1;
-                v22 = v22 + 1;
-                v23 = v23 - 1;
-            } while (v23 != 0);
-        } else if (v6 == 0) copy(v19, v21, v29);
-    l347:;
-        if (get64(v3 + 592) == v30) {
-            t16 = std_alloc_vec_Vec_grow_amortized_1598ebf9113514c4(v3 + 576, 1);
-            if (t16 == 0) goto l340;
-            v41 = get64(v3 + 576);
-            v30 = get64(v3 + 584);
-        }
-        v7 = v41 + (v30 * 24);
-        put64(v7 + 16, v29);
-        put64(v7 + 8, v29);
-        put64(v7, v19);
-        v30 = v30 + 1;
-        put64(v3 + 584, v30);
-        v31 = v31 + 1;
-    } while (v31 != v40);
-    v20 = get64(v3 + 592);
-    v22 = get64(v3 + 576);
-l342:;
-    if (get64(event + 856) == get64(event + 848)) {
-        t17 = std_alloc_vec_Vec_grow_amortized_722da43a23cbcade(event + 840);
-        if (t17 == 0) {
-            if (v30 == 0) goto l337;
-            goto l338;
-        }
-    }
-    v23 = event + 864;
-    v7 = v23 + (((uint64_t)v12 & 255) * 24);
-    if (v30 > (get64(v7 + 16) - get64(v7 + 8))) {
-        t18 = std_alloc_vec_Vec_grow_amortized_1598ebf9113514c4(v7, v30);
-        if (t18 == 0) goto l338;
-    }
-    nodes_ground_node_Ground_commit(event, v3 + 248);
-    v13 = 0;
-    v19 = event + 848;
-    v21 = get64(v19);
-    v7 = get64(event + 840) + (v21 << 5);
-    put32(v7 + 1, 0);
-    put8(v7, v12);
-    put32(v7 + 4, 0);
-    put64(v7 + 24, v8);
-    put64(v7 + 16, v8);
-    put64(v7 + 8, v18);
-    put64(v19, v21 + 1);
-    put64(v3 + 464, v20);
-    put64(v3 + 456, v30);
-    put64(v3 + 448, v22);
-    simulated_link_map_lists_append_on(v23, v12, v3 + 448);
-    v6 = 0;
-    v24 = 0;
-    goto l53;
-l341:;
-    v8 = get64(v3 + 592);
-    if (v30 != 0) {
-        v7 = v41;
-        do {
-            if (get64(v7 + 16) != 0) rattle_dealloc_at(get64(v7));
-            v7 = v7 + 24;
-            v30 = v30 - 1;
-        } while (v30 != 0);
-    }
-    if (v8 == 0) goto l335;
-    goto l336;
-l340:;
-    if (v6 == 0) rattle_dealloc_at(v19);
-    v22 = get64(v3 + 592);
-    v41 = get64(v3 + 576);
-    v8 = get64(v3 + 584);
-    if (v8 != 0) {
-        v7 = v41;
-        do {
-            if (get64(v7 + 16) != 0) rattle_dealloc_at(get64(v7));
-            v7 = v7 + 24;
-            v8 = v8 - 1;
-        } while (v8 != 0);
-    }
-    if (v22 != 0) goto l336;
-    goto l335;
-l338:;
-    v7 = v22;
-    do {
-        if (get64(v7 + 16) != 0) rattle_dealloc_at(get64(v7));
-        v7 = v7 + 24;
-        v30 = v30 - 1;
-    } while (v30 != 0);
-l337:;
-    if (v20 != 0) rattle_dealloc_at(v22);
-    if (v13 == 0) rattle_dealloc_at(v18);
-    if (get8(v3 + 288) == 1 && get64(v3 + 312) != 0) rattle_dealloc_at(get64(v3 + 296));
-    v7 = get64(v3 + 352);
-    v22 = get64(v3 + 336);
-    if (get8(v3 + 320) == 0) {
-        if (v7 == 0) goto l54;
-        rattle_dealloc_at(v22);
-        goto l54;
-    }
-    v23 = get64(v3 + 344);
-    v20 = get64(v3 + 328);
-    if (v22 != 0) {
-        v8 = get64(v3 + 360);
-        v22 = v22 - v8;
-        if (v7 < (v22 + v7)) {
-            v7 = ((v7 << 5) + v20) + 24;
-            do {
-                if (get64(v7) != 0) rattle_dealloc_at(get64(v7 - 16));
-                v7 = v7 + 32;
-                v22 = v22 - 1;
-            } while (v22 != 0);
-        }
-        if (v8 != 0) {
-            v7 = v20 + 24;
-            do {
-                if (get64(v7) != 0) rattle_dealloc_at(get64(v7 - 16));
-                v7 = v7 + 32;
-                v8 = v8 - 1;
-            } while (v8 != 0);
-        }
-    }
-    if (v23 == 0) goto l54;
-    rattle_dealloc_at(v20);
-    goto l54;
-l336:;
-    rattle_dealloc_at(v41);
-l335:;
-    if (v13 == 0) rattle_dealloc_at(v18);
-    if (get8(v3 + 288) == 1 && get64(v3 + 312) != 0) rattle_dealloc_at(get64(v3 + 296));
-    v7 = get64(v3 + 352);
-    v22 = get64(v3 + 336);
-    if (get8(v3 + 320) == 0) {
-        if (v7 != 0) rattle_dealloc_at(v22);
-    } else {
-        v23 = get64(v3 + 344);
-        v20 = get64(v3 + 328);
-        if (v22 != 0) {
-            v8 = get64(v3 + 360);
-            v22 = v22 - v8;
-            if (v7 < (v22 + v7)) {
-                v7 = ((v7 << 5) + v20) + 24;
-                do {
-                    if (get64(v7) != 0) rattle_dealloc_at(get64(v7 - 16));
-                    v7 = v7 + 32;
-                    v22 = v22 - 1;
-                } while (v22 != 0);
-            }
-            if (v8 != 0) {
-                v7 = v20 + 24;
-                do {
-                    if (get64(v7) != 0) rattle_dealloc_at(get64(v7 - 16));
-                    v7 = v7 + 32;
-                    v8 = v8 - 1;
-                } while (v8 != 0);
-            }
-        }
-        if (v23 != 0) rattle_dealloc_at(v20);
-    }
-l54:;
-    v6 = 0;
-    v13 = 1;
-    v24 = 0;
-l53:;
-    if (v13 != 0) goto l51;
-    v22 = 0;
-    v25 = 0;
-l52:;
-    v7 = 0;
-    v26 = 0;
-    v27 = 0;
-    v28 = 0;
-    v13 = 0;
-    v17 = 0;
-    goto l50;
-l51:;
-    v6 = v6 + 6;
-    goto l27;
-l50:;
-    put16(v3 + 700, 0);
-    put32(v3 + 696, 0);
-    v39 = v13 | (v24 & 255);
-    v30 = (uint64_t)v39;
-    v29 = v30 >> 16;
-    v18 = v30 >> 8;
-    v8 = 0;
-    v20 = v7;
-    v23 = 0;
-    v19 = 0;
-    v13 = 0;
-    v12 = 0;
-    v11 = 0;
-    v10 = 0;
-    v5 = 0;
-    v9 = 0;
-    v4 = 0;
-    v14 = 0;
-    v21 = 0;
-    v16 = 0;
-    v15 = 0;
-    v32 = 0;
-    v33 = 0;
-    v34 = 0;
-    v35 = 0;
-    v36 = 0;
-    v37 = v6;
-    v46 = 0;
-    v47 = 0;
-    v48 = 0;
-    v49 = 0;
-    switch (v6) {
-    case 1:
-        goto l48;
-    case 2:
-        goto l31;
-    case 3:
-        switch ((uint32_t)((uint64_t)v17 & 255)) {
-        case 1:
-            v47 = v39 + 1;
-            v46 = 2;
-            v8 = 0;
-            v6 = 3;
-            goto l38;
-        case 2:
-            goto l37;
-        default:
-            break;
-        }
-        v46 = 1;
-        v8 = 0;
-        v6 = 3;
-        v20 = 0;
-        v23 = 0;
-        v19 = 0;
-        v13 = v39;
-        v12 = v39;
-        v11 = v39;
-        v10 = v39;
-        v5 = v39;
-        v9 = v39;
-        v4 = v39;
-        v14 = v39;
-        v21 = 0;
-        v16 = v39;
-        v15 = v39;
-        v32 = v39;
-        v33 = v39;
-        v34 = v39;
-        v35 = v39;
-        v36 = v39;
-        v37 = 3;
-        v47 = 1;
-        v48 = v39;
-        v49 = v39;
-        switch ((uint32_t)(v30 & 255)) {
-        case 1:
-            v47 = 2;
-            goto l39;
-        case 2:
-            v8 = 0;
-            v6 = 3;
-            v20 = 0;
-            v23 = 0;
-            v19 = 0;
-            v13 = 0;
-            v12 = 0;
-            v11 = 0;
-            v10 = 0;
-            v5 = 0;
-            v9 = 0;
-            v4 = 0;
-            v14 = 0;
-            v21 = 0;
-            v16 = 0;
-            v15 = 0;
-            v32 = 0;
-            v33 = 0;
-            v34 = 0;
-            v35 = 0;
-            v36 = 0;
-            v37 = 3;
-            v47 = 3;
-            goto l29;
-        case 3:
-            v47 = 4;
-            goto l39;
-        case 4:
-            v47 = 5;
-            goto l39;
-        case 5:
-            v47 = 6;
-            goto l39;
-        case 6:
-            v47 = 10;
-            goto l39;
-        default:
-            goto l28;
-        }
-    case 4:
-        goto l36;
-    case 5:
-        goto l28;
-    case 6:
-        t19 = (((v30 << 8) & 0xff00000000ULL) | ((((uint64_t)v24 & 255) << 8) | ((uint64_t)v17 & 255))) | ((v29 << 24)
-            & 0xff000000ULL);
-        v8 = t19 | ((v18 << 16) & 0xff0000);
-        v20 = 0;
-        v6 = 6;
-        v23 = 0;
-        v19 = 0;
-        v13 = 0;
-        v12 = 0;
-        v11 = 0;
-        v10 = 0;
-        v5 = 0;
-        v9 = 0;
-        v4 = 0;
-        v14 = 0;
-        v21 = 0;
-        v16 = 0;
-        v15 = 0;
-        v32 = 0;
-        v33 = 0;
-        v34 = 0;
-        v35 = 0;
-        v36 = 0;
-        v37 = 6;
-        goto l30;
-    case 7:
-        v13 = 2;
-        v8 = 0;
-        v6 = 7;
-        v20 = 0;
-        v23 = 0;
-        v19 = 0;
-        v12 = 0;
-        v11 = 0;
-        v10 = 0;
-        v5 = 0;
-        v9 = 0;
-        v4 = 0;
-        v14 = 0;
-        v21 = 0;
-        v16 = 0;
-        v15 = 0;
-        v32 = 0;
-        v33 = 0;
-        v34 = 0;
-        v35 = 0;
-        v36 = 0;
-        v37 = 7;
-        v46 = 0;
-        v47 = 0;
-        v48 = 0;
-        v49 = 0;
-        switch ((uint32_t)((uint64_t)v28 & 255)) {
-        case 1:
-            goto l28;
-        case 2:
-            v12 = 0;
-            v5 = ((v22 & 255) == 0) ? 0U : ((uint32_t)(v22 >> 8) + 1);
-            v13 = 3;
-            v8 = 0;
-            v28 = 2;
-            v20 = 0;
-            v23 = 0;
-            v19 = v7;
-            v11 = v27;
-            v10 = v25;
-            goto l34;
-        case 3:
-            v9 = v27 & 1;
-            v13 = 4;
-            v8 = 0;
-            v28 = 3;
-            v20 = 0;
-            v23 = 0;
-            v19 = 0;
-            v12 = 0;
-            v11 = 0;
-            v10 = 0;
-            v5 = 0;
-            goto l33;
-        case 4:
-            v12 = 0;
-            v13 = v27 & 255;
-            v14 = (v13 != 0) ? v25 : 0U;
-            v4 = v13 != 0;
-            v13 = 5;
-            v8 = 0;
-            v28 = 4;
-            v20 = 0;
-            v23 = 0;
-            v19 = 0;
-            v11 = 0;
-            v10 = 0;
-            v5 = 0;
-            v9 = 0;
-            goto l32;
-        default:
-            goto l35;
-        }
-    case 8:
-        v16 = 2;
-        v8 = 0;
-        v6 = 8;
-        v20 = 0;
-        v23 = 0;
-        v19 = 0;
-        v13 = 0;
-        v12 = 0;
-        v11 = 0;
-        v10 = 0;
-        v5 = 0;
-        v9 = 0;
-        v4 = 0;
-        v14 = 0;
-        v21 = 0;
-        v15 = 0;
-        v32 = 0;
-        v33 = 0;
-        v34 = 0;
-        v35 = 0;
-        v36 = 0;
-        v37 = 8;
-        v46 = 0;
-        v47 = 0;
-        v48 = 0;
-        v49 = 0;
-        switch ((uint32_t)((uint64_t)v28 & 255)) {
-        case 1:
-            goto l28;
-        case 2:
-            v13 = 0;
-            v36 = ((v22 & 0xff0000) == 0) ? 0U : ((uint32_t)(v22 >> 24) + 1);
-            v34 = (uint32_t)v22;
-            v35 = ((v34 & 255) == 1) ? ((uint32_t)(v22 >> 8) + 1) : 0U;
-            v12 = v27 & 255;
-            v33 = (v12 != 0) ? v25 : 0U;
-            v32 = v12 == 0;
-            v16 = 3;
-            v8 = 0;
-            v28 = 2;
-            v20 = 0;
-            v23 = 0;
-            v19 = 0;
-            v12 = 0;
-            v11 = 0;
-            v10 = 0;
-            v5 = 0;
-            v9 = 0;
-            v4 = 0;
-            v14 = 0;
-            v21 = v7;
-            v15 = 0;
-            goto l40;
-        default:
-            v16 = 1;
-            v15 = v27 + 1;
-            v8 = 0;
-            v28 = 0;
-            v20 = 0;
-            v23 = 0;
-            v19 = 0;
-            v13 = 0;
-            v12 = 0;
-            v11 = 0;
-            v10 = 0;
-            v5 = 0;
-            v9 = 0;
-            v4 = 0;
-            v14 = 0;
-            v21 = 0;
-            v32 = 0;
-            v33 = 0;
-            v34 = 0;
-            v35 = 0;
-            v36 = 0;
-            goto l40;
-        }
-    case 9:
-        v13 = 0;
-        v36 = (((uint32_t)v18 & 255) != 0) ? ((uint32_t)v29 + 1) : 0U;
-        v35 = ((v17 & 255) == 1) ? (v39 + 1) : 0U;
-        v37 = 10;
-        v16 = 4;
-        v8 = 0;
-        v6 = 9;
-        v20 = 0;
-        v23 = 0;
-        v19 = 0;
-        v12 = 0;
-        v11 = 0;
-        v10 = 0;
-        v5 = 0;
-        v9 = 0;
-        v4 = 0;
-        v14 = 0;
-        v21 = 0;
-        v15 = 0;
-        v32 = 0;
-        v33 = 0;
-        v34 = v17;
-        goto l30;
-    case 10:
-        v23 = (((((uint64_t)v25 & 255) << 16) + v26) + (((uint64_t)v27 & 255) << 8)) + ((uint64_t)v28 & 255);
-        v37 = 11;
-        v8 = 0;
-        v6 = 10;
-        v20 = 0;
-        v19 = 0;
-        v13 = 0;
-        v12 = 0;
-        v11 = 0;
-        v10 = 0;
-        v5 = 0;
-        v9 = 0;
-        v4 = 0;
-        v14 = 0;
-        v21 = 0;
-        v16 = 0;
-        v15 = 0;
-        v32 = 0;
-        v33 = 0;
-        v34 = 0;
-        v35 = 0;
-        v36 = 0;
-        goto l30;
-    case 11:
-        v37 = 9;
-        v19 = 0;
-        v8 = 0;
-        v20 = v7;
-        v23 = 0;
-        v13 = 0;
-        v12 = 0;
-        v11 = 0;
-        v10 = 0;
-        v5 = 0;
-        v9 = 0;
-        v4 = 0;
-        v14 = 0;
-        v21 = 0;
-        v16 = 0;
-        v15 = 0;
-        v32 = 0;
-        v33 = 0;
-        v34 = 0;
-        v35 = 0;
-        v36 = 0;
-        v46 = 0;
-        v47 = 0;
-        v48 = 0;
-        v49 = v17;
-        goto l28;
-    default:
-        break;
-    }
-l49:;
-    v6 = 0;
-    put16(v3 + 700, 0);
-    put32(v3 + 696, 0);
-    v8 = 0;
-    v20 = 0;
-    v23 = 0;
-    v19 = 0;
-    v13 = 0;
-    v12 = 0;
-    v11 = 0;
-    v10 = 0;
-    v5 = 0;
-    v9 = 0;
-    v4 = 0;
-    v14 = 0;
-    v21 = 0;
-    v16 = 0;
-    v15 = 0;
     v32 = 0;
     v33 = 0;
     v34 = 0;
     v35 = 0;
     v36 = 0;
     v37 = 0;
-    goto l30;
-l48:;
-    v13 = 0;
-    put16(v3 + 700, 0);
-    put32(v3 + 696, 0);
-    v8 = 0;
-    v6 = 1;
-    v20 = 0;
-    v23 = 0;
-    v19 = 0;
-    v12 = 0;
-    v11 = 0;
-    v10 = 0;
-    v5 = 0;
-    v9 = 0;
-    v4 = 0;
-    v14 = 0;
-    v21 = 0;
-    v16 = 0;
-    v15 = 0;
-    v32 = 0;
-    v33 = 0;
-    v34 = 0;
-    v35 = 0;
-    v36 = 0;
-    v37 = 1;
-    goto l30;
-l40:;
-    v37 = 8;
-    goto l30;
-l39:;
-    v8 = 0;
-l38:;
-    v20 = 0;
-    v23 = 0;
-    v19 = 0;
-    v13 = 0;
-    v12 = 0;
-    v11 = 0;
-    v10 = 0;
-    v5 = 0;
-    v9 = 0;
-    v4 = 0;
-    v14 = 0;
-    v21 = 0;
-    v16 = 0;
-    v15 = 0;
-    v32 = 0;
-    v33 = 0;
-    v34 = 0;
-    v35 = 0;
-    v36 = 0;
-    v37 = 3;
-    goto l29;
-l37:;
-    v47 = v39 + 1;
-    v13 = 0;
-    v8 = 0;
-    v6 = 3;
-    v20 = 0;
-    v23 = 0;
-    v19 = 0;
-    v12 = 0;
-    v11 = 0;
-    v10 = 0;
-    v5 = 0;
-    v9 = 0;
-    v4 = 0;
-    v14 = 0;
-    v21 = 0;
-    v16 = 0;
-    v15 = 0;
-    v32 = 0;
-    v33 = 0;
-    v34 = 0;
-    v35 = 0;
-    v36 = 0;
-    v37 = 3;
-    v46 = 3;
-    goto l29;
-l36:;
-    v48 = v17 + 1;
-    v13 = 0;
-    v8 = 0;
-    v6 = 4;
-    v20 = 0;
-    v23 = 0;
-    v19 = 0;
-    v12 = 0;
-    v11 = 0;
-    v10 = 0;
-    v5 = 0;
-    v9 = 0;
-    v4 = 0;
-    v14 = 0;
-    v21 = 0;
-    v16 = 0;
-    v15 = 0;
-    v32 = 0;
-    v33 = 0;
-    v34 = 0;
-    v35 = 0;
-    v36 = 0;
-    v37 = 4;
+    v38 = 0;
+    v39 = 0;
+    v40 = 0;
+    v41 = 0;
+    v42 = v4;
+    v43 = 0;
+    v44 = 0;
+    v45 = 0;
     v46 = 0;
-    v47 = 0;
-    v49 = 0;
-    goto l28;
-l35:;
-    v13 = 1;
-    v12 = v27 + 1;
-    v8 = 0;
-    v28 = 0;
-    v6 = 7;
-    v20 = 0;
-    v23 = 0;
-    v19 = 0;
-    v11 = 0;
-    v10 = 0;
-    v5 = 0;
-l34:;
-    v9 = 0;
-l33:;
-    v4 = 0;
-    v14 = 0;
-l32:;
-    v21 = 0;
-    v16 = 0;
-    v15 = 0;
-    v32 = 0;
-    v33 = 0;
-    v34 = 0;
-    v35 = 0;
-    v36 = 0;
-    v37 = 7;
-    goto l30;
-l31:;
-    v13 = 0;
-    put16(v3 + 700, 0);
-    put32(v3 + 696, 0);
-    v8 = 0;
-    v6 = 2;
-    v20 = 0;
-    v23 = 0;
-    v19 = 0;
-    v12 = 0;
-    v11 = 0;
-    v10 = 0;
-    v5 = 0;
-    v9 = 0;
-    v4 = 0;
-    v14 = 0;
-    v21 = 0;
-    v16 = 0;
-    v15 = 0;
-    v32 = 0;
-    v33 = 0;
-    v34 = 0;
-    v35 = 0;
-    v36 = 0;
-    v37 = 2;
-l30:;
-    v46 = 0;
-    v47 = 0;
-l29:;
-    v48 = 0;
-    v49 = 0;
-l28:;
-    put16(v3 + 244, get16(v3 + 700));
-    put32(v3 + 240, get32(v3 + 696));
-    put8(reply + 52, (uint32_t)(v8 >> 32));
-    put32(reply + 48, (uint32_t)v8);
-    put8(reply + 57, v49);
-    put8(reply + 56, v48);
-    put8(reply + 55, v47);
-    put8(reply + 54, v46);
-    put8(reply + 53, v37);
-    put8(reply + 47, 0);
-    put8(reply + 46, v36);
-    put8(reply + 45, v35);
-    put8(reply + 44, v34);
-    put8(reply + 43, v33);
-    put8(reply + 42, v32);
-    put8(reply + 41, v15);
-    put8(reply + 40, v16);
-    put64(reply + 32, v21);
-    put8(reply + 31, v14);
-    put8(reply + 30, v4);
-    put8(reply + 29, v9);
-    put8(reply + 28, v5);
-    put8(reply + 27, v10);
-    put8(reply + 26, v11);
-    put8(reply + 25, v12);
-    put8(reply + 24, v13);
-    put64(reply + 16, v19);
-    put64(reply + 8, v23);
-    put64(reply, v20);
-    put16(reply + 62, get16(v3 + 244));
-    put32(reply + 58, get32(v3 + 240));
-    reply = (((((uint64_t)v27 & 255) << 8) | ((uint64_t)v28 & 255)) + v26) + (((uint64_t)v25 & 255) << 16);
-    if (((1U << (v6 & 31)) & 0x7df) != 0) {
-        reply = v3 + 0xab8;
+    switch (v4) {
+    case 1:
+    case 2:
+        v25 = 0;
+        v10 = 0;
+        v11 = 0;
+        v6 = 0;
         v7 = 0;
-        v22 = 0;
+        v9 = 0;
+        goto l40;
+    case 3:
+        break;
+    case 4:
+        v45 = v19 + 1;
+        v42 = 4;
+        v25 = 0;
+        v10 = 0;
+        v11 = 0;
+        v6 = 0;
+        v7 = 0;
+        v9 = 0;
+        v23 = 0;
+        v26 = 0;
+        v8 = 0;
+        v27 = 0;
+        v28 = 0;
+        v29 = 0;
+        v30 = 0;
+        v31 = 0;
+        v32 = 0;
+        v33 = 0;
+        v34 = 0;
+        v35 = 0;
+        v36 = 0;
+        v37 = 0;
+        v38 = 0;
+        v39 = 0;
+        v40 = 0;
+        v41 = 0;
+        v43 = 0;
+        v44 = 0;
+        goto l37;
+    case 5:
+        goto l36;
+    case 6:
+        v9 = get8(v3 + 61);
+        v25 = 0;
+        v10 = v19;
+        v11 = v18;
+        v6 = v17;
+        v7 = v16;
+        goto l40;
+    case 7:
+        v42 = 7;
+        v8 = 2;
+        v25 = 0;
+        v10 = 0;
+        v11 = 0;
+        v6 = 0;
+        v7 = 0;
+        v9 = 0;
+        v23 = 0;
+        v26 = 0;
+        v27 = 0;
+        v28 = 0;
+        v29 = 0;
+        v30 = 0;
+        v31 = 0;
+        v32 = 0;
+        v33 = 0;
+        v34 = 0;
+        v35 = 0;
+        v36 = 0;
+        v37 = 0;
+        v38 = 0;
+        v39 = 0;
+        v40 = 0;
+        v41 = 0;
+        v43 = 0;
+        v44 = 0;
+        v45 = 0;
+        v46 = 0;
+        switch ((uint32_t)((uint64_t)v22 & 255)) {
+        case 1:
+            goto l36;
+        case 2:
+            v10 = 0;
+            v30 = ((v15 & 255) != 0) ? (v14 + 1) : 0U;
+            v8 = 3;
+            v11 = 0;
+            v6 = 0;
+            v7 = 0;
+            v9 = 0;
+            v23 = 0;
+            v26 = v24;
+            v27 = 0;
+            v28 = v21;
+            v29 = v20;
+            goto l44;
+        case 3:
+            v31 = v21 & 1;
+            v8 = 4;
+            v10 = 0;
+            v11 = 0;
+            v6 = 0;
+            v7 = 0;
+            v9 = 0;
+            v23 = 0;
+            v26 = 0;
+            v27 = 0;
+            v28 = 0;
+            v29 = 0;
+            v30 = 0;
+            goto l43;
+        case 4:
+            v10 = 0;
+            v11 = v21 & 255;
+            v33 = (v11 != 0) ? v20 : 0U;
+            v32 = v11 != 0;
+            v8 = 5;
+            v11 = 0;
+            v6 = 0;
+            v7 = 0;
+            v9 = 0;
+            v23 = 0;
+            v26 = 0;
+            v27 = 0;
+            v28 = 0;
+            v29 = 0;
+            v30 = 0;
+            v31 = 0;
+            goto l42;
+        default:
+            v8 = 1;
+            v27 = v21 + 1;
+            v10 = 0;
+            v11 = 0;
+            v6 = 0;
+            v7 = 0;
+            v9 = 0;
+            v23 = 0;
+            v26 = 0;
+            goto l45;
+        }
+    case 8:
+        v42 = 8;
+        v35 = 2;
+        v25 = 0;
+        v10 = 0;
+        v11 = 0;
+        v6 = 0;
+        v7 = 0;
+        v9 = 0;
+        v23 = 0;
+        v26 = 0;
+        v8 = 0;
+        v27 = 0;
+        v28 = 0;
+        v29 = 0;
+        v30 = 0;
+        v31 = 0;
+        v32 = 0;
+        v33 = 0;
+        v34 = 0;
+        v36 = 0;
+        v37 = 0;
+        v38 = 0;
+        v39 = 0;
+        v40 = 0;
+        v41 = 0;
+        v43 = 0;
+        v44 = 0;
+        v45 = 0;
+        v46 = 0;
+        switch ((uint32_t)((uint64_t)v22 & 255)) {
+        case 1:
+            goto l36;
+        case 2:
+            v10 = 0;
+            v41 = ((v13 & 255) != 0) ? (v12 + 1) : 0U;
+            v40 = ((v15 & 255) == 1) ? (v14 + 1) : 0U;
+            v11 = v21 & 255;
+            v38 = (v11 != 0) ? v20 : 0U;
+            v37 = v11 == 0;
+            v35 = 3;
+            v11 = 0;
+            v6 = 0;
+            v7 = 0;
+            v9 = 0;
+            v23 = 0;
+            v26 = 0;
+            v8 = 0;
+            v27 = 0;
+            v28 = 0;
+            v29 = 0;
+            v30 = 0;
+            v31 = 0;
+            v32 = 0;
+            v33 = 0;
+            v34 = v24;
+            v36 = 0;
+            v39 = v15;
+            goto l39;
+        default:
+            v35 = 1;
+            v36 = v21 + 1;
+            v10 = 0;
+            v11 = 0;
+            v6 = 0;
+            v7 = 0;
+            v9 = 0;
+            v23 = 0;
+            v26 = 0;
+            v8 = 0;
+            v27 = 0;
+            v28 = 0;
+            v29 = 0;
+            v30 = 0;
+            v31 = 0;
+            v32 = 0;
+            v33 = 0;
+            v34 = 0;
+            goto l41;
+        }
+    case 9:
+        v10 = 0;
+        v41 = ((v17 & 255) != 0) ? (v16 + 1) : 0U;
+        v40 = (v19 == 1) ? (v18 + 1) : 0U;
+        v42 = 10;
+        v35 = 4;
+        v25 = 0;
+        v11 = 0;
+        v6 = 0;
+        v7 = 0;
+        v9 = 0;
+        v23 = 0;
+        v26 = 0;
+        v8 = 0;
+        v27 = 0;
+        v28 = 0;
+        v29 = 0;
+        v30 = 0;
+        v31 = 0;
+        v32 = 0;
+        v33 = 0;
+        v34 = 0;
+        v36 = 0;
+        v37 = 0;
+        v38 = 0;
+        v39 = v19;
+        goto l39;
+    case 10:
+        v42 = 11;
+        v25 = 0;
+        v10 = 0;
+        v11 = 0;
+        v6 = 0;
+        v7 = 0;
+        v9 = 0;
+        v23 = v5;
+        v26 = 0;
+        v8 = 0;
+        v27 = 0;
+        goto l45;
+    case 11:
+        v42 = 9;
+        v10 = 0;
+        v11 = 0;
+        v6 = 0;
+        v7 = 0;
+        v9 = 0;
+        v25 = v24;
+        v26 = 0;
+        v8 = 0;
+        v27 = 0;
+        v28 = 0;
+        v29 = 0;
+        v30 = 0;
+        v31 = 0;
+        v32 = 0;
+        v33 = 0;
+        v34 = 0;
+        v35 = 0;
+        v36 = 0;
+        v37 = 0;
+        v38 = 0;
+        v39 = 0;
+        v40 = 0;
+        v41 = 0;
+        v43 = 0;
+        v44 = 0;
+        v45 = 0;
+        v46 = v19;
+        goto l36;
+    default:
+        v25 = 0;
+        v10 = 0;
+        v11 = 0;
+        v6 = 0;
+        v7 = 0;
+        v9 = 0;
+        v23 = 0;
+        v26 = 0;
+        v8 = 0;
+        v27 = 0;
+        v28 = 0;
+        v29 = 0;
+        v30 = 0;
+        v31 = 0;
+        v32 = 0;
+        v33 = 0;
+        v34 = 0;
+        v35 = 0;
+        v36 = 0;
+        v37 = 0;
+        v38 = 0;
+        v39 = 0;
+        v40 = 0;
+        v41 = 0;
+        v42 = 0;
+        goto l39;
     }
-    put64(event + 0xfc0, v7);
-    v7 = event + 0xfc8;
-    v8 = get64(v7);
-    put64(v7, v22);
-    v7 = event + 0xfb8;
-    v22 = get64(v7);
-    put64(v7, reply);
+    switch (v19) {
+    case 1:
+        v44 = v18 + 1;
+        v43 = 2;
+        goto l47;
+    case 2:
+        v44 = v18 + 1;
+        v42 = 3;
+        v25 = 0;
+        v10 = 0;
+        v11 = 0;
+        v6 = 0;
+        v7 = 0;
+        v9 = 0;
+        v23 = 0;
+        v26 = 0;
+        v8 = 0;
+        v27 = 0;
+        v28 = 0;
+        v29 = 0;
+        v30 = 0;
+        v31 = 0;
+        v32 = 0;
+        v33 = 0;
+        v34 = 0;
+        v35 = 0;
+        v36 = 0;
+        v37 = 0;
+        v38 = 0;
+        v39 = 0;
+        v40 = 0;
+        v41 = 0;
+        v43 = 3;
+        goto l38;
+    default:
+        break;
+    }
+    v44 = (uint32_t)(0xa060504030201ULL >> ((((uint64_t)v18 & 255) << 3) & 63));
+    v43 = 1;
+l47:;
+    v42 = 3;
+    v25 = 0;
+    v10 = 0;
+    v11 = 0;
     v6 = 0;
-    if (v8 != 0) rattle_dealloc_at(v22);
-l27:;
+    v7 = 0;
+    v9 = 0;
+    v23 = 0;
+    v26 = 0;
+    v8 = 0;
+    v27 = 0;
+    v28 = 0;
+    v29 = 0;
+    v30 = 0;
+    v31 = 0;
+    v32 = 0;
+    v33 = 0;
+    v34 = 0;
+    v35 = 0;
+    v36 = 0;
+    v37 = 0;
+    v38 = 0;
+    v39 = 0;
+    v40 = 0;
+    v41 = 0;
+    goto l38;
+l45:;
+    v28 = 0;
+    v29 = 0;
+    v30 = 0;
+l44:;
+    v31 = 0;
+l43:;
+    v32 = 0;
+    v33 = 0;
+l42:;
+    v34 = 0;
+    v35 = 0;
+    v36 = 0;
+l41:;
+    v37 = 0;
+    v38 = 0;
+    v39 = 0;
+    v40 = 0;
+    v41 = 0;
+    goto l39;
+l40:;
+    v23 = 0;
+    v26 = 0;
+    v8 = 0;
+    v27 = 0;
+    v28 = 0;
+    v29 = 0;
+    v30 = 0;
+    v31 = 0;
+    v32 = 0;
+    v33 = 0;
+    v34 = 0;
+    v35 = 0;
+    v36 = 0;
+    v37 = 0;
+    v38 = 0;
+    v39 = 0;
+    v40 = 0;
+    v41 = 0;
+    v42 = v4;
+l39:;
+    v43 = 0;
+    v44 = 0;
+l38:;
+    v45 = 0;
+l37:;
+    v46 = 0;
+l36:;
+    v19 = get32(v3 + 84);
+    put8(reply + 57, v46);
+    put8(reply + 56, v45);
+    put8(reply + 55, v44);
+    put8(reply + 54, v43);
+    put8(reply + 53, v42);
+    put8(reply + 52, v9);
+    put8(reply + 51, v7);
+    put8(reply + 50, v6);
+    put8(reply + 49, v11);
+    put8(reply + 48, v10);
+    put8(reply + 47, 0);
+    put8(reply + 46, v41);
+    put8(reply + 45, v40);
+    put8(reply + 44, v39);
+    put8(reply + 43, v38);
+    put8(reply + 42, v37);
+    put8(reply + 41, v36);
+    put8(reply + 40, v35);
+    put64(reply + 32, v34);
+    put8(reply + 31, v33);
+    put8(reply + 30, v32);
+    put8(reply + 29, v31);
+    put8(reply + 28, v30);
+    put8(reply + 27, v29);
+    put8(reply + 26, v28);
+    put8(reply + 25, v27);
+    put8(reply + 24, v8);
+    put64(reply + 16, v26);
+    put64(reply + 8, v23);
+    put64(reply, v25);
+    put16(reply + 62, 0);
+    put32(reply + 58, 0);
+    if (((1U << (v4 & 31)) & 0x7df) != 0) {
+        v5 = v3 + 95;
+        v15 = 0;
+        v24 = 0;
+        v14 = 0;
+        v13 = 0;
+        v12 = 0;
+        v19 = 0;
+    }
+    put64(event + 0xfc0, v24);
+    reply = event + 0xfc8;
+    v26 = get64(reply);
+    put32(event + 0xfcc, v19);
+    put8(event + 0xfcb, v12);
+    put8(event + 0xfca, v13);
+    put8(event + 0xfc9, v14);
+    put8(reply, v15);
+    reply = event + 0xfb8;
+    v34 = get64(reply);
+    put64(reply, v5);
+    v4 = 0;
+    if (v26 != 0) rattle_dealloc_at(v34);
+l35:;
     put64(sim /* link */, event);
-    return v6;
+    return v4;
 }
 
 /* sedge_sim_submission, crates/sedgechisel_nodes/src/sim/submissions.rt:63 */
@@ -13199,518 +12993,869 @@ static uint32_t sedge_spacecraft_read_at(uint64_t spacecraft, uint64_t read)
 /* sedge_spacecraft_receive, crates/sedgechisel_nodes/src/spacecraft.rt:103 */
 static uint32_t sedge_spacecraft_receive_at(uint64_t spacecraft, uint64_t octets, uint64_t count, uint64_t received)
 {
-    unsigned char frame_octets[288 + 15];
-    uint32_t v6 = 0, v7 = 0, v8 = 0, v9 = 0, v10 = 0, v11 = 0, v13 = 0, v14 = 0, v17 = 0, v18 = 0, t1;
-    uint64_t v4 = 0, v5 = 0, v12 = 0, v15 = 0, v16 = 0, v19 = 0, v20 = 0, v21 = 0, v22 = 0, v23 = 0, v24 = 0, v25 = 0,
-        v26 = 0, v27 = 0, v28 = 0, v29 = 0, v30 = 0, v31 = 0, v32 = 0;
+    unsigned char frame_octets[128 + 15];
+    uint32_t v7 = 0, v8 = 0, v9 = 0, v10 = 0, v11 = 0, v12 = 0, v13 = 0, v14 = 0, v15 = 0, v16 = 0, v17 = 0, v18 = 0,
+        t1, t3;
+    uint64_t v4 = 0, v5 = 0, v6 = 0, v19 = 0, v20 = 0, v21 = 0, v22 = 0, v23 = 0, v24 = 0, v25 = 0, v26 = 0, v27 = 0,
+        v28 = 0, v29 = 0, v30 = 0, v31 = 0, v32 = 0, v33 = 0, v34 = 0;
     v4 = aligned(frame_octets);
     v5 = get64(spacecraft /* node */);
+    v6 = 0;
     put64(spacecraft /* node */, 0);
     if (v5 == 0) {
-        v6 = 255;
+        v7 = 255;
         return 255;
     }
-    v7 = 1;
-    v6 = 1;
-    if (count < 5) goto l10;
+    v8 = 1;
+    v7 = 0;
+    if (count < 5) {
+        v9 = 0;
+        v10 = 0;
+        v11 = 0;
+        v12 = 0;
+        v13 = 0;
+        v14 = 0;
+        v15 = 1;
+        goto l4;
+    }
     octets = some(octets);
-    v8 = get8(octets);
-    if (v8 > 63) {
-        v6 = 2;
-        goto l10;
+    v16 = get8(octets);
+    if (v16 > 63) {
+        v15 = 2;
+        goto l6;
     }
-    if ((v8 & 48) == 16) {
-        v6 = 3;
-        goto l10;
+    if ((v16 & 48) == 16) {
+        v15 = 3;
+        goto l6;
     }
-    if ((v8 & 12) != 0) {
-        v6 = 4;
-        goto l10;
+    if ((v16 & 12) != 0) {
+        v15 = 4;
+        goto l6;
     }
-    v6 = 5;
-    v9 = get8(octets + 2);
-    v10 = ((v9 << 8) & 768) | get8(octets + 3);
-    if (count != (uint64_t)(v10 + 1) || v10 < 6) goto l10;
-    v11 = get8(octets + 1);
-    v6 = 6;
-    v12 = count - 2;
-    v10 = get16(octets + v12);
-    t1 = octets_frame_check_check(octets, v12);
-    if ((((v10 << 8) | (v10 >> 8)) & 0xffff) != (t1 & 0xffff)) goto l10;
-    v6 = get8(octets + 4);
-    if (v8 >= 32 && (v6 & 255) != 0) {
-        v6 = 7;
-        goto l10;
+    v8 = 1;
+    v15 = 5;
+    v17 = get8(octets + 2);
+    v14 = ((v17 << 8) & 768) | get8(octets + 3);
+    if (count != (uint64_t)(v14 + 1) || v14 < 6) goto l6;
+    v18 = get8(octets + 1);
+    v19 = count - 2;
+    v15 = get16(octets + v19);
+    t1 = octets_frame_check_check(octets, v19);
+    if ((((v15 << 8) | (v15 >> 8)) & 0xffff) != (t1 & 0xffff)) {
+        v9 = 0;
+        v10 = 0;
+        v11 = 0;
+        v12 = 0;
+        v13 = 0;
+        v14 = 0;
+        v15 = 6;
+        goto l4;
     }
-    if ((v8 & 16) != 0) {
+    v15 = get8(octets + 4);
+    if (v16 >= 32 && (v15 & 255) != 0) {
+        v15 = 7;
+        goto l6;
+    }
+    if ((v16 & 16) != 0) {
         count = count - 7;
-        if (count > 3) goto l15;
-        v6 = 8;
-        switch ((uint32_t)count) {
-        case 1:
-            if (get8(octets + 5) != 0) goto l15;
-            v7 = 2;
-            v12 = 0;
-            v6 = 0;
-            v13 = 0;
-            count = 0;
+        if (count <= 3) {
+            v15 = 8;
+            v9 = 0;
             v10 = 0;
-            v14 = 0;
-            goto l16;
-        case 2:
-            goto l15;
-        case 3:
-            v6 = 9;
-            if (get8(octets + 5) != 130 || get8(octets + 6) != 0) goto l10;
-            v14 = get8(octets + 7);
-            v10 = 1;
-            v7 = 2;
+            v11 = 0;
             v12 = 0;
-            v6 = 0;
             v13 = 0;
-            count = 0;
-            goto l16;
-        default:
-            goto l10;
+            v14 = 0;
+            switch ((uint32_t)count) {
+            case 1:
+                count = 0;
+                v9 = 0;
+                if (get8(octets + 5) != 0) {
+                    v15 = 9;
+                    v10 = 0;
+                    v11 = 0;
+                    v12 = 0;
+                    v13 = 0;
+                    v14 = 0;
+                    v6 = 0;
+                    goto l4;
+                }
+                v15 = 2;
+                v11 = 0;
+                v10 = 0;
+                v19 = 0;
+                v14 = 0;
+                v13 = 0;
+                goto l12;
+            case 2:
+                break;
+            case 3:
+                v15 = 9;
+                if (get8(octets + 5) != 130 || get8(octets + 6) != 0) goto l6;
+                v13 = get8(octets + 7);
+                v14 = 1;
+                v15 = 2;
+                count = 0;
+                v11 = 0;
+                v10 = 0;
+                v19 = 0;
+                goto l12;
+            default:
+                goto l4;
+            }
         }
+        v15 = 9;
+        goto l6;
     }
     if ((count - 9) > ~2ULL) {
-        v6 = 8;
-        goto l10;
+        v15 = 8;
+        goto l6;
     }
-    v14 = 0;
-    v10 = (v8 < 32) ? v6 : 0U;
-    v7 = v8 > 31;
-    count = count - 8;
-    v12 = octets + 6;
-    v6 = get8(octets + 5);
-    v13 = v6 & 63;
-    v6 = v6 >> 6;
-l16:;
-    if (get32(v5) != (((v8 << 8) & 768) | v11) || get32(v5 + 4) != ((v9 & 252) >> 2)) {
-        count = 0;
-        v7 = 2;
-        v9 = 0;
-        v13 = 0;
-        v11 = 0;
-        goto l7;
+    v13 = 0;
+    v14 = (v16 < 32) ? v15 : 0U;
+    v15 = v16 > 31;
+    v19 = count - 8;
+    count = octets + 6;
+    v8 = get8(octets + 5);
+    v10 = v8 & 63;
+    v11 = v8 >> 6;
+l12:;
+    v9 = 0;
+    if (get32(v5) != (((v16 << 8) & 768) | v18)) {
+        v8 = 2;
+        goto l21;
     }
-    switch (v7) {
+    v8 = 2;
+    if (get32(v5 + 4) != ((v17 & 252) >> 2)) goto l21;
+    switch (v15) {
     case 1:
-        if (v6 != 3) goto l9;
-        v29 = (uint64_t)v13;
-        if (((uint32_t)(get64(v5 + 40) >> (v29 & 63)) & 1) == 0 || count > (uint64_t)get32(v5 + 32) || count < 6) goto
-            l9;
-        v6 = get8(v12);
-        if (v6 > 31 || (((v6 & 8) != 0 && (((v6 << 8) & 0x700) | get8(v12 + 1)) == 0x7ff) || ((((uint64_t)get8(v12 +
-            4) << 8) | (uint64_t)get8(v12 + 5)) + 7) != count)) goto l9;
-        rattle_alloc_at(v4 + 24, count, 1);
-        if (((uint32_t)get64(v4 + 24) & 1) == 0) goto l4;
-        v20 = get64(v4 + 32);
-        if ((v20 - v12) < count) {
-            v30 = count & 3;
-            v15 = 0;
-            if (count >= 4) {
-                v32 = count & ~3ULL;
-                v15 = 0;
+        if (v11 != 3) goto l108;
+        v32 = (uint64_t)v10;
+        if (((uint32_t)(get64(v5 + 40) >> (v32 & 63)) & 1) == 0 || v19 > (uint64_t)get32(v5 + 32)) goto l108;
+        if (v19 >= 6) {
+            v8 = get8(count);
+            if (v8 <= 31 && (((v8 & 8) == 0 || (((v8 << 8) & 0x700) | get8(count + 1)) != 0x7ff) &&
+                ((((uint64_t)get8(count + 4) << 8) | (uint64_t)get8(count + 5)) + 7) == v19)) {
+                rattle_alloc_at(v4 + 80, v19, 1);
+                if (((uint32_t)get64(v4 + 80) & 1) == 0) {
+                    v7 = 6;
+                    goto l3;
+                }
+                v24 = get64(v4 + 88);
+                if ((v24 - count) >= v19) {
+                    if (v19 == 0) goto l25;
+                    copy(v24, count, v19);
+                    goto l25;
+                }
+                v23 = v19 & 3;
+                v20 = 0;
+                if (v19 >= 4) {
+                    v34 = v19 & ~3ULL;
+                    v20 = 0;
+                    do {
+                        octets = v24 + v20;
+                        v21 = count + v20;
+                        put8(octets, get8(v21));
+                        put8(octets + 1, get8(v21 + 1));
+                        put8(octets + 2, get8(v21 + 2));
+                        put8(octets + 3, get8(v21 + 3));
+                        v20 = v20 + 4;
+                    } while (v34 != v20);
+                    if (v23 == 0) goto l25;
+                }
+                octets = v24 + v20;
+                count = count + v20;
                 do {
-                    octets = v20 + v15;
-                    v16 = v12 + v15;
-                    put8(octets, get8(v16));
-                    put8(octets + 1, get8(v16 + 1));
-                    put8(octets + 2, get8(v16 + 2));
-                    put8(octets + 3, get8(v16 + 3));
-                    v15 = v15 + 4;
-                } while (v32 != v15);
-                if (v30 == 0) goto l55;
+                    put8(octets, get8(count));
+                    octets = octets + 1;
+                    count = count + 1;
+                    v23 = v23 - 1;
+                } while (v23 != 0);
+                goto l25;
             }
-            octets = v20 + v15;
-            v12 = v12 + v15;
-            do {
-                put8(octets, get8(v12));
-                octets = octets + 1;
-                v12 = v12 + 1;
-                v30 = v30 - 1;
-            } while (v30 != 0);
-        } else if (count != 0) copy(v20, v12, count);
-    l55:;
-        v11 = 1;
-        octets = v5 + 77;
-        put8(octets, (get8(octets) + 1) & 3);
-        octets = get64(v5 + 208);
-        if (octets != 0) {
-            v30 = v5 + 224;
-            v15 = get64(v30);
-            v12 = v5 + 216;
-            v16 = get64(v12);
-            if (octets > v16) {
-                v15 = v15 + v16;
-                octets = get64(v5 + 200) + ((v15 - ((v15 < octets) ? 0ULL : octets)) << 5);
-                put64(octets + 24, count);
-                put64(octets + 16, count);
-                put64(octets + 8, v20);
-                put64(octets, v29);
-                put64(v12, get64(v12) + 1);
-                v11 = 1;
-                goto l8;
-            }
-            v16 = v16 - 1;
-            put64(v12, v16);
-            v32 = v15 + 1;
-            v32 = v32 - ((v32 < octets) ? 0ULL : octets);
-            put64(v30, v32);
-            v30 = get64(v5 + 200);
-            v16 = v32 + v16;
-            octets = v30 + ((v16 - ((v16 < octets) ? 0ULL : octets)) << 5);
-            put64(octets, v29);
-            v15 = v30 + (v15 << 5);
-            v16 = get64(v15 + 8);
-            put64(octets + 8, v20);
-            put64(octets + 16, count);
-            v15 = get64(v15 + 24);
-            put64(octets + 24, count);
-            put64(v12, get64(v12) + 1);
-            if (v15 == 0) {
-                v11 = 1;
-                goto l8;
-            }
-            v20 = v16;
         }
-        rattle_dealloc_at(v20);
-        goto l8;
+    l108:;
+        count = v5 + 77;
+        put8(count, (get8(count) + 1) & 3);
+        v8 = 4;
+        goto l21;
     case 2:
         count = v5 + 77;
         put8(count, (get8(count) + 1) & 3);
-        if ((v10 & 255) == 0) {
+        if ((v14 & 255) == 0) {
             put8(v5 + 74, 0);
         } else {
-            if (get8(v5 + 74) != 0) goto l63;
-            put8(v5 + 73, v14);
+            if (get8(v5 + 74) != 0) goto l115;
+            put8(v5 + 73, v13);
         }
         put16(v5 + 75, 0);
-    l63:;
+    l115:;
         v11 = 0;
-        v6 = v10 & 255;
-        v9 = (v6 != 0) ? v14 : 0U;
-        v13 = v6 != 0;
-        count = 0;
-        v7 = 5;
-        goto l7;
+        v8 = v14 & 255;
+        v9 = (v8 != 0) ? v13 : 0U;
+        v10 = v8 != 0;
+        v8 = 5;
+        goto l20;
     default:
         break;
     }
-    v9 = 0;
-    put32(v4 + 42, 0);
-    put8(v4 + 41, v13);
-    put8(v4 + 40, v6);
-    put16(v4 + 46, 0);
-    put64(v4 + 56, count);
-    put64(v4 + 48, v12);
-    v11 = 1;
+    v15 = 1;
     octets = v5 + 76;
-    v14 = get8(octets);
-    v15 = v5 + 75;
-    v7 = get8(v15);
-    v8 = 5;
-    v16 = v5 + 74;
-    if ((get8(v16) & 1) == 0) {
-        v17 = get8(v5 + 72);
-        v18 = get8(v5 + 73);
-        if ((v10 & 255) == (v18 & 255)) {
-            v11 = 0;
-            if ((v7 & 1) != 0) {
-                v7 = 1;
-                goto l26;
-            }
-            v19 = v5 + 168;
-            v20 = get64(v19);
-            if (v20 < (uint64_t)get32(v5 + 48)) {
-                v7 = get8(v5 + 77);
-                fill(v4 + 168, 0, 112);
-                octets = v5 + 80;
-                if (v6 != 3) goto l33;
-                v21 = (uint64_t)v13;
-                if (((uint32_t)(get64(v5 + 88) >> (v21 & 63)) & 1) == 0) goto l33;
-                map_service_packets_fault_of_alone(v4 + 16, octets, v12, count);
-                if (get8(v4 + 16) == 1) goto l33;
-                octets = v20;
-                if (count < 6) goto l35;
-                octets = v20;
-                v6 = get8(v12);
-                if (v6 > 31) goto l35;
-                if ((v6 & 8) != 0) {
-                    octets = v20;
-                    if ((((v6 << 8) & 0x700) | get8(v12 + 1)) == 0x7ff) goto l35;
-                }
-                octets = v20;
-                v22 = (((uint64_t)get8(v12 + 4) << 8) | (uint64_t)get8(v12 + 5)) + 7;
-                if (count >= v22) {
-                    v23 = v5 + 184;
-                    v24 = v5 + 176;
-                    v25 = v5 + 192;
-                    v26 = v5 + 168;
-                    v27 = v5 + 160;
-                    do {
-                        rattle_alloc_at(v4, v22, 1);
-                        if (((uint32_t)get64(v4) & 1) == 0) goto l34;
-                        v28 = get64(v4 + 8);
-                        if ((v28 - v12) < v22) {
-                            v29 = v28 + 4;
-                            v30 = v12 + 4;
-                            v31 = v22 & ~3ULL;
-                            v32 = v22 & 3;
-                            octets = 0;
-                            do {
-                                v15 = v28 + octets;
-                                v16 = v12 + octets;
-                                put8(v15, get8(v16));
-                                put8(v15 + 1, get8(v16 + 1));
-                                put8(v15 + 2, get8(v16 + 2));
-                                put8(v15 + 3, get8(v16 + 3));
-                                v15 = v29;
-                                v29 = v15 + 4;
-                                v16 = v30;
-                                v30 = v16 + 4;
-                                octets = octets + 4;
-                            } while (v31 != octets);
-                            if (v32 != 0) {
-                                do {
-                                    put8(v15, get8(v16));
-                                    v15 = v15 + 1;
-                                    v16 = v16 + 1;
-                                    v32 = v32 - 1;
-                                } while (v32 != 0);
-                            }
-                        } else if (v22 != 0) copy(v28, v12, v22);
-                        octets = get64(v27);
-                        v15 = get64(v26);
-                        v16 = get64(v25);
-                        v29 = v15 - v16;
-                        v30 = get64(v23);
-                        if (v29 < (get64(v24) - v30)) {
-                            octets = octets + ((v30 + v29) << 5);
-                            put32(octets + 1, 0);
-                            put8(octets, v13);
-                            put32(octets + 4, 0);
-                            put64(octets + 24, v22);
-                            put64(octets + 16, v22);
-                            put64(octets + 8, v28);
-                        } else {
-                            octets = octets + (v16 << 5);
-                            put32(octets + 1, 0);
-                            put8(octets, v13);
-                            put32(octets + 4, 0);
-                            put64(octets + 24, v22);
-                            put64(octets + 16, v22);
-                            put64(octets + 8, v28);
-                            put64(v25, v16 + 1);
-                        }
-                        octets = v15 + 1;
-                        put64(v19, octets);
-                        count = count - v22;
-                        if (count < 6) break;
-                        v12 = v12 + v22;
-                        v6 = get8(v12);
-                        if (v6 > 31 || ((v6 & 8) != 0 && (((v6 << 8) & 0x700) | get8(v12 + 1)) == 0x7ff)) break;
-                        v22 = (((uint64_t)get8(v12 + 4) << 8) | (uint64_t)get8(v12 + 5)) + 7;
-                    } while (count >= v22);
-                }
-            l35:;
-                v15 = v21 << 5;
-                v16 = get64(v5 + 104);
-                v6 = 0;
-                v29 = v5 + 112;
-                v12 = get64(v29);
-                if (v12 > v21) v6 = get8(v16 + v15) == 1;
-                count = octets - v20;
-                if (((uint32_t)(get64(v5 + 88) >> (v21 & 63)) & 1) != 0) {
-                    if (v12 == 0) {
-                        put64(v5 + 104, v4 + 280);
-                        octets = get64(v5 + 120);
-                        put64(v29 + 8, 0);
-                        put64(v29, 0);
-                        if (octets == 0) goto l46;
-                        rattle_dealloc_at(v16);
-                        v12 = get64(v29);
-                    }
-                    if (v12 > v21) {
-                        octets = get64(v5 + 104) + v15;
-                        put64(octets + 16, 0);
-                        v8 = get8(octets);
-                        put64(octets, 0);
-                        v12 = octets + 8;
-                        v15 = get64(v12);
-                        put64(v12, 0);
-                        octets = octets + 24;
-                        v12 = get64(octets);
-                        put64(octets, 0);
-                        if (v8 == 1 && v12 != 0) rattle_dealloc_at(v15);
-                    }
-                }
-            l46:;
-                v8 = v6;
-                goto l32;
-            l34:;
-                received = get64(v5 + 168);
-                if (received <= v20) goto l4;
-                v12 = get64(v5 + 192);
-                v15 = get64(v5 + 184);
-                v30 = get64(v5 + 176);
-                v16 = get64(v5 + 160);
-                put64(v19 + 24, 0);
-                put64(v19 + 16, 0);
-                put64(v19 + 8, 0);
-                put64(v19, 0);
-                octets = received - v12;
-                count = v20 - octets;
-                v29 = (count > v20) ? 0ULL : count;
-                count = (v20 > octets) ? octets : v20;
-                v32 = v15 + count;
-                if (v32 < (octets + v15)) {
-                    count = received - (v12 + count);
-                    received = ((v32 << 5) + v16) + 24;
-                    do {
-                        if (get64(received) != 0) rattle_dealloc_at(get64(received - 16));
-                        received = received + 32;
-                        count = count - 1;
-                    } while (count != 0);
-                }
-                if (v29 < v12) {
-                    count = (v20 < octets) ? v20 : octets;
-                    received = (v16 + ((v20 << 5) - (count << 5))) + 24;
-                    count = v12 + count - v20;
-                    do {
-                        if (get64(received) != 0) rattle_dealloc_at(get64(received - 16));
-                        received = received + 32;
-                        count = count - 1;
-                    } while (count != 0);
-                }
-                put64(v5 + 192, v29);
-                put64(v5 + 184, v15);
-                put64(v5 + 176, v30);
-                put64(v5 + 168, v20);
-                put64(v5 + 160, v16);
-                goto l4;
-            l33:;
-                map_service_assembler_Assembler_prepare(v4 + 168, octets, v4 + 40);
-                if (get8(v4 + 168) != 0) goto l4;
-                v8 = get8(v4 + 177);
-                put8(v4 + 65, v8);
-                put32(v4 + 66, get32(v4 + 178));
-                put16(v4 + 70, get16(v4 + 182));
-                v9 = get8(v4 + 184);
-                put8(v4 + 72, v9);
-                put64(v4 + 73, get64(v4 + 185));
-                put64(v4 + 80, get64(v4 + 192));
-                v6 = get8(v4 + 176);
-                put8(v4 + 64, v6);
-                count = get64(v4 + 200);
-                octets = get64(v4 + 208);
-                v12 = get64(v4 + 216);
-                put64(v4 + 104, v12);
-                put64(v4 + 96, octets);
-                put64(v4 + 88, count);
-                put64(v4 + 112, get64(v4 + 224));
-                put64(v4 + 120, get64(v4 + 232));
-                put64(v4 + 128, get64(v4 + 240));
-                put64(v4 + 136, get64(v4 + 248));
-                put64(v4 + 144, get64(v4 + 256));
-                put64(v4 + 152, get64(v4 + 264));
-                put64(v4 + 160, get64(v4 + 272));
-                nodes_spacecraft_Spacecraft_hand_on(v5, v4 + 40, v4 + 64);
-                count = (v9 != 0) ? count : v12;
-            l32:;
-                put8(v5 + 77, v7);
-                v9 = 0;
-                put8(v5 + 76, 0);
-                put16(v5 + 74, 0);
-                put8(v5 + 73, v10 + 1);
-                put8(v5 + 72, v17);
-                v14 = ((v6 & 255) != 0) ? (v8 + 1) : 0U;
-                v7 = 3;
-                v13 = 0;
-                v11 = 0;
-                v8 = 0;
-                goto l6;
-            }
-            v8 = 2;
-            v7 = 1;
-            v14 = 1;
-        } else {
-            v11 = 1;
-            v6 = v10 - v18;
-            v13 = (v17 >> 1) & 127;
-            if ((v6 & 255) >= v13) {
-                if ((v6 & 255) > (~v13 & 255)) {
-                    v8 = ((v7 & 1) != 0) ? 5U : 3U;
-                    v11 = 0;
-                } else {
-                    v8 = 4;
-                }
-            } else if ((v7 & 1) != 0) {
-                v11 = 0;
-                v7 = 1;
-            } else {
+    v12 = get8(octets);
+    v20 = v5 + 75;
+    v8 = get8(v20);
+    v13 = 5;
+    v21 = v5 + 74;
+    if ((get8(v21) & 1) == 0) {
+        v16 = get8(v5 + 72);
+        v17 = get8(v5 + 73);
+        if ((v14 & 255) == (v17 & 255)) {
+            v15 = 0;
+            if ((v8 & 1) != 0) {
                 v8 = 1;
-                v11 = 0;
-                v7 = 0;
-                v14 = 1;
+                goto l30;
+            }
+            v22 = v5 + 168;
+            v23 = get64(v22);
+            if (v23 < (uint64_t)get32(v5 + 48)) {
+                v15 = get8(v5 + 77);
+                v6 = v5 + 80;
+                v20 = get64(v5 + 88);
+                v24 = (uint64_t)v10;
+                v8 = (uint32_t)(v20 >> (v24 & 63));
+                if (v11 != 3 || (v8 & 1) == 0) goto l36;
+                map_service_packets_fault_of_alone(v4 + 72, v6, count, v19);
+                if (get8(v4 + 72) == 1) goto l36;
+                v6 = v23;
+                if (v19 < 6) goto l38;
+                v6 = v23;
+                v8 = get8(count);
+                if (v8 > 31) goto l38;
+                if ((v8 & 8) != 0) {
+                    v6 = v23;
+                    if ((((v8 << 8) & 0x700) | get8(count + 1)) == 0x7ff) goto l38;
+                }
+                v6 = v23;
+                v25 = (((uint64_t)get8(count + 4) << 8) | (uint64_t)get8(count + 5)) + 7;
+                if (v19 >= v25) {
+                    v26 = v5 + 184;
+                    v27 = v5 + 176;
+                    v28 = v5 + 192;
+                    v29 = v5 + 168;
+                    v30 = v5 + 160;
+                    do {
+                        rattle_alloc_at(v4 + 56, v25, 1);
+                        if (((uint32_t)get64(v4 + 56) & 1) == 0) goto l37;
+                        v31 = get64(v4 + 64);
+                        if ((v31 - count) < v25) {
+                            v21 = v31 + 4;
+                            v32 = count + 4;
+                            v33 = v25 & ~3ULL;
+                            v34 = v25 & 3;
+                            v6 = 0;
+                            do {
+                                octets = v31 + v6;
+                                v20 = count + v6;
+                                put8(octets, get8(v20));
+                                put8(octets + 1, get8(v20 + 1));
+                                put8(octets + 2, get8(v20 + 2));
+                                put8(octets + 3, get8(v20 + 3));
+                                octets = v21;
+                                v21 = octets + 4;
+                                v20 = v32;
+                                v32 = v20 + 4;
+                                v6 = v6 + 4;
+                            } while (v33 != v6);
+                            if (v34 != 0) {
+                                do {
+                                    put8(octets, get8(v20));
+                                    octets = octets + 1;
+                                    v20 = v20 + 1;
+                                    v34 = v34 - 1;
+                                } while (v34 != 0);
+                            }
+                        } else if (v25 != 0) copy(v31, count, v25);
+                        v6 = get64(v30);
+                        octets = get64(v29);
+                        v20 = get64(v28);
+                        v21 = octets - v20;
+                        v32 = get64(v26);
+                        if (v21 < (get64(v27) - v32)) {
+                            v6 = v6 + ((v32 + v21) << 5);
+                            put32(v6 + 1, 0);
+                            put8(v6, v10);
+                            put32(v6 + 4, 0);
+                            put64(v6 + 24, v25);
+                            put64(v6 + 16, v25);
+                            put64(v6 + 8, v31);
+                        } else {
+                            v6 = v6 + (v20 << 5);
+                            put32(v6 + 1, 0);
+                            put8(v6, v10);
+                            put32(v6 + 4, 0);
+                            put64(v6 + 24, v25);
+                            put64(v6 + 16, v25);
+                            put64(v6 + 8, v31);
+                            put64(v28, v20 + 1);
+                        }
+                        v6 = octets + 1;
+                        put64(v22, v6);
+                        v19 = v19 - v25;
+                        if (v19 < 6) break;
+                        count = count + v25;
+                        v8 = get8(count);
+                        if (v8 > 31 || ((v8 & 8) != 0 && (((v8 << 8) & 0x700) | get8(count + 1)) == 0x7ff)) break;
+                        v25 = (((uint64_t)get8(count + 4) << 8) | (uint64_t)get8(count + 5)) + 7;
+                    } while (v19 >= v25);
+                }
+            l38:;
+                octets = v24 << 5;
+                v19 = get64(v5 + 104);
+                v8 = 0;
+                v20 = v5 + 112;
+                count = get64(v20);
+                if (count > v24) v8 = get8(v19 + octets) == 1;
+                v6 = v6 - v23;
+                if (((uint32_t)(get64(v5 + 88) >> (v24 & 63)) & 1) == 0) goto l24;
+                if (count == 0) {
+                    put64(v5 + 104, v4 + 120);
+                    count = get64(v5 + 120);
+                    put64(v20 + 8, 0);
+                    put64(v20, 0);
+                    if (count == 0) goto l24;
+                    rattle_dealloc_at(v19);
+                    count = get64(v20);
+                }
+                if (count <= v24) goto l24;
+                count = get64(v5 + 104) + octets;
+                put64(count + 16, 0);
+                v9 = get8(count);
+                put64(count, 0);
+                octets = count + 8;
+                v19 = get64(octets);
+                put64(octets, 0);
+                count = count + 24;
+                octets = get64(count);
+                put64(count, 0);
+                if (v9 != 1 || octets == 0) goto l24;
+                rattle_dealloc_at(v19);
+                goto l24;
+            l37:;
+                v7 = 6;
+                received = get64(v5 + 168);
+                if (received <= v23) goto l3;
+                octets = get64(v5 + 192);
+                v19 = get64(v5 + 184);
+                v32 = get64(v5 + 176);
+                v20 = get64(v5 + 160);
+                put64(v22 + 24, 0);
+                put64(v22 + 16, 0);
+                put64(v22 + 8, 0);
+                put64(v22, 0);
+                v6 = received - octets;
+                count = v23 - v6;
+                v21 = (count > v23) ? 0ULL : count;
+                count = (v23 > v6) ? v6 : v23;
+                v24 = v19 + count;
+                if (v24 < (v6 + v19)) {
+                    count = received - (octets + count);
+                    received = ((v24 << 5) + v20) + 24;
+                    do {
+                        if (get64(received) != 0) rattle_dealloc_at(get64(received - 16));
+                        received = received + 32;
+                        count = count - 1;
+                    } while (count != 0);
+                }
+                if (v21 < octets) {
+                    count = (v23 < v6) ? v23 : v6;
+                    received = (v20 + ((v23 << 5) - (count << 5))) + 24;
+                    count = octets + count - v23;
+                    do {
+                        if (get64(received) != 0) rattle_dealloc_at(get64(received - 16));
+                        received = received + 32;
+                        count = count - 1;
+                    } while (count != 0);
+                }
+                put64(v5 + 192, v21);
+                put64(v5 + 184, v19);
+                put64(v5 + 176, v32);
+                put64(v5 + 168, v23);
+                put64(v5 + 160, v20);
+                goto l3;
+            l36:;
+                if ((v8 & 1) == 0) {
+                    v13 = 0;
+                    v6 = 0;
+                    v8 = 1;
+                    goto l23;
+                }
+                v23 = v5 + 104;
+                v34 = v24 << 5;
+                octets = get64(v23) + v34;
+                v21 = 0;
+                v8 = 0;
+                v9 = 1;
+                v32 = get64(v5 + 112);
+                v12 = v32 <= v24;
+                if (v12 == 0) {
+                    v9 = 1;
+                    if (get8(octets) == 1) {
+                        v21 = get64(octets + 16);
+                        v8 = 1;
+                        v9 = 0;
+                    }
+                }
+                switch (v11) {
+                case 1:
+                    v9 = get32(v5 + 84);
+                    v21 = (uint64_t)v9;
+                    if (v19 <= v21) {
+                        v6 = 0;
+                        octets = v4 + 120;
+                        if (v32 != 0) {
+                            v20 = octets;
+                            v32 = 0;
+                            goto l65;
+                        }
+                        v22 = clz64(v20);
+                        v32 = 64 - v22;
+                        if (v20 == 0) {
+                            v20 = octets;
+                        } else {
+                            rattle_alloc_at(v4 + 24, v32 << 5, 8);
+                            if (((uint32_t)get64(v4 + 24) & 1) == 0) {
+                                v7 = 6;
+                                goto l3;
+                            }
+                            v20 = get64(v4 + 32);
+                            v6 = 0x800 - (v22 << 5);
+                            if (v6 != 0) fill(v20, 0, v6);
+                            v9 = get32(v5 + 84);
+                            v21 = (uint64_t)v9;
+                            v6 = v32;
+                        }
+                        goto l65;
+                    }
+                    break;
+                case 2:
+                    if (v9 != 0) {
+                        v13 = 2;
+                        goto l67;
+                    }
+                    if ((v21 + v19) <= (uint64_t)get32(v5 + 84)) {
+                        if (v12 != 0 || get8(octets) != 1) UNREACHABLE;
+                        v32 = get64(octets + 8);
+                        v6 = get64(octets + 16);
+                        v33 = v6 + v19;
+                        if (v33 == 0) {
+                            v27 = v4 + 120;
+                        } else {
+                            if (v33 > 0x7fffffffffffffffULL) goto l60;
+                            rattle_alloc_at(v4 + 40, v33, 1);
+                            if (((uint32_t)get64(v4 + 40) & 1) == 0) goto l60;
+                            v27 = get64(v4 + 48);
+                        }
+                        v26 = 0;
+                        put64(v4 + 104, 0);
+                        put64(v4 + 96, v27);
+                        put64(v4 + 112, v33);
+                        if (v6 > v33) {
+                            v8 = std_alloc_vec_Vec_grow_amortized_a351ad16c7c032ee(v4 + 96, v6);
+                            v26 = get64(v4 + 104);
+                            v33 = get64(v4 + 112);
+                            if (v8 == 0) {
+                                v28 = v26;
+                                goto l90;
+                            }
+                            v27 = get64(v4 + 96);
+                        }
+                        v28 = v26 + v6;
+                        v31 = v27 + v26;
+                        if ((v31 - v32) < v6) {
+                            v21 = v6 & 3;
+                            octets = 0;
+                            if (v6 >= 4) {
+                                v25 = v6 & ~3ULL;
+                                octets = 0;
+                                do {
+                                    v6 = v31 + octets;
+                                    v20 = v32 + octets;
+                                    put8(v6, get8(v20));
+                                    put8(v6 + 1, get8(v20 + 1));
+                                    put8(v6 + 2, get8(v20 + 2));
+                                    put8(v6 + 3, get8(v20 + 3));
+                                    octets = octets + 4;
+                                } while (v25 != octets);
+                                if (v21 == 0) goto l93;
+                            }
+                            v6 = v32 + octets;
+                            octets = v27 + (v26 + octets);
+                            do {
+                                put8(octets, get8(v6));
+                                octets = octets + 1;
+                                v6 = v6 + 1;
+                                v21 = v21 - 1;
+                            } while (v21 != 0);
+                        } else if (v6 != 0) copy(v31, v32, v6);
+                    l93:;
+                        put64(v4 + 112, v33);
+                        put64(v4 + 104, v28);
+                    l90:;
+                        if (v19 > (v33 - v28)) {
+                            v8 = std_alloc_vec_Vec_grow_amortized_a351ad16c7c032ee(v4 + 96, v19);
+                            v33 = get64(v4 + 112);
+                            v31 = get64(v4 + 104);
+                            if (v8 == 0) {
+                                v25 = get64(v4 + 96);
+                                goto l61;
+                            }
+                            v28 = v31;
+                        }
+                        v31 = v28 + v19;
+                        v25 = get64(v4 + 96);
+                        v21 = v25 + v28;
+                        if ((v21 - count) >= v19) {
+                            if (v19 == 0) goto l61;
+                            copy(v21, count, v19);
+                            goto l61;
+                        }
+                        v20 = v19 & 3;
+                        v6 = 0;
+                        if ((v19 - 1) >= 3) {
+                            v32 = v19 & ~3ULL;
+                            v6 = 0;
+                            do {
+                                octets = v21 + v6;
+                                v19 = count + v6;
+                                put8(octets, get8(v19));
+                                put8(octets + 1, get8(v19 + 1));
+                                put8(octets + 2, get8(v19 + 2));
+                                put8(octets + 3, get8(v19 + 3));
+                                v6 = v6 + 4;
+                            } while (v32 != v6);
+                            if (v20 == 0) goto l61;
+                        }
+                        count = count + v6;
+                        v6 = v25 + (v28 + v6);
+                        do {
+                            put8(v6, get8(count));
+                            v6 = v6 + 1;
+                            count = count + 1;
+                            v20 = v20 - 1;
+                        } while (v20 != 0);
+                        goto l61;
+                    }
+                    break;
+                case 3:
+                    map_service_packets_fault_of_alone(v4, v6, count, v19);
+                    if (get8(v4) != 1) UNREACHABLE;
+                    v13 = get8(v4 + 1);
+                    goto l67;
+                default:
+                    if (v9 != 0) {
+                        v13 = 2;
+                        goto l67;
+                    }
+                    if ((v21 + v19) <= (uint64_t)get32(v5 + 84)) {
+                        v8 = 0;
+                        v6 = 0;
+                        if (v12 != 0 || get8(octets) != 1) goto l58;
+                        std_alloc_vec_Vec_extend_from_slice_672334860c861157(octets + 8, count, v19);
+                        goto l58;
+                    }
+                    break;
+                }
+                v13 = 4;
+            l67:;
+                if (v12 != 0) {
+                    v8 = 1;
+                    v6 = 0;
+                    goto l23;
+                }
+                v6 = 0;
+                put64(octets + 16, 0);
+                v9 = get8(octets);
+                put64(octets, 0);
+                count = octets + 8;
+                v19 = get64(count);
+                put64(count, 0);
+                count = octets + 24;
+                octets = get64(count);
+                put64(count, 0);
+                v8 = 1;
+                if (v9 != 1 || octets == 0) goto l23;
+                rattle_dealloc_at(v19);
+                goto l23;
+            l65:;
+                if (v9 != 0) {
+                    rattle_alloc_at(v4 + 8, v21, 1);
+                    if (((uint32_t)get64(v4 + 8) & 1) == 0) goto l80;
+                    octets = get64(v4 + 16);
+                }
+                put64(v4 + 112, v21);
+                put64(v4 + 104, 0);
+                put64(v4 + 96, octets);
+                t3 = std_alloc_vec_Vec_extend_from_slice_672334860c861157(v4 + 96, count, v19);
+                if ((t3 & 255) == 0) {
+                    octets = get64(v4 + 112);
+                    v21 = get64(v4 + 104);
+                    v19 = get64(v4 + 96);
+                    count = v5 + 112;
+                    if (get64(count) == 0) {
+                        v22 = get64(v23);
+                        v31 = get64(v23 + 8);
+                        v33 = get64(v23 + 16);
+                        put64(v5 + 120, v32);
+                        put64(count, v6);
+                        put64(v5 + 104, v20);
+                        put64(v4 + 112, v33);
+                        put64(v4 + 104, v31);
+                        put64(v4 + 96, v22);
+                        count = v4 + 96;
+                    } else {
+                        put64(v4 + 112, v32);
+                        put64(v4 + 104, v6);
+                        put64(v4 + 96, v20);
+                        count = v4 + 96;
+                    }
+                    std_alloc_vec_Vec_drop_53a4c03472232ebd(count);
+                    if (get64(v5 + 112) <= v24) {
+                        v6 = 0;
+                        if (octets == 0) goto l24;
+                        rattle_dealloc_at(v19);
+                        v13 = v8;
+                        goto l23;
+                    }
+                    count = get64(v23) + v34;
+                    put64(count + 16, v21);
+                    v9 = get8(count);
+                    put64(count, 1);
+                    v6 = count + 24;
+                    v20 = get64(v6);
+                    put64(v6, octets);
+                    count = count + 8;
+                    octets = get64(count);
+                    put64(count, v19);
+                    v6 = 0;
+                    if (v9 != 1 || v20 == 0) goto l24;
+                    rattle_dealloc_at(octets);
+                    v13 = v8;
+                    goto l23;
+                }
+                if (get64(v4 + 112) != 0) rattle_dealloc_at(get64(v4 + 96));
+            l80:;
+                if (v6 != 0) {
+                    received = v20;
+                    do {
+                        if (get8(received) != 0 && get64(received + 24) != 0) rattle_dealloc_at(get64(received + 8));
+                        received = received + 32;
+                        v6 = v6 - 1;
+                    } while (v6 != 0);
+                }
+                v7 = 6;
+                if (v32 == 0) goto l3;
+                rattle_dealloc_at(v20);
+                goto l3;
+            l61:;
+                if (get64(v5 + 112) > v24) {
+                    count = get64(v23) + v34;
+                    put64(count + 16, 0);
+                    v8 = get8(count);
+                    put64(count, 0);
+                    v6 = count + 8;
+                    octets = get64(v6);
+                    put64(v6, 0);
+                    count = count + 24;
+                    v6 = get64(count);
+                    put64(count, 0);
+                    if (v8 == 1 && v6 != 0) rattle_dealloc_at(octets);
+                }
+                v13 = 4;
+                if (v31 <= (uint64_t)get32(v5 + 84)) {
+                    v13 = 3;
+                    if (v31 >= 6) {
+                        v8 = get8(v25);
+                        if (v8 <= 31 && (((v8 & 8) == 0 || (((v8 << 8) & 0x700) | get8(v25 + 1)) != 0x7ff) &&
+                            ((((uint64_t)get8(v25 + 4) << 8) | (uint64_t)get8(v25 + 5)) + 7) == v31)) {
+                            count = get64(v5 + 160);
+                            octets = get64(v5 + 168);
+                            v19 = v5 + 192;
+                            v6 = get64(v19);
+                            v20 = octets - v6;
+                            v21 = get64(v5 + 184);
+                            if (v20 < (get64(v5 + 176) - v21)) {
+                                count = count + ((v21 + v20) << 5);
+                                put32(count + 1, 0);
+                                put8(count, v10);
+                                put32(count + 4, 0);
+                                put64(count + 24, v33);
+                                put64(count + 16, v31);
+                                put64(count + 8, v25);
+                            } else {
+                                count = count + (v6 << 5);
+                                put32(count + 1, 0);
+                                put8(count, v10);
+                                put32(count + 4, 0);
+                                put64(count + 24, v33);
+                                put64(count + 16, v31);
+                                put64(count + 8, v25);
+                                put64(v19, v6 + 1);
+                            }
+                            v6 = 1;
+                            put64(v22, octets + 1);
+                            v8 = 0;
+                            goto l58;
+                        }
+                    }
+                }
+                v8 = 1;
+                v6 = 0;
+                if (v33 == 0) goto l23;
+                rattle_dealloc_at(v25);
+                goto l23;
+            l60:;
+                v7 = 6;
+                goto l3;
+            l58:;
+                v13 = 0;
+                goto l23;
+            }
+            v13 = 2;
+            v8 = 1;
+            v12 = 1;
+        } else {
+            v15 = 1;
+            v11 = v14 - v17;
+            v10 = (v16 >> 1) & 127;
+            if ((v11 & 255) >= v10) {
+                if ((v11 & 255) > (~v10 & 255)) {
+                    v13 = ((v8 & 1) != 0) ? 5U : 3U;
+                    v15 = 0;
+                } else {
+                    v13 = 4;
+                }
+            } else if ((v8 & 1) != 0) {
+                v15 = 0;
+                v8 = 1;
+            } else {
+                v13 = 1;
+                v15 = 0;
+                v8 = 0;
+                v12 = 1;
             }
         }
     }
-l26:;
-    put8(octets, v14);
-    put8(v15, v7);
-    put8(v16, v11);
-    count = 0;
-    v7 = 3;
-    v13 = 0;
-    v11 = 0;
-    v14 = 0;
-    goto l6;
-l15:;
-    v6 = 9;
-l10:;
-    count = 0;
-    v9 = 0;
-    v13 = 0;
-    v11 = 0;
-    v14 = 0;
-    v8 = 0;
+l30:;
+    put8(octets, v12);
+    put8(v20, v8);
+    put8(v21, v15);
+    v8 = 3;
     v10 = 0;
-    goto l5;
-l9:;
+    v11 = 0;
+    v12 = 0;
+    goto l19;
+l25:;
+    v11 = 1;
     count = v5 + 77;
     put8(count, (get8(count) + 1) & 3);
-    v11 = 0;
-l8:;
-    count = 0;
-    v7 = 4;
-    v9 = 0;
-    v13 = 0;
-l7:;
-    v14 = 0;
-    v8 = 0;
+    count = get64(v5 + 208);
+    if (count != 0) {
+        v23 = v5 + 224;
+        v20 = get64(v23);
+        octets = v5 + 216;
+        v21 = get64(octets);
+        if (count > v21) {
+            v6 = 0;
+            v20 = v20 + v21;
+            count = get64(v5 + 200) + ((v20 - ((v20 < count) ? 0ULL : count)) << 5);
+            put64(count + 24, v19);
+            put64(count + 16, v19);
+            put64(count + 8, v24);
+            put64(count, v32);
+            put64(octets, get64(octets) + 1);
+            v8 = 4;
+            v11 = 1;
+            v10 = 0;
+            goto l20;
+        }
+        v21 = v21 - 1;
+        put64(octets, v21);
+        v34 = v20 + 1;
+        v34 = v34 - ((v34 < count) ? 0ULL : count);
+        put64(v23, v34);
+        v23 = get64(v5 + 200);
+        v21 = v34 + v21;
+        count = v23 + ((v21 - ((v21 < count) ? 0ULL : count)) << 5);
+        put64(count, v32);
+        v20 = v23 + (v20 << 5);
+        v21 = get64(v20 + 8);
+        put64(count + 8, v24);
+        put64(count + 16, v19);
+        v20 = get64(v20 + 24);
+        put64(count + 24, v19);
+        put64(octets, get64(octets) + 1);
+        if (v20 == 0) {
+            v8 = 4;
+            v11 = 1;
+            v10 = 0;
+            v12 = 0;
+            v13 = 0;
+            v14 = 0;
+            v15 = 0;
+            v6 = 0;
+            goto l4;
+        }
+        v24 = v21;
+    }
+    rattle_dealloc_at(v24);
+    v8 = 4;
     v10 = 0;
+    goto l20;
+l24:;
+    v13 = v8;
+l23:;
+    put8(v5 + 77, v15);
+    v9 = 0;
+    put8(v5 + 76, 0);
+    put16(v5 + 74, 0);
+    put8(v5 + 73, v14 + 1);
+    put8(v5 + 72, v16);
+    v12 = (v8 != 0) ? (v13 + 1) : 0U;
+    v8 = 3;
+    v10 = 0;
+    v11 = 0;
+    v13 = 0;
+    goto l19;
+l21:;
+    v10 = 0;
+    v11 = 0;
+l20:;
+    v12 = 0;
+    v13 = 0;
+    v14 = 0;
+l19:;
+    v15 = 0;
+    goto l4;
 l6:;
-    v6 = 0;
-l5:;
-    put8(received + 15, v9);
-    put8(received + 14, v13);
-    put8(received + 13, v11);
-    put8(received + 12, v14);
-    put8(received + 11, v8);
-    put8(received + 10, v10);
-    put8(received + 9, v6);
-    put8(received + 8, v7);
-    put64(received, count);
-    v6 = 0;
-    goto l3;
+    v9 = 0;
+    v10 = 0;
+    v11 = 0;
+    v12 = 0;
+    v13 = 0;
+    v14 = 0;
 l4:;
-    v6 = 6;
+    put8(received + 15, v9);
+    put8(received + 14, v10);
+    put8(received + 13, v11);
+    put8(received + 12, v12);
+    put8(received + 11, v13);
+    put8(received + 10, v14);
+    put8(received + 9, v15);
+    put8(received + 8, v8);
+    put64(received, v6);
 l3:;
     put64(spacecraft /* node */, v5);
-    return v6;
+    return v7;
 }
 
 /* sedge_spacecraft_telemetry, crates/sedgechisel_nodes/src/spacecraft.rt:127 */

@@ -189,7 +189,7 @@ static void add_telemetry(const struct traffic *traffic) {
 
 /* The packets that are ready are fewer than the ready slots when a frame comes, and then those of its segment more;
  * those past the sequence control are one more while one comes. The part that is open on each MAP has room for the
- * longest. A first segment brings the list of the parts where no part is open, and there may be one already. */
+ * longest. The first segment that opens a part brings the list of the parts. */
 static void places_of_spacecraft(const struct sedge_config *config, const struct traffic *traffic) {
     size_t parts = PLACE * part_places(config), ready = config->ready_slots + (config->blocking == 1 ? MOST - 1 : 0);
     struct kind *packets;
@@ -198,7 +198,7 @@ static void places_of_spacecraft(const struct sedge_config *config, const struct
     packets->data = config->blocking == 1 ? DATA : 0, packets->past = config->bypass_slots;
     packets->parts = open_maps(config);
     add(SPACECRAFT), add(PLACE * ready), add(PLACE * config->bypass_slots);
-    if (parts > 0) (void)add_kind(ANY, parts, parts, 2);
+    if (parts > 0) (void)add_kind(ANY, parts, parts, 1);
     add_telemetry(traffic);
     list_places();
 }
