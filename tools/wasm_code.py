@@ -30,6 +30,8 @@ MOST_OF_LIBRARY, MOST_OF_PROGRAM = 2**16, 2**20
 # What stands for a place in a table of addresses, where no text may have it; and why.
 TABLE, MISREAD = "\0", "a table of addresses is used as octets"
 END, RETURN = 0x0B, 0x0F
+# What a variable is set to by what has no other effect and reads no variable.
+SET_ALONE = r"(?:0x[0-9a-f]+|\d+)U?(?:LL)?|aligned\(frame_octets\)"
 # How the code asks whether the stack has room for its frame, and the answer: an array of the function has.
 ENOUGH = {("<s", 16): 0, (">s", 15): 1}
 
@@ -717,7 +719,7 @@ class Translation:
         variables = {f"{name}@=@0": kind for name, kind in self.locals[len(self.function.params) :] if name in used}
         variables |= {name: kind for name, kind in self.kinds.items() if name in used}
         lines = [*wrapped(self.signature()), "{"]
-        if self.frame:
+        if any("frame_octets" in it for it in body):
             lines.append(f"    unsigned char frame_octets[{self.frame} + 15];")
         for kind in (I32, I64, F64):
             names = [name for name, own in variables.items() if own == kind]
@@ -725,14 +727,13 @@ class Translation:
             lines += [it.replace("@", " ") for it in declared]
         return [*lines, *(line for it in body for line in wrapped(it)), "}"]
 
-
     def without_unread(self, body):
-        """A body in which no variable is set to a number that nothing reads."""
+        """A body in which no variable is set to a number, or to where the frame is, that nothing reads."""
         text = "\n".join(body)
         for name, _ in self.locals:
             reads = re.findall(rf"^ *(?!{name} = )\S.*\b{name}\b|^ *{name} = .*\b{name}\b", text, re.M)
             if not reads:
-                text = re.sub(rf"^ *{name} = (0x[0-9a-f]+|\d+)U?(LL)?;\n", "", text, flags=re.M)
+                text = re.sub(rf"^ *{name} = ({SET_ALONE});\n", "", text, flags=re.M)
         return text.split("\n")
 
 
