@@ -1,6 +1,6 @@
 pub mod Listed
 pub mod ListedMaps
 pub mod Digits
-pub mod Recent
+pub mod CountedPhrases
 pub mod Words
 pub mod WordEnds

@@ -38,7 +38,7 @@ ended_by false rows w os o n rest is = later (word_end (w ++ o ∷ []) os) refl 
         rw one (rest (w ++ o ∷ []) m found
         ∙ ap (λ (x : List ℕ). st (with_ended rows x) []) (append_assoc w (o ∷ []) (take m os)))
 
-reads_word : (rows : Rows) (w text : List ℕ) (n : ℕ) → word_end w text ≡ Some n
+pub reads_word : (rows : Rows) (w text : List ℕ) (n : ℕ) → word_end w text ≡ Some n
     → fold with_octet (st rows w) (take (suc n) text) ≡ st (with_ended rows (w ++ take n text)) []
 reads_word rows w [] n is = absurd (cc is)
 reads_word rows w (o ∷ os) n is =

@@ -9,7 +9,9 @@ use Rattle.std.specs.List.Sorted.{IsStrictlySortedBy}
 use Rattle.std.specs.Map.{keys_of, lookup, set_value}
 use Rattle.std.specs.Ordering.{match_ordering, nat_cmp, ordering_reverse}
 use Rattle.std.specs.declared.cmp.Ordering.TheVariants.{Less, Equal, Greater}
-use Rattle.listings.specs.Totals.{row_of, with_word, with_words}
+use Rattle.listings.specs.Phrases.{with_words}
+use Rattle.listings.specs.Phrases.{row_of}
+use Rattle.listings.specs.Totals.{with_word}
 
 abbrev pub Rows : Type 0
 Rows = List (List ℕ × ℕ)

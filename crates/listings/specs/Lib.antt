@@ -1,3 +1,4 @@
+pub mod Phrases
 pub mod Pieces
 pub mod Streams
 pub mod FarmLines

@@ -1,13 +1,11 @@
 -- What is written in place of lines: how often each of their words stands in them.
 use Rattle.std.specs.Prelude.{ℕ, ◌+◌, ◌==◌, Bool, false, ◌&&◌, ◌||◌, not, if◌then◌else◌, List, []}
-use Rattle.std.specs.Prelude.{◌∷◌, ◌++◌, codes, decimal, drop, map, nat_le, suc, zero, Vec}
+use Rattle.std.specs.Prelude.{◌∷◌, ◌++◌, codes, decimal, drop, nat_le}
 use Rattle.std.specs.Bool.{nat_eq}
 use Rattle.std.specs.Cmp.Lexicographic.{slice_cmp}
 use Rattle.std.specs.List.{fold, list_any, starts_with}
 use Rattle.std.specs.Ordering.{match_ordering, nat_cmp}
 use Rattle.listings.specs.Text.{line_end}
-use Rattle.listings.specs.declared.totals.Recent.{Recent}
-use Rattle.listings.specs.declared.totals.Tally.{Tally}
 
 -- a word that is a spacecraft alone, as `scid=1`
 abbrev pub is_spacecraft : List ℕ → Bool
@@ -92,27 +90,3 @@ abbrev pub totals_of : ℕ → ℕ → List ℕ → List ℕ
 totals_of records octets text =
     total_line (codes "records") records
     ++ (total_line (codes "octets") octets ++ total_lines (tallied text).rows)
-
--- How the code keeps them.
-
--- a table with a word so many times
-abbrev pub with_words : List (List ℕ × ℕ) → List ℕ → ℕ → List (List ℕ × ℕ)
-with_words rows word zero = rows
-with_words rows word (suc n) = with_word (with_words rows word n) word
-
--- the same, where the word is counted
-abbrev pub with_ended_times : List (List ℕ × ℕ) → List ℕ → ℕ → List (List ℕ × ℕ)
-with_ended_times rows word n = if is_counted word then with_words rows (shown word) n else rows
-
--- with the recent words, each as often as it has come
-abbrev pub with_recent : List (List ℕ × ℕ) → List Recent → List (List ℕ × ℕ)
-with_recent rows [] = rows
-with_recent rows (recent ∷ more) =
-    with_recent (with_ended_times rows recent.word.now recent.times) more
-
--- a row of the table, whose word is a vector
-abbrev pub row_of : {A : Type 0} → Vec ℕ A × ℕ → List ℕ × ℕ
-row_of row = (row.0.items, row.1)
-
-abbrev pub tallied_in : Tally → Tallied
-tallied_in t = record { rows = map row_of t.table.entries; word = t.word.items }

@@ -23,6 +23,7 @@ mod only;
 mod output;
 mod packets;
 mod parts;
+mod phrases;
 mod pieces;
 mod record_number;
 mod refusals;
@@ -33,6 +34,7 @@ mod stream;
 mod telemetry;
 mod text;
 mod totals;
+mod word_table;
 
 pub use control_words::{ControlWords, WordFault};
 pub use cutter::Cutter;

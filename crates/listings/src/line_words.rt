@@ -1,8 +1,9 @@
 // The words of lines: where each ends, whether it is counted, and how it is written.
 
-ghost use Rattle.std.specs.Prelude.{◌≡◌, ◌≤◌, ◌<◌, ◌++◌, take, length, [], codes, nat_le, slice_index, true, OnOk, IfSome};
+ghost use Rattle.std.specs.Prelude.{◌≡◌, ◌≤◌, ◌<◌, ◌++◌, take, length, [], codes, nat_le, slice_index, true, Some, OnOk, IfSome};
 ghost use Rattle.std.specs.Bool.{nat_eq};
 ghost use Rattle.std.specs.List.{list_any, starts_with};
+ghost use Rattle.listings.specs.Phrases.{begun_in};
 ghost use Rattle.listings.specs.Totals.{fields_left_out, is_counted, is_spacecraft, parts_words, shown, with_slash};
 ghost use Rattle.listings.specs.Words.{word_end, word_end_after};
 
@@ -25,15 +26,17 @@ pub(crate) fn is_counted(word: &[u8]) -> bool
 fn is_left_out(word: &[u8]) -> bool
     ensures { result ≡ list_any (starts_with nat_eq word.now) fields_left_out }
 {
-    word.starts_with(b"n=")
-        || word.starts_with(b"vr=")
-        || word.starts_with(b"b=")
-        || word.starts_with(b"mc=")
-        || word.starts_with(b"vc=")
-        || word.starts_with(b"pointer=")
-        || word.starts_with(b"ocf=")
-        || word.starts_with(b"count=")
-        || word.starts_with(b"data=")
+    match word {
+        [b'n', ..] => word.starts_with(b"n="),
+        [b'v', ..] => word.starts_with(b"vr=") || word.starts_with(b"vc="),
+        [b'b', ..] => word.starts_with(b"b="),
+        [b'm', ..] => word.starts_with(b"mc="),
+        [b'p', ..] => word.starts_with(b"pointer="),
+        [b'o', ..] => word.starts_with(b"ocf="),
+        [b'c', ..] => word.starts_with(b"count="),
+        [b'd', ..] => word.starts_with(b"data="),
+        _ => false,
+    }
 }
 
 /// Whether an octet parts words, after a word that has begun.
@@ -92,7 +95,7 @@ pub(crate) fn end_of_word(text: &[u8]) -> Option<usize>
     ensures end { result ≡ word_end [] text.now }
     ensures within { IfSome result (λ at. at < length text.now) }
 {
-    let mut at = 0;
+    let mut at = first_eight(text);
     'octets: while at < text.len() {
         if is_end(text, at) {
             return Some(at);
@@ -105,6 +108,27 @@ pub(crate) fn end_of_word(text: &[u8]) -> Option<usize>
     None
 }
 
+/// The end of the words of a line that follow its first one and are counted, where that ends at this place.
+pub(crate) fn end_of_phrase(text: &[u8], end: usize) -> usize
+    requires end { word_end [] text.now ≡ Some end }
+    requires there { end < length text.now }
+    ensures after { end < result }
+    ensures within { result ≤ length text.now }
+    ensures whole { begun_in [] (take result text.now) ≡ [] }
+{
+    let mut at = end + 1;
+    'words: while text[at - 1] != b'\n' {
+        let Some(next) = end_of_word(&text[at..]) else {
+            break;
+        };
+        if !is_counted(&text[at..at + next]) {
+            break;
+        }
+        at += next + 1;
+    }
+    at
+}
+
 // Whether the octet at this place ends the word before it.
 #[inline(always)]
 fn is_end(text: &[u8], at: usize) -> bool
@@ -112,6 +136,19 @@ fn is_end(text: &[u8], at: usize) -> bool
     ensures { result ≡ parts_words (take at text.now) (slice_index text.now at) }
 {
     text[at] <= b' ' && parts_words(&text[..at], text[at])
+}
+
+// 8, where none of the first octets may end a word, and else 0.
+#[inline(always)]
+fn first_eight(text: &[u8]) -> usize
+    ensures within { result ≤ length text.now }
+    ensures same { word_end_after text.now result ≡ word_end_after text.now 0 }
+{
+    if text.len() >= 8 && !has_low(&text[..8]) {
+        8
+    } else {
+        0
+    }
 }
 
 // A place after this one up to which no octet may end a word.

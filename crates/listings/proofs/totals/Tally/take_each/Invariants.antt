@@ -1,10 +1,13 @@
 use Rattle.std.proofs.Common.{◌≡◌, drop}
 use Rattle.std.specs.List.{fold}
-use Rattle.listings.specs.Totals.{tallied_in, with_octet}
+use Rattle.listings.specs.Phrases.{tallied_in}
+use Rattle.listings.specs.Totals.{with_octet}
 use Rattle.listings.proofs.totals.Tally.take_each.Given as goal
 
 -- what the octets that are left make of the tally is what all of them make of the first one
 abbrev pub invariant-loop-octet : goal.invariant-loop-octet
-invariant-loop-octet l =
-    fold with_octet (tallied_in l.self) (drop l.octet-index l.text)
-    ≡ fold with_octet (tallied_in l.fn.self) l.fn.text
+invariant-loop-octet l = record {
+  tally : fold with_octet (tallied_in l.self) (drop l.octet-index l.text)
+      ≡ fold with_octet (tallied_in l.fn.self) l.fn.text;
+  recent : l.self.recent ≡ l.fn.self.recent;
+}

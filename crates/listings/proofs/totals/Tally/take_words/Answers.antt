@@ -1,37 +1,55 @@
-use Rattle.std.proofs.Common.{◌≡◌, ◌∙◌, ◌++◌, [], List, ℕ, ap, arith, map, refl, sym}
+use Rattle.std.proofs.Common.{◌≡◌, ◌∙◌, ◌<◌, ◌≤◌, ◌++◌, [], List, ℕ, Ok, Result, ap, arith}
+use Rattle.std.proofs.Common.{drop, length, map, subst, sym}
+use Rattle.std.specs.Prelude.{Option, IfSome}
 use Rattle.std.specs.List.{fold}
-use Rattle.listings.specs.Totals.{row_of, with_octet, with_recent}
-use Rattle.listings.proofs.WordEnds.{Rows, next, st, stays_open}
+use Rattle.std.specs.declared.alloc.AllocError.{AllocError}
+use Rattle.std.proofs.lemmas.List.{take_rest}
+use Rattle.listings.specs.Phrases.{counted, none_begun, row_of}
+use Rattle.listings.specs.Totals.{with_octet}
+use Rattle.listings.specs.declared.phrases.Phrase.{Phrase}
+use Rattle.listings.proofs.WordEnds.{Rows, st, stays_open}
 use Rattle.listings.proofs.totals.Tally.take_words.Goals as goal
 
-pub overflow_add-rest : goal.overflow_add-rest
-overflow_add-rest c = omega (arith, c.in-Some.ensures.within, c.words.invariant.within)
+abbrev found : Option ℕ → Result (Option ℕ) AllocError
+found n = Ok n
 
-pub words-init : goal.words-init
-words-init c = record {
-  none = c.requires;
-  within = omega arith;
-  same = ap (λ (w : List ℕ). fold with_octet (st (map row_of c.args.self.now.table.entries) w) c.args.text.now)
-      (sym c.requires);
-}
+pub phrases-preserved : goal.phrases-preserved
+phrases-preserved c =
+    let self = c.phrases.self in
+    let rest = c.phrases.rest.now in
+    let n = c.in-Some.length in
+    let words = map row_of self.words.entries in
+    let now = counted words c.take_first.new.table.entries c.take_first.new.phrases in
+    let before = counted words self.phrases.entries self.recent in
+    let took : (0 < n) × (n ≤ length rest) × ((rows : Rows) → fold with_octet (none_begun (counted rows
+    c.take_first.new.table.entries c.take_first.new.phrases)) (drop n rest)
+    ≡ fold with_octet (none_begun (counted rows self.phrases.entries self.recent)) rest) =
+    subst (λ (o : Option ℕ). IfSome o (λ n. (0 < n) × (n ≤ length rest) × ((rows : Rows) → fold with_octet
+    (none_begun (counted rows c.take_first.new.table.entries c.take_first.new.phrases)) (drop n rest)
+    ≡ fold with_octet (none_begun (counted rows self.phrases.entries self.recent)) rest))) c.in-Some.is
+    c.in_ok-length.ensures.some in
+    record {
+      none = c.phrases.invariant.none;
+      within = omega (arith, c.phrases.invariant.within);
+      whole = c.take_first.ensures.whole;
+      same = ap (λ (x : List ℕ). fold with_octet (st now self.word.items) x) (take_rest rest n)
+          ∙ ap (λ (w : List ℕ). fold with_octet (st now w) (drop n rest)) c.phrases.invariant.none
+          ∙ took.2 words
+          ∙ ap (λ (w : List ℕ). fold with_octet (st before w) rest) (sym c.phrases.invariant.none)
+          ∙ c.phrases.invariant.same;
+    }
 
-pub words-preserved : goal.words-preserved
-words-preserved c = record {
-  none = c.words.invariant.none;
-  within = omega (arith, c.words.invariant.within);
-  same = next (with_recent (map row_of c.words.self.table.entries) c.words.recent) _ [] c.words.rest.now c.in-Some.end _
-      refl c.in_ok-count_recent.ensures (sym c.end_of_word.ensures.end ∙ c.in-Some.is)
-      c.words.invariant.same;
-}
-
-pub returns : goal.returns
-returns c =
-    let rows = with_recent (map row_of c.words.self.table.entries) c.words.recent in
-    let rest = c.words.rest.now in
-    let word : c.extend_from_slice.new.self.items ≡ rest =
-    c.in_ok-extend_from_slice.ensures.items
-    ∙ ap (λ (w : List ℕ). w ++ rest) (c.in_ok-put_all.ensures.word ∙ c.words.invariant.none) in
-    ap (λ (r : Rows). st r c.extend_from_slice.new.self.items) c.in_ok-put_all.ensures.rows
-    ∙ ap (λ (w : List ℕ). st rows w) word
-    ∙ sym (stays_open rows [] rest (sym c.end_of_word.ensures.end ∙ c.in_default.is))
-    ∙ c.words.invariant.same
+pub returns-clause-tally : goal.returns-clause-tally
+returns-clause-tally c =
+    let rest = c.phrases.rest.now in
+    let nothing = c.take_first.ensures.none (c.in_ok-length.was ∙ ap found c.in_default.is) in
+    let words = map row_of c.phrases.self.words.entries in
+    let rows = counted words c.phrases.self.phrases.entries c.phrases.self.recent in
+    let word = c.extend_from_slice.new.self.items in
+    ap (λ es. st (counted words es c.take_first.new.phrases) word) nothing.0
+    ∙ ap (λ (ps : List Phrase). st (counted words c.phrases.self.phrases.entries ps) word) nothing.1
+    ∙ ap (λ (w : List ℕ). st rows w) (c.in_ok-extend_from_slice.ensures.items
+    ∙ ap (λ (w : List ℕ). w ++ rest) c.phrases.invariant.none)
+    ∙ sym (stays_open rows [] rest nothing.2)
+    ∙ ap (λ (w : List ℕ). fold with_octet (st rows w) rest) (sym c.phrases.invariant.none)
+    ∙ c.phrases.invariant.same

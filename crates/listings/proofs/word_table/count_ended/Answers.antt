@@ -1,7 +1,7 @@
 use Rattle.std.proofs.Common.{map}
-use Rattle.listings.specs.Totals.{row_of}
-use Rattle.listings.proofs.Recent.{no_time}
-use Rattle.listings.proofs.totals.count_ended.Goals as goal
+use Rattle.listings.specs.Phrases.{row_of}
+use Rattle.listings.proofs.CountedPhrases.{no_time}
+use Rattle.listings.proofs.word_table.count_ended.Goals as goal
 
 pub returns-then-times-eq0 : goal.returns-then-times-eq0
 returns-then-times-eq0 c =

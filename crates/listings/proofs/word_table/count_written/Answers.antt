@@ -1,8 +1,9 @@
 use Rattle.std.proofs.Common.{◌≡◌, ◌∙◌, ◌++◌, List, ℕ, Ok, Result, Bool, map, ap}
 use Rattle.std.specs.declared.alloc.AllocError.{AllocError}
-use Rattle.listings.specs.Totals.{row_of, with_words}
+use Rattle.listings.specs.Phrases.{with_words}
+use Rattle.listings.specs.Phrases.{row_of}
 use Rattle.listings.proofs.Words.{word_new}
-use Rattle.listings.proofs.totals.count_written.Goals as goal
+use Rattle.listings.proofs.word_table.count_written.Goals as goal
 
 abbrev known : Bool → Result Bool AllocError
 known b = Ok b

@@ -1,7 +1,7 @@
 use Rattle.std.proofs.Common.{◌∙◌, map, ap, sym, rules}
-use Rattle.listings.specs.Totals.{row_of}
+use Rattle.listings.specs.Phrases.{row_of}
 use Rattle.listings.proofs.Words.{word_known}
-use Rattle.listings.proofs.totals.count_known.Goals as goal
+use Rattle.listings.proofs.word_table.count_known.Goals as goal
 
 pub returns-in-Some-checked_add-clause-known : goal.returns-in-Some-checked_add-clause-known
 returns-in-Some-checked_add-clause-known c =
