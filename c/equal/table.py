@@ -1,4 +1,4 @@
-"""The table of docs/FLIGHT.md of what is checked of each call of the core, for `c/check_equal --table`: each call of
+"""The table of docs/REVIEW.md of what is checked of each call of the core, for `c/check_equal --table`: each call of
 the header, in its order. It is made of the header, c/equal/checks.txt and the fuzz targets, so no call can be missing."""
 import re
 

@@ -28,7 +28,7 @@
  *
  * SEDGE_CHECK marks each call whose answer says more than that a struct is damaged: a compiler warns where a program
  * does not use it. In C each number of an enumeration is a constant of an unsigned type too, at the end of this file,
- * so that it is compared with an answer or a field without a conversion (docs/FLIGHT.md, "MISRA C"). */
+ * so that it is compared with an answer or a field without a conversion (docs/REVIEW.md, "MISRA C"). */
 #ifndef SEDGECHISEL_H
 #define SEDGECHISEL_H
 
