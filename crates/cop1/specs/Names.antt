@@ -1,9 +1,14 @@
--- What the receiver does with a Type-AD frame, and why the sender has given up: a row each.
+-- What the receiver does with a Type-AD frame, and why the sender has given up: a row each. The names
+-- of the states.
 use Rattle.std.specs.Prelude.{ℕ, List, codes}
 use Rattle.cop1.specs.declared.vocabulary.Alert.{Alert}
 use Rattle.cop1.specs.declared.vocabulary.Alert.TheVariants.{Lockout, NnR, Clcw, Synch, Limit}
 use Rattle.cop1.specs.declared.vocabulary.Alert.TheVariants.{Timer}
 use Rattle.cop1.specs.declared.vocabulary.Alert.TheVariants.{Terminated}
+use Rattle.cop1.specs.declared.vocabulary.FopMode.{FopMode}
+use Rattle.cop1.specs.declared.vocabulary.FopMode.TheVariants.{S1, S2, S3, S4, S5, S6}
+use Rattle.cop1.specs.declared.farm.FarmMode.{FarmMode}
+use Rattle.cop1.specs.declared.farm.FarmMode.TheVariants as modes
 use Rattle.cop1.specs.declared.farm.Verdict.{Verdict}
 use Rattle.cop1.specs.declared.farm.Verdict.TheVariants.{Accepted, Ahead, NoBuffer, Behind, Outside}
 use Rattle.cop1.specs.declared.farm.Verdict.TheVariants.{Discarded}
@@ -26,3 +31,18 @@ alert_row Synch = (4, codes "Synch")
 alert_row Limit = (5, codes "Limit")
 alert_row Timer = (6, codes "Timer")
 alert_row Terminated = (7, codes "Terminated")
+
+-- a state of the sender
+abbrev pub fop_mode_name : FopMode → List ℕ
+fop_mode_name S1 = codes "S1"
+fop_mode_name S2 = codes "S2"
+fop_mode_name S3 = codes "S3"
+fop_mode_name S4 = codes "S4"
+fop_mode_name S5 = codes "S5"
+fop_mode_name S6 = codes "S6"
+
+-- a state of the receiver
+abbrev pub farm_mode_name : FarmMode → List ℕ
+farm_mode_name modes.Open = codes "Open"
+farm_mode_name modes.Wait = codes "Wait"
+farm_mode_name modes.Lockout = codes "Lockout"

@@ -18,6 +18,21 @@ pub enum FarmMode {
     Lockout,
 }
 
+impl FarmMode {
+    ghost use Rattle.cop1.specs.Names.{farm_mode_name};
+
+    /// The state's name in the standard.
+    pub fn name(self) -> &'static str
+        ensures { result.now ≡ farm_mode_name self }
+    {
+        match self {
+            FarmMode::Open => "Open",
+            FarmMode::Wait => "Wait",
+            FarmMode::Lockout => "Lockout",
+        }
+    }
+}
+
 /// What the receiver does with a Type-AD frame (CCSDS 232.1-B-2, table 6-1).
 #[derive(Clone, Copy, Debug, PartialEq, Eq)]
 pub enum Verdict {

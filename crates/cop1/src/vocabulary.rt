@@ -19,6 +19,25 @@ pub enum FopMode {
     S6,
 }
 
+impl FopMode {
+    ghost use Rattle.std.specs.Prelude.{◌≡◌};
+    ghost use Rattle.cop1.specs.Names.{fop_mode_name};
+
+    /// The state's name in the standard.
+    pub fn name(self) -> &'static str
+        ensures { result.now ≡ fop_mode_name self }
+    {
+        match self {
+            FopMode::S1 => "S1",
+            FopMode::S2 => "S2",
+            FopMode::S3 => "S3",
+            FopMode::S4 => "S4",
+            FopMode::S5 => "S5",
+            FopMode::S6 => "S6",
+        }
+    }
+}
+
 /// Why the sender has given up (CCSDS 232.1-B-2, 5.2.5).
 #[derive(Clone, Copy, Debug, PartialEq, Eq)]
 pub enum Alert {
