@@ -16,8 +16,8 @@ use Rattle.tc_frame.specs.declared.frame.SegmentFlags.{SegmentFlags}
 use Rattle.tc_frame.specs.declared.frame.SegmentFlags.TheVariants.{First, Continuing, Last, Alone}
 use Rattle.tc_frame.specs.Encoding.{frame_fits, spelling}
 use Rattle.tc_frame.proofs.Spelled.{spelling_is, frame_again}
-use Rattle.script_lines.specs.Words.{words_in, number_in_word}
-use Rattle.script_lines.proofs.Spelled.{read, printed, is_word, number_word, mapped, chained}
+use Rattle.streams.specs.Words.{words_in, number_in_word}
+use Rattle.streams.proofs.SpelledWords.{read, printed, is_word, number_word, mapped, chained}
 use Rattle.encode_lines.specs.Fields.{number_after, octets_after, without_number}
 use Rattle.encode_lines.specs.Frames.{frame_of, segment_of, segment_with, frame_in, sequence_line, bypass_line}
 use Rattle.encode_lines.specs.Frames.{unlock_line, set_line, frame_octets}

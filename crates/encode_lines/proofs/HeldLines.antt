@@ -1,12 +1,12 @@
 -- A line that holds octets after its words is read as these octets.
-use Rattle.std.proofs.Common.{◌≡◌, ◌∙◌, ◌≤◌, ◌<◌, ◌^◌, ◌++◌, ◌||◌, ℕ, Bool, true, false, cond, List, [], ◌∷◌}
-use Rattle.std.proofs.Common.{Option, Some, None, refl, sym, ap, subst, arith, append_assoc}
-use Rattle.std.specs.Prelude.{codes, decimal, option_and_then, is_some}
+use Rattle.std.proofs.Common.{◌≡◌, ◌∙◌, ◌≤◌, ◌++◌, ◌||◌, ℕ, Bool, true, false, List, [], ◌∷◌}
+use Rattle.std.proofs.Common.{Some, None, refl, sym, ap, subst, arith, append_assoc}
+use Rattle.std.specs.Prelude.{codes, decimal}
 use Rattle.std.specs.Str.{bytes_eq}
 use Rattle.std.specs.List.{list_all}
-use Rattle.script_lines.specs.Words.{number_in_word, octets_in_word, words_in}
-use Rattle.script_lines.specs.Spelling.{IsHex}
-use Rattle.script_lines.proofs.Spelled.{hex_word, is_word, number_word, printed, spelled_octets}
+use Rattle.streams.specs.Words.{number_in_word, words_in}
+use Rattle.streams.specs.Hex.{IsHex}
+use Rattle.streams.proofs.SpelledWords.{hex_word, is_word, number_word, printed, spelled_octets}
 use Rattle.listings.specs.Text.{line_end}
 use Rattle.encode_lines.specs.Fields.{without_number}
 use Rattle.encode_lines.specs.Held.{held_in, holds_octets, holds_packet}

@@ -16,8 +16,8 @@ use Rattle.space_packet.specs.Decoding.{packet_at}
 use Rattle.space_packet.specs.Encoding.{packet_fits, spelling}
 use Rattle.space_packet.proofs.Encoded.{spelling_is, first_is}
 use Rattle.space_packet.proofs.Decoded.{packet_again}
-use Rattle.script_lines.specs.Words.{words_in, number_in_word}
-use Rattle.script_lines.proofs.Spelled.{is_word, number_word, mapped}
+use Rattle.streams.specs.Words.{words_in, number_in_word}
+use Rattle.streams.proofs.SpelledWords.{is_word, number_word, mapped}
 use Rattle.listings.specs.PacketLines.{kind_word, gap_text}
 use Rattle.encode_lines.specs.Fields.{number_after, octets_after, without_number}
 use Rattle.encode_lines.specs.Packets.{kind_in, is_gap, packet_of, packet_line, packet_in, packet_octets}

@@ -3,7 +3,7 @@ use Rattle.std.proofs.Common.{◌≡◌, ◌+◌, ◌++◌, ℕ, Bool, List, [],
 use Rattle.std.specs.Prelude.{is_some}
 use Rattle.std.specs.Option.{unwrap_or}
 use Rattle.tc_frame.specs.declared.frame.Check.{Check}
-use Rattle.line_stream.specs.Player.{answers, after_lines}
+use Rattle.streams.specs.Player.{answers, after_lines}
 use Rattle.encode_lines.specs.declared.encoder.Encoder.{Encoder}
 use Rattle.encode_lines.specs.Octets.{line_octets, octets_of_lines, unreadable_after, and_then, or_number, encoding}
 

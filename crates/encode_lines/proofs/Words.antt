@@ -14,9 +14,9 @@ use Rattle.std.specs.List.{join_with_byte, list_all}
 use Rattle.std.proofs.lemmas.List.{append_cancel_right}
 use Rattle.std.proofs.lemmas.List.Splits.{join_with_byte-slice_split}
 use Rattle.tc_frame.specs.Layout.{FrameView, BodyView, Ad, Bd, Bc}
-use Rattle.script_lines.specs.Words.{number_in_word, words_in}
-use Rattle.script_lines.specs.Spelling.{IsPairs, no_pair, pair, some_octets}
-use Rattle.script_lines.proofs.Spelled.{read, printed, is_word, hex_word, one_word, more_words, number_word, chained}
+use Rattle.streams.specs.Words.{number_in_word, words_in}
+use Rattle.streams.specs.Hex.{IsPairs, no_pair, pair, some_octets}
+use Rattle.streams.proofs.SpelledWords.{read, printed, is_word, hex_word, one_word, more_words, number_word, chained}
 use Rattle.encode_lines.specs.Fields.{after_key, number_after, octets_after, octets_of_digits, without_number}
 use Rattle.encode_lines.specs.Listed.{IsLineOf}
 use Rattle.encode_lines.specs.Frames.{frame_of, frame_in, body_decoded, frame_decoded, digits_of}

@@ -4,7 +4,7 @@ use Rattle.std.specs.Prelude.{option_and_then, is_some}
 use Rattle.std.specs.Result.{result_ok}
 use Rattle.std.specs.Str.{bytes_eq}
 use Rattle.hex.specs.Hex.{decode_of, encode_upper}
-use Rattle.script_lines.specs.Words.{number_in_word}
+use Rattle.streams.specs.Words.{number_in_word}
 
 -- what follows a key in a word that begins with it
 abbrev pub after_key : List ℕ → List ℕ → Option (List ℕ)

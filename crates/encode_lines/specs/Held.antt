@@ -2,7 +2,7 @@
 use Rattle.std.specs.Prelude.{ℕ, Bool, false, ◌&&◌, ◌||◌, if◌then◌else◌, List, [], ◌∷◌, codes}
 use Rattle.std.specs.Prelude.{length, nat_lt, Option, Some, None, option_and_then, is_some}
 use Rattle.std.specs.Str.{bytes_eq}
-use Rattle.script_lines.specs.Words.{number_in_word, octets_in_word}
+use Rattle.streams.specs.Words.{number_in_word, octets_in_word}
 use Rattle.encode_lines.specs.Fields.{after_key}
 
 -- the words after which octets stand: of a packet, of frames, and of control words

@@ -4,9 +4,9 @@ use Rattle.std.specs.Prelude.{IfOk, ◌+◌, ◌==◌, ◌&&◌, if◌then◌els
 use Rattle.std.specs.Prelude.{option_and_then, not}
 use Rattle.std.specs.Option.{option_or}
 use Rattle.tc_frame.specs.declared.frame.Check.{Check}
-use Rattle.script_lines.specs.Words.{words_in}
-use Rattle.line_stream.specs.Lines.{lines_of}
-use Rattle.line_stream.specs.Player.{Playing}
+use Rattle.streams.specs.Words.{words_in}
+use Rattle.streams.specs.Lines.{lines_of}
+use Rattle.streams.specs.Player.{Playing}
 use Rattle.encode_lines.specs.Fields.{without_number}
 use Rattle.encode_lines.specs.Frames.{frame_in, frame_octets}
 use Rattle.encode_lines.specs.Held.{claims_octets, held_in}

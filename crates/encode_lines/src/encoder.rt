@@ -1,8 +1,8 @@
 // Lines in, octets out.
 
 ghost use Rattle.std.specs.Prelude.{◌≡◌, None, map, OnOk, IfOk};
-ghost use Rattle.listings.specs.Devices.{HasEnded, gained};
-ghost use Rattle.listings.specs.Streams.{Reads, WritesText};
+ghost use Rattle.streams.specs.Devices.{HasEnded, gained};
+ghost use Rattle.streams.specs.Streams.{Reads, WritesText};
 ghost use Rattle.encode_lines.specs.Octets.{Puts, packet_or_held, words_octets, octets_or_skipped, line_octets, octets_in, unreadable_in};
 
 use crate::fields::{without_number, words_in};
@@ -10,9 +10,8 @@ use crate::frames::frame_in;
 use crate::held::{claims_octets, digits_in, put_digits};
 use crate::packets::packet_in;
 use crate::spellings::{put_frame, put_packet};
-use line_stream::{Player, play_stream};
-use listings::{ListingFault, Sink, Source};
 use std::alloc::{AllocError, Global};
+use streams::{Player, Sink, Source, StreamFault, play_stream};
 use tc_frame::Check;
 
 // Appends the octets of the packet that these words say, or else those that they hold, and says whether there
@@ -153,7 +152,7 @@ pub fn encode_stream<R: Source, W: Sink>(
     writer: &mut W,
     skips: bool,
     check: Check,
-) -> Result<Option<u64>, ListingFault>
+) -> Result<Option<u64>, StreamFault>
     ensures reads { Reads R.given R.remaining R.failures result reader.old reader.new }
     ensures writes { WritesText W.taken_octets W.failures result writer.old writer.new
         (octets_in skips check (gained (R.given reader.old) (R.given reader.new))) }

@@ -1,11 +1,11 @@
 // Fields of a line: a key and, after it, a number or octets.
 
 ghost use Rattle.std.specs.Prelude.{◌≡◌, ◌≤◌, map, option_copied, option_map, IfOk, IfSome};
-ghost use Rattle.script_lines.specs.Words.{words_in};
+ghost use Rattle.streams.specs.Words.{words_in};
 ghost use Rattle.encode_lines.specs.Fields.{after_key, number_after, octets_of_digits, without_number};
 
-use script_lines::{cut, number_in_word};
 use std::alloc::{AllocError, Global};
+use streams::{cut, number_in_word};
 
 /// What follows a key in a word that begins with it.
 pub fn after_key<'a>(word: &'a [u8], key: &[u8]) -> Option<&'a [u8]>

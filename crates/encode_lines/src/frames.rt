@@ -5,7 +5,7 @@ ghost use Rattle.tc_frame.specs.Layout.{frame_view, body_view, segment_view};
 ghost use Rattle.encode_lines.specs.Frames.{frame_of, segment_of, sequence_line, bypass_line, unlock_line, set_line, frame_in, segment_decoded, body_decoded, frame_decoded};
 
 use crate::fields::{after_key, number_after};
-use script_lines::{is, number_in_word};
+use streams::{is, number_in_word};
 use tc_frame::{Body, Command, Segment, SegmentFlags, SegmentHeader, TcFrame};
 
 // The segment that these words say, with the digits of its data in place of octets.

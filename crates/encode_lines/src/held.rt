@@ -1,13 +1,13 @@
 // The octets that a line holds after its words: of a packet, a frame or a control word.
 
 ghost use Rattle.std.specs.Prelude.{◌≡◌, map, option_and_then, option_map};
-ghost use Rattle.script_lines.specs.Words.{octets_in_word};
+ghost use Rattle.streams.specs.Words.{octets_in_word};
 ghost use Rattle.encode_lines.specs.Held.{begins_fields, claims_octets, digits_in, holds_octets, holds_packet};
 ghost use Rattle.encode_lines.specs.Octets.{Puts};
 
 use crate::fields::after_key;
-use script_lines::{is, number_in_word, octets_in_word};
 use std::alloc::{AllocError, Global};
+use streams::{is, number_in_word, octets_in_word};
 
 // Whether octets stand after a word.
 fn holds_octets(word: &[u8]) -> bool

@@ -3,8 +3,8 @@
 ghost use Rattle.std.specs.Prelude.{◌≡◌, ◌≤◌, ◌++◌, codes, decimal, ℕ, List, Option, true, length, Some, Ok};
 ghost use Rattle.hex.specs.Hex.{IsBytes};
 ghost use Rattle.listings.specs.Text.{line_end};
-ghost use Rattle.script_lines.specs.Spelling.{IsHex};
-ghost use Rattle.script_lines.specs.Words.{words_in};
+ghost use Rattle.streams.specs.Hex.{IsHex};
+ghost use Rattle.streams.specs.Words.{words_in};
 ghost use Rattle.space_packet.specs.Layout.{PacketView};
 ghost use Rattle.space_packet.specs.Decoding.{packet_at};
 ghost use Rattle.space_packet.specs.Encoding.{packet_fits};

@@ -5,8 +5,8 @@ ghost use Rattle.space_packet.specs.Layout.{packet_view};
 ghost use Rattle.encode_lines.specs.Packets.{kind_in, is_gap, packet_line, packet_in, packet_decoded};
 
 use crate::fields::{after_key, number_after};
-use script_lines::is;
 use space_packet::{Packet, PacketKind};
+use streams::is;
 
 fn kind_in(word: &[u8]) -> Option<PacketKind>
     ensures { result ≡ kind_in word.now }

@@ -1,19 +1,18 @@
 -- How a listing goes on by a record and by a piece of a stream, and how it ends.
 use Rattle.std.proofs.Common.{◌≡◌, ℕ, ◌+◌, ◌≤◌, Bool, true, false, List, [], ◌∷◌, ◌++◌, length, drop, Result, Ok, Err}
 use Rattle.std.proofs.Common.{refl, sym, ap, ◌∙◌, append_assoc, arith, cond, ltb, take, subst}
-use Rattle.std.specs.Prelude.{◌&&◌, Option, Some, None, IfOk, OnOk}
+use Rattle.std.specs.Prelude.{◌&&◌, Option, Some, None}
 use Rattle.std.specs.List.{list_all}
 use Rattle.std.proofs.Math.Bool.{and_assoc, and-true}
 use Rattle.std.proofs.lemmas.List.{append-nil, length-drop, length-append}
 use Rattle.std.proofs.lemmas.Bool.{lt-ltb}
 use Rattle.octets.specs.Records.{record_of}
-use Rattle.octets.specs.Beginning.{IsBeginning}
 use Rattle.octets.proofs.Streams.{IsNoRecord, record_is, records_of-record, records_of-none, records_of-append}
 use Rattle.octets.proofs.Streams.{rest_of-append}
 use Rattle.listings.specs.Layouts.{Layout, HasHeads, first_by, records_by, rest_by, extent_fault, IsRefused}
 use Rattle.listings.specs.Listing.{Lines, Standing, fed, record_lines, kept_behind, behind, listed, rest_line}
 use Rattle.listings.specs.Listing.{is_empty, listing_of, HasListed}
-use Rattle.listings.specs.Pieces.{GoesOn}
+use Rattle.streams.specs.Pieces.{GoesOn}
 use Rattle.listings.specs.declared.stream.Summary.{Summary}
 
 -- How a listing goes on by a record, and how it ends.
@@ -204,19 +203,3 @@ module _ {S F : Type 0} (lines : Lines S F) (layout : Layout F) (heads : HasHead
           so_far = λ more text h. tt;
           stops = λ more h. subst (IsRefused layout) (ap (λ (x : Standing S). x.octets) (sym (on more))) h;
         }
-
--- What begins a text begins each longer one.
-
-pub begins_more : (a b t u whole : List ℕ) → whole ≡ t ++ u → IsBeginning a (b ++ t) → IsBeginning a (b ++ whole)
-begins_more a b t u whole e h = (
-  h.0 ++ u,
-  ap (λ (x : List ℕ). b ++ x) e ∙ sym (append_assoc b t u) ∙ ap (λ (x : List ℕ). x ++ u) h.1 ∙ append_assoc a h.0 u,
-)
-
-pub begins_same : (a b t whole : List ℕ) → whole ≡ t → IsBeginning a (b ++ t) → IsBeginning a (b ++ whole)
-begins_same a b t whole e h = (h.0, ap (λ (x : List ℕ). b ++ x) e ∙ h.1)
-
--- what follows from each answer that is Ok
-pub on_ok_from : {T E Q : Type 0} (P : T → Type 0) (r : Result T E) → ((x : T) → P x → Q) → IfOk r P → OnOk r Q
-on_ok_from P (Ok x) h p = h x p
-on_ok_from P (Err e) h p = tt

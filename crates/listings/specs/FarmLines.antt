@@ -8,17 +8,10 @@ use Rattle.tc_frame.specs.Layout.{BodyView, Ad, Bd, Bc, FrameView}
 use Rattle.tc_frame.specs.Decoding.{frame_at}
 use Rattle.cop1.specs.Farm.{FarmState, farm_step, verdict_of, AdArrives, BdArrives, UnlockArrives}
 use Rattle.cop1.specs.Farm.{SetVrArrives}
-use Rattle.cop1.specs.declared.farm.FarmMode.{FarmMode}
-use Rattle.cop1.specs.declared.farm.FarmMode.TheVariants.{Open, Wait, Lockout}
-use Rattle.cop1.specs.Names.{verdict_row}
+use Rattle.cop1.specs.Names.{farm_mode_name, verdict_row}
 use Rattle.listings.specs.RefusalLines.{frame_fault_line}
 use Rattle.listings.specs.Listing.{Lines}
 use Rattle.listings.specs.Text.{flag_number, line_end}
-
-abbrev pub state_word : FarmMode → List ℕ
-state_word Open = codes "Open"
-state_word Wait = codes "Wait"
-state_word Lockout = codes "Lockout"
 
 -- the flags after a frame, and FARM-B, as its line ends
 abbrev pub flags_text : FarmState → List ℕ
@@ -29,7 +22,7 @@ flags_text s = codes " l=" ++ (decimal (flag_number s.lockout)
 
 -- the receiver after a frame
 abbrev pub state_text : FarmState → List ℕ
-state_text s = state_word s.state ++ (codes " vr=" ++ (decimal s.vr ++ flags_text s))
+state_text s = farm_mode_name s.state ++ (codes " vr=" ++ (decimal s.vr ++ flags_text s))
 
 -- the receiver after a frame; the buffer on board is free
 abbrev pub after_body : FarmState → BodyView → FarmState

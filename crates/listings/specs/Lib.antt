@@ -1,6 +1,4 @@
 pub mod Phrases
-pub mod Pieces
-pub mod Streams
 pub mod FarmLines
 pub mod FrameLines
 pub mod MapLines
@@ -8,7 +6,6 @@ pub mod ListedPackets
 pub mod PacketLines
 pub mod ReportLines
 pub mod TelemetryLines
-pub mod Devices
 pub mod Text
 pub mod Totals
 pub mod Words

@@ -4,7 +4,7 @@ use Rattle.std.specs.Prelude.{◌≡◌, None, ℕ, ◌+◌, ◌≤◌, Bool, tr
 use Rattle.std.specs.Prelude.{length, Option, Some, Result, Err}
 use Rattle.std.specs.List.{list_all}
 use Rattle.listings.specs.Layouts.{Layout, first_by, records_by, rest_by, rest_fault, IsRefused}
-use Rattle.listings.specs.Pieces.{Taking}
+use Rattle.streams.specs.Pieces.{Taking}
 use Rattle.listings.specs.declared.stream.Summary.{Summary}
 use Rattle.listings.specs.declared.stream.Progress.{Progress}
 

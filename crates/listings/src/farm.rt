@@ -6,7 +6,8 @@ ghost use Rattle.tc_frame.specs.Decoding.{frame_at};
 ghost use Rattle.tc_frame.specs.Splitter.{check_if};
 ghost use Rattle.cop1.specs.Names.{verdict_row};
 ghost use Rattle.listings.specs.Text.{Appends};
-ghost use Rattle.listings.specs.FarmLines.{state_word, flags_text, state_text, body_text, after_body, farm_line, after_record, farm_lines};
+ghost use Rattle.cop1.specs.Names.{farm_mode_name};
+ghost use Rattle.listings.specs.FarmLines.{flags_text, state_text, body_text, after_body, farm_line, after_record, farm_lines};
 
 use crate::lines::{push_invalid, push_refused};
 use crate::listing::Listing;
@@ -21,7 +22,7 @@ use tc_frame::{Body, Command, FrameLayout, TcFault, check_if, decode};
 #[inline(always)]
 fn put_state(room: &mut [u8], at: usize, state: FarmMode) -> usize
     requires { at + 7 ≤ length room.old }
-    ensures put { take result room.new ≡ take at room.old ++ state_word state }
+    ensures put { take result room.new ≡ take at room.old ++ farm_mode_name state }
     ensures next { result ≤ at + 7 }
 {
     match state {

@@ -3,20 +3,16 @@
 ghost use Rattle.std.specs.Prelude.{◌≡◌, ◌⊎◌, None, ◌+◌, ◌^◌, ◌<◌, ◌≤◌, ◌&&◌, ◌++◌, [], length, Ok, OnOk, IfOk, IfErr};
 ghost use Rattle.listings.specs.Layouts.{first_by, rest_by, IsRefused};
 ghost use Rattle.listings.specs.Listing.{fresh, listed, listing_of, text_of, summary_of, where_refused, standing};
-ghost use Rattle.listings.specs.Devices.{HasEnded, writes_failed_in, gained, BeginsToWrite};
-ghost use Rattle.listings.specs.Streams.{Reads, WritesText};
+ghost use Rattle.streams.specs.Devices.{HasEnded, writes_failed_in, gained, BeginsToWrite};
+ghost use Rattle.streams.specs.Streams.{Reads, WritesText};
 ghost use Rattle.listings.specs.Text.{written};
 
 use crate::cutter::Cutter;
-use crate::fault::ListingFault;
 use crate::listing::Listing;
-use crate::output::{WriteFailed, write_all};
-use crate::pieces::{Taker, go_through};
 use crate::record_number::RecordNumber;
-use crate::sink::Sink;
-use crate::source::Source;
 use crate::text::Text;
 use std::alloc::{AllocError, Global};
+use streams::{Sink, Source, StreamFault, Taker, WriteFailed, go_through, write_all};
 
 /// How many records there were, and whether all of them were good.
 #[derive(Drop)]
@@ -88,17 +84,17 @@ fn list_records<S: Cutter, C: Listing<S>>(
 }
 
 /// Writes a text whole, and answers this.
-fn put<W: Sink, T: Copy>(writer: &mut W, text: &Text, answer: T) -> Result<T, ListingFault>
+fn put<W: Sink, T: Copy>(writer: &mut W, text: &Text, answer: T) -> Result<T, StreamFault>
     ensures ok { IfOk result (λ answered. (answered ≡ answer)
         × (W.taken_octets writer.new ≡ W.taken_octets writer.old ++ written text.now)) }
     ensures beginning { BeginsToWrite result (W.taken_octets writer.old) (W.taken_octets writer.new)
         (written text.now) }
-    ensures fault { IfErr result (λ e. e ≡ ListingFault.Write) }
+    ensures fault { IfErr result (λ e. e ≡ StreamFault.Write) }
     ensures failures { W.failures writer.new ≡ W.failures writer.old + writes_failed_in result }
 {
     match write_all(writer, text.as_bytes()) {
         Ok(()) => Ok(answer),
-        Err(WriteFailed) => Err(ListingFault::Write),
+        Err(WriteFailed) => Err(StreamFault::Write),
     }
 }
 
@@ -123,10 +119,10 @@ impl<S: Cutter, C: Listing<S>, W: Sink> Taker<C, W> for Lister<S> {
         writer: &mut W,
         before: u64,
         piece: &[u8],
-    ) -> Result<Option<Summary>, ListingFault> {
+    ) -> Result<Option<Summary>, StreamFault> {
         self.text.clear();
         let Ok(()) = self.cutter.feed(piece) else {
-            return Err(ListingFault::Memory);
+            return Err(StreamFault::Memory);
         };
         let Ok(fault) = list_records(
             &mut self.cutter,
@@ -134,21 +130,21 @@ impl<S: Cutter, C: Listing<S>, W: Sink> Taker<C, W> for Lister<S> {
             &mut self.progress,
             &mut self.text,
         ) else {
-            return Err(ListingFault::Memory);
+            return Err(StreamFault::Memory);
         };
         let Some(fault) = fault else {
             return put(writer, &self.text, None);
         };
         let next = self.progress.count.following();
         let Ok(()) = C::refuse(&mut self.text, &next, fault) else {
-            return Err(ListingFault::Memory);
+            return Err(StreamFault::Memory);
         };
         let all = self.progress.of_all(before + piece.len() as u64, false);
         put(writer, &self.text, Some(all))
     }
 
     // Writes the line of what is left, where anything is.
-    fn end(&mut self, _: &mut C, writer: &mut W, octets: u64) -> Result<Summary, ListingFault> {
+    fn end(&mut self, _: &mut C, writer: &mut W, octets: u64) -> Result<Summary, StreamFault> {
         let all_good = self.progress.all_good;
         let Err(fault) = self.cutter.finish() else {
             return Ok(self.progress.of_all(octets, all_good));
@@ -156,7 +152,7 @@ impl<S: Cutter, C: Listing<S>, W: Sink> Taker<C, W> for Lister<S> {
         self.text.clear();
         let next = self.progress.count.following();
         let Ok(()) = C::refuse(&mut self.text, &next, fault) else {
-            return Err(ListingFault::Memory);
+            return Err(StreamFault::Memory);
         };
         put(writer, &self.text, self.progress.of_all(octets, false))
     }
@@ -178,7 +174,7 @@ pub fn list_stream<S: Cutter + Drop, C: Listing<S> + Drop, R: Source, W: Sink>(
     writer: &mut W,
     cutter: S,
     mut listing: C,
-) -> Result<Summary, ListingFault>
+) -> Result<Summary, StreamFault>
     requires held { S.held cutter ≡ [] }
     requires going { S.failure cutter ≡ None }
     ensures reads { Reads R.given R.remaining R.failures result reader.old reader.new }

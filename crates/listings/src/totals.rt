@@ -6,16 +6,15 @@ ghost use Rattle.listings.specs.Text.{line_end, written, Appends};
 ghost use Rattle.listings.specs.Phrases.{of_phrases, row_of, tallied_in, AreWhole};
 ghost use Rattle.listings.specs.Totals.{tallied, total_line, total_lines, totals_of, with_octet};
 
-use crate::device_log::{Call, DeviceLog};
 use crate::line_words::parts_words;
 use crate::parts::{put_number, put_word};
 use crate::phrases::{NO_PHRASES, Phrase, put_all, take_first};
-use crate::sink::Sink;
 use crate::text::Text;
 use crate::word_table::{count_ended, count_words};
 use std::alloc::{AllocError, Global};
 use std::collections::BTreeMap;
 use std::io;
+use streams::{Call, DeviceLog, Sink};
 
 /// How often each word has come; the phrases whose words are not in this table, those that came lately apart;
 /// and the word that has begun.

@@ -14,10 +14,10 @@ use Rattle.nodes.specs.declared.fault.LinkFault.{LinkFault}
 use Rattle.nodes.specs.declared.fault.LinkFault.TheVariants.{Memory}
 use Rattle.nodes.specs.Faults.{fault_row}
 use Rattle.nodes.specs.Ground.{GroundState, unless_refused}
-use Rattle.node_answers.specs.Answers.{sent_text, fault_text}
+use Rattle.node_lines.specs.Answers.{sent_text, fault_text}
 use Rattle.node_lines.specs.declared.player.NodePlayer.{NodePlayer}
 use Rattle.node_lines.specs.declared.player.NodePlayer.TheVariants.{Configured, Made}
-use Rattle.node_lines.specs.Asks.{Turn, NodeRules, turned, Takes}
+use Rattle.node_lines.specs.Nodes.{Turn, NodeRules, turned, Takes}
 use Rattle.node_lines.specs.Player.{LineOutcome, asked_step, made_step, answered}
 use Rattle.node_lines.specs.Ground.{pulled_text, done_text}
 
@@ -27,11 +27,12 @@ abbrev pub taken_step : {S : Type 0} → NodeRules S → NodePlayer S → (S →
 taken_step rules (Configured c) turn = made_step rules c (config_fault c) turn
 taken_step rules (Made s) turn = answered (turn s)
 
-pub asked_as : {S : Type 0} (rules : NodeRules S) (p : NodePlayer S) (o : Option (S → Turn S)) → is_some o ≡ true
-    → asked_step rules p o ≡ taken_step rules p (turned o)
-asked_as rules p None is = cc is
-asked_as rules (Configured c) (Some turn) is = refl
-asked_as rules (Made s) (Some turn) is = refl
+pub asked_as : {S : Type 0} (rules : NodeRules S) (cause : List ℕ) (p : NodePlayer S) (o : Option (S → Turn S))
+    → is_some o ≡ true
+    → asked_step rules cause p o ≡ taken_step rules p (turned o)
+asked_as rules cause p None is = cc is
+asked_as rules cause (Configured c) (Some turn) is = refl
+asked_as rules cause (Made s) (Some turn) is = refl
 
 -- The octets of a frame that is sent.
 

@@ -1,1 +1,2 @@
+mod SpelledLines
 mod Answered

@@ -17,9 +17,10 @@ use Rattle.nodes.specs.Fates.{submitted, whole_with}
 use Rattle.nodes.specs.Ground.{GroundState, GroundEvent, GroundAnswer, ground_step, new_ground}
 use Rattle.nodes.specs.Ground.{outstanding, sent_beyond, unsent_segments}
 use Rattle.nodes.specs.Ground as calls
-use Rattle.node_answers.specs.Answers.{fault_text, sent_text, heard_text, reported_text, tick_text}
-use Rattle.node_answers.specs.Answers.{fop_state_word}
-use Rattle.node_lines.specs.Asks.{Ask, Happening, ControlWord, Show, Turn, NodeRules, told}
+use Rattle.node_lines.specs.Answers.{fault_text, sent_text, heard_text, reported_text, tick_text}
+use Rattle.cop1.specs.Names.{fop_mode_name}
+use Rattle.node_lines.specs.Lines.{AskView, Happening, ControlWord, Show}
+use Rattle.node_lines.specs.Nodes.{Turn, NodeRules, told}
 
 -- ---- the answers to calls, as texts
 
@@ -65,7 +66,7 @@ submissions_text s = codes " submitted=" ++ (decimal (submitted s.fates)
 
 -- its sender
 abbrev pub sender_text : GroundState → List ℕ
-sender_text s = codes "state=" ++ (fop_state_word s.fop.state
+sender_text s = codes "state=" ++ (fop_mode_name s.fop.state
     ++ (codes " vs=" ++ (decimal s.fop.vs ++ (codes " nn=" ++ decimal s.fop.nn))))
 
 -- the ticks that are left of its timer, where this runs
@@ -90,7 +91,7 @@ ground_show s = sender_text s ++ (count_text s ++ (queues_text s ++ submissions_
 
 -- ---- what is asked of a ground; a control word has four octets
 
-abbrev pub ground_asked : Ask → Option (GroundState → Turn GroundState)
+abbrev pub ground_asked : AskView → Option (GroundState → Turn GroundState)
 ground_asked (Happening (events.Submit m octets)) =
     Some (ground_call (calls.Submit m octets.now) done_text)
 ground_asked (Happening (events.Bypass m octets)) =

@@ -1,14 +1,22 @@
 -- A node played line by line: what each line answers and leaves. The node is made at the first line
 -- that asks something of it.
 use Rattle.std.specs.Prelude.{ℕ, List, [], ◌∷◌, ◌++◌, codes, Bool, true, false, Option, Some, None}
+use Rattle.std.specs.Prelude.{if◌then◌else◌}
 use Rattle.nodes.specs.declared.config.Config.{Config}
 use Rattle.nodes.specs.declared.parameter.Parameter.{Parameter}
 use Rattle.nodes.specs.Parameters.{default_config, with_value, config_fault}
-use Rattle.line_stream.specs.Player.{Playing}
+use Rattle.streams.specs.Player.{Playing}
 use Rattle.node_lines.specs.declared.player.NodePlayer.{NodePlayer}
 use Rattle.node_lines.specs.declared.player.NodePlayer.TheVariants.{Configured, Made}
-use Rattle.node_lines.specs.Asks.{NodeLine, Skipped, Setting, Asking, Helping, Unreadable}
-use Rattle.node_lines.specs.Asks.{node_line, NodeRules, Turn}
+use Rattle.node_lines.specs.Causes.{cause_in}
+use Rattle.node_lines.specs.Lines.{AskView, LineView, Skipped, Setting, Asking, Helping, Unreadable}
+use Rattle.node_lines.specs.Lines.{line_in}
+use Rattle.node_lines.specs.Nodes.{NodeRules, Turn, is_of_a_link}
+
+-- why an ask of this line is unreadable that a node does not take: an event of a link is one of no
+-- node
+abbrev pub other_cause : AskView → List ℕ → List ℕ → List ℕ
+other_cause ask line others = if is_of_a_link ask then cause_in line else others
 
 -- what a line answers, with its line feed, what is after it, and whether it was good
 pub record LineOutcome (S : Type 0) : Type 0 where
@@ -51,27 +59,29 @@ module _ {S : Type 0} where
     made_step c None turn = answered (turn (rules.new c))
     made_step c (Some field) turn = out_of_range c field
 
-    -- what may be asked of the other node alone is unreadable
-    abbrev pub asked_step : NodePlayer S → Option (S → Turn S) → LineOutcome S
-    asked_step p None = unreadable rules.others p
-    asked_step (Configured c) (Some turn) = made_step c (config_fault c) turn
-    asked_step (Made s) (Some turn) = answered (turn s)
+    -- what may not be asked of such a node is unreadable, for this cause
+    abbrev pub asked_step : List ℕ → NodePlayer S → Option (S → Turn S) → LineOutcome S
+    asked_step cause p None = unreadable cause p
+    asked_step cause (Configured c) (Some turn) = made_step c (config_fault c) turn
+    asked_step cause (Made s) (Some turn) = answered (turn s)
 
     -- the lines that the node reads, in one
     abbrev pub helped : NodePlayer S → LineOutcome S
     helped p =
         record { answer = codes "lines: " ++ (rules.lines ++ 10 ∷ []); after = p; is_good = true }
 
-    abbrev pub line_step : NodePlayer S → NodeLine → LineOutcome S
-    line_step p Skipped = silent p
-    line_step p (Setting parameter n) = set_step p parameter n
-    line_step p (Asking ask) = asked_step p (rules.asked ask)
-    line_step p Helping = helped p
-    line_step p (Unreadable cause) = unreadable cause p
+    -- a line, by what it says
+    abbrev pub line_step : NodePlayer S → List ℕ → LineView → LineOutcome S
+    line_step p line Skipped = silent p
+    line_step p line (Setting parameter n) = set_step p parameter n
+    line_step p line (Asking ask) =
+        asked_step (other_cause ask line rules.others) p (rules.asked ask)
+    line_step p line Helping = helped p
+    line_step p line Unreadable = unreadable (cause_in line) p
 
     -- a line of text, without its line feed
     abbrev pub text_step : NodePlayer S → List ℕ → LineOutcome S
-    text_step p line = line_step p (node_line line)
+    text_step p line = line_step p line (line_in line)
 
     abbrev pub node_playing : Playing (NodePlayer S)
     node_playing = record {

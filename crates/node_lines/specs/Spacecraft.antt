@@ -13,11 +13,12 @@ use Rattle.nodes.specs.Packets.{PacketOn}
 use Rattle.nodes.specs.Spacecraft.{SpacecraftState, SpacecraftEvent, SpacecraftAnswer}
 use Rattle.nodes.specs.Spacecraft.{spacecraft_step, new_spacecraft}
 use Rattle.nodes.specs.Spacecraft as calls
-use Rattle.listings.specs.FarmLines.{state_word}
-use Rattle.listings.specs.Text.{flag_number}
-use Rattle.node_answers.specs.Answers.{fault_text, sent_text, packet_text, report_text}
-use Rattle.node_answers.specs.Answers.{received_text}
-use Rattle.node_lines.specs.Asks.{Ask, Happening, Frame, Show, Turn, NodeRules, told}
+use Rattle.cop1.specs.Names.{farm_mode_name}
+use Rattle.std.specs.Int.{from_bool}
+use Rattle.node_lines.specs.Answers.{fault_text, sent_text, packet_text, report_text}
+use Rattle.node_lines.specs.Answers.{received_text}
+use Rattle.node_lines.specs.Lines.{AskView, Happening, Frame, Show}
+use Rattle.node_lines.specs.Nodes.{Turn, NodeRules, told}
 
 -- ---- the answers to calls, as texts
 
@@ -49,14 +50,14 @@ word_text s =
 
 -- the receiver's flags, and FARM-B
 abbrev pub farm_flags_text : FarmState → List ℕ
-farm_flags_text farm = codes " l=" ++ (decimal (flag_number farm.lockout)
-    ++ (codes " w=" ++ (decimal (flag_number farm.wait)
-    ++ (codes " t=" ++ (decimal (flag_number farm.retransmit)
+farm_flags_text farm = codes " l=" ++ (decimal (from_bool farm.lockout)
+    ++ (codes " w=" ++ (decimal (from_bool farm.wait)
+    ++ (codes " t=" ++ (decimal (from_bool farm.retransmit)
     ++ (codes " b=" ++ decimal farm.farm_b))))))
 
 abbrev pub receiver_text : FarmState → List ℕ
 receiver_text farm =
-    codes "state=" ++ (state_word farm.state ++ (codes " vr=" ++ decimal farm.vr))
+    codes "state=" ++ (farm_mode_name farm.state ++ (codes " vr=" ++ decimal farm.vr))
 
 -- the packets that wait to be taken
 abbrev pub waiting_text : SpacecraftState → List ℕ
@@ -68,7 +69,7 @@ spacecraft_show s = receiver_text s.farm ++ (farm_flags_text s.farm ++ waiting_t
 
 -- ---- what is asked of a spacecraft
 
-abbrev pub spacecraft_asked : Ask → Option (SpacecraftState → Turn SpacecraftState)
+abbrev pub spacecraft_asked : AskView → Option (SpacecraftState → Turn SpacecraftState)
 spacecraft_asked (Happening (events.Telemetry packet)) =
     Some (spacecraft_call (calls.Telemetry packet.now) queued_text)
 spacecraft_asked (Happening events.Send) = Some (spacecraft_call calls.Report telemetry_text)

@@ -5,16 +5,15 @@ ghost use Rattle.octets.specs.Beginning.{Appends};
 ghost use Rattle.nodes.specs.Ground as calls;
 ghost use Rattle.nodes.specs.declared.fault.LinkFault.{LinkFault as Fault};
 ghost use Rattle.nodes.specs.Faults as link;
-ghost use Rattle.node_answers.specs.Answers.{fault_text, heard_text};
-ghost use Rattle.node_lines.specs.Asks.{ControlWord, Takes, turned};
+ghost use Rattle.node_lines.specs.Answers.{fault_text, heard_text};
+ghost use Rattle.node_lines.specs.Lines.{ControlWord};
+ghost use Rattle.node_lines.specs.Nodes.{Takes, turned};
 ghost use Rattle.node_lines.specs.Ground.{count_text, done_text, ground_rules, ground_asked, ground_call, ground_show, obeyed_text, pulled_text, queues_text, resumed_text, sender_text, submissions_text, taken_text, timer_text};
 
-use crate::ask::Ask;
+use crate::answers::{push_alert, push_digits, push_fault, push_heard, push_reported, push_sent};
+use crate::line::Ask;
 use crate::node::Node;
 use cop1::Directive;
-use node_answers::{
-    fop_state_word, push_alert, push_digits, push_fault, push_heard, push_reported, push_sent,
-};
 use nodes::{Event, Ground, LinkFault, ValidConfig};
 use std::alloc::{AllocError, Global};
 use std::fmt::Write;
@@ -177,7 +176,7 @@ fn control_word(node: &mut Ground, text: &mut String, octets: &[u8]) -> Result<(
 fn push_sender(text: &mut String, node: &Ground) -> Result<(), AllocError>
     ensures { Appends result text.old text.new (sender_text node.now) }
 {
-    let (state, vs, nn) = (fop_state_word(node.state()), node.vs(), node.nn());
+    let (state, vs, nn) = (node.state().name(), node.vs(), node.nn());
     write!(text, "state={state} vs={vs} nn={nn}")
 }
 

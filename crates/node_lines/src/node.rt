@@ -1,9 +1,10 @@
 // What is played line by line.
 
 ghost use Rattle.std.specs.Prelude.{◌≡◌, is_some, IfOk};
-ghost use Rattle.node_lines.specs.Asks.{ask_view, NodeRules, Takes, turned};
+ghost use Rattle.node_lines.specs.Lines.{ask_view};
+ghost use Rattle.node_lines.specs.Nodes.{NodeRules, Takes, turned};
 
-use crate::ask::Ask;
+use crate::line::Ask;
 use nodes::ValidConfig;
 use std::alloc::{AllocError, Global};
 

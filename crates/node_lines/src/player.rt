@@ -2,17 +2,19 @@
 
 ghost use Rattle.std.specs.Prelude.{◌≡◌, ◌≤◌, ◌++◌, ◌∷◌, [], codes, true, false, OnOk, IfOk};
 ghost use Rattle.octets.specs.Beginning.{Appends};
-ghost use Rattle.script_lines.specs.Lines.{most_for};
-ghost use Rattle.node_lines.specs.Asks.{ask_view, turned};
+ghost use Rattle.node_lines.specs.Lines.{most_for};
+ghost use Rattle.node_lines.specs.Lines.{ask_said, ask_view};
+ghost use Rattle.node_lines.specs.Nodes.{turned, is_of_a_link};
+ghost use Rattle.node_lines.specs.Player.{other_cause};
 
-use crate::ask::{Ask, NodeLine, octets_in, with_octets};
+use crate::causes::cause_in;
+use crate::line::{Ask, Line, octets_in, with_octets};
 use crate::node::Node;
-use crate::reader::node_line;
-use line_stream::Player;
-use nodes::{Config, Parameter};
-use script_lines::octets_of_digits;
+use crate::reader::read_line;
+use nodes::{Config, Event, Parameter};
 use std::alloc::{AllocError, Global};
 use std::fmt::Write;
+use streams::{Player, octets_of_digits};
 
 /// A node that is played line by line: before it is made its configuration, and then itself.
 #[derive(Drop)]
@@ -22,7 +24,6 @@ pub enum NodePlayer<N> {
 }
 
 impl<N: Node + Drop> NodePlayer<N> {
-    ghost use Rattle.node_lines.specs.Asks.{ask_said};
     ghost use Rattle.node_lines.specs.Player.{fresh_player, set_step, asked_step};
 
     /// A player of the default configuration, whose node is not made.
@@ -53,17 +54,23 @@ impl<N: Node + Drop> NodePlayer<N> {
         }
     }
 
-    // Asks the node, which is made first where it is not.
-    fn ask(&mut self, alloc: Global, ask: Ask<'_>, text: &mut String) -> Result<bool, AllocError>
+    // Asks the node, which is made first where it is not. What it does not take is unreadable, for this cause.
+    fn ask(
+        &mut self,
+        alloc: Global,
+        ask: Ask<'_>,
+        cause: &'static str,
+        text: &mut String,
+    ) -> Result<bool, AllocError>
         ensures text { Appends result text.old text.new
-            (asked_step N.rules self.old (N.rules.asked (ask_view ask.entry))).answer }
+            (asked_step N.rules cause.now self.old (N.rules.asked (ask_view ask.entry))).answer }
         ensures state { OnOk result (self.new
-            ≡ (asked_step N.rules self.old (N.rules.asked (ask_view ask.entry))).after) }
+            ≡ (asked_step N.rules cause.now self.old (N.rules.asked (ask_view ask.entry))).after) }
         ensures good { IfOk result (λ good. good
-            ≡ (asked_step N.rules self.old (N.rules.asked (ask_view ask.entry))).is_good) }
+            ≡ (asked_step N.rules cause.now self.old (N.rules.asked (ask_view ask.entry))).is_good) }
     {
         if !N::takes(ask) {
-            return push_unreadable(text, N::others());
+            return push_unreadable(text, cause);
         }
         match self {
             NodePlayer::Configured(config) => match config.valid() {
@@ -84,17 +91,18 @@ impl<N: Node + Drop> NodePlayer<N> {
         &mut self,
         alloc: Global,
         ask: Ask<'_>,
+        cause: &'static str,
         text: &mut String,
     ) -> Result<bool, AllocError>
         ensures text { Appends result text.old text.new
-            (asked_step N.rules self.old (N.rules.asked (ask_said ask.entry))).answer }
+            (asked_step N.rules cause.now self.old (N.rules.asked (ask_said ask.entry))).answer }
         ensures state { OnOk result (self.new
-            ≡ (asked_step N.rules self.old (N.rules.asked (ask_said ask.entry))).after) }
+            ≡ (asked_step N.rules cause.now self.old (N.rules.asked (ask_said ask.entry))).after) }
         ensures good { IfOk result (λ good. good
-            ≡ (asked_step N.rules self.old (N.rules.asked (ask_said ask.entry))).is_good) }
+            ≡ (asked_step N.rules cause.now self.old (N.rules.asked (ask_said ask.entry))).is_good) }
     {
         let octets = octets_of_digits(alloc, octets_in(ask))?;
-        self.ask(alloc, with_octets(ask, octets.as_slice()), text)
+        self.ask(alloc, with_octets(ask, octets.as_slice()), cause, text)
     }
 }
 
@@ -104,13 +112,41 @@ impl<N: Node + Drop> Player<String> for NodePlayer<N> {
     ghost playing = { node_playing N.rules };
 
     fn play(&mut self, alloc: Global, line: &[u8], text: &mut String) -> Result<bool, AllocError> {
-        match node_line(line) {
-            NodeLine::Skipped => Ok(true),
-            NodeLine::Setting(parameter, number) => self.set(parameter, number, text),
-            NodeLine::Asking(ask) => self.ask_digits(alloc, ask, text),
-            NodeLine::Helping => push_lines(text, N::lines()),
-            NodeLine::Unreadable(cause) => push_unreadable(text, cause),
+        match read_line(line) {
+            Line::Skipped => Ok(true),
+            Line::Setting(parameter, number) => self.set(parameter, number, text),
+            Line::Asking(ask) => {
+                let cause = other_cause(ask, line, N::others());
+                self.ask_digits(alloc, ask, cause, text)
+            }
+            Line::Helping => push_lines(text, N::lines()),
+            Line::Unreadable => push_unreadable(text, cause_in(line)),
         }
+    }
+}
+
+// Whether an event on the way between two nodes is asked.
+fn is_of_a_link(ask: Ask<'_>) -> bool
+    ensures { result ≡ is_of_a_link (ask_said ask.entry) }
+{
+    let Ask::Happening(event) = ask else {
+        return false;
+    };
+    match event {
+        Event::UpDeliver | Event::UpLose | Event::UpDamage(_) => true,
+        Event::DownDeliver | Event::DownLose | Event::DownDamage(_) | Event::DownClcw => true,
+        _ => false,
+    }
+}
+
+// Why an ask of this line is unreadable that a node does not take.
+fn other_cause(ask: Ask<'_>, line: &[u8], others: &'static str) -> &'static str
+    ensures { result.now ≡ other_cause (ask_said ask.entry) line.now others.now }
+{
+    if is_of_a_link(ask) {
+        cause_in(line)
+    } else {
+        others
     }
 }
 

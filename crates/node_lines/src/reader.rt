@@ -1,75 +1,187 @@
-// Reads the lines of a node.
+// Reads what a line says.
 
-ghost use Rattle.std.specs.Prelude.{◌≡◌, option_map, Some, true, is_some};
-ghost use Rattle.nodes.specs.declared.event.Event.{Event};
-ghost use Rattle.script_lines.specs.Lines.{event_said, octets_of_digits};
-ghost use Rattle.script_lines.specs.Lines as scripts;
-ghost use Rattle.script_lines.specs.Words.{octets_in_word};
-ghost use Rattle.node_lines.specs.Asks.{ask_said, is_of_a_link, own_ask, line_of_script, node_line, line_view, IsWellRead};
+ghost use Rattle.std.specs.Prelude.{◌≡◌, map, option_map, Some, IfSome};
+ghost use Rattle.std.specs.Map.{lookup};
+ghost use Rattle.std.specs.Str.{bytes_eq};
+ghost use Rattle.cop1.specs.declared.vocabulary.Directive.{Directive};
+ghost use Rattle.streams.specs.Words.{number_in_word, octets_in_word};
+ghost use Rattle.node_lines.specs.Lines.{ask_by, ask_in, ask_said, ask_with, directed, line_in, line_view, most_for, numbered_asks, octets_in, plain_asks, setting_in, worded_asks, IsWellRead};
 
-use crate::ask::{Ask, NodeLine};
-use nodes::Event;
-use script_lines::{Line, cause_in, is, is_octets, read_line, rest_after};
+use crate::line::{Ask, Line, octets_in};
+use cop1::Directive;
+use nodes::{Event, Parameter};
+use streams::{is, is_octets, number_in_word, rest_after, two_words};
 
-/// What a line says to a node, a line of a script or one that no script has. The octets that it carries are
-/// lent as digits.
+/// What a line says, of a script or to a node. The octets that it carries are lent as digits.
 /// Cost: n.
-pub fn node_line(line: &[u8]) -> NodeLine<'_>
-    ensures line { line_view result ≡ node_line line.now }
-    ensures fits { IsWellRead result }
-{
-    if is(line, "help") {
-        return NodeLine::Helping;
-    }
-    match own_ask(line) {
-        Some(ask) => NodeLine::Asking(ask),
-        None => line_of_script(cause_in(line), read_line(line)),
-    }
-}
-
-// What a line of a script says to a node, which is unreadable for this cause where it says nothing.
-fn line_of_script<'a>(cause: &'static str, line: Line<'a>) -> NodeLine<'a>
-    requires { scripts.IsWellRead line }
-    ensures line { line_view result ≡ line_of_script cause.now (scripts.line_view line.entry) }
+pub fn read_line(line: &[u8]) -> Line<'_>
+    ensures line { line_view result ≡ line_in line.now }
     ensures fits { IsWellRead result }
 {
     match line {
-        Line::Skipped => NodeLine::Skipped,
-        Line::Setting(parameter, number) => NodeLine::Setting(parameter, number),
-        Line::Happening(event) if is_of_a_link(event) => NodeLine::Unreadable(cause),
-        Line::Happening(event) => NodeLine::Asking(Ask::Happening(event)),
-        Line::Showing => NodeLine::Asking(Ask::Show),
-        Line::Unreadable => NodeLine::Unreadable(cause),
+        [] => return Line::Skipped,
+        [b'#', ..] => return Line::Skipped,
+        _ if is(line, "help") => return Line::Helping,
+        _ => {}
+    }
+    if let Some(rest) = rest_after(line, "config ") {
+        return setting_in(rest).unwrap_or(Line::Unreadable);
+    }
+    match ask_in(line) {
+        Some(ask) => Line::Asking(ask),
+        None => Line::Unreadable,
     }
 }
 
-// Whether an event is one on the way between two nodes.
-fn is_of_a_link(event: Event<'_>) -> bool
-    ensures { result ≡ is_of_a_link (event_said event.entry) }
+// The greatest number that is readable for a parameter.
+fn most_for(parameter: Parameter) -> u64
+    ensures { result ≡ most_for parameter }
 {
-    match event {
-        Event::UpDeliver | Event::UpLose | Event::UpDamage(_) => true,
-        Event::DownDeliver | Event::DownLose | Event::DownDamage(_) | Event::DownClcw => true,
-        _ => false,
+    parameter.most().max(65542)
+}
+
+// The line of a parameter's name and its value.
+fn setting_in<'a>(rest: &[u8]) -> Option<Line<'a>>
+    ensures line { option_map line_view result ≡ setting_in rest.now }
+    ensures fits { IfSome result IsWellRead }
+{
+    let (name, word) = two_words(rest)?;
+    let parameter = Parameter::named(name)?;
+    let number = number_in_word(word, most_for(parameter))?;
+    Some(Line::Setting(parameter, number))
+}
+
+// What a line asks.
+fn ask_in(line: &[u8]) -> Option<Ask<'_>>
+    ensures { option_map ask_said result ≡ ask_in line.now }
+{
+    match plain_ask(line) {
+        Some(ask) => Some(ask),
+        None => worded_ask(line),
     }
 }
 
-// What a line that no script has asks of a node.
-fn own_ask(line: &[u8]) -> Option<Ask<'_>>
-    ensures { option_map ask_said result ≡ own_ask line.now }
+// What stands beside a text.
+fn beside(text: &[u8], asks: &[(&str, Ask<'static>)]) -> Option<Ask<'static>>
+    ensures { option_map ask_said result
+        ≡ lookup (bytes_eq text.now) (map (λ row. (row.0.now, ask_said row.1)) asks.now) }
 {
-    if let Some(word) = rest_after(line, "frame ") {
-        return Some(Ask::Frame(digits_in(word)?));
+    let (_, ask) = asks.iter().find(|row| is(text, row.0)).copied()?;
+    Some(ask)
+}
+
+fn directed<'a>(directive: Directive) -> Ask<'a>
+    ensures { ask_said result ≡ directed directive }
+{
+    Ask::Happening(Event::Directive(directive))
+}
+
+// What a line with neither a number nor octets asks.
+fn plain_ask(line: &[u8]) -> Option<Ask<'static>>
+    ensures { option_map ask_said result ≡ lookup (bytes_eq line.now) plain_asks }
+{
+    let asks = [
+        (
+            "init none",
+            Ask::Happening(Event::Directive(Directive::InitWithoutCheck)),
+        ),
+        (
+            "init check",
+            Ask::Happening(Event::Directive(Directive::InitWithCheck)),
+        ),
+        (
+            "init unlock",
+            Ask::Happening(Event::Directive(Directive::InitUnlock)),
+        ),
+        (
+            "terminate",
+            Ask::Happening(Event::Directive(Directive::Terminate)),
+        ),
+        ("send", Ask::Happening(Event::Send)),
+        ("report", Ask::Happening(Event::Report)),
+        ("up deliver", Ask::Happening(Event::UpDeliver)),
+        ("up lose", Ask::Happening(Event::UpLose)),
+        ("down deliver", Ask::Happening(Event::DownDeliver)),
+        ("down lose", Ask::Happening(Event::DownLose)),
+        ("down clcw", Ask::Happening(Event::DownClcw)),
+        ("tick", Ask::Happening(Event::Tick)),
+        ("take", Ask::Happening(Event::Take)),
+        ("takebypass", Ask::Happening(Event::TakeBypass)),
+        ("show", Ask::Show),
+    ];
+    beside(line, &asks)
+}
+
+fn byte_in(word: &[u8]) -> Option<u8>
+    ensures { result ≡ number_in_word 255 word.now }
+{
+    let number = number_in_word(word, 255)?;
+    Some(number as u8)
+}
+
+// What a line that ends in a number asks.
+fn numbered_ask(line: &[u8]) -> Option<Ask<'static>>
+    ensures { option_map ask_said result ≡ ask_by numbered_asks line.now }
+{
+    if let Some(word) = rest_after(line, "init set ") {
+        return Some(directed(Directive::InitSetVr(byte_in(word)?)));
     }
-    if let Some(word) = rest_after(line, "clcw ") {
-        return Some(Ask::ControlWord(digits_in(word)?));
+    if let Some(word) = rest_after(line, "vs ") {
+        return Some(directed(Directive::SetVs(byte_in(word)?)));
+    }
+    if let Some(word) = rest_after(line, "window ") {
+        return Some(directed(Directive::SetWindow(byte_in(word)?)));
+    }
+    if let Some(word) = rest_after(line, "limit ") {
+        return Some(directed(Directive::SetLimit(byte_in(word)?)));
+    }
+    if let Some(word) = rest_after(line, "timer ") {
+        let ticks = number_in_word(word, 65535)?;
+        return Some(directed(Directive::SetTimer(ticks as u16)));
+    }
+    if let Some(word) = rest_after(line, "resume ") {
+        return Some(Ask::Happening(Event::Resume(byte_in(word)?)));
     }
     None
 }
 
-// A word, if it is octets.
-fn digits_in(word: &[u8]) -> Option<&[u8]>
-    ensures { option_map (λ digits. octets_of_digits digits.now) result ≡ octets_in_word word.now }
+// An ask that carries octets, if what stands in place of them is their digits.
+fn carrying(ask: Ask<'_>) -> Option<Ask<'_>>
+    ensures { option_map ask_said result
+        ≡ option_map (λ octets. ask_with ask.entry octets) (octets_in_word (octets_in ask.entry)) }
 {
-    if is_octets(word) { Some(word) } else { None }
+    if !is_octets(octets_in(ask)) {
+        return None;
+    }
+    Some(ask)
+}
+
+// What a line that ends in octets or in a number asks.
+fn worded_ask(line: &[u8]) -> Option<Ask<'_>>
+    ensures { option_map ask_said result ≡ ask_by worded_asks line.now }
+{
+    if let Some(rest) = rest_after(line, "submit ") {
+        let (map, digits) = two_words(rest)?;
+        return carrying(Ask::Happening(Event::Submit(byte_in(map)?, digits)));
+    }
+    if let Some(rest) = rest_after(line, "bypass ") {
+        let (map, digits) = two_words(rest)?;
+        return carrying(Ask::Happening(Event::Bypass(byte_in(map)?, digits)));
+    }
+    if let Some(digits) = rest_after(line, "up damage ") {
+        return carrying(Ask::Happening(Event::UpDamage(digits)));
+    }
+    if let Some(digits) = rest_after(line, "down damage ") {
+        return carrying(Ask::Happening(Event::DownDamage(digits)));
+    }
+    if let Some(digits) = rest_after(line, "telemetry ") {
+        return carrying(Ask::Happening(Event::Telemetry(digits)));
+    }
+    if let Some(digits) = rest_after(line, "frame ") {
+        return carrying(Ask::Frame(digits));
+    }
+    if let Some(digits) = rest_after(line, "clcw ") {
+        return carrying(Ask::ControlWord(digits));
+    }
+    numbered_ask(line)
 }

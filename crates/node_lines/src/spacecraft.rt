@@ -3,20 +3,18 @@
 ghost use Rattle.std.specs.Prelude.{◌≡◌, ℕ};
 ghost use Rattle.cop1.specs.Farm.{FarmState};
 ghost use Rattle.cop1.specs.Report.{report_of};
-ghost use Rattle.listings.specs.Text.{flag_number};
+ghost use Rattle.std.specs.Int.{from_bool};
 ghost use Rattle.octets.specs.Beginning.{Appends};
-ghost use Rattle.listings.specs.FarmLines.{state_word};
 ghost use Rattle.nodes.specs.Spacecraft as calls;
-ghost use Rattle.node_answers.specs.Answers.{received_text};
-ghost use Rattle.node_lines.specs.Asks.{Takes};
+ghost use Rattle.node_lines.specs.Answers.{received_text};
+ghost use Rattle.node_lines.specs.Nodes.{Takes};
 ghost use Rattle.node_lines.specs.Spacecraft.{handed_text, queued_text, spacecraft_rules, spacecraft_call, spacecraft_show, telemetry_text, word_text, receiver_text, farm_flags_text, waiting_text};
 
-use crate::ask::Ask;
+use crate::answers::{push_fault, push_packet, push_received, push_report, push_sent};
+use crate::line::Ask;
 use crate::node::Node;
 use bitflags::Flags;
 use clcw::{Clcw, ClcwFlags};
-use cop1::FarmMode;
-use node_answers::{push_fault, push_packet, push_received, push_report, push_sent};
 use nodes::{Event, Spacecraft, ValidConfig};
 use std::alloc::{AllocError, Global};
 use std::fmt::Write;
@@ -113,27 +111,17 @@ fn take_bypass(node: &mut Spacecraft, alloc: Global, text: &mut String) -> Resul
     }
 }
 
-fn state_word(state: FarmMode) -> &'static str
-    ensures { result.now ≡ state_word state }
-{
-    match state {
-        FarmMode::Open => "Open",
-        FarmMode::Wait => "Wait",
-        FarmMode::Lockout => "Lockout",
-    }
-}
-
 fn push_receiver(text: &mut String, node: &Spacecraft) -> Result<(), AllocError>
     ensures { Appends result text.old text.new (receiver_text node.now.farm) }
 {
-    let (state, vr) = (state_word(node.state()), node.control_word().value);
+    let (state, vr) = (node.state().name(), node.control_word().value);
     write!(text, "state={state} vr={vr}")
 }
 
 // The flags lockout, wait and retransmit as 0 or 1.
 fn flag_numbers(word: Clcw) -> (u8, u8, u8)
-    ensures { (farm : FarmState) (vcid : ℕ) → word ≡ report_of farm vcid → (result.0 ≡ flag_number farm.lockout)
-        × (result.1 ≡ flag_number farm.wait) × (result.2 ≡ flag_number farm.retransmit) }
+    ensures { (farm : FarmState) (vcid : ℕ) → word ≡ report_of farm vcid → (result.0 ≡ from_bool farm.lockout)
+        × (result.1 ≡ from_bool farm.wait) × (result.2 ≡ from_bool farm.retransmit) }
 {
     (
         u8::from(word.flags.contains(ClcwFlags::LOCKOUT)),

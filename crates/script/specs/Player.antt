@@ -2,13 +2,13 @@
 use Rattle.std.specs.Prelude.{ℕ, zero, suc, ◌+◌, if◌then◌else◌, List, [], ◌∷◌, ◌++◌, length, codes}
 use Rattle.std.specs.Prelude.{decimal, Option, Some, None, Result}
 use Rattle.std.specs.List.{flat_map}
-use Rattle.node_answers.specs.Answers.{fop_state_word}
+use Rattle.cop1.specs.Names.{fop_mode_name}
 use Rattle.simulated_link.specs.declared.fault.SimFault.{SimFault}
 use Rattle.simulated_link.specs.declared.session_start.Opening.{Opening}
 use Rattle.nodes.specs.Ground.{outstanding}
 use Rattle.simulated_link.specs.Replies.{ReplyView}
 use Rattle.simulated_link.specs.World.{World, world_step, accepted, submitted, delivered}
-use Rattle.script_lines.specs.Lines.{ScriptLine, Skipped, Setting, Happening, Showing, Unreadable}
+use Rattle.node_lines.specs.Lines.{LineView, Asking, Happening, Show}
 use Rattle.script.specs.Answers.{answer_text}
 
 -- a response: to an event its answer, to a show the world as it is then
@@ -17,23 +17,18 @@ pub data Response : Type 0 where
   ToShow : World → Response
 
 -- the responses to a line of a script, from the world before it
-abbrev pub line_responses : World → ScriptLine → List Response
-line_responses w Skipped = []
-line_responses w (Setting field n) = []
-line_responses w (Happening event) = ToEvent (world_step w event).answer ∷ []
-line_responses w Showing = ToShow w ∷ []
-line_responses w Unreadable = []
+abbrev pub line_responses : World → LineView → List Response
+line_responses w (Asking (Happening event)) = ToEvent (world_step w event).answer ∷ []
+line_responses w (Asking Show) = ToShow w ∷ []
+line_responses w line = []
 
 -- the world after a line; each event is a step of it
-abbrev pub after_line : World → ScriptLine → World
-after_line w Skipped = w
-after_line w (Setting field n) = w
-after_line w (Happening event) = (world_step w event).after
-after_line w Showing = w
-after_line w Unreadable = w
+abbrev pub after_line : World → LineView → World
+after_line w (Asking (Happening event)) = (world_step w event).after
+after_line w line = w
 
 -- the responses to the lines of a script, in their order
-abbrev pub script_responses : World → List ScriptLine → List Response
+abbrev pub script_responses : World → List LineView → List Response
 script_responses w [] = []
 script_responses w (line ∷ more) =
     line_responses w line ++ script_responses (after_line w line) more
@@ -58,7 +53,7 @@ count_over_maps packets_on = count_below_map packets_on 64
 abbrev pub packets_text : World → List ℕ
 packets_text w =
     codes "clean=" ++ (clean_word w.session.opening
-    ++ (codes " state=" ++ (fop_state_word w.ground_node.fop.state
+    ++ (codes " state=" ++ (fop_mode_name w.ground_node.fop.state
     ++ (codes " submitted=" ++ (decimal (count_over_maps (submitted w))
     ++ (codes " delivered=" ++ decimal (count_over_maps (delivered w))))))))
 
@@ -80,5 +75,5 @@ response_line (ToEvent answer) = answer_text answer ++ 10 ∷ []
 response_line (ToShow w) = show_text w ++ 10 ∷ []
 
 -- the text that is written of a script that is played from this world on
-abbrev pub answers_from : World → List ScriptLine → List ℕ
+abbrev pub answers_from : World → List LineView → List ℕ
 answers_from w script = flat_map response_line (script_responses w script)

@@ -1,11 +1,10 @@
 // The line of the records.
 
-ghost use Rattle.std.specs.Prelude.{◌≡◌, ◌++◌, ◌∷◌, [], decimal, length};
+ghost use Rattle.std.specs.Prelude.{◌≡◌, ◌++◌, decimal, length};
 ghost use Rattle.octets.specs.Beginning.{Appends};
 ghost use Rattle.script.specs.Player.{clean_word, count_over_maps, packets_text, frames_text, acknowledged_text, show_text};
 ghost use Rattle.simulated_link.specs.World.{submitted, delivered, accepted};
 
-use node_answers::fop_state_word;
 use simulated_link::{Opening, World};
 use std::alloc::AllocError;
 use std::fmt::Write;
@@ -59,7 +58,7 @@ fn push_packets(text: &mut String, world: &World) -> Result<(), AllocError>
     ensures { Appends result text.old text.new (packets_text world.now) }
 {
     let clean = clean_word(world.opening());
-    let state = fop_state_word(world.ground_node().state());
+    let state = world.ground_node().state().name();
     let (submitted, delivered) = count_packets(world);
     write!(
         text,
@@ -84,12 +83,11 @@ fn push_acknowledged(text: &mut String, world: &World) -> Result<(), AllocError>
     push_count(text, " outstanding=", world.ground_node().outstanding())
 }
 
-/// Appends the line of the records.
+/// Appends the records.
 pub fn push_show(text: &mut String, world: &World) -> Result<(), AllocError>
-    ensures { Appends result text.old text.new (show_text world.now ++ 10 ∷ []) }
+    ensures { Appends result text.old text.new (show_text world.now) }
 {
     push_packets(text, world)?;
     push_frames(text, world)?;
-    push_acknowledged(text, world)?;
-    text.push('\n')
+    push_acknowledged(text, world)
 }

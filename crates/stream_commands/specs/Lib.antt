@@ -1,3 +1,4 @@
+pub mod Found
 pub mod Outcome
 pub mod Listed
 pub mod Status

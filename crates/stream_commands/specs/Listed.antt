@@ -14,9 +14,9 @@ use Rattle.command_line.specs.declared.task.Searched.{Searched}
 use Rattle.command_line.specs.declared.task.Searched.TheVariants as searches
 use Rattle.command_line.specs.declared.task.Task.{Task}
 use Rattle.command_line.specs.declared.task.Task.TheVariants as tasks
-use Rattle.found_frames.specs.Found.{found, found_summary}
-use Rattle.listings.specs.declared.fault.ListingFault.{ListingFault}
-use Rattle.listings.specs.Devices.{gained, HasEnded}
+use Rattle.stream_commands.specs.Found.{found, found_summary}
+use Rattle.streams.specs.declared.fault.StreamFault.{StreamFault}
+use Rattle.streams.specs.Devices.{gained, HasEnded}
 use Rattle.listings.specs.FarmLines.{farm_lines}
 use Rattle.listings.specs.Filters.{keeps_frame, keeps_packet, keeps_telemetry, keeps_word, only}
 use Rattle.listings.specs.FirstNumber.{farm_begun, from_first}
@@ -30,7 +30,7 @@ use Rattle.listings.specs.TelemetryLines.{telemetry_lines, telemetry_opened}
 use Rattle.listings.specs.Layouts.{Layout, frame_layout, telemetry_layout, word_layout}
 use Rattle.listings.specs.Layouts.{packet_layout, rest_by, IsRefused}
 use Rattle.listings.specs.Listing.{Lines, fresh, text_of, summary_of}
-use Rattle.listings.specs.Streams.{Reads, WritesText}
+use Rattle.streams.specs.Streams.{Reads, WritesText}
 use Rattle.listings.specs.Totals.{totals_of}
 use Rattle.listings.specs.declared.stream.Summary.{Summary}
 use Rattle.stream_commands.specs.declared.outcome.Outcome.{Outcome}
@@ -168,7 +168,7 @@ StopsAt task octets = WorkStops (work_of task) octets
 -- written, and the answer says what was listed; all was read, or the task stops.
 pub record ListsTask {R W : Type 0} (given : R → List ℕ) (remaining : R → Option (List ℕ))
     (read_failures : R → ℕ) (has_ended : R → Bool) (taken : W → List ℕ) (write_failures : W → ℕ)
-    (task : Task) (result : Result Summary ListingFault)
+    (task : Task) (result : Result Summary StreamFault)
     (reader reader' : R) (writer writer' : W) : Type 0 where
   pub reads : Reads given remaining read_failures result reader reader'
   pub writes : WritesText taken write_failures result writer writer'

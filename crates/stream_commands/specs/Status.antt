@@ -1,13 +1,13 @@
 -- How the program ends: its exit status, and the line on standard error.
 use Rattle.std.specs.Prelude.{ℕ, List, [], ◌++◌, codes, decimal, Result, Ok, Err}
 use Rattle.listings.specs.Text.{line_end}
-use Rattle.listings.specs.declared.fault.ListingFault.{ListingFault}
-use Rattle.listings.specs.declared.fault.ListingFault.TheVariants.{Read, Write, Memory, TooLong}
+use Rattle.streams.specs.declared.fault.StreamFault.{StreamFault}
+use Rattle.streams.specs.declared.fault.StreamFault.TheVariants.{Read, Write, Memory, TooLong}
 use Rattle.stream_commands.specs.declared.outcome.Outcome.{Outcome}
 use Rattle.stream_commands.specs.declared.outcome.Outcome.TheVariants.{Good, Faulty}
 use Rattle.stream_commands.specs.declared.outcome.Outcome.TheVariants.{Unreadable, OutOfRange}
 
-abbrev pub exit_status : Result Outcome ListingFault → ℕ
+abbrev pub exit_status : Result Outcome StreamFault → ℕ
 exit_status (Ok Good) = 0
 exit_status (Ok Faulty) = 1
 exit_status (Ok (Unreadable line)) = 1
@@ -15,14 +15,14 @@ exit_status (Ok (OutOfRange field)) = 1
 exit_status (Err fault) = 3
 
 -- what a fault is on standard error
-abbrev pub fault_line : ListingFault → List ℕ
+abbrev pub fault_line : StreamFault → List ℕ
 fault_line Read = codes "tctool: read failed" ++ line_end
 fault_line Write = codes "tctool: write failed" ++ line_end
 fault_line Memory = codes "tctool: no memory" ++ line_end
 fault_line TooLong = codes "tctool: input too long" ++ line_end
 
 -- the line on standard error, or nothing where there is none
-abbrev pub ending_line : Result Outcome ListingFault → List ℕ
+abbrev pub ending_line : Result Outcome StreamFault → List ℕ
 ending_line (Ok Good) = []
 ending_line (Ok Faulty) = []
 ending_line (Ok (Unreadable line)) =

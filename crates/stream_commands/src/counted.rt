@@ -2,17 +2,18 @@
 
 ghost use Rattle.std.specs.Prelude.{◌≡◌, ◌⊎◌, true, OnOk, IfOk};
 ghost use Rattle.command_line.specs.Arguments.{IsInRange};
-ghost use Rattle.listings.specs.Devices.{HasEnded};
-ghost use Rattle.listings.specs.Devices.{gained};
-ghost use Rattle.listings.specs.Streams.{Reads, WritesText};
+ghost use Rattle.streams.specs.Devices.{HasEnded};
+ghost use Rattle.streams.specs.Devices.{gained};
+ghost use Rattle.streams.specs.Streams.{Reads, WritesText};
 ghost use Rattle.stream_commands.specs.Listed.{is_listed, listed_outcome, shown_lines, StopsAt};
 
 use crate::listed::list_lines;
 use crate::noted::Note;
 use crate::outcome::Outcome;
 use command_line::Task;
-use listings::{ListingFault, Sink, Source, Summary, Totals, WriteFailed, write_all};
+use listings::{Summary, Totals};
 use std::alloc::Global;
+use streams::{Sink, Source, StreamFault, WriteFailed, write_all};
 
 /// Reads a stream to its end, in pieces, and writes the lines that a command asks for that lists a file: of
 /// each piece before the next is read. Where totals are asked for (`count`), it writes these at the end in
@@ -31,7 +32,7 @@ pub fn list<R: Source, W: Sink>(
     task: Task,
     count: bool,
     note: &Note,
-) -> Result<Outcome, ListingFault>
+) -> Result<Outcome, StreamFault>
     requires range { IsInRange task }
     requires listed { is_listed task ≡ true }
     ensures reads { Reads R.given R.remaining R.failures result reader.old reader.new }
@@ -58,7 +59,7 @@ fn write_totals<R: Source, W: Sink>(
     writer: &mut W,
     task: Task,
     note: &Note,
-) -> Result<Outcome, ListingFault>
+) -> Result<Outcome, StreamFault>
     requires range { IsInRange task }
     requires listed { is_listed task ≡ true }
     ensures reads { Reads R.given R.remaining R.failures result reader.old reader.new }
@@ -72,14 +73,14 @@ fn write_totals<R: Source, W: Sink>(
     let mut totals = Totals::new(alloc);
     let listed = match list_lines(alloc, reader, &mut totals, task, note) {
         Ok(listed) => listed,
-        Err(ListingFault::Write) => return Err(ListingFault::Memory),
+        Err(StreamFault::Write) => return Err(StreamFault::Memory),
         Err(fault) => return Err(fault),
     };
     let Ok(text) = totals.lines(listed.records, listed.octets) else {
-        return Err(ListingFault::Memory);
+        return Err(StreamFault::Memory);
     };
     match write_all(writer, text.as_bytes()) {
         Ok(()) => Ok(Outcome::of(listed.all_good)),
-        Err(WriteFailed) => Err(ListingFault::Write),
+        Err(WriteFailed) => Err(StreamFault::Write),
     }
 }

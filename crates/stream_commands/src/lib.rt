@@ -3,15 +3,15 @@
 #![tactic(auto)]
 
 mod counted;
+mod found;
+mod found_progress;
 mod listed;
 mod noted;
 mod outcome;
 mod searched;
 mod status;
-mod whole_file;
 
 pub use counted::list;
 pub use noted::Note;
 pub use outcome::Outcome;
 pub use status::ending;
-pub use whole_file::read_all;

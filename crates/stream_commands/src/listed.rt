@@ -16,14 +16,14 @@ use command_line::{Channel, MapPart, Part, Task};
 use cop1::Farm;
 use listings::{
     ControlWords, Cutter, Filter, FrameCutter, FrameLength, FrameListing, FramesOf, FromFirst,
-    Kept, Listing, ListingFault, MapListing, OneMap, Only, PacketListing, PacketsOf,
-    RefusalListing, ReportListing, Sink, Source, Summary, TelemetryListing, TelemetryOf, WordsOf,
-    list_stream,
+    Kept, Listing, MapListing, OneMap, Only, PacketListing, PacketsOf, RefusalListing,
+    ReportListing, Summary, TelemetryListing, TelemetryOf, WordsOf, list_stream,
 };
 use octets::Splitter;
 use space_packet::Packets;
 use std::alloc::Global;
 use std::marker::Brand;
+use streams::{Sink, Source, StreamFault};
 use tc_frame::FrameLayout;
 
 // Writes the lines that a command asks for, as `list` says it, and answers what was listed.
@@ -33,7 +33,7 @@ pub(crate) fn list_lines<R: Source, W: Sink>(
     writer: &mut W,
     task: Task,
     note: &Note,
-) -> Result<Summary, ListingFault>
+) -> Result<Summary, StreamFault>
     requires range { IsInRange task }
     requires listed { is_listed task ≡ true }
     ensures { ListsTask R.given R.remaining R.failures R.has_ended W.taken_octets W.failures
@@ -119,7 +119,7 @@ fn list_farm<const CHECKED: bool, R: Source, W: Sink>(
     width: u8,
     vr: u8,
     part: Option<Part>,
-) -> Result<Summary, ListingFault>
+) -> Result<Summary, StreamFault>
     requires task { task ≡ Task.Farm CHECKED width vr part }
     requires width { IsWidth width }
     ensures { ListsTask R.given R.remaining R.failures R.has_ended W.taken_octets W.failures
@@ -154,7 +154,7 @@ fn list_maps<const CHECKED: bool, R: Source, W: Sink>(
     vr: u8,
     blocking: bool,
     part: Option<MapPart>,
-) -> Result<Summary, ListingFault>
+) -> Result<Summary, StreamFault>
     requires task { task ≡ Task.Map CHECKED width vr blocking part }
     requires width { IsWidth width }
     ensures { ListsTask R.given R.remaining R.failures R.has_ended W.taken_octets W.failures
@@ -188,14 +188,14 @@ fn list_telemetry<K: FrameLength, R: Source, W: Sink>(
     size: u16,
     report: bool,
     channel: Option<Channel>,
-) -> Result<Summary, ListingFault>
+) -> Result<Summary, StreamFault>
     requires task { task ≡ Task.Tm size report channel }
     requires size { size ≡ K.payload + 12 }
     ensures { ListsTask R.given R.remaining R.failures R.has_ended W.taken_octets W.failures
         task result reader.old reader.new writer.old writer.new }
 {
     let Ok(frames) = TelemetryListing::<K>::new(alloc, size, report) else {
-        return Err(ListingFault::Memory);
+        return Err(StreamFault::Memory);
     };
     let cutter = FrameCutter::<K>::new(alloc, usize::from(size));
     match channel {
@@ -217,7 +217,7 @@ fn list_words<R: Source, W: Sink>(
     task: Task,
     note: &Note,
     vcid: Option<u8>,
-) -> Result<Summary, ListingFault>
+) -> Result<Summary, StreamFault>
     requires task { task ≡ Task.Clcw vcid }
     ensures { ListsTask R.given R.remaining R.failures R.has_ended W.taken_octets W.failures
         task result reader.old reader.new writer.old writer.new }
@@ -249,7 +249,7 @@ fn list_packets<R: Source, W: Sink>(
     task: Task,
     note: &Note,
     apid: Option<u16>,
-) -> Result<Summary, ListingFault>
+) -> Result<Summary, StreamFault>
     requires task { task ≡ Task.Packets apid }
     ensures { ListsTask R.given R.remaining R.failures R.has_ended W.taken_octets W.failures
         task result reader.old reader.new writer.old writer.new }
@@ -276,7 +276,7 @@ fn list_on<const CHECKED: bool, C, R: Source, W: Sink>(
     note: &Note,
     listing: C,
     channel: Option<Channel>,
-) -> Result<Summary, ListingFault>
+) -> Result<Summary, StreamFault>
 where
     C: Listing<Splitter<FrameLayout<CHECKED>>> + Drop,
     requires lines { (octets : List ℕ) → listed_lines task octets
@@ -310,7 +310,7 @@ fn list_only<K: Kept, S: Cutter + Drop, C: Listing<S> + Drop, F: Filter + Drop, 
     cutter: S,
     listing: C,
     filter: F,
-) -> Result<Summary, ListingFault>
+) -> Result<Summary, StreamFault>
     requires held { S.held cutter ≡ [] }
     requires going { S.failure cutter ≡ None }
     requires keeps { (octets : List ℕ) → F.keeps filter octets ≡ K.keeps octets }
@@ -335,7 +335,7 @@ fn list_records<S: Cutter + Drop, C: Listing<S> + Drop, R: Source, W: Sink>(
     note: &Note,
     cutter: S,
     listing: C,
-) -> Result<Summary, ListingFault>
+) -> Result<Summary, StreamFault>
     requires held { S.held cutter ≡ [] }
     requires going { S.failure cutter ≡ None }
     requires lines { (octets : List ℕ) → listed_lines task octets

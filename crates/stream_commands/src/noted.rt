@@ -5,10 +5,11 @@ ghost use Rattle.listings.specs.Text.{Appends};
 
 use crate::status::write_parts;
 use itoa::Buffer;
-use listings::{Cutter, Filter, FramesOf, Listing, RecordNumber, Sink, Text, WriteFailed};
+use listings::{Cutter, Filter, FramesOf, Listing, RecordNumber, Text};
 use std::alloc::AllocError;
 use std::cell::Cell;
 use std::marker::Model;
+use streams::{Sink, WriteFailed};
 
 /// What is noted of a stream: its whole records and their octets, and whether the good frames that a receiver
 /// takes are of several channels.

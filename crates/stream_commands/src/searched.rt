@@ -2,19 +2,17 @@
 
 ghost use Rattle.std.specs.Prelude.{◌≡◌, ◌⊎◌, OnOk, IfOk};
 ghost use Rattle.command_line.specs.Arguments.{IsInRange};
-ghost use Rattle.listings.specs.Devices.{HasEnded};
-ghost use Rattle.listings.specs.Devices.{gained};
-ghost use Rattle.listings.specs.Streams.{Reads, WritesText};
+ghost use Rattle.streams.specs.Devices.{HasEnded};
+ghost use Rattle.streams.specs.Devices.{gained};
+ghost use Rattle.streams.specs.Streams.{Reads, WritesText};
 ghost use Rattle.stream_commands.specs.Listed.{listed_lines, task_summary, StopsAt};
 
+use crate::found::list_found_frames;
 use command_line::{Searched, Task};
 use cop1::Farm;
-use found_frames::list_found_frames;
-use listings::{
-    FrameListing, FromFirst, ListingFault, MapListing, OneMap, RefusalListing, Sink, Source,
-    Summary,
-};
+use listings::{FrameListing, FromFirst, MapListing, OneMap, RefusalListing, Summary};
 use std::alloc::Global;
+use streams::{Sink, Source, StreamFault};
 
 /// Lists what a command lists of the good frames of a channel, and what is skipped between them.
 pub fn list_searched<R: Source, W: Sink>(
@@ -25,7 +23,7 @@ pub fn list_searched<R: Source, W: Sink>(
     listed: Searched,
     scid: u16,
     vcid: u8,
-) -> Result<Summary, ListingFault>
+) -> Result<Summary, StreamFault>
     requires task { task ≡ Task.Resync listed scid vcid }
     requires range { IsInRange task }
     ensures reads { Reads R.given R.remaining R.failures result reader.old reader.new }

@@ -2,17 +2,17 @@
 
 ghost use Rattle.std.specs.Prelude.{◌≡◌, ◌+◌, ◌++◌, OnOk};
 ghost use Rattle.octets.specs.Beginning.{IsBeginning};
-ghost use Rattle.listings.specs.Devices.{failed_in};
+ghost use Rattle.streams.specs.Devices.{failed_in};
 ghost use Rattle.stream_commands.specs.Status.{ending_line, exit_status, fault_line};
 
 use crate::outcome::Outcome;
 use itoa::Buffer;
-use listings::{ListingFault, Sink, WriteFailed, write_all};
+use streams::{Sink, StreamFault, WriteFailed, write_all};
 
 /// Writes the line for standard error, where there is one, and answers the status: 0 where all was
 /// good, 1 for a fault in the data or the script, 3 where a device or memory failed or the input was too
 /// long. A fault of the sink is passed over; it has taken a beginning of the line then.
-pub fn ending<W: Sink>(dumped: &Result<Outcome, ListingFault>, errors: &mut W) -> u8
+pub fn ending<W: Sink>(dumped: &Result<Outcome, StreamFault>, errors: &mut W) -> u8
     ensures status { result ≡ exit_status dumped.now }
     ensures line { IsBeginning (W.taken_octets errors.new)
         (W.taken_octets errors.old ++ ending_line dumped.now) }
@@ -23,7 +23,7 @@ pub fn ending<W: Sink>(dumped: &Result<Outcome, ListingFault>, errors: &mut W) -
     status_of(dumped)
 }
 
-fn status_of(dumped: &Result<Outcome, ListingFault>) -> u8
+fn status_of(dumped: &Result<Outcome, StreamFault>) -> u8
     ensures { result ≡ exit_status dumped.now }
 {
     match dumped {
@@ -36,7 +36,7 @@ fn status_of(dumped: &Result<Outcome, ListingFault>) -> u8
 }
 
 fn write_ending<W: Sink>(
-    dumped: &Result<Outcome, ListingFault>,
+    dumped: &Result<Outcome, StreamFault>,
     errors: &mut W,
 ) -> Result<(), WriteFailed>
     ensures ok { OnOk result (W.taken_octets errors.new
@@ -61,14 +61,14 @@ fn write_ending<W: Sink>(
 }
 
 // The line of a fault.
-fn line_of(fault: ListingFault) -> &'static str
+fn line_of(fault: StreamFault) -> &'static str
     ensures { result.now ≡ fault_line fault }
 {
     match fault {
-        ListingFault::Read => "tctool: read failed\n",
-        ListingFault::Write => "tctool: write failed\n",
-        ListingFault::Memory => "tctool: no memory\n",
-        ListingFault::TooLong => "tctool: input too long\n",
+        StreamFault::Read => "tctool: read failed\n",
+        StreamFault::Write => "tctool: write failed\n",
+        StreamFault::Memory => "tctool: no memory\n",
+        StreamFault::TooLong => "tctool: input too long\n",
     }
 }
 

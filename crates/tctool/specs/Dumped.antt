@@ -8,11 +8,11 @@ use Rattle.stream_commands.specs.Listed.{listed_outcome, shown_lines}
 use Rattle.stream_commands.specs.Outcome.{OutcomeView, Good, Unreadable, OutOfRange, outcome_view}
 use Rattle.stream_commands.specs.Outcome.{outcome_if}
 use Rattle.stream_commands.specs.declared.outcome.Outcome.{Outcome}
-use Rattle.listings.specs.declared.fault.ListingFault.{ListingFault}
-use Rattle.listings.specs.declared.fault.ListingFault.TheVariants.{Read}
+use Rattle.streams.specs.declared.fault.StreamFault.{StreamFault}
+use Rattle.streams.specs.declared.fault.StreamFault.TheVariants.{Read}
 use Rattle.tc_frame.specs.Splitter.{check_if}
 use Rattle.encode_lines.specs.Octets.{octets_in, unreadable_in}
-use Rattle.line_stream.specs.Player.{answers_of, answers_so_far, is_all_good}
+use Rattle.streams.specs.Player.{answers_of, answers_so_far, is_all_good}
 use Rattle.node_lines.specs.Ground.{ground_rules}
 use Rattle.node_lines.specs.Spacecraft.{spacecraft_rules}
 use Rattle.node_lines.specs.Player.{node_playing, fresh_player}
@@ -39,7 +39,7 @@ lines_of count task octets = shown_lines count task octets
 
 -- a node has answered all lines that had ended, where a read of more fails: so it answers them
 -- before each read
-abbrev pub AnswersInTime : Task → Result Outcome ListingFault → (old new octets : List ℕ) → Type 0
+abbrev pub AnswersInTime : Task → Result Outcome StreamFault → (old new octets : List ℕ) → Type 0
 AnswersInTime tasks.Ground result old new octets =
     result ≡ Err Read
     → new ≡ old ++ answers_so_far (node_playing ground_rules) fresh_player octets

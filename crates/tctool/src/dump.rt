@@ -2,9 +2,9 @@
 
 ghost use Rattle.std.specs.Prelude.{◌≡◌, ◌⊎◌, OnOk, IfOk};
 ghost use Rattle.command_line.specs.Arguments.{IsInRange};
-ghost use Rattle.listings.specs.Devices.{HasEnded};
-ghost use Rattle.listings.specs.Devices.{gained};
-ghost use Rattle.listings.specs.Streams.{Reads, WritesText};
+ghost use Rattle.streams.specs.Devices.{HasEnded};
+ghost use Rattle.streams.specs.Devices.{gained};
+ghost use Rattle.streams.specs.Streams.{Reads, WritesText};
 ghost use Rattle.stream_commands.specs.Listed.{StopsAt};
 ghost use Rattle.stream_commands.specs.Outcome.{outcome_view};
 ghost use Rattle.tctool.specs.Dumped.{lines_of, outcome_for, AnswersInTime};
@@ -13,10 +13,10 @@ use crate::encoding::encode;
 use crate::node::play_node;
 use crate::simulation::simulate;
 use command_line::{Options, Task};
-use listings::{ListingFault, Sink, Source};
 use nodes::{Ground, Spacecraft};
 use std::alloc::Global;
 use stream_commands::{Note, Outcome, list};
+use streams::{Sink, Source, StreamFault};
 
 /// Reads the input to its end, in pieces, and writes the lines that the words ask for: of each piece
 /// before the next is read, but of a script once all of it is read. A node answers each line of a piece. For
@@ -38,7 +38,7 @@ pub fn dump<R: Source, W: Sink>(
     options: &Options,
     cause: &mut &'static str,
     note: &Note,
-) -> Result<Outcome, ListingFault>
+) -> Result<Outcome, StreamFault>
     requires { IsInRange options.now.task }
     ensures reads { Reads R.given R.remaining R.failures result reader.old reader.new }
     ensures writes { WritesText W.taken_octets W.failures result writer.old writer.new

@@ -2,16 +2,16 @@
 
 ghost use Rattle.std.specs.Prelude.{◌≡◌, OnOk, IfOk};
 ghost use Rattle.encode_lines.specs.Octets.{octets_in, unreadable_in};
-ghost use Rattle.listings.specs.Devices.{HasEnded, gained};
-ghost use Rattle.listings.specs.Streams.{Reads, WritesText};
+ghost use Rattle.streams.specs.Devices.{HasEnded, gained};
+ghost use Rattle.streams.specs.Streams.{Reads, WritesText};
 ghost use Rattle.stream_commands.specs.Outcome.{outcome_view};
 ghost use Rattle.tc_frame.specs.Splitter.{check_if};
 ghost use Rattle.tctool.specs.Dumped.{as_read};
 
 use encode_lines::encode_stream;
-use listings::{ListingFault, Sink, Source};
 use std::alloc::Global;
 use stream_commands::Outcome;
+use streams::{Sink, Source, StreamFault};
 use tc_frame::check_if;
 
 /// Writes the octets of lines, up to the first one that is unreadable; with `check` frames of fields get their
@@ -22,7 +22,7 @@ pub fn encode<R: Source, W: Sink>(
     writer: &mut W,
     skips: bool,
     check: bool,
-) -> Result<Outcome, ListingFault>
+) -> Result<Outcome, StreamFault>
     ensures reads { Reads R.given R.remaining R.failures result reader.old reader.new }
     ensures writes { WritesText W.taken_octets W.failures result writer.old writer.new
         (octets_in skips (check_if check) (gained (R.given reader.old) (R.given reader.new))) }

@@ -16,29 +16,29 @@ use clap::Error;
 use clap::error::ErrorKind;
 use command_line::{Options, UsageFault};
 use given::GivenWords;
-use listings::{ListingFault, Reader, Writer};
 use noting::{Noting, reason};
 use std::fs::File;
 use std::io;
 use std::io::{Read, Seek, SeekFrom};
 use std::process::ExitCode;
 use stream_commands::{Note, ending};
+use streams::{Reader, StreamFault, Writer};
 
 fn main(rt: HostRuntime) -> ExitCode {
     ExitCode::from(match GivenWords::read(&rt, rt.alloc()) {
         Ok(given) => status_for(&rt, &given),
-        Err(_) => fails(&rt, ListingFault::Memory),
+        Err(_) => fails(&rt, StreamFault::Memory),
     })
 }
 
 // Writes a fault to standard error, and answers the status.
-fn fails(rt: &HostRuntime, fault: ListingFault) -> u8 {
+fn fails(rt: &HostRuntime, fault: StreamFault) -> u8 {
     ending(&Err(fault), &mut Writer::new(rt.stderr()))
 }
 
 fn status_for(rt: &HostRuntime, given: &GivenWords) -> u8 {
     let Ok(texts) = given.texts(rt.alloc()) else {
-        return fails(rt, ListingFault::Memory);
+        return fails(rt, StreamFault::Memory);
     };
     match command_line::options(rt.alloc(), texts.as_slice()) {
         Ok(options) if given.is_unicode() => run(rt, &options),
@@ -54,13 +54,13 @@ fn status_for(rt: &HostRuntime, given: &GivenWords) -> u8 {
 // Prints what the parser of the words answers.
 fn answer(rt: &HostRuntime, error: &Error) -> u8 {
     if error.kind() == ErrorKind::OutOfMemory {
-        return fails(rt, ListingFault::Memory);
+        return fails(rt, StreamFault::Memory);
     }
     let printed = error.print(rt);
     if error.use_stderr() {
         2
     } else if printed.is_err() {
-        fails(rt, ListingFault::Write)
+        fails(rt, StreamFault::Write)
     } else {
         0
     }

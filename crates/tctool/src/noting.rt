@@ -2,9 +2,9 @@
 
 ghost use Rattle.std.specs.Prelude.{◌≡◌, None};
 
-use listings::Source;
 use std::io;
 use std::io::ErrorKind;
+use streams::Source;
 
 /// A source, whether a read found its end, and of its last read that failed why it did.
 #[derive(Drop)]

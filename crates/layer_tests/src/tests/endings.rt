@@ -1,12 +1,12 @@
 // How a run of the tool ends, as docs/PROFILE.md has it: the status and the line for each outcome and each fault.
 
 use super::common::equal;
-use listings::{ListingFault, Writer};
 use std::alloc::Global;
 use std::process::Abort;
 use stream_commands::{Outcome, ending};
+use streams::{StreamFault, Writer};
 
-type Dumped = Result<Outcome, ListingFault>;
+type Dumped = Result<Outcome, StreamFault>;
 
 static ENDINGS: [(Dumped, u8, &str); 9] = [
     (Ok(Outcome::Good), 0, ""),
@@ -26,10 +26,10 @@ static ENDINGS: [(Dumped, u8, &str); 9] = [
         1,
         "tctool: config out of range: queue_slots\n",
     ),
-    (Err(ListingFault::Read), 3, "tctool: read failed\n"),
-    (Err(ListingFault::Write), 3, "tctool: write failed\n"),
-    (Err(ListingFault::Memory), 3, "tctool: no memory\n"),
-    (Err(ListingFault::TooLong), 3, "tctool: input too long\n"),
+    (Err(StreamFault::Read), 3, "tctool: read failed\n"),
+    (Err(StreamFault::Write), 3, "tctool: write failed\n"),
+    (Err(StreamFault::Memory), 3, "tctool: no memory\n"),
+    (Err(StreamFault::TooLong), 3, "tctool: input too long\n"),
 ];
 
 #[test]

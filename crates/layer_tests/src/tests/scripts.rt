@@ -2,62 +2,39 @@
 // the top.
 
 use super::common::equal;
+use node_lines::{Ask, Line, NodePlayer, read_line};
 use nodes::{Event, Parameter};
-use script::{Line, Rest, ScriptFault, open, play_some, read_line};
-use script_lines::octets_in_word;
-use simulated_link::World;
+use script::{LinkNode, ScriptFault, fault_of};
 use std::alloc::Global;
 use std::process::Abort;
+use streams::{Player, cut, octets_in_word};
 
 // Whether the session had an idle start, and all that the script answers, in a text that grows from this
-// room.
-fn played(
-    alloc: Global,
-    script: &[u8],
-    room: usize,
-) -> Result<(Option<bool>, String), ScriptFault> {
-    if script.len() > 4096 {
-        return Err(ScriptFault::Memory);
-    }
-    match open(alloc, script) {
-        Ok((mut world, program)) => {
-            let lines = program.as_slice();
-            play(alloc, room, &mut world, Rest { lines })
-        },
-        Err(fault) => Err(fault),
-    }
-}
-
-fn play(
-    alloc: Global,
-    room: usize,
-    world: &mut World,
-    program: Rest<'_, '_>,
-) -> Result<(Option<bool>, String), ScriptFault> {
-    let Ok(mut text) = String::with_capacity(alloc, room) else {
-        return Err(ScriptFault::Memory);
-    };
-    match play_all(alloc, world, &mut text, program) {
-        true => Ok((world.opening().map(|opening| opening.idle), text)),
-        false => Err(ScriptFault::Memory),
-    }
-}
-
-// Whether there was memory for all lines.
-fn play_all(alloc: Global, world: &mut World, text: &mut String, program: Rest<'_, '_>) -> bool {
-    let mut rest = program;
+// room; nothing where there is no memory.
+fn played(alloc: Global, script: &[u8], room: usize) -> Option<(Option<bool>, String)> {
+    let mut player = NodePlayer::<LinkNode>::new();
+    let mut text = String::with_capacity(alloc, room).ok()?;
+    let mut rest = script;
     for _ in 0..4096 {
-        match play_some(alloc, world, text, rest) {
-            Ok(Some(left)) => rest = left,
-            Ok(None) => return true,
-            Err(_) => return false,
+        let (line, after) = cut(rest, b'\n');
+        let _ = player.play(alloc, line, &mut text).ok()?;
+        match after {
+            Some(after) => rest = after,
+            None => break,
         }
     }
-    false
+    Some((idle_start(&player), text))
 }
 
-// A script is answered so, or its session had such a start. Where memory is refused the script opened and played
-// again answers as ever.
+fn idle_start(player: &NodePlayer<LinkNode>) -> Option<bool> {
+    match player {
+        NodePlayer::Made(node) => node.world().opening().map(|opening| opening.idle),
+        NodePlayer::Configured(_) => None,
+    }
+}
+
+// A script is answered so, or its session had such a start. Where memory is refused the script played again
+// answers as ever.
 fn plays(
     rt: &(impl Abort + Eprint),
     alloc: Global,
@@ -66,20 +43,29 @@ fn plays(
     answers: Option<&str>,
     idle: Option<bool>,
 ) {
+    equal(rt, &fault_in(script), &None);
     let told = match played(alloc, script.as_bytes(), room) {
-        Err(ScriptFault::Memory) => {
+        None => {
             let _ = eprintln!(rt; "refused a growth");
             played(alloc, script.as_bytes(), room)
         }
         told => told,
     };
     match told {
-        Ok((start, text)) => {
+        Some((start, text)) => {
             equal(rt, &start, &idle);
             assert!(rt; answers.is_none_or(|answers| answers == text.as_str()));
         }
-        Err(_) => assert!(rt; false),
+        None => assert!(rt; false),
     }
+}
+
+// Why a script is not played, of those here.
+fn fault_in(script: &str) -> Option<ScriptFault> {
+    if script.len() > 4096 {
+        return None;
+    }
+    fault_of(script.as_bytes())
 }
 
 const BOTH_WAYS: [&str; 2] = [
@@ -132,33 +118,29 @@ fn idle_starts(rt: HostRuntime) {
     }
 }
 
-// Lines one by one, and scripts that are not opened: no memory is wanted to say so.
+// Lines one by one, and scripts that are not played: no memory is wanted to say so.
 #[test]
 fn lines_that_are_read(rt: HostRuntime) {
     reads_lines(&rt);
     for (script, want) in [
         (
             "# a note\nsubmit 4 -\nsubmit 04 -\n",
-            ScriptFault::Unreadable(3),
+            ScriptFault::Unreadable(3, "it is not submit M HEX"),
         ),
         (
             "config window 1\nconfig window 128\n",
             ScriptFault::OutOfRange("window"),
         ),
     ] {
-        equal(&rt, &fault_of(rt.alloc(), script), &Some(want));
+        equal(&rt, &fault_in(script), &Some(want));
     }
-}
-
-fn fault_of(alloc: Global, script: &str) -> Option<ScriptFault> {
-    played(alloc, script.as_bytes(), 0).err()
 }
 
 fn reads_lines(rt: &impl Abort) {
     assert!(rt;
         matches!(
             read_line(b"submit 4 0f"),
-            Line::Happening(Event::Submit(4, b"0f"))
+            Line::Asking(Ask::Happening(Event::Submit(4, b"0f")))
         )
     );
     assert!(rt;

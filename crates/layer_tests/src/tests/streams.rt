@@ -6,10 +6,9 @@ ghost use Rattle.listings.specs.Filters.{keeps_frame};
 use super::common::equal;
 use cop1::Farm;
 use listings::{
-    Begins, Call, ControlWords, Cutter, DeviceLog, Filter, FrameCutter, FrameLength, FrameListing,
-    FramesOf, FromFirst, Kept, Listing, ListingFault, MapListing, OneMap, Only, PacketListing,
-    PacketsOf, Reader, RefusalListing, ReportListing, Sink, Source, TelemetryListing, TelemetryOf,
-    Totals, Writer, list_stream, write_all,
+    Begins, ControlWords, Cutter, Filter, FrameCutter, FrameLength, FrameListing, FramesOf,
+    FromFirst, Kept, Listing, MapListing, OneMap, Only, PacketListing, PacketsOf, RefusalListing,
+    ReportListing, TelemetryListing, TelemetryOf, Totals, list_stream,
 };
 use octets::{Splitter, remove_front};
 use space_packet::Packets;
@@ -17,6 +16,7 @@ use std::alloc::Global;
 use std::io;
 use std::io::{ErrorKind, Read, Write};
 use std::process::Abort;
+use streams::{Call, DeviceLog, Reader, Sink, Source, StreamFault, Writer, write_all};
 use tc_frame::{Checked, Unchecked};
 use tm_link::TmFault;
 
@@ -211,7 +211,7 @@ fn lists_nowhere(rt: &impl Abort, alloc: Global) {
         Splitter::<Unchecked>::new(alloc),
         FrameListing,
     );
-    equal(rt, &result, &Err(ListingFault::Write));
+    equal(rt, &result, &Err(StreamFault::Write));
 }
 
 // Totals of lines whose words two writes part.
@@ -323,10 +323,10 @@ fn without_note(answer: io::Result<usize>) -> Result<usize, ErrorKind> {
 #[test]
 fn texts_of_faults(rt: HostRuntime) {
     for (fault, text) in [
-        (ListingFault::Read, "read failed"),
-        (ListingFault::Write, "write failed"),
-        (ListingFault::Memory, "no memory"),
-        (ListingFault::TooLong, "input too long"),
+        (StreamFault::Read, "read failed"),
+        (StreamFault::Write, "write failed"),
+        (StreamFault::Memory, "no memory"),
+        (StreamFault::TooLong, "input too long"),
     ] {
         let said = format!(in rt.alloc(); "{fault}").expect(&rt, "a text");
         equal(&rt, &said.as_str(), &text);

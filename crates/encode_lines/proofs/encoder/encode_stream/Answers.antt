@@ -1,8 +1,8 @@
 use Rattle.std.proofs.Common.{◌≡◌, ◌∙◌, ◌++◌, List, ℕ, ap, subst}
 use Rattle.octets.specs.Beginning.{IsBeginning}
-use Rattle.listings.specs.Devices.{gained}
-use Rattle.line_stream.specs.Lines.{lines_of}
-use Rattle.line_stream.specs.Player.{answers_of, after_text}
+use Rattle.streams.specs.Devices.{gained}
+use Rattle.streams.specs.Lines.{lines_of}
+use Rattle.streams.specs.Player.{answers_of, after_text}
 use Rattle.encode_lines.specs.declared.encoder.Encoder.{Encoder}
 use Rattle.encode_lines.specs.Octets.{octets_in, encoding}
 use Rattle.encode_lines.proofs.Runs.{written, refused}

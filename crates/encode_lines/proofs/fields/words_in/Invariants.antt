@@ -1,5 +1,5 @@
 use Rattle.std.proofs.Common.{◌≡◌, ◌++◌, map, length}
-use Rattle.script_lines.specs.Words.{words_in}
+use Rattle.streams.specs.Words.{words_in}
 use Rattle.encode_lines.proofs.fields.words_in.Given as goal
 
 -- the words so far and those of what is left are the words of the line

@@ -2,7 +2,7 @@ use Rattle.std.proofs.Common.{rules, ℕ, List, subst, replicate}
 use Rattle.octets.specs.Beginning.{Appends}
 use Rattle.tm_link.specs.Encoding.{spelling}
 use Rattle.nodes.specs.Spacecraft.{spacecraft_step, Report}
-use Rattle.node_answers.specs.Answers.{sent_text}
+use Rattle.node_lines.specs.Answers.{sent_text}
 use Rattle.node_lines.proofs.Answered.{front_is}
 use Rattle.node_lines.proofs.spacecraft.send.Goals as goal
 

@@ -3,9 +3,9 @@ use Rattle.std.proofs.lemmas.Result.{IfOk-weaker}
 use Rattle.command_line.specs.declared.task.Searched.{Searched}
 use Rattle.command_line.specs.declared.task.Task.{Task}
 use Rattle.command_line.specs.declared.task.Task.TheVariants as tasks
-use Rattle.found_frames.specs.Found.{found_summary}
+use Rattle.stream_commands.specs.Found.{found_summary}
 use Rattle.listings.specs.FirstNumber.{Awaiting, from_first}
-use Rattle.listings.specs.Devices.{gained}
+use Rattle.streams.specs.Devices.{gained}
 use Rattle.listings.specs.MapLines.{MapState}
 use Rattle.listings.specs.OneMap.{OneMapState, one_map_begun, one_map_lines}
 use Rattle.tc_frame.specs.declared.frame.Check.TheVariants.{On}

@@ -1,6 +1,6 @@
 use Rattle.std.proofs.Common.{◌≡◌, ◌+◌, ℕ, Result, Ok, Err, OnOk, arith}
-use Rattle.listings.specs.Devices.{failed_in}
-use Rattle.listings.specs.declared.output.WriteFailed.{WriteFailed}
+use Rattle.streams.specs.Devices.{failed_in}
+use Rattle.streams.specs.declared.output.WriteFailed.{WriteFailed}
 use Rattle.stream_commands.proofs.status.ending.Goals as goal
 
 -- where no call of the sink failed, what follows from each answer that is Ok

@@ -2,12 +2,12 @@ use Rattle.std.proofs.Common.{◌≡◌, ◌∙◌, ◌++◌, List, ℕ, [], Res
 use Rattle.std.proofs.lemmas.List.{append-nil}
 use Rattle.std.specs.Prelude.{codes}
 use Rattle.listings.specs.Text.{line_end}
-use Rattle.listings.specs.declared.fault.ListingFault.{ListingFault}
+use Rattle.streams.specs.declared.fault.StreamFault.{StreamFault}
 use Rattle.stream_commands.specs.declared.outcome.Outcome.{Outcome}
 use Rattle.stream_commands.specs.Status.{ending_line}
 use Rattle.stream_commands.proofs.status.write_ending.Goals as goal
 
-abbrev done : Outcome → Result Outcome ListingFault
+abbrev done : Outcome → Result Outcome StreamFault
 done outcome = Ok outcome
 
 pub returns-in-Ok-Good : goal.returns-in-Ok-Good

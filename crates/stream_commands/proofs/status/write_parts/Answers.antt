@@ -1,6 +1,6 @@
 use Rattle.std.proofs.Common.{◌≡◌, ◌∙◌, ◌++◌, ℕ, List, sym, ap, subst, append_assoc}
 use Rattle.octets.specs.Beginning.{IsBeginning}
-use Rattle.listings.proofs.Listed.{begins_more}
+use Rattle.streams.proofs.Beginnings.{begins_more}
 use Rattle.stream_commands.proofs.status.write_parts.Goals as goal
 
 pub returns-in_err-write_all-clause-beginning : goal.returns-in_err-write_all-clause-beginning

@@ -6,7 +6,8 @@ use Rattle.listings.specs.Layouts.{first_by}
 use Rattle.listings.specs.Listing.{Standing, listed, rest_line, standing, where_refused}
 use Rattle.listings.specs.Text.{written}
 use Rattle.listings.specs.declared.stream.Lister.{Lister}
-use Rattle.listings.proofs.Listed.{begins_more, begins_same, rest_line-refused, listing_goes_on}
+use Rattle.streams.proofs.Beginnings.{begins_more, begins_same}
+use Rattle.listings.proofs.Listed.{rest_line-refused, listing_goes_on}
 use Rattle.listings.proofs.stream.ListerTaker.take.Given.{Over}
 use Rattle.listings.proofs.stream.ListerTaker.take.Goals as goal
 use Rattle.listings.proofs.stream.ListerTaker.take.Goals.{In-Ok-list_records}

@@ -1,8 +1,0 @@
-use Rattle.script_lines.proofs.Lines.{says, unreadable}
-use Rattle.script_lines.proofs.laws.law_of_commands.Goals as goal
-
-pub returns-clause-spelled : goal.returns-clause-spelled
-returns-clause-spelled c = says
-
-pub returns-clause-unreadable : goal.returns-clause-unreadable
-returns-clause-unreadable c = unreadable

@@ -1,6 +1,0 @@
-pub mod Words
-pub mod Lines
-pub mod Spelling
-pub mod Scripts
-pub mod Programs
-pub mod Causes

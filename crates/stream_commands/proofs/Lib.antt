@@ -1,0 +1,2 @@
+mod FoundPieces
+mod FoundSteps

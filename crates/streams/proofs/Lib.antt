@@ -1,0 +1,4 @@
+pub mod Beginnings
+pub mod Cuts
+pub mod SpelledWords
+mod PlayedPieces
