@@ -2,7 +2,7 @@
  * 32 to 64 bits. It is made by tools/portable_c of the program's object for wasm64, and not edited: change the program,
  * and make this anew.
  *
- * tools/sources_sum of the code that it was made of: 3610429589-1255515
+ * tools/sources_sum of the code that it was made of: 4029787714-1258273
  *
  * What is proved is the code as the prover has it, for 64 bits: the program writes what the contracts of its crates say
  * (docs/PROMISES.md). LLVM, which compiles that for wasm64, tools/program_module and tools/portable_c, which write this
@@ -1090,127 +1090,127 @@ static const unsigned char constant_342[30] = {
 static const unsigned char constant_343[24] = {
     105, 116, 32, 105, 115, 32, 102, 111, 114, 32, 111, 110, 101, 32, 110, 111, 100, 101, 32, 97, 108, 111, 110, 101
 };
-static const unsigned char constant_353[7] = {
+static const unsigned char constant_352[7] = {
     78, 111, 116, 79, 112, 101, 110
 };
-static const unsigned char constant_354[9] = {
+static const unsigned char constant_353[9] = {
     67, 108, 111, 115, 101, 100, 77, 97, 112
 };
-static const unsigned char constant_355[10] = {
+static const unsigned char constant_354[10] = {
     78, 111, 116, 67, 111, 109, 109, 97, 110, 100
 };
-static const unsigned char constant_356[7] = {
+static const unsigned char constant_355[7] = {
     84, 111, 111, 76, 111, 110, 103
 };
-static const unsigned char constant_357[9] = {
+static const unsigned char constant_356[9] = {
     81, 117, 101, 117, 101, 70, 117, 108, 108
 };
-static const unsigned char constant_359[8] = {
+static const unsigned char constant_358[8] = {
     78, 111, 116, 75, 110, 111, 119, 110
 };
-static const unsigned char constant_360[5] = {
+static const unsigned char constant_359[5] = {
     87, 105, 100, 116, 104
 };
-static const unsigned char constant_361[6] = {
+static const unsigned char constant_360[6] = {
     87, 105, 110, 100, 111, 119
 };
-static const unsigned char constant_362[5] = {
+static const unsigned char constant_361[5] = {
     76, 105, 109, 105, 116
 };
-static const unsigned char constant_363[5] = {
+static const unsigned char constant_362[5] = {
     84, 105, 109, 101, 114
 };
-static const unsigned char constant_364[4] = {
+static const unsigned char constant_363[4] = {
     66, 117, 115, 121
 };
-static const unsigned char constant_365[10] = {
+static const unsigned char constant_364[10] = {
     87, 114, 111, 110, 103, 83, 116, 97, 116, 101
 };
-static const unsigned char constant_366[5] = {
+static const unsigned char constant_365[5] = {
     83, 116, 97, 116, 101
 };
-static const unsigned char constant_370[6] = {
+static const unsigned char constant_369[6] = {
     83, 116, 97, 116, 117, 115
 };
-static const unsigned char constant_371[7] = {
+static const unsigned char constant_370[7] = {
     80, 111, 105, 110, 116, 101, 114
 };
-static const unsigned char constant_372[5] = {
+static const unsigned char constant_371[5] = {
     78, 111, 79, 99, 102
 };
-static const unsigned char constant_373[10] = {
+static const unsigned char constant_372[10] = {
     78, 111, 116, 65, 80, 97, 99, 107, 101, 116
 };
-static const unsigned char constant_374[4] = {
+static const unsigned char constant_373[4] = {
     82, 111, 111, 109
 };
-static const unsigned char constant_375[10] = {
+static const unsigned char constant_374[10] = {
     70, 105, 101, 108, 100, 82, 97, 110, 103, 101
 };
-static const unsigned char constant_378[3] = {
+static const unsigned char constant_377[3] = {
     78, 110, 82
 };
-static const unsigned char constant_379[4] = {
+static const unsigned char constant_378[4] = {
     67, 108, 99, 119
 };
-static const unsigned char constant_380[5] = {
+static const unsigned char constant_379[5] = {
     83, 121, 110, 99, 104
 };
-static const unsigned char constant_381[10] = {
+static const unsigned char constant_380[10] = {
     84, 101, 114, 109, 105, 110, 97, 116, 101, 100
 };
-static const unsigned char constant_398[8] = {
+static const unsigned char constant_397[8] = {
     97, 99, 99, 101, 112, 116, 101, 100
 };
-static const unsigned char constant_399[5] = {
+static const unsigned char constant_398[5] = {
     97, 104, 101, 97, 100
 };
-static const unsigned char constant_400[8] = {
+static const unsigned char constant_399[8] = {
     110, 111, 98, 117, 102, 102, 101, 114
 };
-static const unsigned char constant_401[6] = {
+static const unsigned char constant_400[6] = {
     98, 101, 104, 105, 110, 100
 };
-static const unsigned char constant_402[7] = {
+static const unsigned char constant_401[7] = {
     111, 117, 116, 115, 105, 100, 101
 };
-static const unsigned char constant_403[9] = {
+static const unsigned char constant_402[9] = {
     100, 105, 115, 99, 97, 114, 100, 101, 100
 };
-static const unsigned char constant_406[11] = {
+static const unsigned char constant_405[11] = {
     73, 110, 116, 101, 114, 114, 117, 112, 116, 101, 100
 };
-static const unsigned char constant_407[11] = {
+static const unsigned char constant_406[11] = {
     78, 111, 66, 101, 103, 105, 110, 110, 105, 110, 103
 };
-static const unsigned char constant_412[5] = {
+static const unsigned char constant_411[5] = {
     82, 97, 110, 103, 101
 };
-static const unsigned char constant_415[16] = {
+static const unsigned char constant_414[16] = {
     78, 111, 116, 104, 105, 110, 103, 73, 110, 84, 114, 97, 110, 115, 105, 116
 };
-static const unsigned char constant_416[13] = {
+static const unsigned char constant_415[13] = {
     78, 111, 116, 68, 101, 116, 101, 99, 116, 97, 98, 108, 101
 };
-static const unsigned char constant_417[6] = {
+static const unsigned char constant_416[6] = {
     67, 111, 110, 102, 105, 103
 };
-static const unsigned char constant_423[2] = {
+static const unsigned char constant_422[2] = {
     83, 49
 };
-static const unsigned char constant_424[2] = {
+static const unsigned char constant_423[2] = {
     83, 50
 };
-static const unsigned char constant_425[2] = {
+static const unsigned char constant_424[2] = {
     83, 51
 };
-static const unsigned char constant_426[2] = {
+static const unsigned char constant_425[2] = {
     83, 52
 };
-static const unsigned char constant_427[2] = {
+static const unsigned char constant_426[2] = {
     83, 53
 };
-static const unsigned char constant_428[2] = {
+static const unsigned char constant_427[2] = {
     83, 54
 };
 static const unsigned char constant_433[17] = {
@@ -1391,21 +1391,21 @@ static const unsigned char constant_266[5] = {
 static const unsigned char constant_267[4] = {
     103, 97, 112, 61
 };
-static const unsigned char constant_377[7] = {
+static const unsigned char constant_376[7] = {
     76, 111, 99, 107, 111, 117, 116
 };
 #endif
 #if !defined PART || PART == 1 || PART == 6 || PART == 7 || PART == 8
-static const unsigned char constant_392[5] = {
+static const unsigned char constant_391[5] = {
     83, 104, 111, 114, 116
-};
-#endif
-#if !defined PART || PART == 1 || PART == 6 || PART == 8
-static const unsigned char constant_358[6] = {
-    77, 101, 109, 111, 114, 121
 };
 static const unsigned char constant_504[9] = {
     84, 114, 117, 110, 99, 97, 116, 101, 100
+};
+#endif
+#if !defined PART || PART == 1 || PART == 6 || PART == 8
+static const unsigned char constant_357[6] = {
+    77, 101, 109, 111, 114, 121
 };
 #endif
 #if !defined PART || PART == 1 || PART == 7
@@ -1417,36 +1417,36 @@ static const unsigned char constant_265[6] = {
 };
 #endif
 #if !defined PART || PART == 1 || PART == 7 || PART == 8
-static const unsigned char constant_367[6] = {
+static const unsigned char constant_366[6] = {
     76, 101, 110, 103, 116, 104
 };
-static const unsigned char constant_368[7] = {
+static const unsigned char constant_367[7] = {
     86, 101, 114, 115, 105, 111, 110
 };
-static const unsigned char constant_369[5] = {
+static const unsigned char constant_368[5] = {
     67, 104, 101, 99, 107
 };
-static const unsigned char constant_393[12] = {
+static const unsigned char constant_392[12] = {
     82, 101, 115, 101, 114, 118, 101, 100, 84, 121, 112, 101
 };
-static const unsigned char constant_394[5] = {
+static const unsigned char constant_393[5] = {
     83, 112, 97, 114, 101
 };
-static const unsigned char constant_395[12] = {
+static const unsigned char constant_394[12] = {
     66, 121, 112, 97, 115, 115, 78, 117, 109, 98, 101, 114
 };
-static const unsigned char constant_396[9] = {
+static const unsigned char constant_395[9] = {
     69, 109, 112, 116, 121, 68, 97, 116, 97
 };
-static const unsigned char constant_397[7] = {
+static const unsigned char constant_396[7] = {
     67, 111, 109, 109, 97, 110, 100
 };
 #endif
 #if !defined PART || PART == 1 || PART == 8
-static const unsigned char constant_410[4] = {
+static const unsigned char constant_409[4] = {
     75, 105, 110, 100
 };
-static const unsigned char constant_411[3] = {
+static const unsigned char constant_410[3] = {
     67, 111, 112
 };
 static const unsigned char constant_505[17] = {
@@ -1705,7 +1705,7 @@ static const unsigned char constant_108[1] = {
     32
 };
 #endif
-#if !defined PART || PART == 3 || PART == 4 || PART == 5 || PART == 6 || PART == 8
+#if !defined PART || PART == 3 || PART == 4 || PART == 6 || PART == 8
 static const unsigned char constant_112[4] = {
     32, 32, 32, 32
 };
@@ -2778,47 +2778,47 @@ static const unsigned char constant_270[7] = {
 static const unsigned char constant_271[15] = {
     0, 1, 2, 3, 4, 5, 6, 7, 8, 9, 10, 11, 12, 13, 14
 };
-static const unsigned char constant_283[9] = {
+static const unsigned char constant_283[4] = {
+    115, 104, 111, 119
+};
+static const unsigned char constant_284[9] = {
     105, 110, 105, 116, 32, 110, 111, 110, 101
 };
-static const unsigned char constant_284[10] = {
+static const unsigned char constant_285[10] = {
     105, 110, 105, 116, 32, 99, 104, 101, 99, 107
 };
-static const unsigned char constant_285[11] = {
+static const unsigned char constant_286[11] = {
     105, 110, 105, 116, 32, 117, 110, 108, 111, 99, 107
 };
-static const unsigned char constant_286[9] = {
+static const unsigned char constant_287[9] = {
     116, 101, 114, 109, 105, 110, 97, 116, 101
 };
-static const unsigned char constant_287[4] = {
+static const unsigned char constant_288[4] = {
     115, 101, 110, 100
 };
-static const unsigned char constant_288[10] = {
-    117, 112, 32, 100, 101, 108, 105, 118, 101, 114
-};
-static const unsigned char constant_289[7] = {
-    117, 112, 32, 108, 111, 115, 101
-};
-static const unsigned char constant_290[12] = {
-    100, 111, 119, 110, 32, 100, 101, 108, 105, 118, 101, 114
-};
-static const unsigned char constant_291[9] = {
-    100, 111, 119, 110, 32, 108, 111, 115, 101
-};
-static const unsigned char constant_292[9] = {
-    100, 111, 119, 110, 32, 99, 108, 99, 119
-};
-static const unsigned char constant_293[4] = {
+static const unsigned char constant_289[4] = {
     116, 105, 99, 107
 };
-static const unsigned char constant_294[4] = {
+static const unsigned char constant_290[4] = {
     116, 97, 107, 101
 };
-static const unsigned char constant_295[10] = {
+static const unsigned char constant_291[10] = {
     116, 97, 107, 101, 98, 121, 112, 97, 115, 115
 };
-static const unsigned char constant_296[4] = {
-    115, 104, 111, 119
+static const unsigned char constant_292[10] = {
+    117, 112, 32, 100, 101, 108, 105, 118, 101, 114
+};
+static const unsigned char constant_293[7] = {
+    117, 112, 32, 108, 111, 115, 101
+};
+static const unsigned char constant_294[12] = {
+    100, 111, 119, 110, 32, 100, 101, 108, 105, 118, 101, 114
+};
+static const unsigned char constant_295[9] = {
+    100, 111, 119, 110, 32, 108, 111, 115, 101
+};
+static const unsigned char constant_296[9] = {
+    100, 111, 119, 110, 32, 99, 108, 99, 119
 };
 static const unsigned char constant_297[7] = {
     115, 117, 98, 109, 105, 116, 32
@@ -2971,26 +2971,26 @@ static const unsigned char constant_341[34] = {
     110, 111, 32, 108, 105, 110, 101, 32, 98, 101, 103, 105, 110, 115, 32, 119, 105, 116, 104, 32, 105, 116, 115, 32,
     102, 105, 114, 115, 116, 32, 119, 111, 114, 100
 };
-static const unsigned char constant_344[21] = {
-    99, 111, 110, 102, 105, 103, 32, 111, 117, 116, 32, 111, 102, 32, 114, 97, 110, 103, 101, 58, 32
-};
-static const unsigned char constant_352[4] = {
+static const unsigned char constant_351[4] = {
     108, 111, 115, 116
 };
-static const unsigned char constant_418[6] = {
+static const unsigned char constant_417[6] = {
     99, 108, 101, 97, 110, 61
 };
-static const unsigned char constant_419[7] = {
+static const unsigned char constant_418[7] = {
     32, 115, 116, 97, 116, 101, 61
 };
-static const unsigned char constant_421[11] = {
+static const unsigned char constant_420[11] = {
     32, 100, 101, 108, 105, 118, 101, 114, 101, 100, 61
 };
-static const unsigned char constant_422[4] = {
+static const unsigned char constant_421[4] = {
     110, 111, 110, 101
 };
-static const unsigned char constant_430[10] = {
+static const unsigned char constant_429[10] = {
     32, 97, 99, 99, 101, 112, 116, 101, 100, 61
+};
+static const unsigned char constant_432[21] = {
+    99, 111, 110, 102, 105, 103, 32, 111, 117, 116, 32, 111, 102, 32, 114, 97, 110, 103, 101, 58, 32
 };
 static const unsigned char constant_434[7] = {
     108, 105, 110, 101, 115, 58, 32
@@ -3027,28 +3027,28 @@ static const unsigned char switch_table_script_link_node_LinkNodeNode_answer[32]
 static const unsigned char constant_186[3] = {
     111, 102, 102
 };
-static const unsigned char constant_349[7] = {
+static const unsigned char constant_348[7] = {
     114, 101, 102, 117, 115, 101, 100
 };
-static const unsigned char constant_350[2] = {
+static const unsigned char constant_349[2] = {
     111, 107
 };
-static const unsigned char constant_351[7] = {
+static const unsigned char constant_350[7] = {
     110, 111, 116, 104, 105, 110, 103
 };
-static const unsigned char constant_413[8] = {
+static const unsigned char constant_412[8] = {
     114, 101, 115, 117, 109, 101, 100, 32
 };
-static const unsigned char constant_420[11] = {
+static const unsigned char constant_419[11] = {
     32, 115, 117, 98, 109, 105, 116, 116, 101, 100, 61
 };
-static const unsigned char constant_429[6] = {
+static const unsigned char constant_428[6] = {
     32, 115, 101, 110, 116, 61
 };
-static const unsigned char constant_431[14] = {
+static const unsigned char constant_430[14] = {
     32, 97, 99, 107, 110, 111, 119, 108, 101, 100, 103, 101, 100, 61
 };
-static const unsigned char constant_432[13] = {
+static const unsigned char constant_431[13] = {
     32, 111, 117, 116, 115, 116, 97, 110, 100, 105, 110, 103, 61
 };
 #endif
@@ -3056,55 +3056,55 @@ static const unsigned char constant_432[13] = {
 static const unsigned char constant_172[1] = {
     43
 };
-static const unsigned char constant_347[7] = {
+static const unsigned char constant_346[7] = {
     7, 255, 192, 0, 0, 0, 85
 };
-static const unsigned char constant_376[6] = {
+static const unsigned char constant_375[6] = {
     97, 108, 101, 114, 116, 32
 };
-static const unsigned char constant_382[5] = {
+static const unsigned char constant_381[5] = {
     115, 101, 110, 116, 32
 };
-static const unsigned char constant_383[7] = {
+static const unsigned char constant_382[7] = {
     114, 101, 112, 111, 114, 116, 32
 };
-static const unsigned char constant_384[7] = {
+static const unsigned char constant_383[7] = {
     105, 110, 118, 97, 108, 105, 100
 };
-static const unsigned char constant_385[7] = {
+static const unsigned char constant_384[7] = {
     102, 111, 114, 101, 105, 103, 110
 };
-static const unsigned char constant_386[3] = {
+static const unsigned char constant_385[3] = {
     65, 68, 32
 };
-static const unsigned char constant_387[9] = {
+static const unsigned char constant_386[9] = {
     32, 100, 114, 111, 112, 112, 101, 100, 32
 };
-static const unsigned char constant_388[7] = {
+static const unsigned char constant_387[7] = {
     66, 68, 32, 107, 101, 112, 116
 };
-static const unsigned char constant_389[10] = {
+static const unsigned char constant_388[10] = {
     66, 68, 32, 100, 114, 111, 112, 112, 101, 100
 };
-static const unsigned char constant_390[9] = {
+static const unsigned char constant_389[9] = {
     66, 67, 32, 117, 110, 108, 111, 99, 107
 };
-static const unsigned char constant_391[7] = {
+static const unsigned char constant_390[7] = {
     66, 67, 32, 115, 101, 116, 32
 };
-static const unsigned char constant_404[6] = {
+static const unsigned char constant_403[6] = {
     32, 114, 101, 97, 100, 121
 };
-static const unsigned char constant_405[7] = {
+static const unsigned char constant_404[7] = {
     32, 114, 101, 97, 100, 121, 32
 };
-static const unsigned char constant_408[9] = {
+static const unsigned char constant_407[9] = {
     32, 112, 97, 99, 107, 101, 116, 115, 61
 };
-static const unsigned char constant_409[7] = {
+static const unsigned char constant_408[7] = {
     32, 97, 108, 101, 114, 116, 32
 };
-static const unsigned char constant_414[7] = {
+static const unsigned char constant_413[7] = {
     112, 97, 99, 107, 101, 116, 32
 };
 static const unsigned char constant_437[6] = {
@@ -3407,87 +3407,87 @@ static void prepare(void)
     put64(aligned(switch_table_nodes_parameter_Parameter_row) + 96, address(constant_281));
     put64(aligned(switch_table_nodes_parameter_Parameter_row) + 104, address(constant_282));
     put64(aligned(switch_table_nodes_parameter_Parameter_row) + 112, address(constant_79));
-    put64(aligned(switch_table_script_link_node_LinkNodeNode_answer_6), address(constant_358));
-    put64(aligned(switch_table_script_link_node_LinkNodeNode_answer_6) + 8, address(constant_415));
-    put64(aligned(switch_table_script_link_node_LinkNodeNode_answer_6) + 16, address(constant_416));
-    put64(aligned(switch_table_script_link_node_LinkNodeNode_answer_6) + 24, address(constant_417));
-    put64(aligned(switch_table_nodes_fault_LinkFault_name_7), address(constant_353));
-    put64(aligned(switch_table_nodes_fault_LinkFault_name_7) + 8, address(constant_354));
-    put64(aligned(switch_table_nodes_fault_LinkFault_name_7) + 16, address(constant_355));
-    put64(aligned(switch_table_nodes_fault_LinkFault_name_7) + 24, address(constant_356));
-    put64(aligned(switch_table_nodes_fault_LinkFault_name_7) + 32, address(constant_357));
-    put64(aligned(switch_table_nodes_fault_LinkFault_name_7) + 40, address(constant_358));
-    put64(aligned(switch_table_nodes_fault_LinkFault_name_7) + 48, address(constant_359));
-    put64(aligned(switch_table_cop1_fault_CopFault_name_8), address(constant_360));
-    put64(aligned(switch_table_cop1_fault_CopFault_name_8) + 8, address(constant_361));
-    put64(aligned(switch_table_cop1_fault_CopFault_name_8) + 16, address(constant_362));
-    put64(aligned(switch_table_cop1_fault_CopFault_name_8) + 24, address(constant_363));
-    put64(aligned(switch_table_cop1_fault_CopFault_name_8) + 32, address(constant_358));
-    put64(aligned(switch_table_cop1_fault_CopFault_name_8) + 40, address(constant_353));
-    put64(aligned(switch_table_cop1_fault_CopFault_name_8) + 48, address(constant_364));
-    put64(aligned(switch_table_cop1_fault_CopFault_name_8) + 56, address(constant_365));
-    put64(aligned(switch_table_cop1_fault_CopFault_name_8) + 64, address(constant_366));
-    put64(aligned(switch_table_cop1_vocabulary_Alert_name_10), address(constant_377));
-    put64(aligned(switch_table_cop1_vocabulary_Alert_name_10) + 8, address(constant_378));
-    put64(aligned(switch_table_cop1_vocabulary_Alert_name_10) + 16, address(constant_379));
-    put64(aligned(switch_table_cop1_vocabulary_Alert_name_10) + 24, address(constant_380));
-    put64(aligned(switch_table_cop1_vocabulary_Alert_name_10) + 32, address(constant_362));
-    put64(aligned(switch_table_cop1_vocabulary_Alert_name_10) + 40, address(constant_363));
-    put64(aligned(switch_table_cop1_vocabulary_Alert_name_10) + 48, address(constant_381));
-    put64(aligned(switch_table_node_lines_answers_push_received_11), address(constant_398));
-    put64(aligned(switch_table_node_lines_answers_push_received_11) + 8, address(constant_399));
-    put64(aligned(switch_table_node_lines_answers_push_received_11) + 16, address(constant_400));
-    put64(aligned(switch_table_node_lines_answers_push_received_11) + 24, address(constant_401));
-    put64(aligned(switch_table_node_lines_answers_push_received_11) + 32, address(constant_402));
-    put64(aligned(switch_table_node_lines_answers_push_received_11) + 40, address(constant_403));
-    put64(aligned(switch_table_cop1_vocabulary_FopMode_name), address(constant_423));
-    put64(aligned(switch_table_cop1_vocabulary_FopMode_name) + 8, address(constant_424));
-    put64(aligned(switch_table_cop1_vocabulary_FopMode_name) + 16, address(constant_425));
-    put64(aligned(switch_table_cop1_vocabulary_FopMode_name) + 24, address(constant_426));
-    put64(aligned(switch_table_cop1_vocabulary_FopMode_name) + 32, address(constant_427));
-    put64(aligned(switch_table_cop1_vocabulary_FopMode_name) + 40, address(constant_428));
-    put64(aligned(switch_table_listings_stream_list_records_ba330065ffbb15ec_24), address(constant_354));
-    put64(aligned(switch_table_listings_stream_list_records_ba330065ffbb15ec_24) + 8, address(constant_406));
-    put64(aligned(switch_table_listings_stream_list_records_ba330065ffbb15ec_24) + 16, address(constant_407));
-    put64(aligned(switch_table_listings_stream_list_records_ba330065ffbb15ec_24) + 24, address(constant_373));
-    put64(aligned(switch_table_listings_stream_list_records_ba330065ffbb15ec_24) + 32, address(constant_356));
-    put64(aligned(switch_table_listings_telemetry_TelemetryListingListingFrameCutter_take_e34973c183157f3b_31), address(constant_410));
-    put64(aligned(switch_table_listings_telemetry_TelemetryListingListingFrameCutter_take_e34973c183157f3b_31) + 8, address(constant_368));
-    put64(aligned(switch_table_listings_telemetry_TelemetryListingListingFrameCutter_take_e34973c183157f3b_31) + 16, address(constant_411));
-    put64(aligned(switch_table_listings_telemetry_TelemetryListingListingFrameCutter_take_e34973c183157f3b_31) + 24, address(constant_394));
-    put64(aligned(switch_table_listings_stream_ListerTaker_take_0870f97df3e074f7_54), address(constant_367));
-    put64(aligned(switch_table_listings_stream_ListerTaker_take_0870f97df3e074f7_54) + 8, address(constant_368));
-    put64(aligned(switch_table_listings_stream_ListerTaker_take_0870f97df3e074f7_54) + 16, address(constant_369));
-    put64(aligned(switch_table_listings_stream_ListerTaker_take_0870f97df3e074f7_54) + 24, address(constant_370));
-    put64(aligned(switch_table_listings_stream_ListerTaker_take_0870f97df3e074f7_54) + 32, address(constant_371));
-    put64(aligned(switch_table_listings_stream_ListerTaker_take_0870f97df3e074f7_54) + 40, address(constant_372));
-    put64(aligned(switch_table_listings_stream_ListerTaker_take_0870f97df3e074f7_54) + 48, address(constant_358));
-    put64(aligned(switch_table_listings_stream_ListerTaker_take_0870f97df3e074f7_54) + 56, address(constant_373));
-    put64(aligned(switch_table_listings_stream_ListerTaker_take_0870f97df3e074f7_54) + 64, address(constant_374));
-    put64(aligned(switch_table_listings_stream_ListerTaker_take_0870f97df3e074f7_54) + 72, address(constant_375));
-    put64(aligned(switch_table_listings_stream_ListerTaker_take_f23f64b283b6e92c_), address(constant_410));
-    put64(aligned(switch_table_listings_stream_ListerTaker_take_f23f64b283b6e92c_) + 8, address(constant_368));
-    put64(aligned(switch_table_listings_stream_ListerTaker_take_f23f64b283b6e92c_) + 16, address(constant_411));
-    put64(aligned(switch_table_listings_stream_ListerTaker_take_f23f64b283b6e92c_) + 24, address(constant_394));
-    put64(aligned(switch_table_listings_stream_ListerTaker_take_f23f64b283b6e92c_) + 32, address(constant_412));
-    put64(aligned(switch_table_listings_stream_ListerTaker_take_7b7a36397d8478ff_58), address(constant_392));
-    put64(aligned(switch_table_listings_stream_ListerTaker_take_7b7a36397d8478ff_58) + 8, address(constant_368));
-    put64(aligned(switch_table_listings_stream_ListerTaker_take_7b7a36397d8478ff_58) + 16, address(constant_393));
-    put64(aligned(switch_table_listings_stream_ListerTaker_take_7b7a36397d8478ff_58) + 24, address(constant_394));
-    put64(aligned(switch_table_listings_stream_ListerTaker_take_7b7a36397d8478ff_58) + 32, address(constant_367));
-    put64(aligned(switch_table_listings_stream_ListerTaker_take_7b7a36397d8478ff_58) + 40, address(constant_369));
-    put64(aligned(switch_table_listings_stream_ListerTaker_take_7b7a36397d8478ff_58) + 48, address(constant_395));
-    put64(aligned(switch_table_listings_stream_ListerTaker_take_7b7a36397d8478ff_58) + 56, address(constant_396));
-    put64(aligned(switch_table_listings_stream_ListerTaker_take_7b7a36397d8478ff_58) + 64, address(constant_397));
-    put64(aligned(switch_table_listings_stream_ListerTaker_take_7b7a36397d8478ff_58) + 72, address(constant_374));
-    put64(aligned(switch_table_listings_stream_ListerTaker_take_7b7a36397d8478ff_58) + 80, address(constant_375));
-    put64(aligned(switch_table_listings_stream_ListerTaker_take_7b7a36397d8478ff_58) + 88, address(constant_358));
+    put64(aligned(switch_table_script_link_node_LinkNodeNode_answer_6), address(constant_357));
+    put64(aligned(switch_table_script_link_node_LinkNodeNode_answer_6) + 8, address(constant_414));
+    put64(aligned(switch_table_script_link_node_LinkNodeNode_answer_6) + 16, address(constant_415));
+    put64(aligned(switch_table_script_link_node_LinkNodeNode_answer_6) + 24, address(constant_416));
+    put64(aligned(switch_table_nodes_fault_LinkFault_name_7), address(constant_352));
+    put64(aligned(switch_table_nodes_fault_LinkFault_name_7) + 8, address(constant_353));
+    put64(aligned(switch_table_nodes_fault_LinkFault_name_7) + 16, address(constant_354));
+    put64(aligned(switch_table_nodes_fault_LinkFault_name_7) + 24, address(constant_355));
+    put64(aligned(switch_table_nodes_fault_LinkFault_name_7) + 32, address(constant_356));
+    put64(aligned(switch_table_nodes_fault_LinkFault_name_7) + 40, address(constant_357));
+    put64(aligned(switch_table_nodes_fault_LinkFault_name_7) + 48, address(constant_358));
+    put64(aligned(switch_table_cop1_fault_CopFault_name_8), address(constant_359));
+    put64(aligned(switch_table_cop1_fault_CopFault_name_8) + 8, address(constant_360));
+    put64(aligned(switch_table_cop1_fault_CopFault_name_8) + 16, address(constant_361));
+    put64(aligned(switch_table_cop1_fault_CopFault_name_8) + 24, address(constant_362));
+    put64(aligned(switch_table_cop1_fault_CopFault_name_8) + 32, address(constant_357));
+    put64(aligned(switch_table_cop1_fault_CopFault_name_8) + 40, address(constant_352));
+    put64(aligned(switch_table_cop1_fault_CopFault_name_8) + 48, address(constant_363));
+    put64(aligned(switch_table_cop1_fault_CopFault_name_8) + 56, address(constant_364));
+    put64(aligned(switch_table_cop1_fault_CopFault_name_8) + 64, address(constant_365));
+    put64(aligned(switch_table_cop1_vocabulary_Alert_name_10), address(constant_376));
+    put64(aligned(switch_table_cop1_vocabulary_Alert_name_10) + 8, address(constant_377));
+    put64(aligned(switch_table_cop1_vocabulary_Alert_name_10) + 16, address(constant_378));
+    put64(aligned(switch_table_cop1_vocabulary_Alert_name_10) + 24, address(constant_379));
+    put64(aligned(switch_table_cop1_vocabulary_Alert_name_10) + 32, address(constant_361));
+    put64(aligned(switch_table_cop1_vocabulary_Alert_name_10) + 40, address(constant_362));
+    put64(aligned(switch_table_cop1_vocabulary_Alert_name_10) + 48, address(constant_380));
+    put64(aligned(switch_table_node_lines_answers_push_received_11), address(constant_397));
+    put64(aligned(switch_table_node_lines_answers_push_received_11) + 8, address(constant_398));
+    put64(aligned(switch_table_node_lines_answers_push_received_11) + 16, address(constant_399));
+    put64(aligned(switch_table_node_lines_answers_push_received_11) + 24, address(constant_400));
+    put64(aligned(switch_table_node_lines_answers_push_received_11) + 32, address(constant_401));
+    put64(aligned(switch_table_node_lines_answers_push_received_11) + 40, address(constant_402));
+    put64(aligned(switch_table_cop1_vocabulary_FopMode_name), address(constant_422));
+    put64(aligned(switch_table_cop1_vocabulary_FopMode_name) + 8, address(constant_423));
+    put64(aligned(switch_table_cop1_vocabulary_FopMode_name) + 16, address(constant_424));
+    put64(aligned(switch_table_cop1_vocabulary_FopMode_name) + 24, address(constant_425));
+    put64(aligned(switch_table_cop1_vocabulary_FopMode_name) + 32, address(constant_426));
+    put64(aligned(switch_table_cop1_vocabulary_FopMode_name) + 40, address(constant_427));
+    put64(aligned(switch_table_listings_stream_list_records_ba330065ffbb15ec_24), address(constant_353));
+    put64(aligned(switch_table_listings_stream_list_records_ba330065ffbb15ec_24) + 8, address(constant_405));
+    put64(aligned(switch_table_listings_stream_list_records_ba330065ffbb15ec_24) + 16, address(constant_406));
+    put64(aligned(switch_table_listings_stream_list_records_ba330065ffbb15ec_24) + 24, address(constant_372));
+    put64(aligned(switch_table_listings_stream_list_records_ba330065ffbb15ec_24) + 32, address(constant_355));
+    put64(aligned(switch_table_listings_telemetry_TelemetryListingListingFrameCutter_take_e34973c183157f3b_31), address(constant_409));
+    put64(aligned(switch_table_listings_telemetry_TelemetryListingListingFrameCutter_take_e34973c183157f3b_31) + 8, address(constant_367));
+    put64(aligned(switch_table_listings_telemetry_TelemetryListingListingFrameCutter_take_e34973c183157f3b_31) + 16, address(constant_410));
+    put64(aligned(switch_table_listings_telemetry_TelemetryListingListingFrameCutter_take_e34973c183157f3b_31) + 24, address(constant_393));
+    put64(aligned(switch_table_listings_stream_ListerTaker_take_0870f97df3e074f7_54), address(constant_366));
+    put64(aligned(switch_table_listings_stream_ListerTaker_take_0870f97df3e074f7_54) + 8, address(constant_367));
+    put64(aligned(switch_table_listings_stream_ListerTaker_take_0870f97df3e074f7_54) + 16, address(constant_368));
+    put64(aligned(switch_table_listings_stream_ListerTaker_take_0870f97df3e074f7_54) + 24, address(constant_369));
+    put64(aligned(switch_table_listings_stream_ListerTaker_take_0870f97df3e074f7_54) + 32, address(constant_370));
+    put64(aligned(switch_table_listings_stream_ListerTaker_take_0870f97df3e074f7_54) + 40, address(constant_371));
+    put64(aligned(switch_table_listings_stream_ListerTaker_take_0870f97df3e074f7_54) + 48, address(constant_357));
+    put64(aligned(switch_table_listings_stream_ListerTaker_take_0870f97df3e074f7_54) + 56, address(constant_372));
+    put64(aligned(switch_table_listings_stream_ListerTaker_take_0870f97df3e074f7_54) + 64, address(constant_373));
+    put64(aligned(switch_table_listings_stream_ListerTaker_take_0870f97df3e074f7_54) + 72, address(constant_374));
+    put64(aligned(switch_table_listings_stream_ListerTaker_take_f23f64b283b6e92c_), address(constant_409));
+    put64(aligned(switch_table_listings_stream_ListerTaker_take_f23f64b283b6e92c_) + 8, address(constant_367));
+    put64(aligned(switch_table_listings_stream_ListerTaker_take_f23f64b283b6e92c_) + 16, address(constant_410));
+    put64(aligned(switch_table_listings_stream_ListerTaker_take_f23f64b283b6e92c_) + 24, address(constant_393));
+    put64(aligned(switch_table_listings_stream_ListerTaker_take_f23f64b283b6e92c_) + 32, address(constant_411));
+    put64(aligned(switch_table_listings_stream_ListerTaker_take_7b7a36397d8478ff_58), address(constant_391));
+    put64(aligned(switch_table_listings_stream_ListerTaker_take_7b7a36397d8478ff_58) + 8, address(constant_367));
+    put64(aligned(switch_table_listings_stream_ListerTaker_take_7b7a36397d8478ff_58) + 16, address(constant_392));
+    put64(aligned(switch_table_listings_stream_ListerTaker_take_7b7a36397d8478ff_58) + 24, address(constant_393));
+    put64(aligned(switch_table_listings_stream_ListerTaker_take_7b7a36397d8478ff_58) + 32, address(constant_366));
+    put64(aligned(switch_table_listings_stream_ListerTaker_take_7b7a36397d8478ff_58) + 40, address(constant_368));
+    put64(aligned(switch_table_listings_stream_ListerTaker_take_7b7a36397d8478ff_58) + 48, address(constant_394));
+    put64(aligned(switch_table_listings_stream_ListerTaker_take_7b7a36397d8478ff_58) + 56, address(constant_395));
+    put64(aligned(switch_table_listings_stream_ListerTaker_take_7b7a36397d8478ff_58) + 64, address(constant_396));
+    put64(aligned(switch_table_listings_stream_ListerTaker_take_7b7a36397d8478ff_58) + 72, address(constant_373));
+    put64(aligned(switch_table_listings_stream_ListerTaker_take_7b7a36397d8478ff_58) + 80, address(constant_374));
+    put64(aligned(switch_table_listings_stream_ListerTaker_take_7b7a36397d8478ff_58) + 88, address(constant_357));
     put64(aligned(switch_table_listings_stream_ListerTaker_take_d83f3071be18d5ea_60), address(constant_504));
-    put64(aligned(switch_table_listings_stream_ListerTaker_take_d83f3071be18d5ea_60) + 8, address(constant_368));
+    put64(aligned(switch_table_listings_stream_ListerTaker_take_d83f3071be18d5ea_60) + 8, address(constant_367));
     put64(aligned(switch_table_listings_stream_ListerTaker_take_d83f3071be18d5ea_60) + 16, address(constant_505));
-    put64(aligned(switch_table_listings_stream_ListerTaker_take_d83f3071be18d5ea_60) + 24, address(constant_374));
-    put64(aligned(switch_table_listings_stream_ListerTaker_take_d83f3071be18d5ea_60) + 32, address(constant_375));
-    put64(aligned(switch_table_listings_stream_ListerTaker_take_d83f3071be18d5ea_60) + 40, address(constant_358));
+    put64(aligned(switch_table_listings_stream_ListerTaker_take_d83f3071be18d5ea_60) + 24, address(constant_373));
+    put64(aligned(switch_table_listings_stream_ListerTaker_take_d83f3071be18d5ea_60) + 32, address(constant_374));
+    put64(aligned(switch_table_listings_stream_ListerTaker_take_d83f3071be18d5ea_60) + 40, address(constant_357));
     put64(aligned(switch_table_stream_commands_status_ending_137066f15be98c7a_61), address(constant_515));
     put64(aligned(switch_table_stream_commands_status_ending_137066f15be98c7a_61) + 8, address(constant_516));
     put64(aligned(switch_table_stream_commands_status_ending_137066f15be98c7a_61) + 16, address(constant_517));
@@ -4031,7 +4031,6 @@ LOCAL void streams_words_number_in_word(uint64_t p0, uint64_t p1, uint64_t p2, u
 LOCAL void encode_lines_fields_after_key(uint64_t p0, uint64_t p1, uint64_t p2, uint64_t p3, uint64_t p4);
 LOCAL uint32_t encode_lines_held_holds_octets(uint64_t p0, uint64_t p1);
 LOCAL uint32_t encode_lines_held_holds_packet(uint64_t p0, uint64_t p1);
-LOCAL uint32_t streams_words_is(uint64_t p0, uint64_t p1, uint64_t p2, uint64_t p3);
 LOCAL void encode_lines_frames_frame_of(uint64_t p0, uint64_t p1, uint64_t p2, uint64_t p3, uint64_t p4, uint64_t p5);
 LOCAL void encode_lines_frames_segment_of(uint64_t p0, uint64_t p1, uint64_t p2, uint64_t p3, uint64_t p4, uint64_t
     p5, uint64_t p6);
@@ -4063,7 +4062,8 @@ LOCAL void node_lines_causes_cause_in(uint64_t p0, uint64_t p1, uint64_t p2);
 LOCAL void node_lines_line_octets_in(uint64_t p0, uint64_t p1);
 LOCAL void streams_words_octets_of_digits(uint64_t p0, uint64_t p1, uint64_t p2);
 LOCAL void node_lines_line_with_octets(uint64_t p0, uint64_t p1, uint64_t p2, uint64_t p3);
-LOCAL uint32_t node_lines_player_push_unreadable(uint64_t p0, uint64_t p1, uint64_t p2);
+LOCAL void node_lines_player_push_unreadable(uint64_t p0, uint64_t p1, uint64_t p2, uint64_t p3);
+LOCAL void node_lines_player_answer_b90c53bc3afb2eb0(uint64_t p0, uint64_t p1, uint64_t p2, uint64_t p3);
 LOCAL void nodes_ground_node_Ground_of(uint64_t p0, uint64_t p1);
 LOCAL void nodes_spacecraft_Spacecraft_of(uint64_t p0, uint64_t p1);
 LOCAL void std_alloc_vec_Vec_drop_4e50c14c2e726a6c(uint64_t p0);
@@ -4072,7 +4072,6 @@ LOCAL void std_alloc_vec_deque_VecDeque_drop_5dac71050cb8dba4(uint64_t p0);
 LOCAL void std_alloc_vec_deque_VecDeque_drop_b0c2e3ac61d256b1(uint64_t p0);
 LOCAL void std_alloc_vec_Vec_drop_b0c2e3ac61d256b1(uint64_t p0);
 LOCAL void simulated_link_map_lists_no_packets(uint64_t p0);
-LOCAL uint32_t node_lines_player_answer_b90c53bc3afb2eb0(uint64_t p0, uint64_t p1, uint64_t p2);
 LOCAL void script_script_link_node_LinkNode_Destruct_drop(uint64_t p0);
 LOCAL uint32_t node_lines_player_push_out_of_range(uint64_t p0, uint64_t p1, uint64_t p2);
 LOCAL void node_lines_player_push_lines(uint64_t p0, uint64_t p1, uint64_t p2, uint64_t p3);
@@ -4099,48 +4098,6 @@ LOCAL uint32_t core_slice_reads_slice_T_ends_with_i8_31_core_cmp_numbers_U8Parti
 LOCAL uint32_t core_slice_reads_slice_T_starts_with_i8_31_core_cmp_numbers_U8PartialEq(uint64_t p0, uint64_t p1,
     uint64_t p2, uint64_t p3);
 LOCAL void node_lines_causes_cause_by_word(uint64_t p0, uint64_t p1, uint64_t p2);
-LOCAL void tm_link_extractor_Extractor_new(uint64_t p0);
-LOCAL void std_alloc_vec_deque_VecDeque_with_capacity_ab161963403435e1(uint64_t p0, uint64_t p1);
-LOCAL void circular_buffer_heap_HeapCircularBuffer_drop_695a0d5c0a17370d(uint64_t p0);
-LOCAL void std_alloc_vec_deque_VecDeque_drop_695a0d5c0a17370d(uint64_t p0);
-LOCAL void std_alloc_vec_Vec_drop_030412a25431895c(uint64_t p0);
-LOCAL uint32_t std_alloc_vec_Vec_move_to_ab161963403435e1(uint64_t p0, uint64_t p1);
-LOCAL void std_alloc_vec_Vec_destroy_empty_ab161963403435e1(uint64_t p0);
-LOCAL void std_alloc_vec_resize_ab161963403435e1(uint64_t p0, uint64_t p1, uint64_t p2, uint64_t p3, uint64_t p4);
-LOCAL void std_heap_GlobalAllocator_grow_34_nodes_owned_segment_OwnedSegment(uint64_t p0, uint64_t p1, uint64_t p2,
-    uint64_t p3);
-LOCAL void std_alloc_vec_Vec_destroy_empty_2ad1318893ccf184(uint64_t p0);
-LOCAL void circular_buffer_cells_Cells_drop_wrapped_09dedc624c4eb86b(uint64_t p0, uint64_t p1, uint64_t p2, uint64_t
-    p3);
-LOCAL void circular_buffer_cells_Cells_drop_slice_09dedc624c4eb86b(uint64_t p0, uint64_t p1, uint64_t p2);
-LOCAL void core_mem_drop_09dedc624c4eb86b(uint64_t p0);
-LOCAL void nodes_nodes_owned_segment_OwnedSegment_Destruct_drop(uint64_t p0);
-LOCAL void std_alloc_vec_deque_VecDeque_clear_b91120b3987bfff5(uint64_t p0);
-LOCAL void std_alloc_vec_opened_drop_run_09dedc624c4eb86b(uint64_t p0, uint64_t p1, uint64_t p2);
-LOCAL void std_alloc_vec_deque_VecDeque_truncate_ab712b15485b8137(uint64_t p0, uint64_t p1);
-LOCAL void std_alloc_vec_Vec_destroy_empty_0956fa20d2e9e8d8(uint64_t p0);
-LOCAL void std_alloc_vec_deque_VecDeque_drop_54ecb467e50d9ac7(uint64_t p0);
-LOCAL void std_alloc_vec_opened_drop_run_14a212f36676944b(uint64_t p0, uint64_t p1, uint64_t p2);
-LOCAL void core_mem_drop_2be10895257269c2(uint64_t p0);
-LOCAL void std_alloc_vec_opened_drop_run_2be10895257269c2(uint64_t p0, uint64_t p1, uint64_t p2);
-LOCAL void std_alloc_vec_Vec_destroy_empty_49bbd27f022ae39a(uint64_t p0);
-LOCAL void std_alloc_vec_Vec_free_block_49bbd27f022ae39a(uint64_t p0);
-LOCAL void std_alloc_vec_opened_drop_run_daeed4d2c71e939d(uint64_t p0, uint64_t p1, uint64_t p2);
-LOCAL void std_alloc_vec_Vec_destroy_empty_1598ebf9113514c4(uint64_t p0);
-LOCAL void std_alloc_vec_Vec_clear_e6cd4f9016244943(uint64_t p0);
-LOCAL void script_nodes_owned_segment_OwnedSegment_Destruct_drop(uint64_t p0);
-LOCAL void script_core_option_Option_Destruct_drop_817c41fc4efae97a(uint64_t p0);
-LOCAL void script_Destruct_array_drop_f7db9ec84d303bc9(uint64_t p0);
-LOCAL uint32_t std_alloc_string_String_write_fmt_d55c35ff3b7cb7a7(uint64_t p0, uint64_t p1);
-LOCAL uint32_t core_fmt_formatter_Formatter_write_piece_021956a9582caf01(uint64_t p0, uint64_t p1);
-LOCAL uint32_t std_alloc_fmt_undo_if_err_c9f0b165bbde0115(uint64_t p0, uint64_t p1, uint32_t p2);
-LOCAL uint32_t std_alloc_string_String_push_str_c9f0b165bbde0115(uint64_t p0, uint64_t p1, uint64_t p2);
-LOCAL uint32_t core_fmt_formatter_Formatter_write_indented_bd2afacae86e23b6(uint64_t p0, uint64_t p1, uint64_t p2);
-LOCAL uint32_t std_alloc_vec_Vec_grow_bbd08ad089034210(uint64_t p0, uint64_t p1);
-LOCAL uint32_t std_alloc_vec_Vec_move_to_bbd08ad089034210(uint64_t p0, uint64_t p1);
-LOCAL uint32_t core_fmt_formatter_Formatter_write_indented_line_bd2afacae86e23b6(uint64_t p0, uint64_t p1, uint64_t
-    p2, uint32_t p3);
-LOCAL uint32_t core_fmt_formatter_Formatter_write_raw_bd2afacae86e23b6(uint64_t p0, uint64_t p1, uint64_t p2);
 LOCAL uint32_t script_link_node_LinkNodeNode_answer(uint64_t p0, uint64_t p1, uint64_t p2);
 LOCAL uint32_t std_alloc_vec_Vec_push_bbd08ad089034210(uint64_t p0);
 LOCAL void nodes_ground_node_Ground_prepare(uint64_t p0, uint64_t p1, uint32_t p2, uint64_t p3, uint64_t p4);
@@ -4196,6 +4153,7 @@ LOCAL void smallvec_small_vec_SmallVec_push_reserved_ed127ccbaaf726c4(uint64_t p
 LOCAL void core_array_array_drop_ae445932defd1957(uint64_t p0);
 LOCAL void std_alloc_vec_Vec_drop_555ceec2fcbf3849(uint64_t p0);
 LOCAL void std_alloc_vec_deque_VecDeque_push_back_reserved_0956fa20d2e9e8d8(uint64_t p0, uint64_t p1);
+LOCAL void std_alloc_vec_Vec_drop_030412a25431895c(uint64_t p0);
 LOCAL void std_alloc_vec_opened_drop_run_03d4c2b8051eaf83(uint64_t p0, uint64_t p1, uint64_t p2);
 LOCAL void std_alloc_vec_Vec_destroy_empty_9144b5853a75d9b2(uint64_t p0);
 LOCAL void nodes_spacecraft_Spacecraft_keep(uint64_t p0, uint64_t p1);
@@ -4220,20 +4178,39 @@ LOCAL uint32_t nodes_ground_node_Ground_has_places(uint64_t p0, uint64_t p1);
 LOCAL void nodes_owned_segment_OwnedSegment_new(uint64_t p0, uint64_t p1);
 LOCAL uint64_t map_service_cutting_group_len(uint64_t p0, uint64_t p1, uint64_t p2);
 LOCAL uint32_t map_service_cutting_append(uint64_t p0, uint64_t p1);
+LOCAL void std_alloc_vec_deque_VecDeque_with_capacity_ab161963403435e1(uint64_t p0, uint64_t p1);
 LOCAL void std_alloc_vec_deque_VecDeque_push_back_reserved_ab161963403435e1(uint64_t p0, uint64_t p1);
+LOCAL void std_alloc_vec_deque_VecDeque_drop_695a0d5c0a17370d(uint64_t p0);
 LOCAL void std_alloc_vec_Vec_drop_2f5d0285e11e35b2(uint64_t p0);
 LOCAL uint32_t nodes_ground_node_Ground_lack_of(uint64_t p0, uint64_t p1, uint64_t p2);
 LOCAL void std_alloc_vec_Vec_from_slice_8e16d1c3a9c68bc1(uint64_t p0, uint64_t p1, uint64_t p2);
 LOCAL void std_alloc_vec_Vec_with_capacity_2ad1318893ccf184(uint64_t p0, uint64_t p1);
 LOCAL uint32_t std_alloc_vec_Vec_extend_from_slice_8e16d1c3a9c68bc1(uint64_t p0, uint64_t p1, uint64_t p2);
+LOCAL void std_alloc_vec_Vec_destroy_empty_2ad1318893ccf184(uint64_t p0);
 LOCAL uint32_t std_alloc_vec_Vec_move_to_2ad1318893ccf184(uint64_t p0, uint64_t p1);
+LOCAL uint32_t std_alloc_vec_Vec_move_to_ab161963403435e1(uint64_t p0, uint64_t p1);
+LOCAL void std_alloc_vec_Vec_destroy_empty_ab161963403435e1(uint64_t p0);
+LOCAL void std_alloc_vec_resize_ab161963403435e1(uint64_t p0, uint64_t p1, uint64_t p2, uint64_t p3, uint64_t p4);
+LOCAL void std_heap_GlobalAllocator_grow_34_nodes_owned_segment_OwnedSegment(uint64_t p0, uint64_t p1, uint64_t p2,
+    uint64_t p3);
+LOCAL void std_alloc_vec_deque_VecDeque_clear_b91120b3987bfff5(uint64_t p0);
+LOCAL void std_alloc_vec_opened_drop_run_09dedc624c4eb86b(uint64_t p0, uint64_t p1, uint64_t p2);
+LOCAL void core_mem_drop_09dedc624c4eb86b(uint64_t p0);
+LOCAL void nodes_nodes_owned_segment_OwnedSegment_Destruct_drop(uint64_t p0);
 LOCAL void std_alloc_vec_deque_VecDeque_write_back_ab161963403435e1(uint64_t p0, uint64_t p1);
 LOCAL uint32_t space_packet_whole_is_packet(uint64_t p0, uint64_t p1);
+LOCAL void std_alloc_vec_Vec_destroy_empty_49bbd27f022ae39a(uint64_t p0);
 LOCAL uint32_t std_alloc_vec_Vec_move_to_49bbd27f022ae39a(uint64_t p0, uint64_t p1);
+LOCAL void std_alloc_vec_Vec_free_block_49bbd27f022ae39a(uint64_t p0);
 LOCAL uint32_t std_alloc_vec_Vec_move_to_1598ebf9113514c4(uint64_t p0, uint64_t p1);
+LOCAL void std_alloc_vec_Vec_destroy_empty_1598ebf9113514c4(uint64_t p0);
 LOCAL void std_alloc_vec_resize_1598ebf9113514c4(uint64_t p0, uint64_t p1, uint64_t p2, uint64_t p3, uint64_t p4);
 LOCAL void std_heap_GlobalAllocator_grow_2262cf5b90b10fda(uint64_t p0, uint64_t p1, uint64_t p2, uint64_t p3);
 LOCAL uint32_t std_alloc_vec_Vec_grow_1598ebf9113514c4(uint64_t p0, uint64_t p1);
+LOCAL void std_alloc_vec_Vec_clear_e6cd4f9016244943(uint64_t p0);
+LOCAL void std_alloc_vec_opened_drop_run_daeed4d2c71e939d(uint64_t p0, uint64_t p1, uint64_t p2);
+LOCAL void std_alloc_vec_opened_drop_run_2be10895257269c2(uint64_t p0, uint64_t p1, uint64_t p2);
+LOCAL void core_mem_drop_2be10895257269c2(uint64_t p0);
 LOCAL uint64_t std_alloc_vec_copy_34_nodes_owned_segment_OwnedSegment(uint64_t p0, uint64_t p1, uint64_t p2);
 LOCAL void nodes_ground_node_Ground_refill(uint64_t p0);
 LOCAL void std_alloc_vec_deque_VecDeque_pop_front_nonempty_ab161963403435e1(uint64_t p0, uint64_t p1);
@@ -4241,6 +4218,7 @@ LOCAL void std_alloc_vec_deque_VecDeque_head_slice_1598ebf9113514c4(uint64_t p0,
 LOCAL void tm_link_frame_TmFrame_report(uint64_t p0, uint64_t p1);
 LOCAL void clcw_decoding_decode(uint64_t p0, uint64_t p1);
 LOCAL void cop1_fop_trim_trim_09dedc624c4eb86b(uint64_t p0, uint64_t p1, uint64_t p2);
+LOCAL void circular_buffer_cells_Cells_drop_slice_09dedc624c4eb86b(uint64_t p0, uint64_t p1, uint64_t p2);
 LOCAL void core_array_array_drop_12acdf539b3d520a(uint64_t p0);
 LOCAL uint64_t nodes_ground_node_Ground_whole_with(uint64_t p0, uint32_t p1);
 LOCAL void core_ptr_copy_drop_copy_nonoverlapping_2262cf5b90b10fda(uint64_t p0, uint64_t p1, uint64_t p2);
@@ -4271,6 +4249,15 @@ LOCAL void std_alloc_vec_resize_ee377714b7165a56(uint64_t p0, uint64_t p1, uint6
 LOCAL uint64_t std_alloc_vec_copy_i32(uint64_t p0, uint64_t p1, uint64_t p2);
 LOCAL void cop1_vocabulary_Alert_name(uint64_t p0, uint32_t p1);
 LOCAL uint32_t node_lines_answers_push_named(uint64_t p0, uint64_t p1, uint64_t p2, uint64_t p3);
+LOCAL uint32_t std_alloc_string_String_push_str_c9f0b165bbde0115(uint64_t p0, uint64_t p1, uint64_t p2);
+LOCAL uint32_t core_fmt_formatter_Formatter_write_piece_021956a9582caf01(uint64_t p0, uint64_t p1);
+LOCAL uint32_t std_alloc_fmt_undo_if_err_c9f0b165bbde0115(uint64_t p0, uint64_t p1, uint32_t p2);
+LOCAL uint32_t core_fmt_formatter_Formatter_write_indented_bd2afacae86e23b6(uint64_t p0, uint64_t p1, uint64_t p2);
+LOCAL uint32_t core_fmt_formatter_Formatter_write_indented_line_bd2afacae86e23b6(uint64_t p0, uint64_t p1, uint64_t
+    p2, uint32_t p3);
+LOCAL uint32_t core_fmt_formatter_Formatter_write_raw_bd2afacae86e23b6(uint64_t p0, uint64_t p1, uint64_t p2);
+LOCAL uint32_t std_alloc_vec_Vec_grow_bbd08ad089034210(uint64_t p0, uint64_t p1);
+LOCAL uint32_t std_alloc_vec_Vec_move_to_bbd08ad089034210(uint64_t p0, uint64_t p1);
 LOCAL uint32_t node_lines_answers_push_digits(uint64_t p0, uint64_t p1, uint64_t p2);
 LOCAL void std_alloc_vec_Vec_destroy_empty_bbd08ad089034210(uint64_t p0);
 LOCAL void tc_frame_fault_TcFault_name(uint64_t p0, uint32_t p1);
@@ -4292,6 +4279,16 @@ LOCAL uint32_t core_fmt_formatter_Formatter_and_repeat_char_1f312fa7d02b8b91(uin
     uint64_t p3);
 LOCAL uint32_t core_fmt_formatter_Formatter_write_bytes_1f312fa7d02b8b91(uint64_t p0, uint64_t p1, uint64_t p2);
 LOCAL uint32_t std_alloc_string_String_write_fmt_06a3df4cdf1475bb(uint64_t p0, uint64_t p1);
+LOCAL void tm_link_extractor_Extractor_new(uint64_t p0);
+LOCAL void circular_buffer_heap_HeapCircularBuffer_drop_695a0d5c0a17370d(uint64_t p0);
+LOCAL void std_alloc_vec_deque_VecDeque_truncate_ab712b15485b8137(uint64_t p0, uint64_t p1);
+LOCAL void std_alloc_vec_Vec_destroy_empty_0956fa20d2e9e8d8(uint64_t p0);
+LOCAL void std_alloc_vec_deque_VecDeque_drop_54ecb467e50d9ac7(uint64_t p0);
+LOCAL void std_alloc_vec_opened_drop_run_14a212f36676944b(uint64_t p0, uint64_t p1, uint64_t p2);
+LOCAL void script_nodes_owned_segment_OwnedSegment_Destruct_drop(uint64_t p0);
+LOCAL void script_core_option_Option_Destruct_drop_817c41fc4efae97a(uint64_t p0);
+LOCAL void script_Destruct_array_drop_f7db9ec84d303bc9(uint64_t p0);
+LOCAL uint32_t std_alloc_string_String_write_fmt_d55c35ff3b7cb7a7(uint64_t p0, uint64_t p1);
 LOCAL void circular_buffer_cells_Cells_drop_slice_1ec76edc3950092e(uint64_t p0, uint64_t p1, uint64_t p2);
 LOCAL void core_mem_drop_1ec76edc3950092e(uint64_t p0);
 LOCAL void std_alloc_vec_opened_drop_run_1ec76edc3950092e(uint64_t p0, uint64_t p1, uint64_t p2);
@@ -9319,11 +9316,11 @@ LOCAL void streams_play_LinesTaker_end_5c3c6575dd0e1f82(uint64_t p0, uint64_t p1
 LOCAL void streams_play_Lines_play_5c3c6575dd0e1f82(uint64_t p0, uint64_t p1, uint64_t p2, uint64_t p3, uint64_t p4)
 {
     unsigned char frame_octets[1408 + 15];
-    uint32_t v13 = 0, v17 = 0, v20 = 0, v21 = 0, v29 = 0, v40 = 0, v41 = 0, v42 = 0, v43 = 0, v44 = 0, t1, t2, t4, t5,
-        t6, t7, t8, t9, t10, t11, t13, t14, t15, t16, t17;
+    uint32_t v13 = 0, v17 = 0, v20 = 0, v21 = 0, v29 = 0, v39 = 0, v40 = 0, v41 = 0, v42 = 0, v43 = 0, t1, t2, t4, t5,
+        t6, t7, t8, t9, t10, t11, t12, t13, t15, t16, t17, t18, t19;
     uint64_t v5 = 0, v6 = 0, v7 = 0, v8 = 0, v9 = 0, v10 = 0, v11 = 0, v12 = 0, v14 = 0, v15 = 0, v16 = 0, v18 = 0,
         v19 = 0, v22 = 0, v23 = 0, v24 = 0, v25 = 0, v26 = 0, v27 = 0, v28 = 0, v30 = 0, v31 = 0, v32 = 0, v33 = 0,
-        v34 = 0, v35 = 0, v36 = 0, v37 = 0, v38 = 0, v39 = 0;
+        v34 = 0, v35 = 0, v36 = 0, v37 = 0, v38 = 0;
     v5 = aligned(frame_octets);
     v6 = p1 + 40;
     if (get64(v6) != 0) put64(v6, 0);
@@ -9379,10 +9376,10 @@ LOCAL void streams_play_Lines_play_5c3c6575dd0e1f82(uint64_t p0, uint64_t p1, ui
             v25 = get64(v5 + 384);
             v26 = get64(v5 + 376);
             if (v6 == get64(v5 + 336)) {
-                if (v6 == ~0ULL) goto l20;
+                if (v6 == ~0ULL) goto l19;
                 v27 = ((v6 > 3) ? v6 : 3ULL) + 1;
                 v27 = (v6 < 0x4000000000000000ULL) ? ((v27 > v22) ? v27 : v22) : v27;
-                if (v27 > 0x7ffffffffffffffULL) goto l20;
+                if (v27 > 0x7ffffffffffffffULL) goto l19;
                 if (v6 != 0) {
                     std_heap_GlobalAllocator_grow_3_i64(v5 + 168, v23, v6, v27);
                     v28 = get64(v5 + 176);
@@ -9392,7 +9389,7 @@ LOCAL void streams_play_Lines_play_5c3c6575dd0e1f82(uint64_t p0, uint64_t p1, ui
                     v29 = get8(v5 + 152);
                     v28 = (v29 != 0) ? 0ULL : get64(v5 + 160);
                 }
-                if ((v29 & 255) != 0) goto l20;
+                if ((v29 & 255) != 0) goto l19;
                 put64(v5 + 336, v27);
                 v23 = v28;
             }
@@ -9437,51 +9434,63 @@ LOCAL void streams_play_Lines_play_5c3c6575dd0e1f82(uint64_t p0, uint64_t p1, ui
         if (v24 < 4) goto l14;
         if (v24 == 4) {
             v27 = get64(v22 + 48);
-            v28 = get64(v22 + 56);
-            v30 = get64(v22 + 32);
-            v31 = get64(v22 + 40);
-            v32 = get64(v22 + 16);
-            v33 = get64(v22 + 24);
-            v25 = get64(v22 + 8);
-            v26 = get64(v22);
-            v19 = 0;
-            fill(v5 + 320, 0, 32);
-            t4 = streams_words_is(v26, v25, address(constant_250), 2);
-            if (t4 == 0) {
-                v21 = 0;
-                goto l16;
-            }
-            t5 = streams_words_is(v27, v28, address(constant_251), 6);
-            if (t5 == 0) {
-                v21 = 0;
-                v19 = 0;
-                goto l16;
-            }
-            put8(v5 + 320, 2);
-            encode_lines_frames_frame_of(v5 + 376, v32, v33, v30, v31, v5 + 320);
-        } else if (v24 <= 5) {
-            v30 = get64(v22 + 64);
-            v31 = get64(v22 + 72);
-            v27 = get64(v22 + 48);
-            v28 = get64(v22 + 56);
-            v32 = get64(v22 + 32);
-            v33 = get64(v22 + 40);
-            v34 = get64(v22 + 16);
-            v35 = get64(v22 + 24);
+            v26 = get64(v22 + 56);
+            v28 = get64(v22 + 32);
+            v30 = get64(v22 + 40);
+            v31 = get64(v22 + 16);
+            v32 = get64(v22 + 24);
             v19 = get64(v22 + 8);
-            v26 = get64(v22);
-            v25 = 0;
+            v25 = get64(v22);
             fill(v5 + 320, 0, 32);
-            t6 = streams_words_is(v26, v19, address(constant_250), 2);
-            if (t6 == 0) goto l17;
-            t7 = streams_words_is(v27, v28, address(constant_253), 3);
-            if (t7 == 0) goto l18;
-            streams_words_number_in_word(v5 + 104, v30, v31, 255);
-            if ((get8(v5 + 104) & 1) == 0) goto l18;
+            if (v19 != 2) goto l16;
+            put64(v5 + 400, 2);
+            put64(v5 + 392, address(constant_250));
+            put64(v5 + 384, 2);
+            put64(v5 + 376, v25);
+            t4 = core_slice_scan_any_by_one_953750c03e87c3e2(v5 + 376, 2);
+            if (t4 != 0 || v26 != 6) goto l16;
+            put64(v5 + 400, 6);
+            put64(v5 + 392, address(constant_251));
+            put64(v5 + 384, 6);
+            put64(v5 + 376, v27);
+            t5 = core_slice_scan_any_in_run_953750c03e87c3e2(v5 + 376, 0, 4);
+            if (t5 != 0) goto l16;
+            t6 = core_cmp_slices_groups_equal_i8_31_core_cmp_numbers_U8PartialEq(v27, 6, address(constant_251), 6);
+            if (t6 == 0) goto l16;
+            put8(v5 + 322, 0);
+            put16(v5 + 320, 2);
+            encode_lines_frames_frame_of(v5 + 376, v31, v32, v28, v30, v5 + 320);
+        } else if (v24 <= 5) {
+            v28 = get64(v22 + 64);
+            v30 = get64(v22 + 72);
+            v27 = get64(v22 + 48);
+            v26 = get64(v22 + 56);
+            v31 = get64(v22 + 32);
+            v32 = get64(v22 + 40);
+            v33 = get64(v22 + 16);
+            v34 = get64(v22 + 24);
+            v19 = get64(v22 + 8);
+            v25 = get64(v22);
+            fill(v5 + 320, 0, 32);
+            if (v19 != 2) goto l17;
+            put64(v5 + 400, 2);
+            put64(v5 + 392, address(constant_250));
+            put64(v5 + 384, 2);
+            put64(v5 + 376, v25);
+            t7 = core_slice_scan_any_by_one_953750c03e87c3e2(v5 + 376, 2);
+            if (t7 != 0 || v26 != 3) goto l17;
+            put64(v5 + 400, 3);
+            put64(v5 + 392, address(constant_253));
+            put64(v5 + 384, 3);
+            put64(v5 + 376, v27);
+            t8 = core_slice_scan_any_by_one_953750c03e87c3e2(v5 + 376, 3);
+            if (t8 != 0) goto l17;
+            streams_words_number_in_word(v5 + 104, v28, v30, 255);
+            if ((get8(v5 + 104) & 1) == 0) goto l17;
             v19 = get64(v5 + 112);
             put16(v5 + 320, 258);
             put8(v5 + 322, (uint32_t)v19);
-            encode_lines_frames_frame_of(v5 + 376, v34, v35, v32, v33, v5 + 320);
+            encode_lines_frames_frame_of(v5 + 376, v33, v34, v31, v32, v5 + 320);
         } else if (v24 == 6) {
             v26 = get64(v22 + 80);
             v27 = get64(v22 + 88);
@@ -9496,79 +9505,89 @@ LOCAL void streams_play_Lines_play_5c3c6575dd0e1f82(uint64_t p0, uint64_t p1, ui
             v19 = get64(v22 + 8);
             v25 = get64(v22);
             put64(v5 + 280, 1);
-            t8 = streams_words_is(v25, v19, address(constant_254), 2);
-            if (t8 == 0) goto l18;
+            if (v19 != 2) goto l17;
+            put64(v5 + 400, 2);
+            put64(v5 + 392, address(constant_254));
+            put64(v5 + 384, 2);
+            put64(v5 + 376, v25);
+            t9 = core_slice_scan_any_by_one_953750c03e87c3e2(v5 + 376, 2);
+            if (t9 != 0) goto l17;
             encode_lines_frames_segment_of(v5 + 320, v31, v32, v28, v30, v26, v27);
-            if (get8(v5 + 320) != 1) goto l18;
+            if (get8(v5 + 320) != 1) goto l17;
             put64(v9 + 16, get64(v10 + 16));
             put64(v9 + 8, get64(v10 + 8));
             put64(v9, get64(v10));
             encode_lines_frames_frame_of(v5 + 376, v35, v36, v33, v34, v5 + 280);
         } else {
             if (v24 > 7) goto l8;
-            v30 = get64(v22 + 96);
-            v31 = get64(v22 + 104);
-            v32 = get64(v22 + 80);
-            v33 = get64(v22 + 88);
-            v34 = get64(v22 + 64);
-            v35 = get64(v22 + 72);
-            v27 = get64(v22 + 48);
-            v28 = get64(v22 + 56);
-            v36 = get64(v22 + 32);
-            v37 = get64(v22 + 40);
-            v38 = get64(v22 + 16);
-            v39 = get64(v22 + 24);
+            v28 = get64(v22 + 96);
+            v30 = get64(v22 + 104);
+            v31 = get64(v22 + 80);
+            v32 = get64(v22 + 88);
+            v33 = get64(v22 + 64);
+            v34 = get64(v22 + 72);
+            v26 = get64(v22 + 48);
+            v27 = get64(v22 + 56);
+            v35 = get64(v22 + 32);
+            v36 = get64(v22 + 40);
+            v37 = get64(v22 + 16);
+            v38 = get64(v22 + 24);
             v19 = get64(v22 + 8);
-            v26 = get64(v22);
-            v25 = 0;
+            v25 = get64(v22);
             put64(v5 + 280, 0);
-            t9 = streams_words_is(v26, v19, address(constant_258), 2);
-            if (t9 == 0) goto l17;
-            encode_lines_fields_number_after(v5 + 120, v27, v28, address(constant_259), 2, 255);
-            if ((get8(v5 + 120) & 1) == 0) goto l18;
+            if (v19 != 2) goto l17;
+            put64(v5 + 400, 2);
+            put64(v5 + 392, address(constant_258));
+            put64(v5 + 384, 2);
+            put64(v5 + 376, v25);
+            t10 = core_slice_scan_any_by_one_953750c03e87c3e2(v5 + 376, 2);
+            if (t10 != 0) goto l17;
+            encode_lines_fields_number_after(v5 + 120, v26, v27, address(constant_259), 2, 255);
+            if ((get8(v5 + 120) & 1) == 0) goto l17;
             v19 = get64(v5 + 128);
-            encode_lines_frames_segment_of(v5 + 320, v34, v35, v32, v33, v30, v31);
-            if (get8(v5 + 320) != 1) goto l18;
+            encode_lines_frames_segment_of(v5 + 320, v33, v34, v31, v32, v28, v30);
+            if (get8(v5 + 320) != 1) goto l17;
             put64(v9, get64(v10));
             put64(v9 + 8, get64(v10 + 8));
             put64(v9 + 16, get64(v10 + 16));
             put8(v5 + 281, (uint32_t)v19);
-            encode_lines_frames_frame_of(v5 + 376, v38, v39, v36, v37, v5 + 280);
+            encode_lines_frames_frame_of(v5 + 376, v37, v38, v35, v36, v5 + 280);
         }
         v19 = get64(v5 + 416);
         v25 = get64(v5 + 408);
         v21 = get16(v5 + 400);
-        v40 = get8(v5 + 394);
-        v41 = get8(v5 + 393);
+        v39 = get8(v5 + 394);
+        v40 = get8(v5 + 393);
         v13 = get8(v5 + 392);
-        v42 = get8(v5 + 386);
-        v43 = get16(v5 + 384);
+        v41 = get8(v5 + 386);
+        v42 = get16(v5 + 384);
         v29 = get8(v5 + 376);
         goto l15;
-    l20:;
+    l19:;
         put64(v5 + 320, v23);
         put64(v5 + 328, v6);
         std_alloc_vec_Vec_drop_95c7303ecc94d442(v5 + 320);
         break;
-    l18:;
-        v25 = 0;
     l17:;
-        v43 = 0;
+        v25 = 0;
         v42 = 0;
-        v13 = 0;
         v41 = 0;
+        v13 = 0;
         v40 = 0;
+        v39 = 0;
         v21 = 0;
         v19 = 0;
         v29 = 0;
         goto l15;
     l16:;
+        v21 = 0;
+        v19 = 0;
         v25 = 0;
+        v39 = 0;
         v40 = 0;
-        v41 = 0;
         v13 = 0;
+        v41 = 0;
         v42 = 0;
-        v43 = 0;
         v29 = 0;
     l15:;
         if ((v29 & 255) == 1) {
@@ -9577,7 +9596,7 @@ LOCAL void streams_play_Lines_play_5c3c6575dd0e1f82(uint64_t p0, uint64_t p1, ui
             encode_lines_fields_octets_of_digits(v5 + 280, (v29 != 0) ? address(constant_56) : v25, (v29 != 0) ? 0ULL
                 : v19);
             if (get8(v5 + 280) != 0) goto l9;
-            v44 = 0;
+            v43 = 0;
             v29 = 0;
             if (get8(v5 + 288) == 1) {
                 v26 = get64(v5 + 296);
@@ -9590,35 +9609,35 @@ LOCAL void streams_play_Lines_play_5c3c6575dd0e1f82(uint64_t p0, uint64_t p1, ui
                     v29 = 0;
                     v19 = v26;
                     v25 = v27;
-                    v41 = 0;
+                    v40 = 0;
                     break;
                 case 2:
                     v19 = 0;
                     v21 = 0;
                     v25 = 0;
-                    v29 = v40;
+                    v29 = v39;
                     break;
                 default:
                     break;
                 }
                 v28 = get64(v5 + 312);
-                v44 = 0;
+                v43 = 0;
                 fill(v8, 0, 6);
                 put16(v5 + 336, v21);
                 put8(v5 + 330, v29);
-                put8(v5 + 329, v41);
+                put8(v5 + 329, v40);
                 put8(v5 + 328, v13);
-                put8(v5 + 322, v42);
-                put16(v5 + 320, v43);
+                put8(v5 + 322, v41);
+                put16(v5 + 320, v42);
                 put64(v5 + 352, v25);
                 put64(v5 + 344, v19);
                 fill(v5 + 360, 0, 0x410);
                 tc_frame_encoding_encode(v5 + 360, v5 + 320, v20, v5 + 376, 0x400);
                 v29 = 0;
                 if (get8(v5 + 360) == 0) {
-                    t10 = std_alloc_vec_Vec_extend_from_slice_547a1c9aa20100c2(v7, v5 + 376, get64(v5 + 368));
-                    v29 = t10 & 255;
-                    v44 = v29 ^ 1;
+                    t11 = std_alloc_vec_Vec_extend_from_slice_547a1c9aa20100c2(v7, v5 + 376, get64(v5 + 368));
+                    v29 = t11 & 255;
+                    v43 = v29 ^ 1;
                 }
                 put64(v5 + 272, v28);
                 put64(v5 + 264, v27);
@@ -9631,35 +9650,55 @@ LOCAL void streams_play_Lines_play_5c3c6575dd0e1f82(uint64_t p0, uint64_t p1, ui
                 goto l6;
             }
             v13 = v21;
-            if (v44 != 0) goto l6;
+            if (v43 != 0) goto l6;
         }
         v21 = 0;
         if (v24 != 7) goto l7;
         v37 = get64(v22 + 96);
         v38 = get64(v22 + 104);
+        v25 = get64(v22 + 80);
         v35 = get64(v22 + 64);
         v36 = get64(v22 + 72);
         v33 = get64(v22 + 48);
         v34 = get64(v22 + 56);
         v31 = get64(v22 + 32);
         v32 = get64(v22 + 40);
-        v26 = get64(v22 + 16);
-        v27 = get64(v22 + 24);
-        v19 = get64(v22 + 8);
-        v25 = get64(v22);
-        v28 = get64(v22 + 80);
-        v30 = get64(v22 + 88);
-        t11 = streams_words_is(v28, v30, address(constant_266), 5);
-        if (t11 == 0) {
-            encode_lines_fields_number_after(v5 + 88, v28, v30, address(constant_267), 4, 0x3fff);
-            if (get8(v5 + 88) != 1) goto l7;
+        v28 = get64(v22 + 16);
+        v30 = get64(v22 + 24);
+        v26 = get64(v22 + 8);
+        v19 = get64(v22 + 88);
+        v27 = get64(v22);
+        fill(v5 + 320, 0, 24);
+        if (v19 == 5) {
+            put64(v5 + 400, 5);
+            put64(v5 + 392, address(constant_266));
+            put64(v5 + 384, 5);
+            put64(v5 + 376, v25);
+            t12 = core_slice_scan_any_in_run_953750c03e87c3e2(v5 + 376, 0, 4);
+            if (t12 == 0) {
+                t13 = core_cmp_slices_groups_equal_i8_31_core_cmp_numbers_U8PartialEq(v25, 5, address(constant_266),
+                    5);
+                if (t13 != 0) goto l39;
+            }
         }
-        v13 = streams_words_is(v25, v19, address(constant_268), 2);
-        if (v13 == 0) {
-            t13 = streams_words_is(v25, v19, address(constant_269), 2);
-            if (t13 == 0) goto l7;
+        encode_lines_fields_number_after(v5 + 88, v25, v19, address(constant_267), 4, 0x3fff);
+        if (get8(v5 + 88) != 1) goto l7;
+    l39:;
+        if (v26 != 2) goto l7;
+        put64(v5 + 400, 2);
+        put64(v5 + 392, address(constant_268));
+        put64(v5 + 384, 2);
+        put64(v5 + 376, v27);
+        v13 = core_slice_scan_any_by_one_953750c03e87c3e2(v5 + 376, 2);
+        if (v13 != 0) {
+            put64(v5 + 400, 2);
+            put64(v5 + 392, address(constant_269));
+            put64(v5 + 384, 2);
+            put64(v5 + 376, v27);
+            t15 = core_slice_scan_any_by_one_953750c03e87c3e2(v5 + 376, 2);
+            if (t15 != 0) goto l7;
         }
-        encode_lines_fields_number_after(v5 + 72, v26, v27, address(constant_243), 10, 1);
+        encode_lines_fields_number_after(v5 + 72, v28, v30, address(constant_243), 10, 1);
         if ((get8(v5 + 72) & 1) == 0) goto l7;
         v19 = get64(v5 + 80);
         encode_lines_fields_number_after(v5 + 56, v31, v32, address(constant_263), 5, 0x7ff);
@@ -9671,10 +9710,10 @@ LOCAL void streams_play_Lines_play_5c3c6575dd0e1f82(uint64_t p0, uint64_t p1, ui
         encode_lines_fields_number_after(v5 + 24, v35, v36, address(constant_265), 6, 0x3fff);
         if ((get8(v5 + 24) & 1) == 0) goto l7;
         v30 = get64(v5 + 32);
-        encode_lines_fields_after_key(v5 + 376, v37, v38, address(constant_257), 5);
-        if (get8(v5 + 376) != 1) goto l7;
-        v26 = get64(v5 + 392);
-        v27 = get64(v5 + 384);
+        encode_lines_fields_after_key(v5 + 320, v37, v38, address(constant_257), 5);
+        if (get8(v5 + 320) != 1) goto l7;
+        v26 = get64(v5 + 336);
+        v27 = get64(v5 + 328);
         fill(v5 + 280, 0, 24);
         fill(v5 + 376, 0, 40);
         encode_lines_fields_octets_of_digits(v5 + 376, v27, v26);
@@ -9686,7 +9725,7 @@ LOCAL void streams_play_Lines_play_5c3c6575dd0e1f82(uint64_t p0, uint64_t p1, ui
         fill(v5 + 320, 0, 32);
         v34 = v31 + 6;
         std_alloc_vec_Vec_with_capacity_ac2b4e4c4c8a73d5(v5 + 320, v34);
-        if (get8(v5 + 320) != 0) goto l46;
+        if (get8(v5 + 320) != 0) goto l44;
         v29 = (uint32_t)v25;
         v35 = get64(v5 + 344);
         v25 = get64(v5 + 336);
@@ -9702,15 +9741,15 @@ LOCAL void streams_play_Lines_play_5c3c6575dd0e1f82(uint64_t p0, uint64_t p1, ui
             v25 = v25 + 1;
         }
         v21 = v29 & 0xffff;
-        if (v21 > 0x7ff || (v28 & 252) != 0) goto l45;
+        if (v21 > 0x7ff || (v28 & 252) != 0) goto l43;
         v20 = (uint32_t)v30;
-        if ((v20 & 0xffff) > 0x3fff || (v31 - 1) > 0xffff) goto l45;
-        v41 = v19 == 1;
-        if ((v41 & (uint32_t)(v21 == 0x7ff)) != 0 || v25 < v34) goto l45;
+        if ((v20 & 0xffff) > 0x3fff || (v31 - 1) > 0xffff) goto l43;
+        v40 = v19 == 1;
+        if ((v40 & (uint32_t)(v21 == 0x7ff)) != 0 || v25 < v34) goto l43;
         v21 = (uint32_t)v31 - 1;
         put16(v27 + 4, (v21 << 8) | ((v21 & 0xff00) >> 8));
         put16(v27 + 2, (v20 << 8) | (((((uint32_t)v28 << 14) | v20) & 0xff00) >> 8));
-        put16(v27, (v29 << 8) | ((((((v41 != 0) ? 0x800U : 0U) | ((v13 != 0) ? 0x1000U : 0U)) | v29) & 0xff00) >> 8));
+        put16(v27, (v29 << 8) | ((((((v40 != 0) ? 0x800U : 0U) | ((v13 != 0) ? 0U : 0x1000U)) | v29) & 0xff00) >> 8));
         v19 = v27 + 6;
         if ((v19 - v32) < v31) {
             v26 = v32;
@@ -9722,32 +9761,32 @@ LOCAL void streams_play_Lines_play_5c3c6575dd0e1f82(uint64_t p0, uint64_t p1, ui
                 v28 = v28 - 1;
             } while (v28 != 0);
         } else if (v31 != 0) copy(v19, v32, v31);
-        t14 = std_alloc_vec_Vec_extend_from_slice_547a1c9aa20100c2(v7, v27, v25);
-        if ((t14 & 255) == 0) {
+        t16 = std_alloc_vec_Vec_extend_from_slice_547a1c9aa20100c2(v7, v27, v25);
+        if ((t16 & 255) == 0) {
             put64(v5 + 336, v35);
             put64(v5 + 328, v25);
             put64(v5 + 320, v27);
             std_alloc_vec_Vec_drop_3bb57a40f8f9b634(v5 + 320);
             v29 = 1;
             v21 = 1;
-            goto l44;
+            goto l42;
         }
         put64(v5 + 336, v35);
         put64(v5 + 328, v25);
         put64(v5 + 320, v27);
         std_alloc_vec_Vec_drop_3bb57a40f8f9b634(v5 + 320);
-    l46:;
+    l44:;
         v21 = 0;
         v29 = 1;
-        goto l44;
-    l45:;
+        goto l42;
+    l43:;
         put64(v5 + 336, v35);
         put64(v5 + 328, v25);
         put64(v5 + 320, v27);
         std_alloc_vec_Vec_drop_3bb57a40f8f9b634(v5 + 320);
         v21 = 1;
         v29 = 0;
-    l44:;
+    l42:;
         put64(v5 + 296, v33);
         put64(v5 + 288, v31);
         put64(v5 + 280, v32);
@@ -9766,15 +9805,15 @@ LOCAL void streams_play_Lines_play_5c3c6575dd0e1f82(uint64_t p0, uint64_t p1, ui
         v25 = get64(v22 + 8);
         v19 = get64(v22);
     l13:;
-        t15 = encode_lines_held_holds_octets(v19, v25);
-        if (t15 == 0) goto l8;
+        t17 = encode_lines_held_holds_octets(v19, v25);
+        if (t17 == 0) goto l8;
         v24 = v22 + 16;
         v19 = 24;
         goto l10;
     l11:;
         v21 = 0;
-        t16 = encode_lines_held_holds_packet(v19, v25);
-        if (t16 == 0) goto l7;
+        t18 = encode_lines_held_holds_packet(v19, v25);
+        if (t18 == 0) goto l7;
         streams_words_number_in_word(v5 + 8, get64(v22 + 16), get64(v22 + 24), 63);
         v13 = 1;
         if (get8(v5 + 8) != 1) goto l6;
@@ -9794,8 +9833,8 @@ LOCAL void streams_play_Lines_play_5c3c6575dd0e1f82(uint64_t p0, uint64_t p1, ui
         v24 = get64(v5 + 408);
         v19 = get64(v5 + 392);
         v25 = get64(v5 + 400);
-        t17 = std_alloc_vec_Vec_extend_from_slice_547a1c9aa20100c2(v7, v19, v25);
-        v13 = t17 & 255;
+        t19 = std_alloc_vec_Vec_extend_from_slice_547a1c9aa20100c2(v7, v19, v25);
+        v13 = t19 & 255;
         v22 = (v13 != 0) ? (v5 + 320) : (v5 + 280);
         put64(v22 + 16, v24);
         put64(v22 + 8, v25);
@@ -9866,50 +9905,50 @@ LOCAL void std_alloc_vec_Vec_drop_3bb57a40f8f9b634(uint64_t p0)
 
 LOCAL void script_run_ScriptTakerUnit_end_b2603f60f574cda2(uint64_t p0, uint64_t p1)
 {
-    unsigned char frame_octets[44048 + 15];
-    uint32_t v7 = 0, v52 = 0, v53 = 0, v64 = 0, v65 = 0, v68 = 0, v78 = 0, v79 = 0, t3;
+    unsigned char frame_octets[44080 + 15];
+    uint32_t v7 = 0, v52 = 0, v53 = 0, v64 = 0, v65 = 0, v68 = 0, v78 = 0, v79 = 0;
     uint64_t v2 = 0, v3 = 0, v4 = 0, v5 = 0, v6 = 0, v8 = 0, v9 = 0, v10 = 0, v11 = 0, v12 = 0, v13 = 0, v14 = 0,
         v15 = 0, v16 = 0, v17 = 0, v18 = 0, v19 = 0, v20 = 0, v21 = 0, v22 = 0, v23 = 0, v24 = 0, v25 = 0, v26 = 0,
         v27 = 0, v28 = 0, v29 = 0, v30 = 0, v31 = 0, v32 = 0, v33 = 0, v34 = 0, v35 = 0, v36 = 0, v37 = 0, v38 = 0,
         v39 = 0, v40 = 0, v41 = 0, v42 = 0, v43 = 0, v44 = 0, v45 = 0, v46 = 0, v47 = 0, v48 = 0, v49 = 0, v50 = 0,
         v51 = 0, v54 = 0, v55 = 0, v56 = 0, v57 = 0, v58 = 0, v59 = 0, v60 = 0, v61 = 0, v62 = 0, v63 = 0, v66 = 0,
-        v67 = 0, v69 = 0, v70 = 0, v71 = 0, v72 = 0, v73 = 0, v74 = 0, v75 = 0, v76 = 0, v77 = 0, t2;
+        v67 = 0, v69 = 0, v70 = 0, v71 = 0, v72 = 0, v73 = 0, v74 = 0, v75 = 0, v76 = 0, v77 = 0, t1;
     v2 = aligned(frame_octets);
     v3 = get64(p1 + 8);
     v4 = get64(p1);
-    fill(v2 + 0xff8, 0, 16);
-    fill(v2 + 0x3000, 0, 80);
-    fill(v2 + 0x3fa8, 0, 40);
-    fill(v2 + 0x6e28, 0, 40);
-    put64(v2 + 4080, 0x40000003e8ULL);
-    put64(v2 + 4072, 0x400000040ULL);
-    put64(v2 + 4064, ~0ULL);
-    put64(v2 + 4056, 0x10006);
-    put64(v2 + 4048, 0x3f80000000aULL);
-    put64(v2 + 4040, 0x30000007fULL);
-    put64(v2 + 4032, 0xfe00000000ULL);
-    put64(v2 + 4024, 0x200000001ULL);
-    put8(v2 + 0x1000, 0);
+    fill(v2 + 0x1018, 0, 16);
+    fill(v2 + 0x3040, 0, 80);
+    fill(v2 + 0x3fe8, 0, 40);
+    fill(v2 + 0x6e48, 0, 40);
+    put64(v2 + 4112, 0x40000003e8ULL);
+    put64(v2 + 4104, 0x400000040ULL);
+    put64(v2 + 4096, ~0ULL);
+    put64(v2 + 4088, 0x10006);
+    put64(v2 + 4080, 0x3f80000000aULL);
+    put64(v2 + 4072, 0x30000007fULL);
+    put64(v2 + 4064, 0xfe00000000ULL);
+    put64(v2 + 4056, 0x200000001ULL);
+    put8(v2 + 0x1020, 0);
     v5 = 1;
     p1 = v4;
     v6 = v3;
     for (;;) {
-        streams_parts_cut(v2 + 0x6e28, p1, v6, 10);
-        v6 = get64(v2 + 28232);
-        p1 = get64(v2 + 28224);
-        v7 = get8(v2 + 28216);
-        v8 = get64(v2 + 28200);
-        v9 = get64(v2 + 28208);
-        node_lines_reader_read_line(v2 + 0x3fa8, v8, v9);
-        v10 = get64(v2 + 16304);
-        switch ((uint32_t)(uint64_t)get8(v2 + 16296)) {
+        streams_parts_cut(v2 + 0x6e48, p1, v6, 10);
+        v6 = get64(v2 + 28264);
+        p1 = get64(v2 + 28256);
+        v7 = get8(v2 + 28248);
+        v8 = get64(v2 + 28232);
+        v9 = get64(v2 + 28240);
+        node_lines_reader_read_line(v2 + 0x3fe8, v8, v9);
+        v10 = get64(v2 + 16368);
+        switch ((uint32_t)(uint64_t)get8(v2 + 16360)) {
         case 1:
-            if (get8(v2 + 4096) != 0) goto l3;
-            nodes_config_Config_set(v2 + 0xfb8, get8(v2 + 16297), v10);
+            if (get8(v2 + 4128) != 0) goto l3;
+            nodes_config_Config_set(v2 + 0xfd8, get8(v2 + 16361), v10);
             break;
         case 2:
             if ((((uint32_t)v10 - 1) & 255) < 2) goto l3;
-            put8(v2 + 4096, 1);
+            put8(v2 + 4128, 1);
             break;
         case 3:
         case 4:
@@ -9920,266 +9959,270 @@ LOCAL void script_run_ScriptTakerUnit_end_b2603f60f574cda2(uint64_t p0, uint64_t
         if ((v7 & 255) != 1) break;
         v5 = v5 + 1;
     }
-    nodes_config_Config_valid(v2 + 0x3000, v2 + 0xfb8);
+    nodes_config_Config_valid(v2 + 0x3040, v2 + 0xfd8);
     p1 = 1;
-    v10 = (uint64_t)get8(v2 + 12288);
+    v10 = (uint64_t)get8(v2 + 12352);
     if (v10 == 1) {
         v6 = 0;
         v7 = v10 == 0;
-        v8 = (v7 != 0) ? 0ULL : get64(v2 + 12304);
-        v5 = (v7 != 0) ? 0ULL : get64(v2 + 12296);
+        v8 = (v7 != 0) ? 0ULL : get64(v2 + 12368);
+        v5 = (v7 != 0) ? 0ULL : get64(v2 + 12360);
         goto l2;
     }
-    fill(v2 + 96, 0, 238);
-    fill(v2 + 336, 0, 0xde7);
-    fill(v2 + 0xf38, 0, 128);
-    put64(v2 + 4088, 0x40000003e8ULL);
-    put64(v2 + 4080, 0x400000040ULL);
-    put64(v2 + 4072, ~0ULL);
-    put64(v2 + 4064, 0x10006);
-    put64(v2 + 4056, 0x3f80000000aULL);
-    put64(v2 + 4048, 0x30000007fULL);
-    put64(v2 + 4040, 0xfe00000000ULL);
-    put64(v2 + 4032, 0x200000001ULL);
-    put64(v2 + 0xfb8, 0);
-    fill(v2 + 0xfb8 + 72, 0, 0xf60);
-    fill(v2 + 0x1f60, 0, 40);
-    fill(v2 + 0x1f90, 0, 16);
-    put64(v2 + 8072, v2 + 0xac08);
-    v11 = v2 + 0x3007;
-    v12 = (v2 + 0xfb8) | 1;
-    v13 = v2 + 0x4f68 + 8;
-    v14 = v2 + 0x7db8;
-    v15 = v2 + 0x7d90;
-    v16 = v2 + 0x7788;
-    v17 = v2 + 0x7188;
-    v18 = v2 + 0x7178;
-    v19 = v2 + 0x7169;
-    v20 = v2 + 0x7162;
-    v21 = v2 + 0x7140;
-    v22 = v2 + 0x7118;
-    v23 = v2 + 0x6fb8;
-    v24 = v2 + 0x6fa0;
-    v25 = v2 + 0x6f78;
-    v26 = v2 + 0x6f5a;
-    v27 = v2 + 0x6f40;
-    v28 = v2 + 0x6ef8;
-    v29 = v2 + 0x6ed0;
-    v30 = v2 + 0x6e89;
-    v31 = v2 + 0x6e40;
-    v32 = v2 + 0x6e28 + 8;
-    v33 = v2 + 0x9bd0 + 8;
-    v34 = v2 + 0x9f0e;
-    v35 = v2 + 0x9f98;
-    v36 = v2 + 0x9eb0;
-    v37 = v2 + 0x9d30 + 344;
-    v38 = v2 + 0x9e6a;
-    v39 = v2 + 0x9e50;
-    v40 = v2 + 0x9e08;
-    v41 = v2 + 0x9de0;
-    v42 = v2 + 0x9d99;
-    v43 = v2 + 0x9d50;
-    v44 = v2 + 0x9d40;
-    v45 = v2 + 0x6dd8 + 8;
-    v46 = v2 + 0x4f48 + 8;
-    v47 = v2 + 0x2000 + 8;
-    v48 = v2 + 0x1fe0 + 9;
-    v8 = v2 + 0x2020 + 9;
-    v5 = v2 + 0x1fa0 + 17;
-    v49 = v2 + 0xfb8 + 8;
+    fill(v2 + 128, 0, 238);
+    fill(v2 + 368, 0, 0xde7);
+    fill(v2 + 0xf58, 0, 128);
+    put64(v2 + 4120, 0x40000003e8ULL);
+    put64(v2 + 4112, 0x400000040ULL);
+    put64(v2 + 4104, ~0ULL);
+    put64(v2 + 4096, 0x10006);
+    put64(v2 + 4088, 0x3f80000000aULL);
+    put64(v2 + 4080, 0x30000007fULL);
+    put64(v2 + 4072, 0xfe00000000ULL);
+    put64(v2 + 4064, 0x200000001ULL);
+    put64(v2 + 0xfd8, 0);
+    fill(v2 + 0xfd8 + 72, 0, 0xf60);
+    fill(v2 + 0x1f80, 0, 40);
+    fill(v2 + 0x1fb0, 0, 16);
+    put64(v2 + 8104, v2 + 0xac28);
+    v11 = v2 + 0x2080 + 8;
+    v12 = v2 + 0x3047;
+    v13 = (v2 + 0xfd8) | 1;
+    v14 = v2 + 0x4f88 + 8;
+    v15 = v2 + 0x7dd8;
+    v16 = v2 + 0x7db0;
+    v17 = v2 + 0x77a8;
+    v18 = v2 + 0x71a8;
+    v19 = v2 + 0x7198;
+    v20 = v2 + 0x7189;
+    v21 = v2 + 0x7182;
+    v22 = v2 + 0x7160;
+    v23 = v2 + 0x7138;
+    v24 = v2 + 0x6fd8;
+    v25 = v2 + 0x6fc0;
+    v26 = v2 + 0x6f98;
+    v27 = v2 + 0x6f7a;
+    v28 = v2 + 0x6f60;
+    v29 = v2 + 0x6f18;
+    v30 = v2 + 0x6ef0;
+    v31 = v2 + 0x6ea9;
+    v32 = v2 + 0x6e60;
+    v33 = v2 + 0x6e48 + 8;
+    v34 = v2 + 0x9bf0 + 8;
+    v35 = v2 + 0x9f2e;
+    v36 = v2 + 0x9fb8;
+    v37 = v2 + 0x9ed0;
+    v38 = v2 + 0x9d50 + 344;
+    v39 = v2 + 0x9e8a;
+    v40 = v2 + 0x9e70;
+    v41 = v2 + 0x9e28;
+    v42 = v2 + 0x9e00;
+    v43 = v2 + 0x9db9;
+    v44 = v2 + 0x9d70;
+    v45 = v2 + 0x9d60;
+    v46 = v2 + 0x6df8 + 8;
+    v47 = v2 + 0x2020 + 8;
+    v48 = v2 + 0x2000 + 9;
+    v8 = v2 + 0x2040 + 9;
+    v5 = v2 + 0x1fc0 + 17;
+    v49 = v2 + 0xfd8 + 8;
     for (;;) {
-        streams_parts_cut(v2 + 0x1f60, v4, v3, 10);
-        v3 = get64(v2 + 8064);
-        v4 = get64(v2 + 8056);
-        v7 = get8(v2 + 8048);
-        p1 = get64(v2 + 8040);
-        v6 = get64(v2 + 8032);
-        fill(v2 + 0x1fa0, 0, 40);
-        node_lines_reader_read_line(v2 + 0x1fa0, v6, p1);
-        switch ((uint32_t)(uint64_t)get8(v2 + 8096)) {
+        streams_parts_cut(v2 + 0x1f80, v4, v3, 10);
+        v3 = get64(v2 + 8096);
+        v4 = get64(v2 + 8088);
+        v7 = get8(v2 + 8080);
+        p1 = get64(v2 + 8072);
+        v6 = get64(v2 + 8064);
+        fill(v2 + 0x1fc0, 0, 40);
+        node_lines_reader_read_line(v2 + 0x1fc0, v6, p1);
+        switch ((uint32_t)(uint64_t)get8(v2 + 8128)) {
         case 1:
-            if (get8(v2 + 4024) == 0) {
-                nodes_config_Config_set(v49, get8(v2 + 8097), get64(v2 + 8104));
+            if (get8(v2 + 4056) == 0) {
+                nodes_config_Config_set(v49, get8(v2 + 8129), get64(v2 + 8136));
                 goto l12;
             }
-            v53 = node_lines_player_push_unreadable(v2 + 0x1f88, address(constant_342), 30);
+            node_lines_player_push_unreadable(v2 + 16, v2 + 0x1fa8, address(constant_342), 30);
+            v53 = get8(v2 + 16);
             goto l13;
         case 2:
             v50 = 24;
             v51 = address(constant_343);
-            v52 = get8(v2 + 8112);
-            v9 = (uint64_t)get8(v2 + 8104);
+            v52 = get8(v2 + 8144);
+            v9 = (uint64_t)get8(v2 + 8136);
             if (v9 == 0 && ((1U << (v52 & 31)) & 0x1e11f) == 0) {
-                node_lines_causes_cause_in(v2 + 40, v6, p1);
-                v50 = get64(v2 + 48);
-                v51 = get64(v2 + 40);
+                node_lines_causes_cause_in(v2 + 64, v6, p1);
+                v50 = get64(v2 + 72);
+                v51 = get64(v2 + 64);
             }
             put64(v8, get64(v5));
             put64(v8 + 8, get64(v5 + 8));
             put64(v8 + 15, get64(v5 + 15));
-            fill(v2 + 0x2040, 0, 32);
-            put8(v2 + 8232, v52);
-            put64(v2 + 8224, v9);
-            fill(v2 + 0x1fc8, 0, 24);
-            fill(v2 + 0x2000, 0, 32);
-            node_lines_line_octets_in(v2 + 24, v2 + 0x2020);
-            streams_words_octets_of_digits(v2 + 0x2040, get64(v2 + 24), get64(v2 + 32));
+            fill(v2 + 0x2060, 0, 32);
+            put8(v2 + 8264, v52);
+            put64(v2 + 8256, v9);
+            fill(v2 + 0x1fe8, 0, 24);
+            fill(v2 + 0x2020, 0, 32);
+            node_lines_line_octets_in(v2 + 48, v2 + 0x2040);
+            streams_words_octets_of_digits(v2 + 0x2060, get64(v2 + 48), get64(v2 + 56));
             v53 = 1;
-            if (get8(v2 + 8256) != 0) goto l13;
+            if (get8(v2 + 8288) != 0) goto l13;
             put64(v48, get64(v5));
             put64(v48 + 8, get64(v5 + 8));
             put64(v48 + 15, get64(v5 + 15));
-            put8(v2 + 8168, v52);
-            put64(v2 + 8160, v9);
-            p1 = get64(v2 + 8280);
-            v6 = get64(v2 + 8264);
-            v9 = get64(v2 + 8272);
-            node_lines_line_with_octets(v2 + 0x2000, v2 + 0x1fe0, v6, v9);
-            v53 = get8(v2 + 8192);
-            put64(v2 + 32216, get64(v47 + 16));
-            put64(v2 + 32208, get64(v47 + 8));
-            put64(v2 + 32200, get64(v47));
-            fill(v2 + 0x2060, 0, 0x1f47);
-            fill(v2 + 0x3fa8, 0, 0x1c27);
-            fill(v2 + 0x5bd0, 0, 6);
-            fill(v2 + 0x5bd8, 0, 502);
-            fill(v2 + 0x5dd0, 0, 96);
-            fill(v2 + 0x5e31, 0, 0xcc6);
-            fill(v2 + 0x6af8, 0, 6);
-            fill(v2 + 0x6b00, 0, 502);
-            fill(v2 + 0x6cf8, 0, 16);
-            fill(v2 + 0x6d09, 0, 0x10bf);
+            put8(v2 + 8200, v52);
+            put64(v2 + 8192, v9);
+            p1 = get64(v2 + 8312);
+            v6 = get64(v2 + 8296);
+            v9 = get64(v2 + 8304);
+            node_lines_line_with_octets(v2 + 0x2020, v2 + 0x2000, v6, v9);
+            fill(v2 + 0x2080, 0, 32);
+            v53 = get8(v2 + 8224);
             if (((v53 - 3) & 255) >= 254) {
-                v53 = node_lines_player_push_unreadable(v2 + 0x1f88, v51, v50);
+                node_lines_player_push_unreadable(v2 + 40, v2 + 0x1fa8, v51, v50);
+                v53 = get8(v2 + 40);
                 break;
             }
             v50 = (uint64_t)v53 & 255;
-            if (get8(v2 + 4024) != 0) {
-                put64(v46, get64(v47));
-                put64(v46 + 8, get64(v47 + 8));
-                put64(v46 + 16, get64(v47 + 16));
-                put64(v2 + 20296, v50);
-                v53 = node_lines_player_answer_b90c53bc3afb2eb0(v49, v2 + 0x4f48, v2 + 0x1f88);
+            if (get8(v2 + 4056) == 1) {
+                put64(v11, get64(v47));
+                put64(v11 + 8, get64(v47 + 8));
+                put64(v11 + 16, get64(v47 + 16));
+                put64(v2 + 8320, v50);
+                node_lines_player_answer_b90c53bc3afb2eb0(v2 + 24, v49, v2 + 0x2080, v2 + 0x1fa8);
+                v53 = get8(v2 + 24);
                 break;
             }
-            nodes_config_Config_valid(v2 + 0x6dd8, v49);
-            if (get8(v2 + 28120) != 0) {
-                v53 = node_lines_player_push_out_of_range(v2 + 0x1f88, get64(v2 + 28128), get64(v2 + 28136));
+            put64(v2 + 32248, get64(v47 + 16));
+            put64(v2 + 32240, get64(v47 + 8));
+            put64(v2 + 32232, get64(v47));
+            fill(v2 + 0x20a0, 0, 0x1f47);
+            fill(v2 + 0x3fe8, 0, 0x1c07);
+            fill(v2 + 0x5bf0, 0, 6);
+            fill(v2 + 0x5bf8, 0, 502);
+            fill(v2 + 0x5df0, 0, 96);
+            fill(v2 + 0x5e51, 0, 0xcc6);
+            fill(v2 + 0x6b18, 0, 6);
+            fill(v2 + 0x6b20, 0, 502);
+            fill(v2 + 0x6d18, 0, 16);
+            fill(v2 + 0x6d29, 0, 0x10bf);
+            nodes_config_Config_valid(v2 + 0x6df8, v49);
+            if (get8(v2 + 28152) != 0) {
+                v53 = node_lines_player_push_out_of_range(v2 + 0x1fa8, get64(v2 + 28160), get64(v2 + 28168));
             } else {
-                fill(v2 + 0x7de0, 0, 0xc47);
-                fill(v2 + 0x8a28, 0, 6);
-                fill(v2 + 0x8a30, 0, 502);
-                fill(v2 + 0x8c28, 0, 16);
-                fill(v2 + 0x8c39, 0, 0xe85);
-                fill(v2 + 0x9ac0, 0, 96);
-                fill(v2 + 0x9b21, 0, 127);
-                fill(v2 + 0x9bd0, 0, 760);
-                fill(v2 + 0xa008, 0, 0xc00);
-                nodes_ground_node_Ground_of(v2 + 0x9d30, v45);
-                if (get8(v2 + 40240) == 0) {
-                    put64(v2 + 40952, get64(v44));
-                    put64(v2 + 40960, get64(v44 + 8));
-                    v54 = get64(v2 + 40248);
-                    copy(v2 + 0x9fb0, v43, 72);
-                    v53 = get8(v2 + 40344);
-                    copy(v2 + 0x9f89, v42, 39);
-                    v55 = get64(v2 + 40408);
-                    v56 = get64(v2 + 40400);
-                    v57 = get64(v2 + 40392);
-                    v58 = get64(v2 + 40384);
-                    copy(v2 + 0x9f60, v41, 40);
-                    copy(v2 + 0x9f38, v40, 40);
+                fill(v2 + 0x7e00, 0, 0xc47);
+                fill(v2 + 0x8a48, 0, 6);
+                fill(v2 + 0x8a50, 0, 502);
+                fill(v2 + 0x8c48, 0, 16);
+                fill(v2 + 0x8c59, 0, 0xe85);
+                fill(v2 + 0x9ae0, 0, 96);
+                fill(v2 + 0x9b41, 0, 127);
+                fill(v2 + 0x9bf0, 0, 760);
+                fill(v2 + 0xa028, 0, 0xc00);
+                nodes_ground_node_Ground_of(v2 + 0x9d50, v46);
+                if (get8(v2 + 40272) == 0) {
+                    put64(v2 + 40984, get64(v45));
+                    put64(v2 + 40992, get64(v45 + 8));
+                    v54 = get64(v2 + 40280);
+                    copy(v2 + 0x9fd0, v44, 72);
+                    v53 = get8(v2 + 40376);
+                    copy(v2 + 0x9fa9, v43, 39);
+                    v55 = get64(v2 + 40440);
+                    v56 = get64(v2 + 40432);
+                    v57 = get64(v2 + 40424);
+                    v58 = get64(v2 + 40416);
+                    copy(v2 + 0x9f80, v42, 40);
+                    copy(v2 + 0x9f58, v41, 40);
+                    put64(v2 + 40776, get64(v40));
+                    put64(v2 + 40784, get64(v40 + 8));
                     put64(v2 + 40744, get64(v39));
                     put64(v2 + 40752, get64(v39 + 8));
-                    put64(v2 + 40712, get64(v38));
-                    put64(v2 + 40720, get64(v38 + 8));
-                    put64(v2 + 40728, get64(v38 + 16));
-                    put64(v2 + 40734, get64(v38 + 22));
-                    v59 = get64(v2 + 40520);
-                    v60 = get64(v2 + 40512);
-                    v61 = get64(v2 + 40504);
-                    v62 = get64(v2 + 40496);
-                    v63 = get64(v2 + 40544);
-                    v64 = get8(v2 + 40552);
-                    v65 = get8(v2 + 40553);
-                    copy(v2 + 0x9ee0, v37, 40);
-                    put64(v2 + 40664, get64(v36 + 16));
-                    put64(v2 + 40656, get64(v36 + 8));
-                    put64(v2 + 40648, get64(v36));
-                    nodes_spacecraft_Spacecraft_of(v2 + 0x9bd0, v45);
-                    if (get8(v2 + 39888) == 0) {
-                        simulated_link_map_lists_no_packets(v2 + 0xa608);
-                        simulated_link_map_lists_no_packets(v2 + 0xa008);
-                        put64(v2 + 39832, get64(v2 + 40960));
-                        put64(v2 + 39824, get64(v2 + 40952));
-                        copy(v2 + 0x9b48, v2 + 0x9fb0, 72);
-                        copy(v2 + 0x9b21, v2 + 0x9f89, 39);
-                        copy(v2 + 0x9af8, v2 + 0x9f60, 40);
-                        copy(v2 + 0x9ad0, v2 + 0x9f38, 40);
-                        put64(v2 + 39624, get64(v2 + 40752));
+                    put64(v2 + 40760, get64(v39 + 16));
+                    put64(v2 + 40766, get64(v39 + 22));
+                    v59 = get64(v2 + 40552);
+                    v60 = get64(v2 + 40544);
+                    v61 = get64(v2 + 40536);
+                    v62 = get64(v2 + 40528);
+                    v63 = get64(v2 + 40576);
+                    v64 = get8(v2 + 40584);
+                    v65 = get8(v2 + 40585);
+                    copy(v2 + 0x9f00, v38, 40);
+                    put64(v2 + 40696, get64(v37 + 16));
+                    put64(v2 + 40688, get64(v37 + 8));
+                    put64(v2 + 40680, get64(v37));
+                    nodes_spacecraft_Spacecraft_of(v2 + 0x9bf0, v46);
+                    if (get8(v2 + 39920) == 0) {
+                        simulated_link_map_lists_no_packets(v2 + 0xa628);
+                        simulated_link_map_lists_no_packets(v2 + 0xa028);
+                        put64(v2 + 39864, get64(v2 + 40992));
+                        put64(v2 + 39856, get64(v2 + 40984));
+                        copy(v2 + 0x9b68, v2 + 0x9fd0, 72);
+                        copy(v2 + 0x9b41, v2 + 0x9fa9, 39);
+                        copy(v2 + 0x9b18, v2 + 0x9f80, 40);
+                        copy(v2 + 0x9af0, v2 + 0x9f58, 40);
+                        put64(v2 + 39656, get64(v2 + 40784));
+                        put64(v2 + 39648, get64(v2 + 40776));
                         put64(v2 + 39616, get64(v2 + 40744));
-                        put64(v2 + 39584, get64(v2 + 40712));
-                        put64(v2 + 39592, get64(v2 + 40720));
-                        put64(v2 + 39600, get64(v2 + 40728));
-                        put64(v2 + 39606, get64(v2 + 40734));
-                        copy(v2 + 0x9a78, v2 + 0x9ee0, 40);
-                        put64(v2 + 39536, get64(v2 + 40664));
-                        put64(v2 + 39528, get64(v2 + 40656));
-                        put64(v2 + 39520, get64(v2 + 40648));
-                        copy(v2 + 0x9908, v33, 344);
-                        copy(v2 + 0x9308, v2 + 0xa608, 0x600);
-                        copy(v2 + 0x8d08, v2 + 0xa008, 0x600);
-                        put64(v2 + 36088, get64(v2 + 39824));
-                        put64(v2 + 36096, get64(v2 + 39832));
-                        copy(v2 + 0x8cb0, v2 + 0x9b48, 72);
-                        copy(v2 + 0x8c89, v2 + 0x9b21, 39);
-                        copy(v2 + 0x8c61, v2 + 0x9af8, 40);
-                        copy(v2 + 0x8c39, v2 + 0x9ad0, 40);
-                        put64(v2 + 35888, get64(v2 + 39624));
+                        put64(v2 + 39624, get64(v2 + 40752));
+                        put64(v2 + 39632, get64(v2 + 40760));
+                        put64(v2 + 39638, get64(v2 + 40766));
+                        copy(v2 + 0x9a98, v2 + 0x9f00, 40);
+                        put64(v2 + 39568, get64(v2 + 40696));
+                        put64(v2 + 39560, get64(v2 + 40688));
+                        put64(v2 + 39552, get64(v2 + 40680));
+                        copy(v2 + 0x9928, v34, 344);
+                        copy(v2 + 0x9328, v2 + 0xa628, 0x600);
+                        copy(v2 + 0x8d28, v2 + 0xa028, 0x600);
+                        put64(v2 + 36120, get64(v2 + 39856));
+                        put64(v2 + 36128, get64(v2 + 39864));
+                        copy(v2 + 0x8cd0, v2 + 0x9b68, 72);
+                        copy(v2 + 0x8ca9, v2 + 0x9b41, 39);
+                        copy(v2 + 0x8c81, v2 + 0x9b18, 40);
+                        copy(v2 + 0x8c59, v2 + 0x9af0, 40);
+                        put64(v2 + 35920, get64(v2 + 39656));
+                        put64(v2 + 35912, get64(v2 + 39648));
                         put64(v2 + 35880, get64(v2 + 39616));
-                        put64(v2 + 35848, get64(v2 + 39584));
-                        put64(v2 + 35856, get64(v2 + 39592));
-                        put64(v2 + 35864, get64(v2 + 39600));
-                        put64(v2 + 35870, get64(v2 + 39606));
-                        copy(v2 + 0x8be0, v2 + 0x9a78, 40);
-                        put64(v2 + 35800, get64(v2 + 39536));
-                        put64(v2 + 35792, get64(v2 + 39528));
-                        put64(v2 + 35784, get64(v2 + 39520));
-                        copy(v2 + 0x8a70, v2 + 0x9908, 344);
-                        fill(v2 + 0x8a10, 0, 23);
-                        fill(v2 + 0x8a28, 0, 6);
-                        fill(v2 + 0x8a30, 0, 64);
-                        copy(v2 + 0x8410, v2 + 0x9308, 0x600);
-                        copy(v2 + 0x7e10, v2 + 0x8d08, 0x600);
-                        fill(v2 + 0x7de0, 0, 48);
-                        v66 = v2 + 0xac08;
+                        put64(v2 + 35888, get64(v2 + 39624));
+                        put64(v2 + 35896, get64(v2 + 39632));
+                        put64(v2 + 35902, get64(v2 + 39638));
+                        copy(v2 + 0x8c00, v2 + 0x9a98, 40);
+                        put64(v2 + 35832, get64(v2 + 39568));
+                        put64(v2 + 35824, get64(v2 + 39560));
+                        put64(v2 + 35816, get64(v2 + 39552));
+                        copy(v2 + 0x8a90, v2 + 0x9928, 344);
+                        fill(v2 + 0x8a30, 0, 23);
+                        fill(v2 + 0x8a48, 0, 6);
+                        fill(v2 + 0x8a50, 0, 64);
+                        copy(v2 + 0x8430, v2 + 0x9328, 0x600);
+                        copy(v2 + 0x7e30, v2 + 0x8d28, 0x600);
+                        fill(v2 + 0x7e00, 0, 48);
+                        v66 = v2 + 0xac28;
                         v52 = 1;
                         goto l25;
                     }
                     if ((v53 & 255) == 1) {
-                        put64(v2 + 39880, get64(v35 + 16));
-                        put64(v2 + 39872, get64(v35 + 8));
-                        put64(v2 + 39864, get64(v35));
-                        std_alloc_vec_Vec_drop_4e50c14c2e726a6c(v2 + 0x9bb8);
+                        put64(v2 + 39912, get64(v36 + 16));
+                        put64(v2 + 39904, get64(v36 + 8));
+                        put64(v2 + 39896, get64(v36));
+                        std_alloc_vec_Vec_drop_4e50c14c2e726a6c(v2 + 0x9bd8);
                     }
                     if (v56 != 0) {
                         v51 = v55 - ((v55 < v57) ? 0ULL : v57);
-                        t2 = v51;
+                        t1 = v51;
                         v51 = v57 - v51;
                         v51 = (v51 < v56) ? v51 : v56;
-                        circular_buffer_cells_Cells_drop_slice_2be10895257269c2(v58, t2, v51);
+                        circular_buffer_cells_Cells_drop_slice_2be10895257269c2(v58, t1, v51);
                         circular_buffer_cells_Cells_drop_slice_2be10895257269c2(v58, 0, v56 - v51);
                     }
                     rattle_dealloc_at(v58);
-                    std_alloc_vec_deque_VecDeque_drop_5dac71050cb8dba4(v2 + 0x9f60);
-                    std_alloc_vec_deque_VecDeque_drop_5dac71050cb8dba4(v2 + 0x9f38);
+                    std_alloc_vec_deque_VecDeque_drop_5dac71050cb8dba4(v2 + 0x9f80);
+                    std_alloc_vec_deque_VecDeque_drop_5dac71050cb8dba4(v2 + 0x9f58);
                     if (v59 != 0) rattle_dealloc_at(v61);
-                    put64(v2 + 39856, get64(v34 + 16));
-                    put64(v2 + 39848, get64(v34 + 8));
-                    put64(v2 + 39840, get64(v34));
-                    std_alloc_vec_Vec_drop_4e50c14c2e726a6c(v2 + 0x9ba0);
-                    std_alloc_vec_deque_VecDeque_drop_b0c2e3ac61d256b1(v2 + 0x9ee0);
-                    std_alloc_vec_Vec_drop_b0c2e3ac61d256b1(v2 + 0x9ec8);
+                    put64(v2 + 39888, get64(v35 + 16));
+                    put64(v2 + 39880, get64(v35 + 8));
+                    put64(v2 + 39872, get64(v35));
+                    std_alloc_vec_Vec_drop_4e50c14c2e726a6c(v2 + 0x9bc0);
+                    std_alloc_vec_deque_VecDeque_drop_b0c2e3ac61d256b1(v2 + 0x9f00);
+                    std_alloc_vec_Vec_drop_b0c2e3ac61d256b1(v2 + 0x9ee8);
                 }
                 v52 = 0;
                 v58 = 0;
@@ -10197,65 +10240,65 @@ LOCAL void script_run_ScriptTakerUnit_end_b2603f60f574cda2(uint64_t p0, uint64_t
                 v65 = 0;
                 v66 = 0;
             l25:;
-                put64(v2 + 24232, get64(v2 + 36096));
-                put64(v2 + 24224, get64(v2 + 36088));
-                copy(v2 + 0x5e58, v2 + 0x8cb0, 72);
-                copy(v2 + 0x5e31, v2 + 0x8c89, 39);
-                copy(v2 + 0x5e08, v2 + 0x8c61, 40);
-                copy(v2 + 0x5de0, v2 + 0x8c39, 40);
-                put64(v2 + 24024, get64(v2 + 35888));
+                put64(v2 + 24264, get64(v2 + 36128));
+                put64(v2 + 24256, get64(v2 + 36120));
+                copy(v2 + 0x5e78, v2 + 0x8cd0, 72);
+                copy(v2 + 0x5e51, v2 + 0x8ca9, 39);
+                copy(v2 + 0x5e28, v2 + 0x8c81, 40);
+                copy(v2 + 0x5e00, v2 + 0x8c59, 40);
+                put64(v2 + 24056, get64(v2 + 35920));
+                put64(v2 + 24048, get64(v2 + 35912));
                 put64(v2 + 24016, get64(v2 + 35880));
-                put64(v2 + 23984, get64(v2 + 35848));
-                put64(v2 + 23992, get64(v2 + 35856));
-                put64(v2 + 24000, get64(v2 + 35864));
-                put64(v2 + 24006, get64(v2 + 35870));
-                copy(v2 + 0x5d88, v2 + 0x8be0, 40);
-                put64(v2 + 23936, get64(v2 + 35800));
-                put64(v2 + 23928, get64(v2 + 35792));
-                put64(v2 + 23920, get64(v2 + 35784));
-                copy(v2 + 0x5c18, v2 + 0x8a70, 344);
-                put64(v2 + 23568, get64(v2 + 35432));
-                put64(v2 + 23560, get64(v2 + 35424));
-                put64(v2 + 23552, get64(v2 + 35416));
+                put64(v2 + 24024, get64(v2 + 35888));
+                put64(v2 + 24032, get64(v2 + 35896));
+                put64(v2 + 24038, get64(v2 + 35902));
+                copy(v2 + 0x5da8, v2 + 0x8c00, 40);
+                put64(v2 + 23968, get64(v2 + 35832));
+                put64(v2 + 23960, get64(v2 + 35824));
+                put64(v2 + 23952, get64(v2 + 35816));
+                copy(v2 + 0x5c38, v2 + 0x8a90, 344);
+                put64(v2 + 23600, get64(v2 + 35464));
+                put64(v2 + 23592, get64(v2 + 35456));
+                put64(v2 + 23584, get64(v2 + 35448));
+                put64(v2 + 23576, get64(v2 + 35440));
                 put64(v2 + 23544, get64(v2 + 35408));
+                put64(v2 + 23552, get64(v2 + 35416));
+                put64(v2 + 23560, get64(v2 + 35424));
+                put64(v2 + 23568, get64(v2 + 35432));
+                put32(v2 + 23536, get32(v2 + 35400));
+                put16(v2 + 23540, get16(v2 + 35404));
+                put32(v2 + 23531, get32(v2 + 35395));
+                put32(v2 + 23528, get32(v2 + 35392));
                 put64(v2 + 23512, get64(v2 + 35376));
                 put64(v2 + 23520, get64(v2 + 35384));
-                put64(v2 + 23528, get64(v2 + 35392));
-                put64(v2 + 23536, get64(v2 + 35400));
-                put32(v2 + 23504, get32(v2 + 35368));
-                put16(v2 + 23508, get16(v2 + 35372));
-                put32(v2 + 23499, get32(v2 + 35363));
-                put32(v2 + 23496, get32(v2 + 35360));
-                put64(v2 + 23480, get64(v2 + 35344));
-                put64(v2 + 23488, get64(v2 + 35352));
-                copy(v2 + 0x55b8, v2 + 0x8410, 0x600);
-                copy(v2 + 0x4fb8, v2 + 0x7e10, 0x600);
-                put64(v2 + 20400, get64(v2 + 32264));
+                copy(v2 + 0x55d8, v2 + 0x8430, 0x600);
+                copy(v2 + 0x4fd8, v2 + 0x7e30, 0x600);
+                put64(v2 + 20432, get64(v2 + 32296));
+                put64(v2 + 20424, get64(v2 + 32288));
+                put64(v2 + 20416, get64(v2 + 32280));
+                put64(v2 + 20408, get64(v2 + 32272));
                 put64(v2 + 20392, get64(v2 + 32256));
-                put64(v2 + 20384, get64(v2 + 32248));
-                put64(v2 + 20376, get64(v2 + 32240));
-                put64(v2 + 20360, get64(v2 + 32224));
-                put64(v2 + 20368, get64(v2 + 32232));
+                put64(v2 + 20400, get64(v2 + 32264));
                 v67 = 0;
-                fill(v2 + 0x9f60, 0, 16);
+                fill(v2 + 0x9f80, 0, 16);
                 v68 = 0;
-                fill(v2 + 0x7e10, 0, 40);
-                fill(v2 + 0x8410, 0, 40);
-                fill(v2 + 0x8a70, 0, 32);
-                fill(v2 + 0x8cb0, 0, 24);
-                fill(v2 + 0x8d08, 0, 72);
-                fill(v2 + 0x9308, 0, 344);
-                fill(v2 + 0x9908, 0, 32);
-                fill(v2 + 0x9a78, 0, 6);
-                fill(v2 + 0x9ad0, 0, 7);
-                fill(v2 + 0x9af8, 0, 16);
-                fill(v2 + 0x9b48, 0, 30);
-                fill(v2 + 0x9bd0, 0, 39);
-                fill(v2 + 0x9d30, 0, 40);
-                fill(v2 + 0x9ee0, 0, 16);
-                fill(v2 + 0x9f38, 0, 16);
-                fill(v2 + 0x9fb0, 0, 32);
-                fill(v2 + 0xa008, 0, 0xc00);
+                fill(v2 + 0x7e30, 0, 40);
+                fill(v2 + 0x8430, 0, 40);
+                fill(v2 + 0x8a90, 0, 32);
+                fill(v2 + 0x8cd0, 0, 24);
+                fill(v2 + 0x8d28, 0, 72);
+                fill(v2 + 0x9328, 0, 344);
+                fill(v2 + 0x9928, 0, 32);
+                fill(v2 + 0x9a98, 0, 6);
+                fill(v2 + 0x9af0, 0, 7);
+                fill(v2 + 0x9b18, 0, 16);
+                fill(v2 + 0x9b68, 0, 30);
+                fill(v2 + 0x9bf0, 0, 39);
+                fill(v2 + 0x9d50, 0, 40);
+                fill(v2 + 0x9f00, 0, 16);
+                fill(v2 + 0x9f58, 0, 16);
+                fill(v2 + 0x9fd0, 0, 32);
+                fill(v2 + 0xa028, 0, 0xc00);
                 v69 = 0;
                 v70 = 0;
                 v71 = 0;
@@ -10269,45 +10312,45 @@ LOCAL void script_run_ScriptTakerUnit_end_b2603f60f574cda2(uint64_t p0, uint64_t
                 v79 = 0;
                 v51 = 0;
                 if (v52 != 0) {
-                    put64(v2 + 40808, get64(v2 + 24232));
-                    put64(v2 + 40800, get64(v2 + 24224));
-                    copy(v2 + 0x8d08, v2 + 0x5e58, 72);
-                    copy(v2 + 0x9bd0, v2 + 0x5e31, 39);
-                    copy(v2 + 0x8410, v2 + 0x5e08, 40);
-                    copy(v2 + 0x7e10, v2 + 0x5de0, 40);
-                    put64(v2 + 40768, get64(v2 + 24024));
-                    put64(v2 + 40760, get64(v2 + 24016));
-                    put64(v2 + 39752, get64(v2 + 23984));
-                    put64(v2 + 39760, get64(v2 + 23992));
-                    put64(v2 + 39768, get64(v2 + 24000));
-                    put64(v2 + 39774, get64(v2 + 24006));
-                    copy(v2 + 0x9d30, v2 + 0x5d88, 40);
-                    put64(v2 + 36032, get64(v2 + 23936));
-                    put64(v2 + 36024, get64(v2 + 23928));
-                    put64(v2 + 36016, get64(v2 + 23920));
-                    copy(v2 + 0x9308, v2 + 0x5c18, 344);
-                    put64(v2 + 39200, get64(v2 + 23568));
-                    put64(v2 + 39192, get64(v2 + 23560));
-                    put64(v2 + 39184, get64(v2 + 23552));
-                    put64(v2 + 39176, get64(v2 + 23544));
-                    put64(v2 + 35440, get64(v2 + 23512));
-                    put64(v2 + 35448, get64(v2 + 23520));
-                    put64(v2 + 35456, get64(v2 + 23528));
-                    put64(v2 + 35464, get64(v2 + 23536));
-                    put32(v2 + 39544, get32(v2 + 23504));
-                    put16(v2 + 39548, get16(v2 + 23508));
-                    put32(v2 + 39635, get32(v2 + 23499));
-                    put32(v2 + 39632, get32(v2 + 23496));
-                    put64(v2 + 40680, get64(v2 + 23488));
-                    put64(v2 + 40672, get64(v2 + 23480));
-                    copy(v2 + 0xa608, v2 + 0x55b8, 0x600);
-                    copy(v2 + 0xa008, v2 + 0x4fb8, 0x600);
-                    put64(v2 + 40904, get64(v2 + 20400));
-                    put64(v2 + 40896, get64(v2 + 20392));
-                    put64(v2 + 40888, get64(v2 + 20384));
-                    put64(v2 + 40880, get64(v2 + 20376));
-                    put64(v2 + 39672, get64(v2 + 20360));
-                    put64(v2 + 39680, get64(v2 + 20368));
+                    put64(v2 + 40840, get64(v2 + 24264));
+                    put64(v2 + 40832, get64(v2 + 24256));
+                    copy(v2 + 0x8d28, v2 + 0x5e78, 72);
+                    copy(v2 + 0x9bf0, v2 + 0x5e51, 39);
+                    copy(v2 + 0x8430, v2 + 0x5e28, 40);
+                    copy(v2 + 0x7e30, v2 + 0x5e00, 40);
+                    put64(v2 + 40800, get64(v2 + 24056));
+                    put64(v2 + 40792, get64(v2 + 24048));
+                    put64(v2 + 39784, get64(v2 + 24016));
+                    put64(v2 + 39792, get64(v2 + 24024));
+                    put64(v2 + 39800, get64(v2 + 24032));
+                    put64(v2 + 39806, get64(v2 + 24038));
+                    copy(v2 + 0x9d50, v2 + 0x5da8, 40);
+                    put64(v2 + 36064, get64(v2 + 23968));
+                    put64(v2 + 36056, get64(v2 + 23960));
+                    put64(v2 + 36048, get64(v2 + 23952));
+                    copy(v2 + 0x9328, v2 + 0x5c38, 344);
+                    put64(v2 + 39232, get64(v2 + 23600));
+                    put64(v2 + 39224, get64(v2 + 23592));
+                    put64(v2 + 39216, get64(v2 + 23584));
+                    put64(v2 + 39208, get64(v2 + 23576));
+                    put64(v2 + 35472, get64(v2 + 23544));
+                    put64(v2 + 35480, get64(v2 + 23552));
+                    put64(v2 + 35488, get64(v2 + 23560));
+                    put64(v2 + 35496, get64(v2 + 23568));
+                    put32(v2 + 39576, get32(v2 + 23536));
+                    put16(v2 + 39580, get16(v2 + 23540));
+                    put32(v2 + 39667, get32(v2 + 23531));
+                    put32(v2 + 39664, get32(v2 + 23528));
+                    put64(v2 + 40712, get64(v2 + 23520));
+                    put64(v2 + 40704, get64(v2 + 23512));
+                    copy(v2 + 0xa628, v2 + 0x55d8, 0x600);
+                    copy(v2 + 0xa028, v2 + 0x4fd8, 0x600);
+                    put64(v2 + 40936, get64(v2 + 20432));
+                    put64(v2 + 40928, get64(v2 + 20424));
+                    put64(v2 + 40920, get64(v2 + 20416));
+                    put64(v2 + 40912, get64(v2 + 20408));
+                    put64(v2 + 39704, get64(v2 + 20392));
+                    put64(v2 + 39712, get64(v2 + 20400));
                     v67 = v55;
                     v69 = v56;
                     v70 = v57;
@@ -10323,143 +10366,144 @@ LOCAL void script_run_ScriptTakerUnit_end_b2603f60f574cda2(uint64_t p0, uint64_t
                     v79 = v65;
                     v51 = v66;
                 }
-                put64(v2 + 28112, get64(v2 + 40808));
-                put64(v2 + 28104, get64(v2 + 40800));
-                copy(v2 + 0x6d80, v2 + 0x8d08, 72);
-                copy(v2 + 0x6d59, v2 + 0x9bd0, 39);
-                copy(v2 + 0x6d31, v2 + 0x8410, 40);
-                copy(v2 + 0x6d09, v2 + 0x7e10, 40);
-                put64(v2 + 27904, get64(v2 + 40768));
-                put64(v2 + 27896, get64(v2 + 40760));
-                put64(v2 + 27864, get64(v2 + 39752));
-                put64(v2 + 27872, get64(v2 + 39760));
-                put64(v2 + 27880, get64(v2 + 39768));
-                put64(v2 + 27886, get64(v2 + 39774));
-                copy(v2 + 0x6cb0, v2 + 0x9d30, 40);
-                put64(v2 + 27816, get64(v2 + 36032));
-                put64(v2 + 27808, get64(v2 + 36024));
-                put64(v2 + 27800, get64(v2 + 36016));
-                copy(v2 + 0x6b40, v2 + 0x9308, 344);
-                put64(v2 + 27448, get64(v2 + 39200));
-                put64(v2 + 27440, get64(v2 + 39192));
-                put64(v2 + 27432, get64(v2 + 39184));
-                put64(v2 + 27424, get64(v2 + 39176));
-                put64(v2 + 27392, get64(v2 + 35440));
-                put64(v2 + 27400, get64(v2 + 35448));
-                put64(v2 + 27408, get64(v2 + 35456));
-                put64(v2 + 27416, get64(v2 + 35464));
-                put32(v2 + 27384, get32(v2 + 39544));
-                put16(v2 + 27388, get16(v2 + 39548));
-                put32(v2 + 27379, get32(v2 + 39635));
-                put32(v2 + 27376, get32(v2 + 39632));
-                put64(v2 + 27360, get64(v2 + 40672));
-                put64(v2 + 27368, get64(v2 + 40680));
-                copy(v2 + 0x64e0, v2 + 0xa608, 0x600);
-                copy(v2 + 0x5ee0, v2 + 0xa008, 0x600);
-                put64(v2 + 24280, get64(v2 + 40904));
-                put64(v2 + 24272, get64(v2 + 40896));
-                put64(v2 + 24264, get64(v2 + 40888));
-                put64(v2 + 24256, get64(v2 + 40880));
-                put64(v2 + 24240, get64(v2 + 39672));
-                put64(v2 + 24248, get64(v2 + 39680));
+                put64(v2 + 28144, get64(v2 + 40840));
+                put64(v2 + 28136, get64(v2 + 40832));
+                copy(v2 + 0x6da0, v2 + 0x8d28, 72);
+                copy(v2 + 0x6d79, v2 + 0x9bf0, 39);
+                copy(v2 + 0x6d51, v2 + 0x8430, 40);
+                copy(v2 + 0x6d29, v2 + 0x7e30, 40);
+                put64(v2 + 27936, get64(v2 + 40800));
+                put64(v2 + 27928, get64(v2 + 40792));
+                put64(v2 + 27896, get64(v2 + 39784));
+                put64(v2 + 27904, get64(v2 + 39792));
+                put64(v2 + 27912, get64(v2 + 39800));
+                put64(v2 + 27918, get64(v2 + 39806));
+                copy(v2 + 0x6cd0, v2 + 0x9d50, 40);
+                put64(v2 + 27848, get64(v2 + 36064));
+                put64(v2 + 27840, get64(v2 + 36056));
+                put64(v2 + 27832, get64(v2 + 36048));
+                copy(v2 + 0x6b60, v2 + 0x9328, 344);
+                put64(v2 + 27480, get64(v2 + 39232));
+                put64(v2 + 27472, get64(v2 + 39224));
+                put64(v2 + 27464, get64(v2 + 39216));
+                put64(v2 + 27456, get64(v2 + 39208));
+                put64(v2 + 27424, get64(v2 + 35472));
+                put64(v2 + 27432, get64(v2 + 35480));
+                put64(v2 + 27440, get64(v2 + 35488));
+                put64(v2 + 27448, get64(v2 + 35496));
+                put32(v2 + 27416, get32(v2 + 39576));
+                put16(v2 + 27420, get16(v2 + 39580));
+                put32(v2 + 27411, get32(v2 + 39667));
+                put32(v2 + 27408, get32(v2 + 39664));
+                put64(v2 + 27392, get64(v2 + 40704));
+                put64(v2 + 27400, get64(v2 + 40712));
+                copy(v2 + 0x6500, v2 + 0xa628, 0x600);
+                copy(v2 + 0x5f00, v2 + 0xa028, 0x600);
+                put64(v2 + 24312, get64(v2 + 40936));
+                put64(v2 + 24304, get64(v2 + 40928));
+                put64(v2 + 24296, get64(v2 + 40920));
+                put64(v2 + 24288, get64(v2 + 40912));
+                put64(v2 + 24272, get64(v2 + 39704));
+                put64(v2 + 24280, get64(v2 + 39712));
                 v53 = 1;
                 if (v52 != 0) {
-                    put64(v32, get64(v2 + 28104));
-                    put64(v32 + 8, get64(v2 + 28112));
-                    put64(v2 + 28200, v72);
-                    copy(v31, v2 + 0x6d80, 72);
-                    put8(v2 + 28296, v68);
-                    copy(v30, v2 + 0x6d59, 39);
-                    put64(v2 + 28360, v67);
-                    put64(v2 + 28352, v69);
-                    put64(v2 + 28344, v70);
-                    put64(v2 + 28336, v71);
-                    copy(v29, v2 + 0x6d31, 40);
-                    copy(v28, v2 + 0x6d09, 40);
+                    put64(v33, get64(v2 + 28136));
+                    put64(v33 + 8, get64(v2 + 28144));
+                    put64(v2 + 28232, v72);
+                    copy(v32, v2 + 0x6da0, 72);
+                    put8(v2 + 28328, v68);
+                    copy(v31, v2 + 0x6d79, 39);
+                    put64(v2 + 28392, v67);
+                    put64(v2 + 28384, v69);
+                    put64(v2 + 28376, v70);
+                    put64(v2 + 28368, v71);
+                    copy(v30, v2 + 0x6d51, 40);
+                    copy(v29, v2 + 0x6d29, 40);
+                    put64(v28, get64(v2 + 27928));
+                    put64(v28 + 8, get64(v2 + 27936));
                     put64(v27, get64(v2 + 27896));
                     put64(v27 + 8, get64(v2 + 27904));
-                    put64(v26, get64(v2 + 27864));
-                    put64(v26 + 8, get64(v2 + 27872));
-                    put64(v26 + 16, get64(v2 + 27880));
-                    put64(v26 + 22, get64(v2 + 27886));
-                    put64(v2 + 28472, v76);
-                    put64(v2 + 28464, v75);
-                    put64(v2 + 28456, v74);
-                    put64(v2 + 28448, v73);
-                    put8(v2 + 28505, v79);
-                    put8(v2 + 28504, v78);
-                    put64(v2 + 28496, v77);
-                    copy(v25, v2 + 0x6cb0, 40);
-                    put64(v24 + 16, get64(v2 + 27816));
-                    put64(v24 + 8, get64(v2 + 27808));
-                    put64(v24, get64(v2 + 27800));
-                    copy(v23, v2 + 0x6b40, 344);
+                    put64(v27 + 16, get64(v2 + 27912));
+                    put64(v27 + 22, get64(v2 + 27918));
+                    put64(v2 + 28504, v76);
+                    put64(v2 + 28496, v75);
+                    put64(v2 + 28488, v74);
+                    put64(v2 + 28480, v73);
+                    put8(v2 + 28537, v79);
+                    put8(v2 + 28536, v78);
+                    put64(v2 + 28528, v77);
+                    copy(v26, v2 + 0x6cd0, 40);
+                    put64(v25 + 16, get64(v2 + 27848));
+                    put64(v25 + 8, get64(v2 + 27840));
+                    put64(v25, get64(v2 + 27832));
+                    copy(v24, v2 + 0x6b60, 344);
+                    put64(v23, get64(v2 + 27456));
+                    put64(v23 + 8, get64(v2 + 27464));
+                    put64(v23 + 16, get64(v2 + 27472));
+                    put64(v23 + 24, get64(v2 + 27480));
                     put64(v22, get64(v2 + 27424));
                     put64(v22 + 8, get64(v2 + 27432));
                     put64(v22 + 16, get64(v2 + 27440));
                     put64(v22 + 24, get64(v2 + 27448));
-                    put64(v21, get64(v2 + 27392));
-                    put64(v21 + 8, get64(v2 + 27400));
-                    put64(v21 + 16, get64(v2 + 27408));
-                    put64(v21 + 24, get64(v2 + 27416));
-                    put64(v2 + 28944, v51);
-                    put64(v2 + 28984, v51);
-                    put32(v20, get32(v2 + 27384));
-                    put16(v20 + 4, get16(v2 + 27388));
-                    put32(v19, get32(v2 + 27376));
-                    put32(v19 + 3, get32(v2 + 27379));
-                    put64(v18, get64(v2 + 27360));
-                    put64(v18 + 8, get64(v2 + 27368));
-                    put16(v2 + 0x7160, 0);
-                    put8(v2 + 0x7168, 0);
-                    put64(v2 + 29040, v51);
-                    copy(v17, v2 + 0x64e0, 0x600);
-                    copy(v16, v2 + 0x5ee0, 0x600);
-                    put64(v15, get64(v2 + 24256));
-                    put64(v15 + 8, get64(v2 + 24264));
-                    put64(v15 + 16, get64(v2 + 24272));
-                    put64(v15 + 24, get64(v2 + 24280));
-                    put64(v14, get64(v2 + 24240));
-                    put64(v14 + 8, get64(v2 + 24248));
-                    put64(v13, get64(v2 + 32200));
-                    put64(v13 + 8, get64(v2 + 32208));
-                    put64(v13 + 16, get64(v2 + 32216));
-                    put64(v2 + 32136, v51);
-                    put64(v2 + 32176, v51);
-                    put64(v2 + 20328, v50);
-                    t3 = node_lines_player_answer_b90c53bc3afb2eb0(v2 + 0x6e28, v2 + 0x4f68, v2 + 0x1f88);
-                    if ((t3 & 255) != 0) {
-                        copy(v2 + 0x3fa8, v2 + 0x6e28, 0xfa0);
-                        script_script_link_node_LinkNode_Destruct_drop(v2 + 0x3fa8);
+                    put64(v2 + 28976, v51);
+                    put64(v2 + 29016, v51);
+                    put32(v21, get32(v2 + 27416));
+                    put16(v21 + 4, get16(v2 + 27420));
+                    put32(v20, get32(v2 + 27408));
+                    put32(v20 + 3, get32(v2 + 27411));
+                    put64(v19, get64(v2 + 27392));
+                    put64(v19 + 8, get64(v2 + 27400));
+                    put16(v2 + 0x7180, 0);
+                    put8(v2 + 0x7188, 0);
+                    put64(v2 + 29072, v51);
+                    copy(v18, v2 + 0x6500, 0x600);
+                    copy(v17, v2 + 0x5f00, 0x600);
+                    put64(v16, get64(v2 + 24288));
+                    put64(v16 + 8, get64(v2 + 24296));
+                    put64(v16 + 16, get64(v2 + 24304));
+                    put64(v16 + 24, get64(v2 + 24312));
+                    put64(v15, get64(v2 + 24272));
+                    put64(v15 + 8, get64(v2 + 24280));
+                    put64(v14, get64(v2 + 32232));
+                    put64(v14 + 8, get64(v2 + 32240));
+                    put64(v14 + 16, get64(v2 + 32248));
+                    put64(v2 + 32168, v51);
+                    put64(v2 + 32208, v51);
+                    put64(v2 + 20360, v50);
+                    node_lines_player_answer_b90c53bc3afb2eb0(v2 + 32, v2 + 0x6e48, v2 + 0x4f88, v2 + 0x1fa8);
+                    if (get8(v2 + 32) != 0) {
+                        copy(v2 + 0x3fe8, v2 + 0x6e48, 0xfa0);
+                        script_script_link_node_LinkNode_Destruct_drop(v2 + 0x3fe8);
                     } else {
-                        v52 = get8(v2 + 4024);
-                        copy(v2 + 0x3000, v12, 0xfa7);
-                        put64(v2 + 4024, 1);
-                        copy(v49, v2 + 0x6e28, 0xfa0);
+                        v52 = get8(v2 + 4056);
+                        copy(v2 + 0x3040, v13, 0xfa7);
+                        put64(v2 + 4056, 1);
+                        copy(v49, v2 + 0x6e48, 0xfa0);
                         v53 = 0;
                         if (v52 == 1) {
-                            copy(v2 + 0x2060, v11, 0xfa0);
-                            script_script_link_node_LinkNode_Destruct_drop(v2 + 0x2060);
+                            copy(v2 + 0x20a0, v12, 0xfa0);
+                            script_script_link_node_LinkNode_Destruct_drop(v2 + 0x20a0);
                         }
                     }
                 }
             }
             break;
         case 3:
-            node_lines_player_push_lines(v2 + 56, v2 + 0x1f88, address(constant_433), 17);
-            v53 = get8(v2 + 56);
+            node_lines_player_push_lines(v2 + 80, v2 + 0x1fa8, address(constant_433), 17);
+            v53 = get8(v2 + 80);
             goto l13;
         case 4:
-            node_lines_causes_cause_in(v2 + 64, v6, p1);
-            v53 = node_lines_player_push_unreadable(v2 + 0x1f88, get64(v2 + 64), get64(v2 + 72));
+            node_lines_causes_cause_in(v2 + 96, v6, p1);
+            node_lines_player_push_unreadable(v2 + 88, v2 + 0x1fa8, get64(v2 + 96), get64(v2 + 104));
+            v53 = get8(v2 + 88);
             goto l13;
         default:
             goto l12;
         }
-        put64(v2 + 8152, p1);
-        put64(v2 + 8144, v9);
-        put64(v2 + 8136, v6);
-        std_alloc_vec_Vec_drop_22dcaffff3fe4929(v2 + 0x1fc8);
+        put64(v2 + 8184, p1);
+        put64(v2 + 8176, v9);
+        put64(v2 + 8168, v6);
+        std_alloc_vec_Vec_drop_22dcaffff3fe4929(v2 + 0x1fe8);
     l13:;
         if ((v53 & 255) != 0) {
             v7 = 1;
@@ -10468,90 +10512,90 @@ LOCAL void script_run_ScriptTakerUnit_end_b2603f60f574cda2(uint64_t p0, uint64_t
         }
     l12:;
         if ((v7 & 255) != 1) break;
-        p1 = get64(v2 + 8080);
+        p1 = get64(v2 + 8112);
         if (p1 <= 0xfff) continue;
-        streams_play_write_answers_b2603f60f574cda2(v2 + 8, get64(v2 + 8072), p1);
-        if (get8(v2 + 8) == 1) {
-            v53 = get8(v2 + 9);
+        streams_play_write_answers_b2603f60f574cda2(v2, get64(v2 + 8104), p1);
+        if (get8(v2) == 1) {
+            v53 = get8(v2 + 1);
             v7 = 1;
             goto l10;
         }
-        put64(v2 + 0x1f90, 0);
+        put64(v2 + 0x1fb0, 0);
     }
-    streams_play_write_answers_b2603f60f574cda2(v2 + 16, get64(v2 + 8072), get64(v2 + 8080));
-    v53 = get8(v2 + 17);
-    v7 = get8(v2 + 16);
+    streams_play_write_answers_b2603f60f574cda2(v2 + 8, get64(v2 + 8104), get64(v2 + 8112));
+    v53 = get8(v2 + 9);
+    v7 = get8(v2 + 8);
 l10:;
-    std_alloc_vec_Vec_drop_cf0198d8b37205d8(v2 + 0x1f88);
-    if (get8(v2 + 4024) == 1) {
-        v52 = get8(v2 + 4560);
-        v68 = get8(v2 + 4128);
-        copy(v2 + 0xf38, v2 + 0x1150, 128);
-        put64(v2 + 3887, get64(v2 + 4584));
-        put64(v2 + 3880, get64(v2 + 4577));
-        put64(v2 + 3872, get64(v2 + 4569));
-        put64(v2 + 3864, get64(v2 + 4561));
-        copy(v2 + 0xef0, v2 + 0x11f0, 40);
-        put64(v2 + 3816, get64(v2 + 4656));
-        put64(v2 + 3808, get64(v2 + 4648));
-        put64(v2 + 3800, get64(v2 + 4640));
-        put64(v2 + 3792, get64(v2 + 4632));
-        copy(v2 + 0xe60, v2 + 0x1238, 112);
-        copy(v2 + 0xe38, v2 + 0x12a8, 40);
-        copy(v2 + 0xe10, v2 + 0x12d0, 40);
-        copy(v2 + 448, v2 + 0x12f8, 0xc50);
-        put64(v2 + 440, get64(v2 + 8024));
-        put64(v2 + 432, get64(v2 + 8016));
-        put64(v2 + 424, get64(v2 + 8008));
-        copy(v2 + 384, v2 + 0x1090, 40);
-        copy(v2 + 336, v2 + 0x10b8, 48);
-        put64(v2 + 326, get64(v2 + 4360));
-        put64(v2 + 320, get64(v2 + 4354));
-        put64(v2 + 312, get64(v2 + 4346));
-        put64(v2 + 304, get64(v2 + 4338));
-        copy(v2 + 264, v2 + 0x1110, 40);
-        put64(v2 + 256, get64(v2 + 4424));
-        put64(v2 + 248, get64(v2 + 4416));
-        put64(v2 + 240, get64(v2 + 4408));
-        put64(v2 + 208, get64(v2 + 4168));
-        put64(v2 + 216, get64(v2 + 4176));
-        put64(v2 + 224, get64(v2 + 4184));
-        put64(v2 + 232, get64(v2 + 4192));
-        copy(v2 + 168, v2 + 0x1068, 40);
+    std_alloc_vec_Vec_drop_cf0198d8b37205d8(v2 + 0x1fa8);
+    if (get8(v2 + 4056) == 1) {
+        v52 = get8(v2 + 4592);
+        v68 = get8(v2 + 4160);
+        copy(v2 + 0xf58, v2 + 0x1170, 128);
+        put64(v2 + 3919, get64(v2 + 4616));
+        put64(v2 + 3912, get64(v2 + 4609));
+        put64(v2 + 3904, get64(v2 + 4601));
+        put64(v2 + 3896, get64(v2 + 4593));
+        copy(v2 + 0xf10, v2 + 0x1210, 40);
+        put64(v2 + 3848, get64(v2 + 4688));
+        put64(v2 + 3840, get64(v2 + 4680));
+        put64(v2 + 3832, get64(v2 + 4672));
+        put64(v2 + 3824, get64(v2 + 4664));
+        copy(v2 + 0xe80, v2 + 0x1258, 112);
+        copy(v2 + 0xe58, v2 + 0x12c8, 40);
+        copy(v2 + 0xe30, v2 + 0x12f0, 40);
+        copy(v2 + 480, v2 + 0x1318, 0xc50);
+        put64(v2 + 472, get64(v2 + 8056));
+        put64(v2 + 464, get64(v2 + 8048));
+        put64(v2 + 456, get64(v2 + 8040));
+        copy(v2 + 416, v2 + 0x10b0, 40);
+        copy(v2 + 368, v2 + 0x10d8, 48);
+        put64(v2 + 358, get64(v2 + 4392));
+        put64(v2 + 352, get64(v2 + 4386));
+        put64(v2 + 344, get64(v2 + 4378));
+        put64(v2 + 336, get64(v2 + 4370));
+        copy(v2 + 296, v2 + 0x1130, 40);
+        put64(v2 + 288, get64(v2 + 4456));
+        put64(v2 + 280, get64(v2 + 4448));
+        put64(v2 + 272, get64(v2 + 4440));
+        put64(v2 + 240, get64(v2 + 4200));
+        put64(v2 + 248, get64(v2 + 4208));
+        put64(v2 + 256, get64(v2 + 4216));
+        put64(v2 + 264, get64(v2 + 4224));
+        copy(v2 + 200, v2 + 0x1088, 40);
         if (v68 == 1) {
-            put64(v2 + 160, get64(v2 + 4160));
-            put64(v2 + 152, get64(v2 + 4152));
-            put64(v2 + 144, get64(v2 + 4144));
-            std_alloc_vec_Vec_drop_cf0198d8b37205d8(v2 + 144);
+            put64(v2 + 192, get64(v2 + 4192));
+            put64(v2 + 184, get64(v2 + 4184));
+            put64(v2 + 176, get64(v2 + 4176));
+            std_alloc_vec_Vec_drop_cf0198d8b37205d8(v2 + 176);
         }
-        circular_buffer_heap_HeapCircularBuffer_drop_fdba63b287a0edb1(v2 + 208);
-        std_alloc_vec_deque_VecDeque_drop_fdba63b287a0edb1(v2 + 168);
-        std_alloc_vec_deque_VecDeque_drop_fdba63b287a0edb1(v2 + 384);
-        std_alloc_vec_deque_VecDeque_drop_06dc80cbb3072c5f(v2 + 344);
-        put64(v2 + 136, get64(v2 + 326));
-        put64(v2 + 128, get64(v2 + 318));
-        put64(v2 + 120, get64(v2 + 310));
-        std_alloc_vec_Vec_drop_cf0198d8b37205d8(v2 + 120);
-        std_alloc_vec_deque_VecDeque_drop_f9dae581749c88f5(v2 + 264);
-        std_alloc_vec_Vec_drop_f9dae581749c88f5(v2 + 240);
-        std_alloc_vec_Vec_drop_b3d80a06e2ac1ece(v2 + 0xfa0);
+        circular_buffer_heap_HeapCircularBuffer_drop_fdba63b287a0edb1(v2 + 240);
+        std_alloc_vec_deque_VecDeque_drop_fdba63b287a0edb1(v2 + 200);
+        std_alloc_vec_deque_VecDeque_drop_fdba63b287a0edb1(v2 + 416);
+        std_alloc_vec_deque_VecDeque_drop_06dc80cbb3072c5f(v2 + 376);
+        put64(v2 + 168, get64(v2 + 358));
+        put64(v2 + 160, get64(v2 + 350));
+        put64(v2 + 152, get64(v2 + 342));
+        std_alloc_vec_Vec_drop_cf0198d8b37205d8(v2 + 152);
+        std_alloc_vec_deque_VecDeque_drop_f9dae581749c88f5(v2 + 296);
+        std_alloc_vec_Vec_drop_f9dae581749c88f5(v2 + 272);
+        std_alloc_vec_Vec_drop_b3d80a06e2ac1ece(v2 + 0xfc0);
         if ((v52 & 255) == 1) {
-            put64(v2 + 112, get64(v2 + 3887));
-            put64(v2 + 104, get64(v2 + 3879));
-            put64(v2 + 96, get64(v2 + 3871));
-            std_alloc_vec_Vec_drop_cf0198d8b37205d8(v2 + 96);
+            put64(v2 + 144, get64(v2 + 3919));
+            put64(v2 + 136, get64(v2 + 3911));
+            put64(v2 + 128, get64(v2 + 3903));
+            std_alloc_vec_Vec_drop_cf0198d8b37205d8(v2 + 128);
         }
-        std_alloc_vec_deque_VecDeque_drop_a6f1a5f619c79f3b(v2 + 0xef0);
-        circular_buffer_heap_HeapCircularBuffer_drop_a6f1a5f619c79f3b(v2 + 0xed0);
-        std_alloc_vec_Vec_drop_cf0198d8b37205d8(v2 + 0xe80);
-        std_alloc_vec_deque_VecDeque_drop_2f70203f142a8ded(v2 + 0xea8);
-        std_alloc_vec_deque_VecDeque_drop_f9dae581749c88f5(v2 + 0xe38);
-        std_alloc_vec_deque_VecDeque_drop_f9dae581749c88f5(v2 + 0xe10);
-        std_alloc_vec_Vec_drop_03c1dce2b160222e(v2 + 464);
-        core_array_array_drop_f7db9ec84d303bc9(v2 + 488);
-        core_array_array_drop_f7db9ec84d303bc9(v2 + 0x7e8);
-        std_alloc_vec_Vec_drop_f9dae581749c88f5(v2 + 0xde8);
-        std_alloc_vec_Vec_drop_f9dae581749c88f5(v2 + 424);
+        std_alloc_vec_deque_VecDeque_drop_a6f1a5f619c79f3b(v2 + 0xf10);
+        circular_buffer_heap_HeapCircularBuffer_drop_a6f1a5f619c79f3b(v2 + 0xef0);
+        std_alloc_vec_Vec_drop_cf0198d8b37205d8(v2 + 0xea0);
+        std_alloc_vec_deque_VecDeque_drop_2f70203f142a8ded(v2 + 0xec8);
+        std_alloc_vec_deque_VecDeque_drop_f9dae581749c88f5(v2 + 0xe58);
+        std_alloc_vec_deque_VecDeque_drop_f9dae581749c88f5(v2 + 0xe30);
+        std_alloc_vec_Vec_drop_03c1dce2b160222e(v2 + 496);
+        core_array_array_drop_f7db9ec84d303bc9(v2 + 520);
+        core_array_array_drop_f7db9ec84d303bc9(v2 + 0x808);
+        std_alloc_vec_Vec_drop_f9dae581749c88f5(v2 + 0xe08);
+        std_alloc_vec_Vec_drop_f9dae581749c88f5(v2 + 456);
     }
     v53 = ((v7 & 255) != 0) ? v53 : 0U;
     v5 = 0;
@@ -10560,9 +10604,9 @@ l10:;
     p1 = 0;
     goto l1;
 l3:;
-    node_lines_causes_cause_in(v2 + 80, v8, v9);
-    v6 = get64(v2 + 88);
-    v8 = get64(v2 + 80);
+    node_lines_causes_cause_in(v2 + 112, v8, v9);
+    v6 = get64(v2 + 120);
+    v8 = get64(v2 + 112);
     p1 = 0;
 l2:;
     v7 = 0;
@@ -10637,7 +10681,7 @@ LOCAL void streams_play_LinesTaker_end_040611a3cc83ab25(uint64_t p0, uint64_t p1
 
 LOCAL void streams_play_Lines_play_040611a3cc83ab25(uint64_t p0, uint64_t p1, uint64_t p2, uint64_t p3, uint64_t p4)
 {
-    unsigned char frame_octets[1648 + 15];
+    unsigned char frame_octets[1712 + 15];
     uint32_t v16 = 0, v19 = 0, v27 = 0, t1;
     uint64_t v5 = 0, v6 = 0, v7 = 0, v8 = 0, v9 = 0, v10 = 0, v11 = 0, v12 = 0, v13 = 0, v14 = 0, v15 = 0, v17 = 0,
         v18 = 0, v20 = 0, v21 = 0, v22 = 0, v23 = 0, v24 = 0, v25 = 0, v26 = 0;
@@ -10645,26 +10689,26 @@ LOCAL void streams_play_Lines_play_040611a3cc83ab25(uint64_t p0, uint64_t p1, ui
     v6 = p1 + 40;
     if (get64(v6) != 0) put64(v6, 0);
     v7 = p1 + 32;
-    fill(v5 + 88, 0, 40);
+    fill(v5 + 104, 0, 40);
     v8 = p2 + 8;
-    v9 = v5 + 760;
-    v10 = v5 + 0x4d8 + 8;
-    v11 = v5 + 0x488 + 8;
-    v12 = v5 + 192 + 9;
-    v13 = v5 + 256 + 9;
-    v14 = v5 + 145;
+    v9 = v5 + 823;
+    v10 = v5 + 0x518 + 8;
+    v11 = v5 + 0x4c8 + 8;
+    v12 = v5 + 184 + 9;
+    v13 = v5 + 248 + 9;
+    v14 = v5 + 161;
     v15 = p1 + 24;
     for (;;) {
-        streams_parts_cut(v5 + 88, p3, p4, 10);
-        p4 = get64(v5 + 120);
-        p3 = get64(v5 + 112);
-        v16 = get8(v5 + 104);
-        t1 = std_alloc_vec_Vec_extend_from_slice_a18784ed40310ee3(p1, get64(v5 + 88), get64(v5 + 96));
+        streams_parts_cut(v5 + 104, p3, p4, 10);
+        p4 = get64(v5 + 136);
+        p3 = get64(v5 + 128);
+        v16 = get8(v5 + 120);
+        t1 = std_alloc_vec_Vec_extend_from_slice_a18784ed40310ee3(p1, get64(v5 + 104), get64(v5 + 112));
         if ((t1 & 255) != 0) break;
         if ((v16 & 255) != 1) {
-            streams_play_write_answers_b2603f60f574cda2(v5 + 80, get64(p1 + 32), get64(p1 + 40));
-            v19 = get8(v5 + 81);
-            v16 = get8(v5 + 80);
+            streams_play_write_answers_b2603f60f574cda2(v5 + 96, get64(p1 + 32), get64(p1 + 40));
+            v19 = get8(v5 + 97);
+            v16 = get8(v5 + 96);
             put8(p0 + 1, v19);
             put8(p0, v16);
             return;
@@ -10672,38 +10716,38 @@ LOCAL void streams_play_Lines_play_040611a3cc83ab25(uint64_t p0, uint64_t p1, ui
         v17 = p1 + 8;
         v6 = get64(v17);
         v18 = get64(p1);
-        fill(v5 + 128, 0, 40);
-        node_lines_reader_read_line(v5 + 128, v18, v6);
-        switch ((uint32_t)(uint64_t)get8(v5 + 128)) {
+        fill(v5 + 144, 0, 40);
+        node_lines_reader_read_line(v5 + 144, v18, v6);
+        switch ((uint32_t)(uint64_t)get8(v5 + 144)) {
         case 1:
             if (get8(p2) != 0) {
+                node_lines_player_push_unreadable(v5, v7, address(constant_342), 30);
                 v19 = 0;
-                v16 = node_lines_player_push_unreadable(v7, address(constant_342), 30);
+                v16 = get8(v5);
                 goto l7;
             }
-            nodes_config_Config_set(v8, get8(v5 + 129), get64(v5 + 136));
+            nodes_config_Config_set(v8, get8(v5 + 145), get64(v5 + 152));
             break;
         case 2:
             v20 = 67;
             v21 = address(constant_436);
-            v16 = get8(v5 + 144);
-            v22 = (uint64_t)get8(v5 + 136);
+            v16 = get8(v5 + 160);
+            v22 = (uint64_t)get8(v5 + 152);
             if (v22 == 0 && ((1U << (v16 & 31)) & 0x1e11f) == 0) {
-                node_lines_causes_cause_in(v5 + 40, v18, v6);
-                v20 = get64(v5 + 48);
-                v21 = get64(v5 + 40);
+                node_lines_causes_cause_in(v5 + 48, v18, v6);
+                v20 = get64(v5 + 56);
+                v21 = get64(v5 + 48);
             }
             put64(v13, get64(v14));
             put64(v13 + 8, get64(v14 + 8));
             put64(v13 + 15, get64(v14 + 15));
-            fill(v5 + 288, 0, 32);
-            put8(v5 + 264, v16);
-            put64(v5 + 256, v22);
-            fill(v5 + 168, 0, 24);
-            fill(v5 + 224, 0, 32);
-            node_lines_line_octets_in(v5 + 24, v5 + 256);
-            streams_words_octets_of_digits(v5 + 288, get64(v5 + 24), get64(v5 + 32));
-            if (get8(v5 + 288) != 0) {
+            fill(v5 + 280, 0, 32);
+            put8(v5 + 256, v16);
+            put64(v5 + 248, v22);
+            fill(v5 + 216, 0, 32);
+            node_lines_line_octets_in(v5 + 32, v5 + 248);
+            streams_words_octets_of_digits(v5 + 280, get64(v5 + 32), get64(v5 + 40));
+            if (get8(v5 + 280) != 0) {
                 v16 = 1;
                 v19 = 0;
                 goto l7;
@@ -10711,81 +10755,83 @@ LOCAL void streams_play_Lines_play_040611a3cc83ab25(uint64_t p0, uint64_t p1, ui
             put64(v12, get64(v14));
             put64(v12 + 8, get64(v14 + 8));
             put64(v12 + 15, get64(v14 + 15));
-            put8(v5 + 200, v16);
-            put64(v5 + 192, v22);
-            v18 = get64(v5 + 312);
+            put8(v5 + 192, v16);
+            put64(v5 + 184, v22);
+            v6 = get64(v5 + 304);
+            v18 = get64(v5 + 288);
             v22 = get64(v5 + 296);
-            v23 = get64(v5 + 304);
-            node_lines_line_with_octets(v5 + 224, v5 + 192, v22, v23);
-            v6 = (uint64_t)get8(v5 + 224);
+            node_lines_line_with_octets(v5 + 216, v5 + 184, v18, v22);
+            v23 = get64(v5 + 240);
             v24 = get64(v5 + 232);
-            v25 = get64(v5 + 240);
-            v26 = get64(v5 + 248);
-            fill(v5 + 0x488, 0, 80);
-            switch ((uint32_t)v6) {
+            v25 = get64(v5 + 224);
+            v26 = (uint64_t)get8(v5 + 216);
+            switch ((uint32_t)v26) {
             case 1:
                 goto l9;
             case 2:
-                if (v25 != 4) goto l9;
+                if (v24 != 4) goto l9;
                 break;
             case 3:
                 break;
             default:
-                if (((1U << (((uint32_t)v24 & 255) & 31)) & 0x9fe0) != 0) goto l9;
+                if (((1U << (((uint32_t)v25 & 255) & 31)) & 0x9fe0) != 0) goto l9;
                 break;
             }
-            if (get8(p2) != 0) {
-                put64(v5 + 1264, v26);
-                put64(v5 + 1256, v25);
-                put64(v5 + 1248, v24);
-                put64(v5 + 1240, v6);
-                node_lines_player_answer_3b2f382f1ae54c4e(v5 + 16, v8, v5 + 0x4d8, v7);
-                v19 = get8(v5 + 17);
-                v16 = get8(v5 + 16);
+            if (get8(p2) == 1) {
+                put64(v5 + 1328, v23);
+                put64(v5 + 1320, v24);
+                put64(v5 + 1312, v25);
+                put64(v5 + 1304, v26);
+                node_lines_player_answer_3b2f382f1ae54c4e(v5 + 8, v8, v5 + 0x518, v7);
+                v19 = get8(v5 + 9);
+                v16 = get8(v5 + 8);
                 goto l8;
             }
-            nodes_config_Config_valid(v5 + 0x488, v8);
-            if (get8(v5 + 1160) != 0) {
+            copy(v5 + 312, v8, 72);
+            fill(v5 + 0x4c8, 0, 80);
+            nodes_config_Config_valid(v5 + 0x4c8, v5 + 312);
+            if (get8(v5 + 1224) != 0) {
                 v19 = 0;
-                v16 = node_lines_player_push_out_of_range(v7, get64(v5 + 1168), get64(v5 + 1176));
+                v16 = node_lines_player_push_out_of_range(v7, get64(v5 + 1232), get64(v5 + 1240));
                 goto l8;
             }
-            fill(v5 + 0x4d8, 0, 408);
-            nodes_ground_node_Ground_of(v5 + 0x4d8, v11);
-            if (get8(v5 + 1240) == 0) {
+            fill(v5 + 0x518, 0, 408);
+            nodes_ground_node_Ground_of(v5 + 0x518, v11);
+            if (get8(v5 + 1304) == 0) {
                 copy(v9, v10, 400);
-                copy(v5 + 0x4d8, v9, 400);
-                put64(v5 + 744, v26);
-                put64(v5 + 736, v25);
-                put64(v5 + 728, v24);
-                put64(v5 + 720, v6);
-                node_lines_player_answer_3b2f382f1ae54c4e(v5 + 8, v5 + 0x4d8, v5 + 720, v7);
-                if (get8(v5 + 8) == 0) {
+                copy(v5 + 0x518, v9, 400);
+                put64(v5 + 808, v23);
+                put64(v5 + 800, v24);
+                put64(v5 + 792, v25);
+                put64(v5 + 784, v26);
+                node_lines_player_answer_3b2f382f1ae54c4e(v5 + 16, v5 + 0x518, v5 + 784, v7);
+                if (get8(v5 + 16) == 0) {
                     v27 = get8(p2);
-                    copy(v5 + 320, v8, 400);
+                    copy(v5 + 384, v8, 400);
                     put64(p2, 1);
-                    copy(v8, v5 + 0x4d8, 400);
+                    copy(v8, v5 + 0x518, 400);
                     v19 = 1;
                     v16 = 0;
                     if (v27 != 1) goto l8;
-                    tctool_nodes_ground_node_Ground_Destruct_drop(v5 + 320);
+                    tctool_nodes_ground_node_Ground_Destruct_drop(v5 + 384);
                     goto l8;
                 }
-                copy(v5 + 320, v5 + 0x4d8, 400);
-                tctool_nodes_ground_node_Ground_Destruct_drop(v5 + 320);
+                copy(v5 + 384, v5 + 0x518, 400);
+                tctool_nodes_ground_node_Ground_Destruct_drop(v5 + 384);
             }
             v16 = 1;
             v19 = 0;
             goto l8;
         case 3:
-            node_lines_player_push_lines(v5 + 56, v7, address(constant_445), 200);
-            v19 = get8(v5 + 57);
-            v16 = get8(v5 + 56);
+            node_lines_player_push_lines(v5 + 64, v7, address(constant_445), 200);
+            v19 = get8(v5 + 65);
+            v16 = get8(v5 + 64);
             goto l7;
         case 4:
-            node_lines_causes_cause_in(v5 + 64, v18, v6);
+            node_lines_causes_cause_in(v5 + 80, v18, v6);
+            node_lines_player_push_unreadable(v5 + 72, v7, get64(v5 + 80), get64(v5 + 88));
             v19 = 0;
-            v16 = node_lines_player_push_unreadable(v7, get64(v5 + 64), get64(v5 + 72));
+            v16 = get8(v5 + 72);
             goto l7;
         default:
             break;
@@ -10793,13 +10839,14 @@ LOCAL void streams_play_Lines_play_040611a3cc83ab25(uint64_t p0, uint64_t p1, ui
         v19 = 1;
         goto l6;
     l9:;
+        node_lines_player_push_unreadable(v5 + 24, v7, v21, v20);
         v19 = 0;
-        v16 = node_lines_player_push_unreadable(v7, v21, v20);
+        v16 = get8(v5 + 24);
     l8:;
-        put64(v5 + 184, v18);
-        put64(v5 + 176, v23);
-        put64(v5 + 168, v22);
-        std_alloc_vec_Vec_drop_22dcaffff3fe4929(v5 + 168);
+        put64(v5 + 832, v6);
+        put64(v5 + 824, v22);
+        put64(v5 + 816, v18);
+        std_alloc_vec_Vec_drop_22dcaffff3fe4929(v5 + 816);
     l7:;
         if ((v16 & 255) != 0) {
             if ((v16 & 1) != 0) break;
@@ -10926,7 +10973,7 @@ LOCAL void streams_play_LinesTaker_end_1a9c26ac76939b26(uint64_t p0, uint64_t p1
 
 LOCAL void streams_play_Lines_play_1a9c26ac76939b26(uint64_t p0, uint64_t p1, uint64_t p2, uint64_t p3, uint64_t p4)
 {
-    unsigned char frame_octets[1504 + 15];
+    unsigned char frame_octets[1584 + 15];
     uint32_t v19 = 0, v22 = 0, v27 = 0, t1;
     uint64_t v5 = 0, v6 = 0, v7 = 0, v8 = 0, v9 = 0, v10 = 0, v11 = 0, v12 = 0, v13 = 0, v14 = 0, v15 = 0, v16 = 0,
         v17 = 0, v18 = 0, v20 = 0, v21 = 0, v23 = 0, v24 = 0, v25 = 0, v26 = 0;
@@ -10934,61 +10981,61 @@ LOCAL void streams_play_Lines_play_1a9c26ac76939b26(uint64_t p0, uint64_t p1, ui
     v6 = p1 + 40;
     if (get64(v6) != 0) put64(v6, 0);
     v7 = p1 + 32;
-    fill(v5 + 80, 0, 40);
+    fill(v5 + 112, 0, 40);
     v8 = p2 + 8;
-    v9 = v5 + 688 + 9;
-    v10 = v5 + 728;
-    v11 = v5 + 0x480 + 8;
-    v12 = v5 + 0x430 + 8;
-    v13 = v5 + 656 + 9;
-    v14 = v5 + 216 + 9;
-    v15 = v5 + 184 + 9;
-    v16 = v5 + 248 + 9;
-    v17 = v5 + 137;
+    v9 = v5 + 320 + 9;
+    v10 = v5 + 768 + 9;
+    v11 = v5 + 808;
+    v12 = v5 + 0x4d0 + 8;
+    v13 = v5 + 0x480 + 8;
+    v14 = v5 + 224 + 9;
+    v15 = v5 + 192 + 9;
+    v16 = v5 + 256 + 9;
+    v17 = v5 + 169;
     v18 = p1 + 24;
     for (;;) {
-        streams_parts_cut(v5 + 80, p3, p4, 10);
-        p4 = get64(v5 + 112);
-        p3 = get64(v5 + 104);
-        v19 = get8(v5 + 96);
-        t1 = std_alloc_vec_Vec_extend_from_slice_a18784ed40310ee3(p1, get64(v5 + 80), get64(v5 + 88));
+        streams_parts_cut(v5 + 112, p3, p4, 10);
+        p4 = get64(v5 + 144);
+        p3 = get64(v5 + 136);
+        v19 = get8(v5 + 128);
+        t1 = std_alloc_vec_Vec_extend_from_slice_a18784ed40310ee3(p1, get64(v5 + 112), get64(v5 + 120));
         if ((t1 & 255) != 0) break;
         if ((v19 & 255) != 1) goto l3;
         v20 = p1 + 8;
         v6 = get64(v20);
         v21 = get64(p1);
-        fill(v5 + 120, 0, 40);
-        node_lines_reader_read_line(v5 + 120, v21, v6);
-        switch ((uint32_t)(uint64_t)get8(v5 + 120)) {
+        fill(v5 + 152, 0, 40);
+        node_lines_reader_read_line(v5 + 152, v21, v6);
+        switch ((uint32_t)(uint64_t)get8(v5 + 152)) {
         case 1:
             if (get8(p2) != 0) {
+                node_lines_player_push_unreadable(v5 + 8, v7, address(constant_342), 30);
                 v22 = 0;
-                v19 = node_lines_player_push_unreadable(v7, address(constant_342), 30);
+                v19 = get8(v5 + 8);
                 goto l8;
             }
-            nodes_config_Config_set(v8, get8(v5 + 121), get64(v5 + 128));
+            nodes_config_Config_set(v8, get8(v5 + 153), get64(v5 + 160));
             break;
         case 2:
             v23 = 18;
             v24 = address(constant_446);
-            v19 = get8(v5 + 136);
-            v25 = (uint64_t)get8(v5 + 128);
+            v19 = get8(v5 + 168);
+            v25 = (uint64_t)get8(v5 + 160);
             if (v25 == 0 && ((1U << (v19 & 31)) & 0x1e11f) == 0) {
-                node_lines_causes_cause_in(v5 + 32, v21, v6);
-                v23 = get64(v5 + 40);
-                v24 = get64(v5 + 32);
+                node_lines_causes_cause_in(v5 + 56, v21, v6);
+                v23 = get64(v5 + 64);
+                v24 = get64(v5 + 56);
             }
             put64(v16, get64(v17));
             put64(v16 + 8, get64(v17 + 8));
             put64(v16 + 15, get64(v17 + 15));
-            fill(v5 + 280, 0, 32);
-            put8(v5 + 256, v19);
-            put64(v5 + 248, v25);
-            fill(v5 + 160, 0, 24);
-            fill(v5 + 216, 0, 32);
-            node_lines_line_octets_in(v5 + 16, v5 + 248);
-            streams_words_octets_of_digits(v5 + 280, get64(v5 + 16), get64(v5 + 24));
-            if (get8(v5 + 280) != 0) {
+            fill(v5 + 288, 0, 32);
+            put8(v5 + 264, v19);
+            put64(v5 + 256, v25);
+            fill(v5 + 224, 0, 32);
+            node_lines_line_octets_in(v5 + 40, v5 + 256);
+            streams_words_octets_of_digits(v5 + 288, get64(v5 + 40), get64(v5 + 48));
+            if (get8(v5 + 288) != 0) {
                 v19 = 1;
                 v22 = 0;
                 goto l8;
@@ -10996,16 +11043,15 @@ LOCAL void streams_play_Lines_play_1a9c26ac76939b26(uint64_t p0, uint64_t p1, ui
             put64(v15, get64(v17));
             put64(v15 + 8, get64(v17 + 8));
             put64(v15 + 15, get64(v17 + 15));
-            put8(v5 + 192, v19);
-            put64(v5 + 184, v25);
-            v21 = get64(v5 + 304);
-            v25 = get64(v5 + 288);
-            v26 = get64(v5 + 296);
-            node_lines_line_with_octets(v5 + 216, v5 + 184, v25, v26);
-            v6 = (uint64_t)get8(v5 + 216);
-            v19 = get8(v5 + 224);
-            fill(v5 + 0x430, 0, 80);
-            switch ((uint32_t)v6) {
+            put8(v5 + 200, v19);
+            put64(v5 + 192, v25);
+            v6 = get64(v5 + 312);
+            v21 = get64(v5 + 296);
+            v25 = get64(v5 + 304);
+            node_lines_line_with_octets(v5 + 224, v5 + 192, v21, v25);
+            v19 = get8(v5 + 232);
+            v26 = (uint64_t)get8(v5 + 224);
+            switch ((uint32_t)v26) {
             case 1:
             case 3:
                 goto l18;
@@ -11015,68 +11061,72 @@ LOCAL void streams_play_Lines_play_1a9c26ac76939b26(uint64_t p0, uint64_t p1, ui
                 if (((1U << (v19 & 31)) & 0x3eef) == 0) goto l18;
                 break;
             }
+            node_lines_player_push_unreadable(v5 + 32, v7, v24, v23);
             v22 = 0;
-            v19 = node_lines_player_push_unreadable(v7, v24, v23);
+            v19 = get8(v5 + 32);
             goto l17;
         l18:;
-            if (get8(p2) == 0) {
-                nodes_config_Config_valid(v5 + 0x430, v8);
-                if (get8(v5 + 1072) != 0) {
-                    v22 = 0;
-                    v19 = node_lines_player_push_out_of_range(v7, get64(v5 + 1080), get64(v5 + 1088));
-                } else {
-                    fill(v5 + 0x480, 0, 352);
-                    nodes_spacecraft_Spacecraft_of(v5 + 0x480, v12);
-                    if (get8(v5 + 1152) == 0) {
-                        copy(v10, v11, 344);
-                        copy(v5 + 0x480, v10, 344);
-                        put64(v9, get64(v14));
-                        put64(v9 + 8, get64(v14 + 8));
-                        put64(v9 + 15, get64(v14 + 15));
-                        put8(v5 + 696, v19);
-                        put64(v5 + 688, v6);
-                        node_lines_player_answer_54fc8b3eca759606(v5, v5 + 0x480, v5 + 688, v7);
-                        if (get8(v5) == 0) {
-                            v27 = get8(p2);
-                            copy(v5 + 312, v8, 344);
-                            put64(p2, 1);
-                            copy(v8, v5 + 0x480, 344);
-                            v22 = 1;
-                            v19 = 0;
-                            if (v27 != 1) goto l17;
-                            tctool_nodes_spacecraft_Spacecraft_Destruct_drop(v5 + 312);
-                            goto l17;
-                        }
-                        tctool_nodes_spacecraft_Spacecraft_Destruct_drop(v5 + 0x480);
+            if (get8(p2) == 1) {
+                put64(v9, get64(v14));
+                put64(v9 + 8, get64(v14 + 8));
+                put64(v9 + 15, get64(v14 + 15));
+                put8(v5 + 328, v19);
+                put64(v5 + 320, v26);
+                node_lines_player_answer_54fc8b3eca759606(v5 + 16, v8, v5 + 320, v7);
+                v22 = get8(v5 + 17);
+                v19 = get8(v5 + 16);
+                goto l17;
+            }
+            copy(v5 + 352, v8, 72);
+            fill(v5 + 0x480, 0, 80);
+            nodes_config_Config_valid(v5 + 0x480, v5 + 352);
+            if (get8(v5 + 1152) == 0) {
+                fill(v5 + 0x4d0, 0, 352);
+                nodes_spacecraft_Spacecraft_of(v5 + 0x4d0, v13);
+                if (get8(v5 + 1232) == 0) {
+                    copy(v11, v12, 344);
+                    copy(v5 + 0x4d0, v11, 344);
+                    put64(v10, get64(v14));
+                    put64(v10 + 8, get64(v14 + 8));
+                    put64(v10 + 15, get64(v14 + 15));
+                    put8(v5 + 776, v19);
+                    put64(v5 + 768, v26);
+                    node_lines_player_answer_54fc8b3eca759606(v5 + 24, v5 + 0x4d0, v5 + 768, v7);
+                    if (get8(v5 + 24) == 0) {
+                        v27 = get8(p2);
+                        copy(v5 + 424, v8, 344);
+                        put64(p2, 1);
+                        copy(v8, v5 + 0x4d0, 344);
+                        v22 = 1;
+                        v19 = 0;
+                        if (v27 != 1) goto l17;
+                        tctool_nodes_spacecraft_Spacecraft_Destruct_drop(v5 + 424);
+                        goto l17;
                     }
-                    v19 = 1;
-                    v22 = 0;
+                    tctool_nodes_spacecraft_Spacecraft_Destruct_drop(v5 + 0x4d0);
                 }
+                v19 = 1;
+                v22 = 0;
             } else {
-                put64(v13, get64(v14));
-                put64(v13 + 8, get64(v14 + 8));
-                put64(v13 + 15, get64(v14 + 15));
-                put8(v5 + 664, v19);
-                put64(v5 + 656, v6);
-                node_lines_player_answer_54fc8b3eca759606(v5 + 8, v8, v5 + 656, v7);
-                v22 = get8(v5 + 9);
-                v19 = get8(v5 + 8);
+                v22 = 0;
+                v19 = node_lines_player_push_out_of_range(v7, get64(v5 + 1160), get64(v5 + 1168));
             }
         l17:;
-            put64(v5 + 176, v21);
-            put64(v5 + 168, v26);
-            put64(v5 + 160, v25);
-            std_alloc_vec_Vec_drop_22dcaffff3fe4929(v5 + 160);
+            put64(v5 + 1248, v6);
+            put64(v5 + 1240, v25);
+            put64(v5 + 1232, v21);
+            std_alloc_vec_Vec_drop_22dcaffff3fe4929(v5 + 0x4d0);
             goto l8;
         case 3:
-            node_lines_player_push_lines(v5 + 48, v7, address(constant_455), 84);
-            v22 = get8(v5 + 49);
-            v19 = get8(v5 + 48);
+            node_lines_player_push_lines(v5 + 72, v7, address(constant_455), 84);
+            v22 = get8(v5 + 73);
+            v19 = get8(v5 + 72);
             goto l8;
         case 4:
-            node_lines_causes_cause_in(v5 + 56, v21, v6);
+            node_lines_causes_cause_in(v5 + 88, v21, v6);
+            node_lines_player_push_unreadable(v5 + 80, v7, get64(v5 + 88), get64(v5 + 96));
             v22 = 0;
-            v19 = node_lines_player_push_unreadable(v7, get64(v5 + 56), get64(v5 + 64));
+            v19 = get8(v5 + 80);
             goto l8;
         default:
             break;
@@ -11098,9 +11148,9 @@ LOCAL void streams_play_Lines_play_1a9c26ac76939b26(uint64_t p0, uint64_t p1, ui
     put8(p0, v19);
     return;
 l3:;
-    streams_play_write_answers_b2603f60f574cda2(v5 + 72, get64(p1 + 32), get64(p1 + 40));
-    v22 = get8(v5 + 73);
-    v19 = get8(v5 + 72);
+    streams_play_write_answers_b2603f60f574cda2(v5 + 104, get64(p1 + 32), get64(p1 + 40));
+    v22 = get8(v5 + 105);
+    v19 = get8(v5 + 104);
     put8(p0 + 1, v22);
     put8(p0, v19);
     return;
@@ -22075,9 +22125,6 @@ LOCAL void std_alloc_vec_Vec_with_capacity_28e745d0a151f757(uint64_t p0, uint64_
     return;
 }
 
-#endif
-
-#if !defined PART || PART == 3
 LOCAL void command_line_clap_builder_arg_Arg_Destruct_drop(uint64_t p0)
 {
     unsigned char frame_octets[336 + 15];
@@ -22156,6 +22203,9 @@ LOCAL void command_line_arguments_option(uint64_t p0, uint64_t p1, uint64_t p2, 
     return;
 }
 
+#endif
+
+#if !defined PART || PART == 3
 LOCAL void clap_builder_value_parser_ValueParser_range_f0c816964ed589a7(uint64_t p0, uint64_t p1, uint64_t p2)
 {
     uint32_t v8 = 0;
@@ -44009,55 +44059,125 @@ LOCAL void encode_lines_fields_after_key(uint64_t p0, uint64_t p1, uint64_t p2, 
 
 LOCAL uint32_t encode_lines_held_holds_octets(uint64_t p0, uint64_t p1)
 {
-    uint32_t v2 = 0, t1, t2, t3, t4, t5;
-    v2 = 1;
-    t1 = streams_words_is(p0, p1, address(constant_244), 6);
-    if (t1 != 0) return v2;
-    t2 = streams_words_is(p0, p1, address(constant_245), 4);
-    if (t2 != 0) return v2;
-    t3 = streams_words_is(p0, p1, address(constant_246), 5);
-    if (t3 != 0) return v2;
-    t4 = streams_words_is(p0, p1, address(constant_247), 9);
-    if (t4 != 0) return v2;
-    t5 = streams_words_is(p0, p1, address(constant_86), 6);
-    if (t5 != 0) return v2;
-    v2 = streams_words_is(p0, p1, address(constant_21), 4);
-    return v2;
+    unsigned char frame_octets[32 + 15];
+    uint32_t v3 = 0, t1, t2, t3, t4, t5, t6, t7, t8, t9, t10, t11;
+    uint64_t v2 = 0;
+    v2 = aligned(frame_octets);
+    if (p1 == 6) {
+        put64(v2 + 24, 6);
+        put64(v2 + 16, address(constant_244));
+        put64(v2 + 8, 6);
+        put64(v2, p0);
+        t1 = core_slice_scan_any_in_run_953750c03e87c3e2(v2, 0, 4);
+        if (t1 != 0) goto l5;
+        t2 = core_cmp_slices_groups_equal_i8_31_core_cmp_numbers_U8PartialEq(p0, 6, address(constant_244), 6);
+        if (t2 == 0) goto l5;
+        goto l2;
+    }
+    if (p1 != 4) {
+        if (p1 == 5) {
+            put64(v2 + 24, 5);
+            put64(v2 + 16, address(constant_246));
+            put64(v2 + 8, 5);
+            put64(v2, p0);
+            t5 = core_slice_scan_any_in_run_953750c03e87c3e2(v2, 0, 4);
+            if (t5 != 0) goto l5;
+            t6 = core_cmp_slices_groups_equal_i8_31_core_cmp_numbers_U8PartialEq(p0, 5, address(constant_246), 5);
+            if (t6 != 0) goto l2;
+            goto l4;
+        }
+        if (p1 != 9) goto l4;
+        put64(v2 + 24, 9);
+        put64(v2 + 16, address(constant_247));
+        put64(v2 + 8, 9);
+        put64(v2, p0);
+        t7 = core_slice_scan_any_in_run_953750c03e87c3e2(v2, 0, 4);
+        if (t7 != 0) goto l4;
+        t8 = core_cmp_slices_groups_equal_i8_31_core_cmp_numbers_U8PartialEq(p0, 9, address(constant_247), 9);
+        if (t8 != 0) goto l2;
+        v3 = 0;
+        return v3;
+    }
+    put64(v2 + 24, 4);
+    put64(v2 + 16, address(constant_245));
+    put64(v2 + 8, 4);
+    put64(v2, p0);
+    t3 = core_slice_scan_any_in_run_953750c03e87c3e2(v2, 0, 4);
+    if (t3 != 0) goto l5;
+    t4 = core_cmp_slices_groups_equal_i8_31_core_cmp_numbers_U8PartialEq(p0, 4, address(constant_245), 4);
+    if (t4 != 0) goto l2;
+l5:;
+    if (p1 == 6) {
+        put64(v2 + 24, 6);
+        put64(v2 + 16, address(constant_86));
+        put64(v2 + 8, 6);
+        put64(v2, p0);
+        t9 = core_slice_scan_any_in_run_953750c03e87c3e2(v2, 0, 4);
+        if (t9 != 0) {
+            v3 = 0;
+            return v3;
+        }
+        t10 = core_cmp_slices_groups_equal_i8_31_core_cmp_numbers_U8PartialEq(p0, 6, address(constant_86), 6);
+        if (t10 != 0) goto l2;
+        v3 = 0;
+        return v3;
+    }
+l4:;
+    v3 = 0;
+    if (p1 != 4) return v3;
+    put64(v2 + 24, 4);
+    put64(v2 + 16, address(constant_21));
+    put64(v2 + 8, 4);
+    put64(v2, p0);
+    t11 = core_slice_scan_any_in_run_953750c03e87c3e2(v2, 0, 4);
+    if (t11 != 0) return v3;
+    v3 = core_cmp_slices_groups_equal_i8_31_core_cmp_numbers_U8PartialEq(p0, 4, address(constant_21), 4);
+    return v3;
+l2:;
+    v3 = 1;
+    return v3;
 }
 
 LOCAL uint32_t encode_lines_held_holds_packet(uint64_t p0, uint64_t p1)
 {
-    uint32_t v2 = 0, t1, t2;
-    v2 = 1;
-    t1 = streams_words_is(p0, p1, address(constant_244), 6);
-    if (t1 != 0) return v2;
-    t2 = streams_words_is(p0, p1, address(constant_248), 6);
-    if (t2 != 0) return v2;
-    v2 = streams_words_is(p0, p1, address(constant_249), 6);
-    return v2;
-}
-
-LOCAL uint32_t streams_words_is(uint64_t p0, uint64_t p1, uint64_t p2, uint64_t p3)
-{
     unsigned char frame_octets[32 + 15];
-    uint32_t v5 = 0, t1, t2;
-    uint64_t v4 = 0;
-    v4 = aligned(frame_octets);
-    v5 = 0;
-    if (p1 != p3) return v5;
-    put64(v4 + 24, p1);
-    put64(v4 + 16, p2);
-    put64(v4 + 8, p1);
-    put64(v4, p0);
-    if (p1 <= 3) {
-        t1 = core_slice_scan_any_by_one_953750c03e87c3e2(v4, p1);
-        v5 = t1 ^ 1;
-        return v5;
+    uint32_t v3 = 0, t1, t2, t3, t4, t5;
+    uint64_t v2 = 0;
+    v2 = aligned(frame_octets);
+    if (p1 != 6) {
+        v3 = 0;
+        return v3;
     }
-    t2 = core_slice_scan_any_in_run_953750c03e87c3e2(v4, 0, 4);
-    if (t2 != 0) return v5;
-    v5 = core_cmp_slices_groups_equal_i8_31_core_cmp_numbers_U8PartialEq(p0, p1, p2, p1);
-    return v5;
+    put64(v2 + 24, 6);
+    put64(v2 + 16, address(constant_244));
+    put64(v2 + 8, 6);
+    put64(v2, p0);
+    t1 = core_slice_scan_any_in_run_953750c03e87c3e2(v2, 0, 4);
+    if (t1 == 0) {
+        t2 = core_cmp_slices_groups_equal_i8_31_core_cmp_numbers_U8PartialEq(p0, 6, address(constant_244), 6);
+        if (t2 != 0) goto l2;
+    }
+    put64(v2 + 24, 6);
+    put64(v2 + 16, address(constant_248));
+    put64(v2 + 8, 6);
+    put64(v2, p0);
+    t3 = core_slice_scan_any_in_run_953750c03e87c3e2(v2, 0, 4);
+    if (t3 == 0) {
+        t4 = core_cmp_slices_groups_equal_i8_31_core_cmp_numbers_U8PartialEq(p0, 6, address(constant_248), 6);
+        if (t4 != 0) goto l2;
+    }
+    put64(v2 + 24, 6);
+    put64(v2 + 16, address(constant_249));
+    put64(v2 + 8, 6);
+    put64(v2, p0);
+    v3 = 0;
+    t5 = core_slice_scan_any_in_run_953750c03e87c3e2(v2, 0, 4);
+    if (t5 != 0) return v3;
+    v3 = core_cmp_slices_groups_equal_i8_31_core_cmp_numbers_U8PartialEq(p0, 6, address(constant_249), 6);
+    return v3;
+l2:;
+    v3 = 1;
+    return v3;
 }
 
 LOCAL void encode_lines_frames_frame_of(uint64_t p0, uint64_t p1, uint64_t p2, uint64_t p3, uint64_t p4, uint64_t p5)
@@ -44486,14 +44606,20 @@ LOCAL void streams_words_octets_in_word(uint64_t p0, uint64_t p1, uint64_t p2)
     uint32_t v5 = 0, t1, t2, t3;
     uint64_t v3 = 0, v4 = 0, v6 = 0, v7 = 0, v8 = 0;
     v3 = aligned(frame_octets);
-    t1 = streams_words_is(p1, p2, address(constant_113), 1);
-    if (t1 != 0) {
-        put8(p0, 0);
-        put64(p0 + 24, 0);
-        put64(p0 + 8, 1);
-        put64(p0 + 32, 0);
-        put64(p0 + 16, v3 + 63);
-        return;
+    if (p2 == 1) {
+        put64(v3 + 24, 1);
+        put64(v3 + 16, address(constant_113));
+        put64(v3 + 8, 1);
+        put64(v3, p1);
+        t1 = core_slice_scan_any_by_one_953750c03e87c3e2(v3, 1);
+        if (t1 == 0) {
+            put8(p0, 0);
+            put64(p0 + 24, 0);
+            put64(p0 + 8, 1);
+            put64(p0 + 32, 0);
+            put64(p0 + 16, v3 + 63);
+            return;
+        }
     }
     t2 = streams_words_is_octets(p1, p2);
     if (t2 == 0) {
@@ -44502,24 +44628,24 @@ LOCAL void streams_words_octets_in_word(uint64_t p0, uint64_t p1, uint64_t p2)
         return;
     }
     v4 = 0;
-    fill(v3 + 8, 0, 24);
+    fill(v3 + 32, 0, 24);
     v5 = 1;
     if (((uint32_t)p2 & 1) != 0) goto l6;
     v6 = 0;
-    fill(v3 + 40, 0, 16);
-    put64(v3 + 32, v3 + 63);
+    fill(v3 + 8, 0, 16);
+    put64(v3, v3 + 63);
     if (p2 != 0) {
         v6 = p2 >> 1;
-        t3 = std_alloc_vec_Vec_move_to_59a5ef4f07d509f6(v3 + 32, v6);
+        t3 = std_alloc_vec_Vec_move_to_59a5ef4f07d509f6(v3, v6);
         if (t3 == 0) {
-            std_alloc_vec_Vec_destroy_empty_59a5ef4f07d509f6(v3 + 32);
+            std_alloc_vec_Vec_destroy_empty_59a5ef4f07d509f6(v3);
             v4 = 0;
             goto l6;
         }
         v7 = v6 - 1;
-        v8 = get64(v3 + 48);
-        v6 = get64(v3 + 40);
-        v4 = get64(v3 + 32);
+        v8 = get64(v3 + 16);
+        v6 = get64(v3 + 8);
+        v4 = get64(v3);
         for (;;) {
             put8(v4 + v6, 0);
             if (v7 == 0) break;
@@ -44531,17 +44657,17 @@ LOCAL void streams_words_octets_in_word(uint64_t p0, uint64_t p1, uint64_t p2)
         v4 = v3 + 63;
         v8 = 0;
     }
-    hex_decode_into(v3 + 8, p1, p2, v4, v6);
-    if (get8(v3 + 8) == 0) {
+    hex_decode_into(v3 + 32, p1, p2, v4, v6);
+    if (get8(v3 + 32) == 0) {
         v7 = 1;
         v5 = 0;
         goto l4;
     }
-    put64(v3 + 48, v8);
+    put64(v3 + 16, v8);
     v6 = 0;
-    put64(v3 + 40, 0);
-    put64(v3 + 32, v4);
-    std_alloc_vec_Vec_destroy_empty_59a5ef4f07d509f6(v3 + 32);
+    put64(v3 + 8, 0);
+    put64(v3, v4);
+    std_alloc_vec_Vec_destroy_empty_59a5ef4f07d509f6(v3);
     v4 = 0;
     goto l5;
 l6:;
@@ -44826,24 +44952,35 @@ LOCAL uint32_t octets_frame_check_check(uint64_t p0, uint64_t p1)
 
 LOCAL uint32_t streams_words_is_octets(uint64_t p0, uint64_t p1)
 {
-    uint32_t v2 = 0, v3 = 0, t1;
-    v2 = 1;
-    t1 = streams_words_is(p0, p1, address(constant_113), 1);
-    if (t1 != 0) return v2 & 1;
-    if (p1 == 0) {
-        v2 = 0;
-        return v2 & 1;
+    unsigned char frame_octets[32 + 15];
+    uint32_t v3 = 0, v4 = 0, t1;
+    uint64_t v2 = 0;
+    v2 = aligned(frame_octets);
+    if (p1 == 1) {
+        put64(v2 + 24, 1);
+        put64(v2 + 16, address(constant_113));
+        put64(v2 + 8, 1);
+        put64(v2, p0);
+        t1 = core_slice_scan_any_by_one_953750c03e87c3e2(v2, 1);
+        if (t1 != 0) goto l2;
+        v3 = 1;
+        return v3 & 1;
     }
-    v3 = (uint32_t)p1;
-    if ((v3 & 1) != 0) {
-        v2 = v3 ^ 1;
-        return v2 & 1;
+    if (p1 == 0) {
+        v3 = 0;
+        return v3 & 1;
+    }
+l2:;
+    v4 = (uint32_t)p1;
+    if ((v4 & 1) != 0) {
+        v3 = v4 ^ 1;
+        return v3 & 1;
     }
     for (;;) {
-        v2 = p1 == 0;
-        if (v2 != 0) return v2 & 1;
-        v3 = get8(p0);
-        if (v3 < 48 || (v3 >= 58 && (v3 < 65 || (v3 >= 71 && ((v3 - 97) & 255) > 5)))) return v2 & 1;
+        v3 = p1 == 0;
+        if (v3 != 0) return v3 & 1;
+        v4 = get8(p0);
+        if (v4 < 48 || (v4 >= 58 && (v4 < 65 || (v4 >= 71 && ((v4 - 97) & 255) > 5)))) return v3 & 1;
         p0 = p0 + 1;
         p1 = p1 - 1;
     }
@@ -44892,11 +45029,14 @@ LOCAL uint64_t libc_write(uint32_t p0, uint64_t p1)
 
 LOCAL void node_lines_reader_read_line(uint64_t p0, uint64_t p1, uint64_t p2)
 {
-    unsigned char frame_octets[1648 + 15];
-    uint32_t v7 = 0, v8 = 0, t1, t2, t3, t4, t5;
+    unsigned char frame_octets[976 + 15];
+    uint32_t v7 = 0, v8 = 0, v10 = 0, v11 = 0, v12 = 0, t1, t2, t3, t4, t5, t6, t7, t8, t9, t10, t11, t12, t13, t14,
+        t15, t16, t17, t18, t19, t20, t21, t22, t23, t24, t25, t26, t27, t28, t29, t30, t31, t32, t33, t34, t35;
     uint64_t v3 = 0, v4 = 0, v5 = 0, v6 = 0, v9 = 0;
     v3 = aligned(frame_octets);
-    fill(v3 + 104, 0, 136);
+    fill(v3 + 112, 0, 21);
+    fill(v3 + 136, 0, 21);
+    fill(v3 + 160, 0, 88);
     if (p2 == 0) {
         put16(p0, 0);
         fill(p0 + 8, 0, 32);
@@ -44907,386 +45047,574 @@ LOCAL void node_lines_reader_read_line(uint64_t p0, uint64_t p1, uint64_t p2)
         fill(p0 + 8, 0, 32);
         return;
     }
-    t1 = streams_words_is(p1, p2, address(constant_2), 4);
-    if (t1 != 0) {
-        put16(p0, 3);
-        fill(p0 + 8, 0, 32);
-        return;
+    if (p2 == 4) {
+        put64(v3 + 816, 4);
+        put64(v3 + 808, address(constant_2));
+        put64(v3 + 800, 4);
+        put64(v3 + 792, p1);
+        t1 = core_slice_scan_any_in_run_953750c03e87c3e2(v3 + 792, 0, 4);
+        if (t1 == 0) {
+            t2 = core_cmp_slices_groups_equal_i8_31_core_cmp_numbers_U8PartialEq(p1, 4, address(constant_2), 4);
+            if (t2 != 0) {
+                put16(p0, 3);
+                fill(p0 + 8, 0, 32);
+                return;
+            }
+        }
     }
-    streams_words_rest_after(v3 + 240, p1, p2, address(constant_270), 7);
-    if (get8(v3 + 240) == 1) {
-        streams_parts_two_words(v3 + 312, get64(v3 + 248), get64(v3 + 256));
-        if (get8(v3 + 312) != 1) goto l7;
-        v4 = ~14ULL;
-        v5 = get64(v3 + 344);
-        v6 = get64(v3 + 336);
-        p1 = get64(v3 + 320);
-        p2 = get64(v3 + 328);
-        v7 = p2 > 3;
+    streams_words_rest_after(v3 + 248, p1, p2, address(constant_270), 7);
+    if (get8(v3 + 248) == 1) {
+        streams_parts_two_words(v3 + 792, get64(v3 + 256), get64(v3 + 264));
+        if (get8(v3 + 792) != 1) goto l7;
+        p2 = ~14ULL;
+        v4 = get64(v3 + 824);
+        v5 = get64(v3 + 816);
+        v6 = get64(v3 + 800);
+        p1 = get64(v3 + 808);
+        v7 = p1 > 3;
         for (;;) {
-            if (v4 == 0) goto l7;
-            v8 = get8(v4 + address(constant_271 + 15));
-            nodes_parameter_Parameter_name(v3 + 16, v8);
-            if (p2 == get64(v3 + 24)) {
-                v9 = get64(v3 + 16);
-                put64(v3 + 1464, p2);
-                put64(v3 + 1456, v9);
-                put64(v3 + 1448, p2);
-                put64(v3 + 1440, p1);
+            if (p2 == 0) goto l7;
+            v8 = get8(p2 + address(constant_271 + 15));
+            nodes_parameter_Parameter_name(v3 + 24, v8);
+            if (p1 == get64(v3 + 32)) {
+                v9 = get64(v3 + 24);
+                put64(v3 + 752, p1);
+                put64(v3 + 744, v9);
+                put64(v3 + 736, p1);
+                put64(v3 + 728, v6);
                 if (v7 == 0) {
-                    t2 = core_slice_scan_any_by_one_953750c03e87c3e2(v3 + 0x5a0, p2);
-                    if (t2 != 0) goto l11;
+                    t3 = core_slice_scan_any_by_one_953750c03e87c3e2(v3 + 728, p1);
+                    if (t3 != 0) goto l11;
                     goto l8;
                 }
-                t3 = core_slice_scan_any_in_run_953750c03e87c3e2(v3 + 0x5a0, 0, 4);
-                if (t3 == 0) {
-                    t4 = core_cmp_slices_groups_equal_i8_31_core_cmp_numbers_U8PartialEq(p1, p2, v9, p2);
-                    if (t4 != 0) goto l8;
+                t4 = core_slice_scan_any_in_run_953750c03e87c3e2(v3 + 728, 0, 4);
+                if (t4 == 0) {
+                    t5 = core_cmp_slices_groups_equal_i8_31_core_cmp_numbers_U8PartialEq(v6, p1, v9, p1);
+                    if (t5 != 0) goto l8;
                 }
             }
         l11:;
-            v4 = v4 + 1;
+            p2 = p2 + 1;
         }
     }
-    v4 = 0;
-    fill(v3 + 264, 0, 48);
-    put32(v3 + 337, 0);
-    fill(v3 + 344, 0, 16);
-    fill(v3 + 392, 0, 16);
-    fill(v3 + 440, 0, 16);
-    fill(v3 + 488, 0, 16);
-    fill(v3 + 536, 0, 16);
-    fill(v3 + 584, 0, 16);
-    fill(v3 + 632, 0, 400);
-    put8(v3 + 336, 2);
-    put64(v3 + 328, 0);
-    put64(v3 + 320, 9);
-    put64(v3 + 312, address(constant_283));
-    put32(v3 + 340, 0);
-    put8(v3 + 528, 4);
-    put64(v3 + 520, 0);
-    put64(v3 + 512, 4);
-    put64(v3 + 504, address(constant_287));
-    put64(v3 + 480, 0x40002);
-    put64(v3 + 472, 0);
-    put64(v3 + 464, 9);
-    put64(v3 + 456, address(constant_286));
-    put64(v3 + 432, 0x20002);
-    put64(v3 + 424, 0);
-    put64(v3 + 416, 11);
-    put64(v3 + 408, address(constant_285));
-    put64(v3 + 384, 0x10002);
-    put64(v3 + 376, 0);
-    put64(v3 + 368, 10);
-    put64(v3 + 360, address(constant_284));
-    fill(v3 + 529, 0, 7);
-    put64(v3 + 552, address(constant_86));
-    put64(v3 + 560, 6);
-    put64(v3 + 568, 0);
-    put8(v3 + 576, 8);
-    fill(v3 + 577, 0, 7);
-    put64(v3 + 600, address(constant_288));
-    put64(v3 + 608, 10);
-    put64(v3 + 616, 0);
-    put8(v3 + 624, 5);
-    fill(v3 + 625, 0, 7);
-    put64(v3 + 648, address(constant_289));
-    put64(v3 + 656, 7);
-    put8(v3 + 672, 6);
-    fill(v3 + 673, 0, 7);
-    put8(v3 + 720, 9);
-    put64(v3 + 704, 12);
-    put64(v3 + 696, address(constant_290));
-    fill(v3 + 721, 0, 7);
-    put8(v3 + 768, 10);
-    put64(v3 + 752, 9);
-    put64(v3 + 744, address(constant_291));
-    fill(v3 + 769, 0, 7);
-    put8(v3 + 816, 12);
-    put64(v3 + 800, 9);
-    put64(v3 + 792, address(constant_292));
-    fill(v3 + 817, 0, 7);
-    put64(v3 + 840, address(constant_293));
-    put64(v3 + 848, 4);
-    put8(v3 + 864, 13);
-    fill(v3 + 865, 0, 7);
-    put8(v3 + 912, 14);
-    put64(v3 + 896, 4);
-    put64(v3 + 888, address(constant_294));
-    fill(v3 + 913, 0, 7);
-    put8(v3 + 960, 15);
-    put64(v3 + 944, 10);
-    put64(v3 + 936, address(constant_295));
-    fill(v3 + 961, 0, 7);
-    put64(v3 + 1000, 3);
-    put64(v3 + 992, 4);
-    put64(v3 + 984, address(constant_296));
-    do {
-        v5 = v4 + 48;
-        if (v5 == 768) goto l15;
-        v9 = v3 + 312 + v4;
-        v4 = v5;
-        t5 = streams_words_is(p1, p2, get64(v9), get64(v9 + 8));
-    } while (t5 == 0);
-    p2 = v3 + 312 + v5;
-    v4 = p2 - 24;
-    put64(v3 + 128, get64(v4));
-    put64(v3 + 136, get64(v4 + 8));
-    put64(v3 + 144, get64(v4 + 16));
-    v8 = get8(p2 - 32);
-    goto l14;
-l15:;
-    fill(v3 + 288, 0, 64);
-    fill(v3 + 0x408, 0, 32);
-    fill(v3 + 0x440, 0, 32);
-    fill(v3 + 0x478, 0, 32);
-    fill(v3 + 0x4b0, 0, 32);
-    fill(v3 + 0x4e8, 0, 32);
-    fill(v3 + 0x520, 0, 72);
-    fill(v3 + 0x580, 0, 72);
-    streams_words_rest_after(v3 + 0x5c8, p1, p2, address(constant_297), 7);
-    if (get8(v3 + 1480) == 1) {
-        streams_parts_two_words(v3 + 0x5a0, get64(v3 + 1488), get64(v3 + 1496));
-        if (get8(v3 + 1440) != 1) goto l20;
-        node_lines_reader_byte_in(v3 + 32, get64(v3 + 1448), get64(v3 + 1456));
-        if (get8(v3 + 32) != 1) goto l20;
-        v8 = get8(v3 + 33);
-        fill(v3 + 0x580, 0, 9);
-        put32(v3 + 0x58a, 0);
-        put64(v3 + 1424, get64(v3 + 1464));
-        put64(v3 + 1432, get64(v3 + 1472));
-        put8(v3 + 1417, v8);
-        node_lines_reader_carrying(v3 + 312, v3 + 0x580);
-        goto l19;
+    fill(v3 + 272, 0, 21);
+    fill(v3 + 296, 0, 21);
+    fill(v3 + 696, 0, 16);
+    if (p2 == 4) {
+        put64(v3 + 816, 4);
+        put64(v3 + 808, address(constant_283));
+        put64(v3 + 800, 4);
+        put64(v3 + 792, p1);
+        t6 = core_slice_scan_any_in_run_953750c03e87c3e2(v3 + 792, 0, 4);
+        if (t6 != 0) goto l32;
+        t7 = core_cmp_slices_groups_equal_i8_31_core_cmp_numbers_U8PartialEq(p1, 4, address(constant_283), 4);
+        if (t7 == 0) goto l32;
+        v8 = 0;
+        v10 = 3;
+        goto l17;
     }
-    streams_words_rest_after(v3 + 0x568, p1, p2, address(constant_298), 7);
-    if (get8(v3 + 1384) == 1) {
-        streams_parts_two_words(v3 + 0x540, get64(v3 + 1392), get64(v3 + 1400));
-        if (get8(v3 + 1344) != 1) goto l20;
-        node_lines_reader_byte_in(v3 + 40, get64(v3 + 1352), get64(v3 + 1360));
-        if (get8(v3 + 40) != 1) goto l20;
-        v8 = get8(v3 + 41);
-        put32(v3 + 0x52a, 0);
-        put8(v3 + 1320, 1);
-        put64(v3 + 0x520, 0);
-        put64(v3 + 1328, get64(v3 + 1368));
-        put64(v3 + 1336, get64(v3 + 1376));
-        put8(v3 + 1321, v8);
-        node_lines_reader_carrying(v3 + 312, v3 + 0x520);
-        goto l19;
+    if (p2 == 9) {
+        put64(v3 + 816, 9);
+        put64(v3 + 808, address(constant_284));
+        put64(v3 + 800, 9);
+        put64(v3 + 792, p1);
+        t8 = core_slice_scan_any_in_run_953750c03e87c3e2(v3 + 792, 0, 4);
+        if (t8 != 0) goto l34;
+        t9 = core_cmp_slices_groups_equal_i8_31_core_cmp_numbers_U8PartialEq(p1, 9, address(constant_284), 9);
+        if (t9 == 0) goto l34;
+        v8 = 2;
+        v10 = 0;
+        goto l17;
     }
-    streams_words_rest_after(v3 + 0x508, p1, p2, address(constant_299), 10);
-    if (get8(v3 + 1288) == 1) {
-        put32(v3 + 0x4f1, 0);
-        put8(v3 + 1264, 7);
-        put64(v3 + 0x4e8, 0);
-        put8(v3 + 0x4f5, 0);
-        put64(v3 + 1272, get64(v3 + 1296));
-        put64(v3 + 1280, get64(v3 + 1304));
-        node_lines_reader_carrying(v3 + 312, v3 + 0x4e8);
-        goto l19;
-    }
-    streams_words_rest_after(v3 + 0x4d0, p1, p2, address(constant_300), 12);
-    if (get8(v3 + 1232) == 1) {
-        put32(v3 + 0x4b9, 0);
-        put8(v3 + 1208, 11);
-        put64(v3 + 0x4b0, 0);
-        put8(v3 + 0x4bd, 0);
-        put64(v3 + 1216, get64(v3 + 1240));
-        put64(v3 + 1224, get64(v3 + 1248));
-        node_lines_reader_carrying(v3 + 312, v3 + 0x4b0);
-        goto l19;
-    }
-    streams_words_rest_after(v3 + 0x498, p1, p2, address(constant_301), 10);
-    if (get8(v3 + 1176) == 1) {
-        put32(v3 + 0x481, 0);
-        put8(v3 + 1152, 16);
-        put64(v3 + 0x478, 0);
-        put8(v3 + 0x485, 0);
-        put64(v3 + 1160, get64(v3 + 1184));
-        put64(v3 + 1168, get64(v3 + 1192));
-        node_lines_reader_carrying(v3 + 312, v3 + 0x478);
-        goto l19;
-    }
-    streams_words_rest_after(v3 + 0x460, p1, p2, address(constant_302), 6);
-    if (get8(v3 + 1120) == 1) {
-        put64(v3 + 1088, 1);
-        put64(v3 + 1096, get64(v3 + 1128));
-        put64(v3 + 1104, get64(v3 + 1136));
-        node_lines_reader_carrying(v3 + 312, v3 + 0x440);
-        goto l19;
-    }
-    streams_words_rest_after(v3 + 0x428, p1, p2, address(constant_303), 5);
-    if (get8(v3 + 1064) == 1) {
-        put64(v3 + 1032, 2);
-        put64(v3 + 1040, get64(v3 + 1072));
-        put64(v3 + 1048, get64(v3 + 1080));
-        node_lines_reader_carrying(v3 + 312, v3 + 0x408);
-        goto l19;
-    }
-    streams_words_rest_after(v3 + 0x658, p1, p2, address(constant_304), 9);
-    if (get8(v3 + 1624) == 1) {
-        node_lines_reader_byte_in(v3 + 48, get64(v3 + 1632), get64(v3 + 1640));
+    if (p2 == 10) {
+        put64(v3 + 816, 10);
+        put64(v3 + 808, address(constant_285));
+        put64(v3 + 800, 10);
+        put64(v3 + 792, p1);
+        t10 = core_slice_scan_any_in_run_953750c03e87c3e2(v3 + 792, 0, 4);
+        if (t10 != 0) goto l29;
+        t11 = core_cmp_slices_groups_equal_i8_31_core_cmp_numbers_U8PartialEq(p1, 10, address(constant_285), 10);
+        if (t11 == 0) goto l29;
         v7 = 1;
-        if (get8(v3 + 48) != 1) {
-            v7 = 0;
-            fill(v3 + 312, 0, 40);
-            goto l28;
-        }
-        v8 = get8(v3 + 49);
-        put64(v3 + 332, 0);
-        put8(v3 + 330, 3);
-        put16(v3 + 328, 2);
-        fill(v3 + 340, 0, 12);
-        put8(v3 + 331, v8);
-        goto l28;
+        goto l18;
     }
-    streams_words_rest_after(v3 + 0x640, p1, p2, address(constant_305), 3);
-    if (get8(v3 + 1600) == 1) {
-        node_lines_reader_byte_in(v3 + 56, get64(v3 + 1608), get64(v3 + 1616));
+    if (p2 == 11) {
+        put64(v3 + 816, 11);
+        put64(v3 + 808, address(constant_286));
+        put64(v3 + 800, 11);
+        put64(v3 + 792, p1);
+        t12 = core_slice_scan_any_in_run_953750c03e87c3e2(v3 + 792, 0, 4);
+        if (t12 != 0) {
+            fill(v3 + 728, 0, 16);
+            goto l21;
+        }
+        t13 = core_cmp_slices_groups_equal_i8_31_core_cmp_numbers_U8PartialEq(p1, 11, address(constant_286), 11);
+        if (t13 == 0) {
+            fill(v3 + 728, 0, 16);
+            goto l21;
+        }
+        v8 = 2;
+        v10 = 0;
+        v7 = 2;
+        goto l16;
+    }
+    if (p2 == 6) {
+        put64(v3 + 816, 6);
+        put64(v3 + 808, address(constant_86));
+        put64(v3 + 800, 6);
+        put64(v3 + 792, p1);
+        t18 = core_slice_scan_any_in_run_953750c03e87c3e2(v3 + 792, 0, 4);
+        if (t18 != 0) goto l26;
+        t19 = core_cmp_slices_groups_equal_i8_31_core_cmp_numbers_U8PartialEq(p1, 6, address(constant_86), 6);
+        if (t19 == 0) goto l26;
+        fill(v3 + 696, 0, 16);
+        v8 = 8;
+        v11 = 1;
+        goto l19;
+    }
+    fill(v3 + 728, 0, 16);
+    if (p2 == 7) {
+        put64(v3 + 816, 7);
+        put64(v3 + 808, address(constant_293));
+        put64(v3 + 800, 7);
+        put64(v3 + 792, p1);
+        t28 = core_slice_scan_any_in_run_953750c03e87c3e2(v3 + 792, 0, 4);
+        if (t28 != 0) goto l21;
+        t29 = core_cmp_slices_groups_equal_i8_31_core_cmp_numbers_U8PartialEq(p1, 7, address(constant_293), 7);
+        if (t29 == 0) goto l21;
+        fill(v3 + 632, 0, 16);
+        v8 = 6;
+        goto l22;
+    }
+    if (p2 != 12) goto l21;
+    put64(v3 + 816, 12);
+    put64(v3 + 808, address(constant_294));
+    put64(v3 + 800, 12);
+    put64(v3 + 792, p1);
+    t30 = core_slice_scan_any_in_run_953750c03e87c3e2(v3 + 792, 0, 4);
+    if (t30 != 0) goto l21;
+    t31 = core_cmp_slices_groups_equal_i8_31_core_cmp_numbers_U8PartialEq(p1, 12, address(constant_294), 12);
+    if (t31 == 0) goto l21;
+    fill(v3 + 632, 0, 16);
+    v8 = 9;
+    goto l22;
+l34:;
+    put64(v3 + 816, 9);
+    put64(v3 + 808, address(constant_287));
+    put64(v3 + 800, 9);
+    put64(v3 + 792, p1);
+    t14 = core_slice_scan_any_in_run_953750c03e87c3e2(v3 + 792, 0, 4);
+    if (t14 != 0) goto l25;
+    t15 = core_cmp_slices_groups_equal_i8_31_core_cmp_numbers_U8PartialEq(p1, 9, address(constant_287), 9);
+    if (t15 == 0) goto l25;
+    v7 = 4;
+    goto l18;
+l32:;
+    put64(v3 + 816, 4);
+    put64(v3 + 808, address(constant_288));
+    put64(v3 + 800, 4);
+    put64(v3 + 792, p1);
+    t16 = core_slice_scan_any_in_run_953750c03e87c3e2(v3 + 792, 0, 4);
+    if (t16 == 0) {
+        t17 = core_cmp_slices_groups_equal_i8_31_core_cmp_numbers_U8PartialEq(p1, 4, address(constant_288), 4);
+        if (t17 != 0) {
+            fill(v3 + 696, 0, 16);
+            v8 = 4;
+            v11 = 1;
+            goto l19;
+        }
+    }
+    put64(v3 + 816, 4);
+    put64(v3 + 808, address(constant_289));
+    put64(v3 + 800, 4);
+    put64(v3 + 792, p1);
+    t20 = core_slice_scan_any_in_run_953750c03e87c3e2(v3 + 792, 0, 4);
+    if (t20 == 0) {
+        t21 = core_cmp_slices_groups_equal_i8_31_core_cmp_numbers_U8PartialEq(p1, 4, address(constant_289), 4);
+        if (t21 != 0) {
+            fill(v3 + 696, 0, 16);
+            v8 = 13;
+            v11 = 1;
+            goto l19;
+        }
+    }
+    put64(v3 + 816, 4);
+    put64(v3 + 808, address(constant_290));
+    put64(v3 + 800, 4);
+    put64(v3 + 792, p1);
+    t22 = core_slice_scan_any_in_run_953750c03e87c3e2(v3 + 792, 0, 4);
+    if (t22 != 0) goto l26;
+    t23 = core_cmp_slices_groups_equal_i8_31_core_cmp_numbers_U8PartialEq(p1, 4, address(constant_290), 4);
+    if (t23 == 0) goto l26;
+    fill(v3 + 696, 0, 16);
+    v8 = 14;
+    v11 = 1;
+    goto l19;
+l29:;
+    put64(v3 + 816, 10);
+    put64(v3 + 808, address(constant_291));
+    put64(v3 + 800, 10);
+    put64(v3 + 792, p1);
+    t24 = core_slice_scan_any_in_run_953750c03e87c3e2(v3 + 792, 0, 4);
+    if (t24 == 0) {
+        t25 = core_cmp_slices_groups_equal_i8_31_core_cmp_numbers_U8PartialEq(p1, 10, address(constant_291), 10);
+        if (t25 != 0) {
+            fill(v3 + 696, 0, 16);
+            v8 = 15;
+            v11 = 1;
+            goto l19;
+        }
+    }
+    fill(v3 + 728, 0, 16);
+    put64(v3 + 816, 10);
+    put64(v3 + 808, address(constant_292));
+    put64(v3 + 800, 10);
+    put64(v3 + 792, p1);
+    t26 = core_slice_scan_any_in_run_953750c03e87c3e2(v3 + 792, 0, 4);
+    if (t26 != 0) goto l21;
+    t27 = core_cmp_slices_groups_equal_i8_31_core_cmp_numbers_U8PartialEq(p1, 10, address(constant_292), 10);
+    if (t27 == 0) goto l21;
+    fill(v3 + 632, 0, 16);
+    v8 = 5;
+    goto l22;
+l26:;
+    fill(v3 + 728, 0, 16);
+    goto l21;
+l25:;
+    fill(v3 + 728, 0, 16);
+    put64(v3 + 816, 9);
+    put64(v3 + 808, address(constant_295));
+    put64(v3 + 800, 9);
+    put64(v3 + 792, p1);
+    t32 = core_slice_scan_any_in_run_953750c03e87c3e2(v3 + 792, 0, 4);
+    if (t32 == 0) {
+        t33 = core_cmp_slices_groups_equal_i8_31_core_cmp_numbers_U8PartialEq(p1, 9, address(constant_295), 9);
+        if (t33 != 0) {
+            fill(v3 + 632, 0, 16);
+            v8 = 10;
+            goto l22;
+        }
+    }
+    put64(v3 + 816, 9);
+    put64(v3 + 808, address(constant_296));
+    put64(v3 + 800, 9);
+    put64(v3 + 792, p1);
+    t34 = core_slice_scan_any_in_run_953750c03e87c3e2(v3 + 792, 0, 4);
+    if (t34 != 0) goto l21;
+    t35 = core_cmp_slices_groups_equal_i8_31_core_cmp_numbers_U8PartialEq(p1, 9, address(constant_296), 9);
+    if (t35 == 0) goto l21;
+    fill(v3 + 632, 0, 16);
+    v8 = 12;
+l22:;
+    v11 = 1;
+    goto l20;
+l21:;
+    put64(v3 + 640, get64(v3 + 736));
+    put64(v3 + 632, get64(v3 + 728));
+    v11 = 0;
+    v8 = 0;
+l20:;
+    put64(v3 + 696, get64(v3 + 632));
+    put64(v3 + 704, get64(v3 + 640));
+l19:;
+    v7 = 0;
+    fill(v3 + 296, 0, 5);
+    put64(v3 + 301, get64(v3 + 696));
+    put64(v3 + 309, get64(v3 + 704));
+    v10 = 0;
+    if (v11 != 0) goto l15;
+    fill(v3 + 320, 0, 32);
+    fill(v3 + 376, 0, 32);
+    fill(v3 + 432, 0, 32);
+    fill(v3 + 488, 0, 32);
+    fill(v3 + 544, 0, 32);
+    fill(v3 + 600, 0, 72);
+    fill(v3 + 696, 0, 72);
+    fill(v3 + 792, 0, 40);
+    streams_words_rest_after(v3 + 768, p1, p2, address(constant_297), 7);
+    if (get8(v3 + 768) == 1) {
+        streams_parts_two_words(v3 + 728, get64(v3 + 776), get64(v3 + 784));
+        if (get8(v3 + 728) != 1) goto l43;
+        node_lines_reader_byte_in(v3 + 40, get64(v3 + 736), get64(v3 + 744));
+        if (get8(v3 + 40) != 1) goto l43;
+        v8 = get8(v3 + 41);
+        fill(v3 + 696, 0, 9);
+        put32(v3 + 706, 0);
+        put64(v3 + 712, get64(v3 + 752));
+        put64(v3 + 720, get64(v3 + 760));
+        put8(v3 + 705, v8);
+        node_lines_reader_carrying(v3 + 792, v3 + 696);
+        goto l42;
+    }
+    streams_words_rest_after(v3 + 672, p1, p2, address(constant_298), 7);
+    if (get8(v3 + 672) == 1) {
+        streams_parts_two_words(v3 + 632, get64(v3 + 680), get64(v3 + 688));
+        if (get8(v3 + 632) != 1) goto l43;
+        node_lines_reader_byte_in(v3 + 48, get64(v3 + 640), get64(v3 + 648));
+        if (get8(v3 + 48) != 1) goto l43;
+        v8 = get8(v3 + 49);
+        put32(v3 + 610, 0);
+        put8(v3 + 608, 1);
+        put64(v3 + 600, 0);
+        put64(v3 + 616, get64(v3 + 656));
+        put64(v3 + 624, get64(v3 + 664));
+        put8(v3 + 609, v8);
+        node_lines_reader_carrying(v3 + 792, v3 + 600);
+        goto l42;
+    }
+    streams_words_rest_after(v3 + 576, p1, p2, address(constant_299), 10);
+    if (get8(v3 + 576) == 1) {
+        put32(v3 + 553, 0);
+        put8(v3 + 552, 7);
+        put64(v3 + 544, 0);
+        put8(v3 + 557, 0);
+        put64(v3 + 560, get64(v3 + 584));
+        put64(v3 + 568, get64(v3 + 592));
+        node_lines_reader_carrying(v3 + 792, v3 + 544);
+        goto l42;
+    }
+    streams_words_rest_after(v3 + 520, p1, p2, address(constant_300), 12);
+    if (get8(v3 + 520) == 1) {
+        put32(v3 + 497, 0);
+        put8(v3 + 496, 11);
+        put64(v3 + 488, 0);
+        put8(v3 + 501, 0);
+        put64(v3 + 504, get64(v3 + 528));
+        put64(v3 + 512, get64(v3 + 536));
+        node_lines_reader_carrying(v3 + 792, v3 + 488);
+        goto l42;
+    }
+    streams_words_rest_after(v3 + 464, p1, p2, address(constant_301), 10);
+    if (get8(v3 + 464) == 1) {
+        put32(v3 + 441, 0);
+        put8(v3 + 440, 16);
+        put64(v3 + 432, 0);
+        put8(v3 + 445, 0);
+        put64(v3 + 448, get64(v3 + 472));
+        put64(v3 + 456, get64(v3 + 480));
+        node_lines_reader_carrying(v3 + 792, v3 + 432);
+        goto l42;
+    }
+    streams_words_rest_after(v3 + 408, p1, p2, address(constant_302), 6);
+    if (get8(v3 + 408) == 1) {
+        put64(v3 + 376, 1);
+        put64(v3 + 384, get64(v3 + 416));
+        put64(v3 + 392, get64(v3 + 424));
+        node_lines_reader_carrying(v3 + 792, v3 + 376);
+        goto l42;
+    }
+    streams_words_rest_after(v3 + 352, p1, p2, address(constant_303), 5);
+    if (get8(v3 + 352) == 1) {
+        put64(v3 + 320, 2);
+        put64(v3 + 328, get64(v3 + 360));
+        put64(v3 + 336, get64(v3 + 368));
+        node_lines_reader_carrying(v3 + 792, v3 + 320);
+        goto l42;
+    }
+    streams_words_rest_after(v3 + 952, p1, p2, address(constant_304), 9);
+    if (get8(v3 + 952) == 1) {
+        node_lines_reader_byte_in(v3 + 56, get64(v3 + 960), get64(v3 + 968));
+        v12 = 1;
         if (get8(v3 + 56) != 1) {
             v7 = 0;
-            fill(v3 + 312, 0, 40);
-            goto l28;
+            fill(v3 + 792, 0, 40);
+            goto l52;
         }
         v8 = get8(v3 + 57);
-        put64(v3 + 332, 0);
-        put8(v3 + 330, 5);
-        put16(v3 + 328, 2);
-        fill(v3 + 340, 0, 12);
-        put8(v3 + 331, v8);
-        v7 = 1;
-        goto l28;
+        fill(v3 + 812, 0, 16);
+        v11 = 0;
+        put32(v3 + 828, 0);
+        put8(v3 + 811, v8);
+        v8 = 2;
+        v7 = 3;
+        goto l51;
     }
-    streams_words_rest_after(v3 + 0x628, p1, p2, address(constant_306), 7);
-    if (get8(v3 + 1576) == 1) {
-        node_lines_reader_byte_in(v3 + 64, get64(v3 + 1584), get64(v3 + 1592));
-        v7 = 1;
+    streams_words_rest_after(v3 + 928, p1, p2, address(constant_305), 3);
+    if (get8(v3 + 928) == 1) {
+        node_lines_reader_byte_in(v3 + 64, get64(v3 + 936), get64(v3 + 944));
         if (get8(v3 + 64) != 1) {
             v7 = 0;
-            fill(v3 + 312, 0, 40);
-        } else {
-            v8 = get8(v3 + 65);
-            put64(v3 + 332, 0);
-            put8(v3 + 330, 6);
-            put16(v3 + 328, 2);
-            fill(v3 + 340, 0, 12);
-            put8(v3 + 331, v8);
+            fill(v3 + 792, 0, 40);
+            goto l52;
         }
-    } else {
-        streams_words_rest_after(v3 + 0x610, p1, p2, address(constant_307), 6);
-        if (get8(v3 + 1552) == 1) {
-            node_lines_reader_byte_in(v3 + 72, get64(v3 + 1560), get64(v3 + 1568));
-            if (get8(v3 + 72) != 1) {
-                v7 = 0;
-                fill(v3 + 312, 0, 40);
-            } else {
-                v8 = get8(v3 + 73);
-                put64(v3 + 332, 0);
-                put8(v3 + 330, 7);
-                put16(v3 + 328, 2);
-                fill(v3 + 340, 0, 12);
-                put8(v3 + 331, v8);
-                v7 = 1;
-            }
-        } else {
-            streams_words_rest_after(v3 + 0x5f8, p1, p2, address(constant_308), 6);
-            if (get8(v3 + 1528) == 1) {
-                streams_words_number_in_word(v3 + 80, get64(v3 + 1536), get64(v3 + 1544), 0xffff);
-                v7 = 1;
-                if ((get8(v3 + 80) & 1) == 0) {
-                    v7 = 0;
-                    fill(v3 + 312, 0, 40);
-                } else {
-                    v4 = get64(v3 + 88);
-                    put64(v3 + 334, 0);
-                    put32(v3 + 328, 0x80002);
-                    fill(v3 + 342, 0, 10);
-                    put16(v3 + 332, (uint32_t)v4);
-                }
-            } else {
-                streams_words_rest_after(v3 + 0x5e0, p1, p2, address(constant_309), 7);
-                if (get8(v3 + 1504) == 1) {
-                    node_lines_reader_byte_in(v3 + 96, get64(v3 + 1512), get64(v3 + 1520));
-                    if (get8(v3 + 96) != 1) {
-                        v7 = 0;
-                        fill(v3 + 312, 0, 40);
-                    } else {
-                        v8 = get8(v3 + 97);
-                        put64(v3 + 330, 0);
-                        put8(v3 + 328, 3);
-                        fill(v3 + 338, 0, 14);
-                        put8(v3 + 329, v8);
-                        v7 = 1;
-                    }
-                } else {
-                    v7 = 0;
-                    fill(v3 + 312, 0, 40);
-                }
-            }
-        }
+        v8 = get8(v3 + 65);
+        fill(v3 + 812, 0, 16);
+        v11 = 0;
+        put32(v3 + 828, 0);
+        put8(v3 + 811, v8);
+        v12 = 1;
+        v8 = 2;
+        v7 = 5;
+        goto l51;
     }
-l28:;
+    streams_words_rest_after(v3 + 904, p1, p2, address(constant_306), 7);
+    if (get8(v3 + 904) == 1) {
+        node_lines_reader_byte_in(v3 + 72, get64(v3 + 912), get64(v3 + 920));
+        v12 = 1;
+        if (get8(v3 + 72) != 1) {
+            v7 = 0;
+            fill(v3 + 792, 0, 40);
+            goto l52;
+        }
+        v8 = get8(v3 + 73);
+        fill(v3 + 812, 0, 16);
+        v11 = 0;
+        put32(v3 + 828, 0);
+        put8(v3 + 811, v8);
+        v8 = 2;
+        v7 = 6;
+        goto l51;
+    }
+    streams_words_rest_after(v3 + 880, p1, p2, address(constant_307), 6);
+    if (get8(v3 + 880) == 1) {
+        node_lines_reader_byte_in(v3 + 80, get64(v3 + 888), get64(v3 + 896));
+        if (get8(v3 + 80) != 1) {
+            v7 = 0;
+            fill(v3 + 792, 0, 40);
+            goto l52;
+        }
+        v8 = get8(v3 + 81);
+        fill(v3 + 812, 0, 16);
+        v11 = 0;
+        put32(v3 + 828, 0);
+        put8(v3 + 811, v8);
+        v12 = 1;
+        v8 = 2;
+        v7 = 7;
+        goto l51;
+    }
+    streams_words_rest_after(v3 + 856, p1, p2, address(constant_308), 6);
+    if (get8(v3 + 856) == 1) {
+        streams_words_number_in_word(v3 + 88, get64(v3 + 864), get64(v3 + 872), 0xffff);
+        v12 = 1;
+        if ((get8(v3 + 88) & 1) == 0) {
+            v7 = 0;
+            fill(v3 + 792, 0, 40);
+            goto l52;
+        }
+        p2 = get64(v3 + 96);
+        put64(v3 + 814, 0);
+        v11 = 0;
+        put8(v3 + 811, 0);
+        fill(v3 + 822, 0, 10);
+        put16(v3 + 812, (uint32_t)p2);
+        v8 = 2;
+        v7 = 8;
+        goto l51;
+    }
+    streams_words_rest_after(v3 + 832, p1, p2, address(constant_309), 7);
+    if (get8(v3 + 832) == 1) {
+        node_lines_reader_byte_in(v3 + 104, get64(v3 + 840), get64(v3 + 848));
+        if (get8(v3 + 104) != 1) {
+            v7 = 0;
+            fill(v3 + 792, 0, 40);
+            goto l52;
+        }
+        v11 = get8(v3 + 105);
+        fill(v3 + 810, 0, 22);
+        v12 = 1;
+        v8 = 3;
+        v7 = 0;
+        goto l51;
+    }
+    v7 = 0;
+    fill(v3 + 792, 0, 40);
+l52:;
+    v11 = 0;
     v8 = 0;
-    goto l18;
-l20:;
-    v4 = 0;
-    put64(v3 + 280, 0);
-    goto l17;
-l19:;
-    v8 = get8(v3 + 320);
-    v7 = get8(v3 + 312);
-l18:;
-    put64(v3 + 280, get64(v3 + 344));
-    put64(v3 + 272, get64(v3 + 336));
-    put64(v3 + 264, get64(v3 + 328));
+    v12 = 0;
+l51:;
+    v10 = 0;
+    goto l41;
+l43:;
+    p2 = 0;
+    put64(v3 + 285, 0);
+    goto l40;
+l42:;
+    v7 = get8(v3 + 810);
+    v11 = get8(v3 + 809);
+    v8 = get8(v3 + 808);
+    v10 = get8(v3 + 800);
+    v12 = get8(v3 + 792);
+l41:;
+    put64(v3 + 285, get64(v3 + 824));
+    put64(v3 + 280, get64(v3 + 819));
+    put64(v3 + 272, get64(v3 + 811));
+    put64(v3 + 149, get64(v3 + 285));
     put64(v3 + 144, get64(v3 + 280));
     put64(v3 + 136, get64(v3 + 272));
-    put64(v3 + 128, get64(v3 + 264));
-    if ((v7 & 255) == 1) goto l14;
-    v4 = 0;
-l17:;
-    v8 = 4;
+    if ((v12 & 255) == 1) goto l14;
+    p2 = 0;
+l40:;
+    v10 = 4;
+    v8 = 0;
+    v11 = 0;
+    v7 = 0;
     goto l13;
+l18:;
+    v8 = 2;
+    v10 = 0;
+    goto l16;
+l17:;
+    v7 = 0;
+l16:;
+    fill(v3 + 296, 0, 21);
+l15:;
+    put64(v3 + 149, get64(v3 + 309));
+    put64(v3 + 144, get64(v3 + 304));
+    put64(v3 + 136, get64(v3 + 296));
+    v11 = 0;
 l14:;
+    put64(v3 + 125, get64(v3 + 149));
     put64(v3 + 120, get64(v3 + 144));
     put64(v3 + 112, get64(v3 + 136));
-    put64(v3 + 104, get64(v3 + 128));
-    v4 = (uint64_t)v8 & 255;
-    v8 = 2;
+    p2 = (uint64_t)v10 & 255;
+    v10 = 2;
 l13:;
-    put8(p0, v8);
-    put64(p0 + 8, v4);
+    put8(p0, v10);
+    put8(p0 + 18, v7);
+    put8(p0 + 17, v11);
+    put8(p0 + 16, v8);
+    put64(p0 + 8, p2);
     put8(p0 + 1, 0);
-    put64(p0 + 16, get64(v3 + 104));
-    put64(p0 + 24, get64(v3 + 112));
-    put64(p0 + 32, get64(v3 + 120));
+    put64(p0 + 19, get64(v3 + 112));
+    put64(p0 + 27, get64(v3 + 120));
+    put64(p0 + 32, get64(v3 + 125));
     return;
 l8:;
-    fill(v3 + 0x5a0, 0, 32);
-    nodes_parameter_Parameter_row(v3 + 0x5a0, v8);
-    v4 = get64(v3 + 1464);
-    streams_words_number_in_word(v3, v6, v5, (v4 > 0x10006) ? v4 : 0x10006ULL);
+    fill(v3 + 728, 0, 32);
+    nodes_parameter_Parameter_row(v3 + 728, v8);
+    p2 = get64(v3 + 752);
+    streams_words_number_in_word(v3 + 8, v5, v4, (p2 > 0x10006) ? p2 : 0x10006ULL);
     v7 = 1;
-    if ((get8(v3) & 1) != 0) {
-        p2 = get64(v3 + 8);
-        fill(v3 + 216, 0, 24);
-        v4 = v3 + 216;
+    if ((get8(v3 + 8) & 1) != 0) {
+        p1 = get64(v3 + 16);
+        fill(v3 + 224, 0, 24);
+        p2 = v3 + 227;
+        v11 = 0;
+        v12 = 0;
+        v10 = 0;
         goto l5;
     }
 l7:;
-    p2 = 0;
-    fill(v3 + 208, 0, 32);
-    v4 = v3 + 168;
+    p1 = 0;
+    fill(v3 + 216, 0, 32);
+    p2 = v3 + 179;
     v8 = 0;
     v7 = 4;
+    v11 = get8(v3 + 178);
+    v10 = get8(v3 + 177);
+    v12 = get8(v3 + 176);
 l5:;
     put8(p0, v7);
-    put64(p0 + 8, p2);
+    put8(p0 + 18, v11);
+    put8(p0 + 17, v10);
+    put8(p0 + 16, v12);
+    put64(p0 + 8, p1);
     put8(p0 + 1, v8);
-    put64(p0 + 16, get64(v4));
-    put64(p0 + 24, get64(v4 + 8));
-    put64(p0 + 32, get64(v4 + 16));
+    put64(p0 + 19, get64(p2));
+    put64(p0 + 27, get64(p2 + 8));
+    put64(p0 + 32, get64(p2 + 13));
     return;
 }
 
@@ -45660,20 +45988,46 @@ l1:;
     return;
 }
 
-LOCAL uint32_t node_lines_player_push_unreadable(uint64_t p0, uint64_t p1, uint64_t p2)
+LOCAL void node_lines_player_push_unreadable(uint64_t p0, uint64_t p1, uint64_t p2, uint64_t p3)
 {
     unsigned char frame_octets[48 + 15];
-    uint32_t v4 = 0;
-    uint64_t v3 = 0;
-    v3 = aligned(frame_octets);
-    put64(v3 + 40, 1);
-    put64(v3 + 32, address(constant_126));
-    put64(v3 + 24, p2);
-    put64(v3 + 16, p1);
-    put64(v3 + 8, 12);
-    put64(v3, address(constant_435));
-    v4 = std_alloc_string_String_write_fmt_d55c35ff3b7cb7a7(p0, v3);
-    return v4 & 255;
+    uint32_t v5 = 0;
+    uint64_t v4 = 0;
+    v4 = aligned(frame_octets);
+    put64(v4 + 40, 1);
+    put64(v4 + 32, address(constant_126));
+    put64(v4 + 24, p3);
+    put64(v4 + 16, p2);
+    put64(v4 + 8, 12);
+    put64(v4, address(constant_435));
+    v5 = std_alloc_string_String_write_fmt_d55c35ff3b7cb7a7(p1, v4);
+    put8(p0 + 1, 0);
+    put8(p0, v5 & 255);
+    return;
+}
+
+LOCAL void node_lines_player_answer_b90c53bc3afb2eb0(uint64_t p0, uint64_t p1, uint64_t p2, uint64_t p3)
+{
+    unsigned char frame_octets[32 + 15];
+    uint32_t v5 = 0, v6 = 0, t1;
+    uint64_t v4 = 0;
+    v4 = aligned(frame_octets);
+    put64(v4, (uint64_t)get8(p2));
+    put64(v4 + 8, get64(p2 + 8));
+    put64(v4 + 16, get64(p2 + 16));
+    put64(v4 + 24, get64(p2 + 24));
+    t1 = script_link_node_LinkNodeNode_answer(p1, v4, p3);
+    if ((t1 & 255) != 0) {
+        v5 = 1;
+        v6 = 0;
+    } else {
+        v6 = std_alloc_vec_Vec_push_bbd08ad089034210(p3);
+        v5 = v6 & 1;
+        v6 = ~v6 & 1;
+    }
+    put8(p0 + 1, v6);
+    put8(p0, v5);
+    return;
 }
 
 LOCAL void nodes_ground_node_Ground_of(uint64_t p0, uint64_t p1)
@@ -46100,24 +46454,6 @@ LOCAL void simulated_link_map_lists_no_packets(uint64_t p0)
     return;
 }
 
-LOCAL uint32_t node_lines_player_answer_b90c53bc3afb2eb0(uint64_t p0, uint64_t p1, uint64_t p2)
-{
-    unsigned char frame_octets[32 + 15];
-    uint32_t v4 = 0, t1, t2;
-    uint64_t v3 = 0;
-    v3 = aligned(frame_octets);
-    put64(v3, (uint64_t)get8(p1));
-    put64(v3 + 8, get64(p1 + 8));
-    put64(v3 + 16, get64(p1 + 16));
-    put64(v3 + 24, get64(p1 + 24));
-    v4 = 1;
-    t1 = script_link_node_LinkNodeNode_answer(p0, v3, p2);
-    if ((t1 & 255) != 0) return v4;
-    t2 = std_alloc_vec_Vec_push_bbd08ad089034210(p2);
-    v4 = t2 & 1;
-    return v4;
-}
-
 LOCAL void script_script_link_node_LinkNode_Destruct_drop(uint64_t p0)
 {
     unsigned char frame_octets[3888 + 15];
@@ -46206,7 +46542,7 @@ LOCAL uint32_t node_lines_player_push_out_of_range(uint64_t p0, uint64_t p1, uin
     put64(v3 + 24, p2);
     put64(v3 + 16, p1);
     put64(v3 + 8, 21);
-    put64(v3, address(constant_344));
+    put64(v3, address(constant_432));
     v4 = std_alloc_string_String_write_fmt_d55c35ff3b7cb7a7(p0, v3);
     return v4 & 255;
 }
@@ -46586,852 +46922,405 @@ LOCAL uint32_t core_slice_reads_slice_T_starts_with_i8_31_core_cmp_numbers_U8Par
 
 LOCAL void node_lines_causes_cause_by_word(uint64_t p0, uint64_t p1, uint64_t p2)
 {
-    uint32_t v4 = 0, t1, t2, t3, t4, t5, t6, t7, t8, t9, t10, t11, t12, t13, t14, t15, t16, t17, t18, t19, t20, t21;
+    unsigned char frame_octets[32 + 15];
+    uint32_t v4 = 0, v5 = 0, v6 = 0, v7 = 0, t1, t2, t3, t4, t5, t6, t7, t8, t9, t10, t11, t12, t13, t14, t15, t16,
+        t17, t18, t19, t20, t21, t22, t23, t24, t25, t26, t27, t28, t29, t30, t31, t32, t33, t34, t35, t36, t37, t38,
+        t39, t40, t41, t42;
     uint64_t v3 = 0;
-    t1 = streams_words_is(p1, p2, address(constant_313), 6);
-    if (t1 != 0) {
-        p2 = address(constant_314);
-        v3 = 43;
-        put64(p0 + 8, v3);
-        put64(p0, p2);
+    v3 = aligned(frame_octets);
+    v4 = p2 != 6;
+    if (v4 == 0) {
+        put64(v3 + 24, 6);
+        put64(v3 + 16, address(constant_313));
+        put64(v3 + 8, 6);
+        put64(v3, p1);
+        t1 = core_slice_scan_any_in_run_953750c03e87c3e2(v3, 0, 4);
+        if (t1 == 0) {
+            t2 = core_cmp_slices_groups_equal_i8_31_core_cmp_numbers_U8PartialEq(p1, 6, address(constant_313), 6);
+            if (t2 != 0) {
+                p1 = address(constant_314);
+                p2 = 43;
+                put64(p0 + 8, p2);
+                put64(p0, p1);
+                return;
+            }
+        }
+        put64(v3 + 24, 6);
+        put64(v3 + 16, address(constant_249));
+        put64(v3 + 8, 6);
+        put64(v3, p1);
+        t3 = core_slice_scan_any_in_run_953750c03e87c3e2(v3, 0, 4);
+        if (t3 == 0) {
+            t4 = core_cmp_slices_groups_equal_i8_31_core_cmp_numbers_U8PartialEq(p1, 6, address(constant_249), 6);
+            if (t4 != 0) {
+                p1 = address(constant_315);
+                p2 = 22;
+                put64(p0 + 8, p2);
+                put64(p0, p1);
+                return;
+            }
+        }
+        put64(v3 + 24, 6);
+        put64(v3 + 16, address(constant_248));
+        put64(v3 + 8, 6);
+        put64(v3, p1);
+        t5 = core_slice_scan_any_in_run_953750c03e87c3e2(v3, 0, 4);
+        if (t5 != 0) goto l15;
+        t6 = core_cmp_slices_groups_equal_i8_31_core_cmp_numbers_U8PartialEq(p1, 6, address(constant_248), 6);
+        if (t6 == 0) goto l15;
+        p1 = address(constant_316);
+        p2 = 22;
+        put64(p0 + 8, p2);
+        put64(p0, p1);
         return;
     }
-    v3 = 22;
-    t2 = streams_words_is(p1, p2, address(constant_249), 6);
-    if (t2 != 0) {
-        p2 = address(constant_315);
-        put64(p0 + 8, v3);
-        put64(p0, p2);
+    if (p2 == 9) {
+        put64(v3 + 24, 9);
+        put64(v3 + 16, address(constant_247));
+        put64(v3 + 8, 9);
+        put64(v3, p1);
+        t7 = core_slice_scan_any_in_run_953750c03e87c3e2(v3, 0, 4);
+        if (t7 != 0) goto l15;
+        v4 = 1;
+        t8 = core_cmp_slices_groups_equal_i8_31_core_cmp_numbers_U8PartialEq(p1, 9, address(constant_247), 9);
+        if (t8 == 0) goto l15;
+        p1 = address(constant_317);
+        p2 = 23;
+        put64(p0 + 8, p2);
+        put64(p0, p1);
         return;
     }
-    t3 = streams_words_is(p1, p2, address(constant_248), 6);
-    if (t3 != 0) {
-        p2 = address(constant_316);
-        put64(p0 + 8, v3);
-        put64(p0, p2);
+    if (p2 == 4) {
+        put64(v3 + 24, 4);
+        put64(v3 + 16, address(constant_318));
+        put64(v3 + 8, 4);
+        put64(v3, p1);
+        t9 = core_slice_scan_any_in_run_953750c03e87c3e2(v3, 0, 4);
+        if (t9 != 0) {
+            v4 = 0;
+            v5 = 1;
+            goto l14;
+        }
+        t10 = core_cmp_slices_groups_equal_i8_31_core_cmp_numbers_U8PartialEq(p1, 4, address(constant_318), 4);
+        if (t10 == 0) goto l13;
+        p1 = address(constant_319);
+        p2 = 58;
+        put64(p0 + 8, p2);
+        put64(p0, p1);
         return;
     }
-    t4 = streams_words_is(p1, p2, address(constant_247), 9);
-    if (t4 != 0) {
-        p2 = address(constant_317);
-        v3 = 23;
-        put64(p0 + 8, v3);
-        put64(p0, p2);
-        return;
-    }
-    t5 = streams_words_is(p1, p2, address(constant_318), 4);
-    if (t5 != 0) {
-        p2 = address(constant_319);
-        v3 = 58;
-        put64(p0 + 8, v3);
-        put64(p0, p2);
-        return;
-    }
-    t6 = streams_words_is(p1, p2, address(constant_320), 2);
-    if (t6 != 0) {
-        p2 = address(constant_321);
-        v3 = 14;
-        put64(p0 + 8, v3);
-        put64(p0, p2);
-        return;
-    }
-    t7 = streams_words_is(p1, p2, address(constant_273), 6);
-    if (t7 != 0) {
-        p2 = address(constant_322);
-        v3 = 18;
-        put64(p0 + 8, v3);
-        put64(p0, p2);
-        return;
-    }
-    t8 = streams_words_is(p1, p2, address(constant_274), 5);
-    if (t8 != 0) {
-        p2 = address(constant_323);
-        v3 = 17;
-        put64(p0 + 8, v3);
-        put64(p0, p2);
-        return;
-    }
-    t9 = streams_words_is(p1, p2, address(constant_275), 5);
-    if (t9 != 0) {
-        p2 = address(constant_324);
-        v3 = 17;
-        put64(p0 + 8, v3);
-        put64(p0, p2);
-        return;
-    }
-    t10 = streams_words_is(p1, p2, address(constant_325), 6);
-    if (t10 != 0) {
-        p2 = address(constant_326);
-        v3 = 18;
-        put64(p0 + 8, v3);
-        put64(p0, p2);
-        return;
-    }
-    t11 = streams_words_is(p1, p2, address(constant_286), 9);
+    if (p2 != 2) goto l13;
+    put64(v3 + 24, 2);
+    put64(v3 + 16, address(constant_320));
+    put64(v3 + 8, 2);
+    put64(v3, p1);
+    t11 = core_slice_scan_any_by_one_953750c03e87c3e2(v3, 2);
     if (t11 != 0) {
-        p2 = address(constant_327);
-        v3 = 25;
-        put64(p0 + 8, v3);
-        put64(p0, p2);
-        return;
+        v5 = 0;
+        v6 = 1;
+        v4 = 0;
+        goto l10;
     }
-    t12 = streams_words_is(p1, p2, address(constant_287), 4);
-    if (t12 != 0) {
-        p2 = address(constant_328);
-        v3 = 20;
-        put64(p0 + 8, v3);
-        put64(p0, p2);
-        return;
-    }
-    t13 = streams_words_is(p1, p2, address(constant_86), 6);
+    p1 = address(constant_321);
+    p2 = 14;
+    put64(p0 + 8, p2);
+    put64(p0, p1);
+    return;
+l15:;
+    v5 = 0;
+l14:;
+    if (p2 != 6) goto l12;
+    put64(v3 + 24, 6);
+    put64(v3 + 16, address(constant_273));
+    put64(v3 + 8, 6);
+    put64(v3, p1);
+    v6 = 0;
+    t12 = core_slice_scan_any_in_run_953750c03e87c3e2(v3, 0, 4);
+    if (t12 != 0) goto l10;
+    t13 = core_cmp_slices_groups_equal_i8_31_core_cmp_numbers_U8PartialEq(p1, 6, address(constant_273), 6);
     if (t13 != 0) {
-        p2 = address(constant_329);
-        put64(p0 + 8, v3);
-        put64(p0, p2);
+        p1 = address(constant_322);
+        p2 = 18;
+        put64(p0 + 8, p2);
+        put64(p0, p1);
         return;
     }
-    t14 = streams_words_is(p1, p2, address(constant_293), 4);
-    if (t14 != 0) {
-        p2 = address(constant_330);
-        v3 = 20;
-        put64(p0 + 8, v3);
-        put64(p0, p2);
-        return;
+    v6 = 0;
+    goto l9;
+l13:;
+    v5 = p2 == 4;
+    v4 = 0;
+l12:;
+    v7 = p2 == 5;
+    if (v7 != 0) {
+        put64(v3 + 24, 5);
+        put64(v3 + 16, address(constant_274));
+        put64(v3 + 8, 5);
+        put64(v3, p1);
+        t14 = core_slice_scan_any_in_run_953750c03e87c3e2(v3, 0, 4);
+        if (t14 == 0) {
+            t15 = core_cmp_slices_groups_equal_i8_31_core_cmp_numbers_U8PartialEq(p1, 5, address(constant_274), 5);
+            if (t15 != 0) {
+                p1 = address(constant_323);
+                p2 = 17;
+                put64(p0 + 8, p2);
+                put64(p0, p1);
+                return;
+            }
+        }
+        put64(v3 + 24, 5);
+        put64(v3 + 16, address(constant_275));
+        put64(v3 + 8, 5);
+        put64(v3, p1);
+        t16 = core_slice_scan_any_in_run_953750c03e87c3e2(v3, 0, 4);
+        if (t16 == 0) {
+            t17 = core_cmp_slices_groups_equal_i8_31_core_cmp_numbers_U8PartialEq(p1, 5, address(constant_275), 5);
+            if (t17 != 0) {
+                p1 = address(constant_324);
+                p2 = 17;
+                put64(p0 + 8, p2);
+                put64(p0, p1);
+                return;
+            }
+            v6 = 0;
+            v7 = 1;
+            if (v4 != 0) goto l7;
+            goto l6;
+        }
     }
-    t15 = streams_words_is(p1, p2, address(constant_294), 4);
-    if (t15 != 0) {
-        p2 = address(constant_331);
-        v3 = 20;
-        put64(p0 + 8, v3);
-        put64(p0, p2);
-        return;
+    v6 = 0;
+    if (v4 != 0) goto l7;
+    goto l6;
+l10:;
+    if (p2 != 6) goto l8;
+l9:;
+    put64(v3 + 24, 6);
+    put64(v3 + 16, address(constant_325));
+    put64(v3 + 8, p2);
+    put64(v3, p1);
+    t18 = core_slice_scan_any_in_run_953750c03e87c3e2(v3, 0, 4);
+    if (t18 == 0) {
+        t19 = core_cmp_slices_groups_equal_i8_31_core_cmp_numbers_U8PartialEq(p1, p2, address(constant_325), 6);
+        if (t19 != 0) {
+            p1 = address(constant_326);
+            p2 = 18;
+            put64(p0 + 8, p2);
+            put64(p0, p1);
+            return;
+        }
     }
-    t16 = streams_words_is(p1, p2, address(constant_295), 10);
-    if (t16 != 0) {
-        p2 = address(constant_332);
-        v3 = 26;
-        put64(p0 + 8, v3);
-        put64(p0, p2);
-        return;
+l8:;
+    v7 = 0;
+    if (v4 == 0) goto l6;
+l7:;
+    put64(v3 + 24, 9);
+    put64(v3 + 16, address(constant_287));
+    put64(v3 + 8, p2);
+    put64(v3, p1);
+    t20 = core_slice_scan_any_in_run_953750c03e87c3e2(v3, 0, 4);
+    if (t20 == 0) {
+        t21 = core_cmp_slices_groups_equal_i8_31_core_cmp_numbers_U8PartialEq(p1, p2, address(constant_287), 9);
+        if (t21 != 0) {
+            p1 = address(constant_327);
+            p2 = 25;
+            put64(p0 + 8, p2);
+            put64(p0, p1);
+            return;
+        }
+        if (v5 == 0) goto l3;
+        goto l4;
     }
-    t17 = streams_words_is(p1, p2, address(constant_296), 4);
-    if (t17 != 0) {
-        p2 = address(constant_333);
-        v3 = 20;
-    } else {
-        t18 = streams_words_is(p1, p2, address(constant_334), 2);
-        if (t18 != 0) {
-            p2 = address(constant_335);
-            v3 = 59;
-        } else {
-            t19 = streams_words_is(p1, p2, address(constant_336), 4);
-            if (t19 != 0) {
-                p2 = address(constant_337);
-                v3 = 76;
-            } else {
-                t20 = streams_words_is(p1, p2, address(constant_246), 5);
-                if (t20 != 0) {
-                    p2 = address(constant_338);
-                    v3 = 42;
-                } else {
-                    t21 = streams_words_is(p1, p2, address(constant_21), 4);
-                    if (t21 != 0) {
-                        p2 = address(constant_339);
-                        v3 = 37;
-                    } else {
-                        v4 = streams_words_is(p1, p2, address(constant_2), 4);
-                        p2 = (v4 != 0) ? address(constant_340) : address(constant_341);
-                        v3 = (v4 != 0) ? 31ULL : 34ULL;
-                    }
-                }
+l6:;
+    if (v5 == 0) goto l3;
+l4:;
+    put64(v3 + 24, 4);
+    put64(v3 + 16, address(constant_288));
+    put64(v3 + 8, p2);
+    put64(v3, p1);
+    t22 = core_slice_scan_any_in_run_953750c03e87c3e2(v3, 0, 4);
+    if (t22 != 0) {
+        v4 = 1;
+        goto l2;
+    }
+    v4 = 1;
+    t23 = core_cmp_slices_groups_equal_i8_31_core_cmp_numbers_U8PartialEq(p1, p2, address(constant_288), 4);
+    if (t23 == 0) goto l2;
+    p1 = address(constant_328);
+    p2 = 20;
+    put64(p0 + 8, p2);
+    put64(p0, p1);
+    return;
+l3:;
+    v4 = 0;
+l2:;
+    if (p2 == 6) {
+        put64(v3 + 24, 6);
+        put64(v3 + 16, address(constant_86));
+        put64(v3 + 8, 6);
+        put64(v3, p1);
+        t24 = core_slice_scan_any_in_run_953750c03e87c3e2(v3, 0, 4);
+        if (t24 == 0) {
+            t25 = core_cmp_slices_groups_equal_i8_31_core_cmp_numbers_U8PartialEq(p1, 6, address(constant_86), 6);
+            if (t25 != 0) {
+                p1 = address(constant_329);
+                p2 = 22;
+                put64(p0 + 8, p2);
+                put64(p0, p1);
+                return;
             }
         }
     }
-    put64(p0 + 8, v3);
-    put64(p0, p2);
-    return;
-}
-
-LOCAL void tm_link_extractor_Extractor_new(uint64_t p0)
-{
-    unsigned char frame_octets[16 + 15];
-    uint32_t v3 = 0, v4 = 0;
-    uint64_t v1 = 0, v2 = 0, v5 = 0;
-    v1 = aligned(frame_octets);
-    v2 = 0x10006;
-    rattle_alloc_at(v1, 0x10006, 1);
-    v3 = 1;
-    if (((uint32_t)get64(v1) & 1) == 0) {
-        v4 = 6;
-        v5 = 0;
-        v2 = 0;
-    } else {
-        v5 = get64(v1 + 8);
-        v3 = 0;
-        v4 = 0;
+    if (v4 != 0) {
+        put64(v3 + 24, 4);
+        put64(v3 + 16, address(constant_289));
+        put64(v3 + 8, p2);
+        put64(v3, p1);
+        t26 = core_slice_scan_any_in_run_953750c03e87c3e2(v3, 0, 4);
+        if (t26 == 0) {
+            t27 = core_cmp_slices_groups_equal_i8_31_core_cmp_numbers_U8PartialEq(p1, p2, address(constant_289), 4);
+            if (t27 != 0) {
+                p1 = address(constant_330);
+                p2 = 20;
+                put64(p0 + 8, p2);
+                put64(p0, p1);
+                return;
+            }
+        }
+        put64(v3 + 24, 4);
+        put64(v3 + 16, address(constant_290));
+        put64(v3 + 8, p2);
+        put64(v3, p1);
+        t28 = core_slice_scan_any_in_run_953750c03e87c3e2(v3, 0, 4);
+        if (t28 == 0) {
+            t29 = core_cmp_slices_groups_equal_i8_31_core_cmp_numbers_U8PartialEq(p1, p2, address(constant_290), 4);
+            if (t29 != 0) {
+                p1 = address(constant_331);
+                p2 = 20;
+                put64(p0 + 8, p2);
+                put64(p0, p1);
+                return;
+            }
+        }
     }
-    put8(p0, v3);
-    put64(p0 + 32, v2);
-    put64(p0 + 24, 0);
-    put64(p0 + 16, v5);
-    put16(p0 + 8, 0);
-    put8(p0 + 1, v4);
-    return;
-}
-
-LOCAL void std_alloc_vec_deque_VecDeque_with_capacity_ab161963403435e1(uint64_t p0, uint64_t p1)
-{
-    unsigned char frame_octets[32 + 15];
-    uint32_t t1;
-    uint64_t v2 = 0, v3 = 0, v4 = 0;
-    v2 = aligned(frame_octets);
-    fill(v2 + 8, 0, 16);
-    put64(v2, v2 + 24);
-    if (p1 == 0) {
-        p1 = v2 + 24;
-        v3 = 0;
-        v4 = 0;
-    } else {
-        t1 = std_alloc_vec_Vec_move_to_ab161963403435e1(v2, p1);
-        if (t1 == 0) {
-            std_alloc_vec_Vec_destroy_empty_ab161963403435e1(v2);
-            put8(p0, 1);
-            fill(p0 + 8, 0, 40);
+    if (p2 == 10) {
+        put64(v3 + 24, 10);
+        put64(v3 + 16, address(constant_291));
+        put64(v3 + 8, 10);
+        put64(v3, p1);
+        t30 = core_slice_scan_any_in_run_953750c03e87c3e2(v3, 0, 4);
+        if (t30 == 0) {
+            t31 = core_cmp_slices_groups_equal_i8_31_core_cmp_numbers_U8PartialEq(p1, 10, address(constant_291), 10);
+            if (t31 != 0) {
+                p1 = address(constant_332);
+                p2 = 26;
+                put64(p0 + 8, p2);
+                put64(p0, p1);
+                return;
+            }
+        }
+    }
+    if (v4 != 0) {
+        put64(v3 + 24, 4);
+        put64(v3 + 16, address(constant_283));
+        put64(v3 + 8, p2);
+        put64(v3, p1);
+        t32 = core_slice_scan_any_in_run_953750c03e87c3e2(v3, 0, 4);
+        if (t32 == 0) {
+            t33 = core_cmp_slices_groups_equal_i8_31_core_cmp_numbers_U8PartialEq(p1, p2, address(constant_283), 4);
+            if (t33 != 0) {
+                p1 = address(constant_333);
+                p2 = 20;
+                put64(p0 + 8, p2);
+                put64(p0, p1);
+                return;
+            }
+        }
+    }
+    if (v6 != 0) {
+        put64(v3 + 24, 2);
+        put64(v3 + 16, address(constant_334));
+        put64(v3 + 8, p2);
+        put64(v3, p1);
+        t34 = core_slice_scan_any_by_one_953750c03e87c3e2(v3, p2);
+        if (t34 == 0) {
+            p1 = address(constant_335);
+            p2 = 59;
+            put64(p0 + 8, p2);
+            put64(p0, p1);
             return;
         }
-        v3 = get64(v2 + 16);
-        v4 = get64(v2 + 8);
-        p1 = get64(v2);
     }
-    put8(p0, 0);
-    put64(p0 + 32, 0);
-    put64(p0 + 24, v3);
-    put64(p0 + 16, v4);
-    put64(p0 + 8, p1);
-    put64(p0 + 40, 0);
-    return;
-}
-
-LOCAL void circular_buffer_heap_HeapCircularBuffer_drop_695a0d5c0a17370d(uint64_t p0)
-{
-    uint64_t v1 = 0, v2 = 0, v3 = 0;
-    v1 = get64(p0);
-    v2 = get64(p0 + 16);
-    if (v2 != 0) {
-        v3 = get64(p0 + 8);
-        p0 = get64(p0 + 24);
-        circular_buffer_cells_Cells_drop_wrapped_09dedc624c4eb86b(v1, v3, p0 - ((p0 < v3) ? 0ULL : v3), v2);
-    }
-    rattle_dealloc_at(v1);
-    return;
-}
-
-LOCAL void std_alloc_vec_deque_VecDeque_drop_695a0d5c0a17370d(uint64_t p0)
-{
-    unsigned char frame_octets[64 + 15];
-    uint64_t v1 = 0;
-    v1 = aligned(frame_octets);
-    copy(v1, p0, 40);
-    std_alloc_vec_deque_VecDeque_clear_b91120b3987bfff5(v1);
-    p0 = get64(v1);
-    put64(v1 + 56, get64(v1 + 16));
-    put64(v1 + 48, 0);
-    put64(v1 + 40, p0);
-    std_alloc_vec_Vec_destroy_empty_ab161963403435e1(v1 + 40);
-    return;
-}
-
-LOCAL void std_alloc_vec_Vec_drop_030412a25431895c(uint64_t p0)
-{
-    unsigned char frame_octets[32 + 15];
-    uint64_t v1 = 0;
-    v1 = aligned(frame_octets);
-    put64(v1 + 16, 0);
-    put64(v1 + 24, get64(p0 + 16));
-    put64(v1 + 8, get64(p0));
-    std_alloc_vec_Vec_destroy_empty_2ad1318893ccf184(v1 + 8);
-    return;
-}
-
-LOCAL uint32_t std_alloc_vec_Vec_move_to_ab161963403435e1(uint64_t p0, uint64_t p1)
-{
-    unsigned char frame_octets[16 + 15];
-    uint32_t v3 = 0;
-    uint64_t v2 = 0, v4 = 0, v5 = 0;
-    v2 = aligned(frame_octets);
-    v3 = 0;
-    if (p1 >= 0x400000000000000ULL) return v3;
-    v4 = p0 + 16;
-    std_alloc_vec_resize_ab161963403435e1(v2, get64(p0), get64(p0 + 8), get64(v4), p1);
-    if (get8(v2) != 0) return v3;
-    v5 = get64(v2 + 8);
-    put64(v4, p1);
-    put64(p0, v5);
-    v3 = 1;
-    return v3;
-}
-
-LOCAL void std_alloc_vec_Vec_destroy_empty_ab161963403435e1(uint64_t p0)
-{
-    if (get64(p0 + 16) == 0) return;
-    rattle_dealloc_at(get64(p0));
-    return;
-}
-
-LOCAL void std_alloc_vec_resize_ab161963403435e1(uint64_t p0, uint64_t p1, uint64_t p2, uint64_t p3, uint64_t p4)
-{
-    unsigned char frame_octets[32 + 15];
-    uint32_t v6 = 0;
-    uint64_t v5 = 0;
-    v5 = aligned(frame_octets);
-    if (p3 != 0) {
-        std_heap_GlobalAllocator_grow_34_nodes_owned_segment_OwnedSegment(v5 + 16, p1, p2, p4);
-        p3 = get64(v5 + 24);
-        v6 = get8(v5 + 16);
-    } else {
-        std_heap_GlobalAllocator_allocate(v5, p4 << 5, 8);
-        v6 = get8(v5);
-        p3 = (v6 != 0) ? 0ULL : get64(v5 + 8);
-    }
-    put8(p0, v6);
-    put64(p0 + 8, p3);
-    return;
-}
-
-LOCAL void std_heap_GlobalAllocator_grow_34_nodes_owned_segment_OwnedSegment(uint64_t p0, uint64_t p1, uint64_t p2,
-    uint64_t p3)
-{
-    unsigned char frame_octets[16 + 15];
-    uint32_t v5 = 0;
-    uint64_t v4 = 0;
-    v4 = aligned(frame_octets);
-    rattle_realloc_at(v4, p1, p2 << 5, p3 << 5, 8);
-    v5 = get32(v4);
-    put64(p0 + 8, ((v5 & 1) != 0) ? get64(v4 + 8) : 0ULL);
-    put8(p0, ~v5 & 1);
-    return;
-}
-
-LOCAL void std_alloc_vec_Vec_destroy_empty_2ad1318893ccf184(uint64_t p0)
-{
-    if (get64(p0 + 16) == 0) return;
-    rattle_dealloc_at(get64(p0));
-    return;
-}
-
-LOCAL void circular_buffer_cells_Cells_drop_wrapped_09dedc624c4eb86b(uint64_t p0, uint64_t p1, uint64_t p2, uint64_t
-    p3)
-{
-    p1 = p1 - p2;
-    p1 = (p1 < p3) ? p1 : p3;
-    circular_buffer_cells_Cells_drop_slice_09dedc624c4eb86b(p0, p2, p1);
-    circular_buffer_cells_Cells_drop_slice_09dedc624c4eb86b(p0, 0, p3 - p1);
-    return;
-}
-
-LOCAL void circular_buffer_cells_Cells_drop_slice_09dedc624c4eb86b(uint64_t p0, uint64_t p1, uint64_t p2)
-{
-    unsigned char frame_octets[32 + 15];
-    uint64_t v3 = 0;
-    v3 = aligned(frame_octets);
-    p1 = p0 + (p1 << 5);
-    for (;;) {
-        if (p2 == 0) return;
-        put64(v3 + 24, get64(p1 + 24));
-        put64(v3 + 16, get64(p1 + 16));
-        put64(v3 + 8, get64(p1 + 8));
-        put64(v3, get64(p1));
-        p2 = p2 - 1;
-        p1 = p1 + 32;
-        core_mem_drop_09dedc624c4eb86b(v3);
-    }
-}
-
-LOCAL void core_mem_drop_09dedc624c4eb86b(uint64_t p0)
-{
-    unsigned char frame_octets[32 + 15];
-    uint64_t v1 = 0;
-    v1 = aligned(frame_octets);
-    put64(v1 + 24, get64(p0 + 24));
-    put64(v1 + 16, get64(p0 + 16));
-    put64(v1 + 8, get64(p0 + 8));
-    put64(v1, get64(p0));
-    nodes_nodes_owned_segment_OwnedSegment_Destruct_drop(v1);
-    return;
-}
-
-LOCAL void nodes_nodes_owned_segment_OwnedSegment_Destruct_drop(uint64_t p0)
-{
-    unsigned char frame_octets[32 + 15];
-    uint64_t v1 = 0;
-    v1 = aligned(frame_octets);
-    put64(v1 + 24, get64(p0 + 24));
-    put64(v1 + 16, get64(p0 + 16));
-    put64(v1 + 8, get64(p0 + 8));
-    std_alloc_vec_Vec_drop_030412a25431895c(v1 + 8);
-    return;
-}
-
-LOCAL void std_alloc_vec_deque_VecDeque_clear_b91120b3987bfff5(uint64_t p0)
-{
-    unsigned char frame_octets[16 + 15];
-    uint64_t v1 = 0, v2 = 0, v3 = 0, v4 = 0, v5 = 0, v6 = 0, v7 = 0, v8 = 0, v9 = 0, v10 = 0;
-    v1 = aligned(frame_octets);
-    v2 = p0 + 8;
-    v3 = get64(v2);
-    if (v3 == 0) return;
-    put64(v2, 0);
-    v4 = p0 + 16;
-    v5 = get64(v4);
-    put64(v2 + 8, 0);
-    v6 = p0 + 24;
-    v7 = get64(v6);
-    put64(v2 + 16, 0);
-    v8 = p0 + 32;
-    v9 = get64(v8);
-    put64(v2 + 24, 0);
-    v10 = get64(p0);
-    put64(v1, v10);
-    put64(v1 + 8, v5);
-    std_alloc_vec_opened_drop_run_09dedc624c4eb86b(v1, v7, v7 + (v3 - v9));
-    std_alloc_vec_opened_drop_run_09dedc624c4eb86b(v1, 0, v9);
-    put64(v8, 0);
-    put64(v6, v7);
-    put64(v4, v5);
-    put64(v2, 0);
-    put64(p0, v10);
-    return;
-}
-
-LOCAL void std_alloc_vec_opened_drop_run_09dedc624c4eb86b(uint64_t p0, uint64_t p1, uint64_t p2)
-{
-    unsigned char frame_octets[32 + 15];
-    uint64_t v3 = 0, v4 = 0;
-    v3 = aligned(frame_octets);
-    v4 = p2 - p1;
-    p2 = (v4 > p2) ? 0ULL : v4;
-    v4 = p1 << 5;
-    for (;;) {
-        if (p2 == 0) return;
-        p1 = get64(p0) + v4;
-        put64(v3, get64(p1));
-        put64(v3 + 8, get64(p1 + 8));
-        put64(v3 + 16, get64(p1 + 16));
-        put64(v3 + 24, get64(p1 + 24));
-        p2 = p2 - 1;
-        v4 = v4 + 32;
-        core_mem_drop_09dedc624c4eb86b(v3);
-    }
-}
-
-LOCAL void std_alloc_vec_deque_VecDeque_truncate_ab712b15485b8137(uint64_t p0, uint64_t p1)
-{
-    unsigned char frame_octets[16 + 15];
-    uint64_t v2 = 0, v3 = 0, v4 = 0, v5 = 0, v6 = 0, v7 = 0, v8 = 0, v9 = 0, v10 = 0, v11 = 0;
-    v2 = aligned(frame_octets);
-    v3 = p0 + 8;
-    v4 = get64(v3);
-    if (v4 <= p1) return;
-    put64(v3, 0);
-    v5 = p0 + 16;
-    v6 = get64(v5);
-    put64(v3 + 8, 0);
-    v7 = p0 + 24;
-    v8 = get64(v7);
-    put64(v3 + 16, 0);
-    v9 = p0 + 32;
-    v10 = get64(v9);
-    put64(v3 + 24, 0);
-    v11 = get64(p0);
-    put64(v2, v11);
-    put64(v2 + 8, v6);
-    v4 = v4 - v10;
-    std_alloc_vec_opened_drop_run_14a212f36676944b(v2, v8 + ((p1 > v4) ? v4 : p1), v8 + v4);
-    v4 = p1 - v4;
-    v4 = (v4 > p1) ? 0ULL : v4;
-    std_alloc_vec_opened_drop_run_14a212f36676944b(v2, v4, v10);
-    put64(v9, v4);
-    put64(v7, v8);
-    put64(v5, v6);
-    put64(v3, p1);
-    put64(p0, v11);
-    return;
-}
-
-LOCAL void std_alloc_vec_Vec_destroy_empty_0956fa20d2e9e8d8(uint64_t p0)
-{
-    if (get64(p0 + 16) == 0) return;
-    rattle_dealloc_at(get64(p0));
-    return;
-}
-
-LOCAL void std_alloc_vec_deque_VecDeque_drop_54ecb467e50d9ac7(uint64_t p0)
-{
-    if (get64(p0 + 16) == 0) return;
-    rattle_dealloc_at(get64(p0));
-    return;
-}
-
-LOCAL void std_alloc_vec_opened_drop_run_14a212f36676944b(uint64_t p0, uint64_t p1, uint64_t p2)
-{
-    unsigned char frame_octets[32 + 15];
-    uint64_t v3 = 0, v4 = 0;
-    v3 = aligned(frame_octets);
-    v4 = p2 - p1;
-    p2 = (v4 > p2) ? 0ULL : v4;
-    p1 = (p1 << 5) | 8;
-    for (;;) {
-        if (p2 == 0) return;
-        v4 = get64(p0) + p1;
-        put64(v3 + 24, get64(v4 + 16));
-        put64(v3 + 16, get64(v4 + 8));
-        put64(v3 + 8, get64(v4));
-        p2 = p2 - 1;
-        p1 = p1 + 32;
-        std_alloc_vec_Vec_drop_030412a25431895c(v3 + 8);
-    }
-}
-
-LOCAL void core_mem_drop_2be10895257269c2(uint64_t p0)
-{
-    unsigned char frame_octets[32 + 15];
-    uint64_t v1 = 0;
-    v1 = aligned(frame_octets);
-    put64(v1 + 24, get64(p0 + 24));
-    put64(v1 + 16, get64(p0 + 16));
-    put64(v1 + 8, get64(p0 + 8));
-    std_alloc_vec_Vec_drop_4e50c14c2e726a6c(v1 + 8);
-    return;
-}
-
-LOCAL void std_alloc_vec_opened_drop_run_2be10895257269c2(uint64_t p0, uint64_t p1, uint64_t p2)
-{
-    unsigned char frame_octets[32 + 15];
-    uint64_t v3 = 0, v4 = 0;
-    v3 = aligned(frame_octets);
-    v4 = p2 - p1;
-    p2 = (v4 > p2) ? 0ULL : v4;
-    v4 = p1 << 5;
-    for (;;) {
-        if (p2 == 0) return;
-        p1 = get64(p0) + v4;
-        put64(v3, get64(p1));
-        put64(v3 + 8, get64(p1 + 8));
-        put64(v3 + 16, get64(p1 + 16));
-        put64(v3 + 24, get64(p1 + 24));
-        p2 = p2 - 1;
-        v4 = v4 + 32;
-        core_mem_drop_2be10895257269c2(v3);
-    }
-}
-
-LOCAL void std_alloc_vec_Vec_destroy_empty_49bbd27f022ae39a(uint64_t p0)
-{
-    unsigned char frame_octets[32 + 15];
-    uint64_t v1 = 0;
-    v1 = aligned(frame_octets);
-    put64(v1 + 24, get64(p0 + 16));
-    put64(v1 + 16, get64(p0 + 8));
-    put64(v1 + 8, get64(p0));
-    std_alloc_vec_Vec_free_block_49bbd27f022ae39a(v1 + 8);
-    return;
-}
-
-LOCAL void std_alloc_vec_Vec_free_block_49bbd27f022ae39a(uint64_t p0)
-{
-    if (get64(p0 + 16) == 0) return;
-    rattle_dealloc_at(get64(p0));
-    return;
-}
-
-LOCAL void std_alloc_vec_opened_drop_run_daeed4d2c71e939d(uint64_t p0, uint64_t p1, uint64_t p2)
-{
-    unsigned char frame_octets[32 + 15];
-    uint64_t v3 = 0, v4 = 0;
-    v3 = aligned(frame_octets);
-    v4 = p2 - p1;
-    p2 = (v4 > p2) ? 0ULL : v4;
-    p1 = p1 * 24;
-    for (;;) {
-        if (p2 == 0) return;
-        v4 = get64(p0) + p1;
-        put64(v3 + 24, get64(v4 + 16));
-        put64(v3 + 16, get64(v4 + 8));
-        put64(v3 + 8, get64(v4));
-        p2 = p2 - 1;
-        p1 = p1 + 24;
-        std_alloc_vec_Vec_drop_4e50c14c2e726a6c(v3 + 8);
-    }
-}
-
-LOCAL void std_alloc_vec_Vec_destroy_empty_1598ebf9113514c4(uint64_t p0)
-{
-    if (get64(p0 + 16) == 0) return;
-    rattle_dealloc_at(get64(p0));
-    return;
-}
-
-LOCAL void std_alloc_vec_Vec_clear_e6cd4f9016244943(uint64_t p0)
-{
-    unsigned char frame_octets[16 + 15];
-    uint64_t v1 = 0, v2 = 0, v3 = 0, v4 = 0, v5 = 0, v6 = 0;
-    v1 = aligned(frame_octets);
-    v2 = p0 + 8;
-    v3 = get64(v2);
-    if (v3 == 0) return;
-    put64(v2, 0);
-    v4 = p0 + 16;
-    v5 = get64(v4);
-    put64(v2 + 8, 0);
-    put64(v1 + 8, v3);
-    v6 = get64(p0);
-    put64(v1, v6);
-    std_alloc_vec_opened_drop_run_daeed4d2c71e939d(v1, 0, v3);
-    put64(v4, v5);
-    put64(v2, 0);
-    put64(p0, v6);
-    return;
-}
-
-LOCAL void script_nodes_owned_segment_OwnedSegment_Destruct_drop(uint64_t p0)
-{
-    unsigned char frame_octets[32 + 15];
-    uint64_t v1 = 0;
-    v1 = aligned(frame_octets);
-    put64(v1 + 24, get64(p0 + 24));
-    put64(v1 + 16, get64(p0 + 16));
-    put64(v1 + 8, get64(p0 + 8));
-    std_alloc_vec_Vec_drop_cf0198d8b37205d8(v1 + 8);
-    return;
-}
-
-LOCAL void script_core_option_Option_Destruct_drop_817c41fc4efae97a(uint64_t p0)
-{
-    unsigned char frame_octets[32 + 15];
-    uint64_t v1 = 0;
-    v1 = aligned(frame_octets);
-    if (get8(p0) == 0) return;
-    put64(v1 + 24, get64(p0 + 24));
-    put64(v1 + 16, get64(p0 + 16));
-    put64(v1 + 8, get64(p0 + 8));
-    std_alloc_vec_Vec_drop_cf0198d8b37205d8(v1 + 8);
-    return;
-}
-
-LOCAL void script_Destruct_array_drop_f7db9ec84d303bc9(uint64_t p0)
-{
-    unsigned char frame_octets[1536 + 15];
-    uint64_t v1 = 0;
-    v1 = aligned(frame_octets);
-    copy(v1, p0, 0x600);
-    core_array_array_drop_f7db9ec84d303bc9(v1);
-    return;
-}
-
-LOCAL uint32_t std_alloc_string_String_write_fmt_d55c35ff3b7cb7a7(uint64_t p0, uint64_t p1)
-{
-    unsigned char frame_octets[144 + 15];
-    uint32_t v4 = 0, t1, t2, t3;
-    uint64_t v2 = 0, v3 = 0, v5 = 0, v6 = 0;
-    v2 = aligned(frame_octets);
-    copy(v2 + 96, p1, 48);
-    p1 = p0 + 8;
-    v3 = get64(p1);
-    put64(v2 + 60, 0);
-    fill(v2 + 80, 0, 16);
-    put32(v2 + 56, 32);
-    put32(v2 + 68, 0);
-    put64(v2 + 72, ~0ULL);
-    put64(v2 + 48, get64(p0 + 16));
-    put64(v2 + 40, get64(p1));
-    put64(v2 + 32, get64(p0));
-    v4 = 1;
-    t1 = core_fmt_formatter_Formatter_write_piece_021956a9582caf01(v2 + 32, v2 + 96);
-    if ((t1 & 255) == 0) {
-        t2 = core_fmt_formatter_Formatter_write_piece_021956a9582caf01(v2 + 32, v2 + 112);
-        if ((t2 & 255) == 0) {
-            t3 = core_fmt_formatter_Formatter_write_piece_021956a9582caf01(v2 + 32, v2 + 128);
-            v4 = t3 & 255;
+    if (v4 != 0) {
+        put64(v3 + 24, 4);
+        put64(v3 + 16, address(constant_336));
+        put64(v3 + 8, p2);
+        put64(v3, p1);
+        t35 = core_slice_scan_any_in_run_953750c03e87c3e2(v3, 0, 4);
+        if (t35 == 0) {
+            t36 = core_cmp_slices_groups_equal_i8_31_core_cmp_numbers_U8PartialEq(p1, p2, address(constant_336), 4);
+            if (t36 != 0) {
+                p1 = address(constant_337);
+                p2 = 76;
+                put64(p0 + 8, p2);
+                put64(p0, p1);
+                return;
+            }
         }
     }
-    p1 = get64(v2 + 32);
-    put64(v2 + 8, p1);
-    v5 = get64(v2 + 40);
-    put64(v2 + 16, v5);
-    v6 = get64(v2 + 48);
-    put64(v2 + 24, v6);
-    put64(p0 + 16, v6);
-    put64(p0 + 8, v5);
+    if (v7 != 0) {
+        put64(v3 + 24, 5);
+        put64(v3 + 16, address(constant_246));
+        put64(v3 + 8, p2);
+        put64(v3, p1);
+        t37 = core_slice_scan_any_in_run_953750c03e87c3e2(v3, 0, 4);
+        if (t37 == 0) {
+            t38 = core_cmp_slices_groups_equal_i8_31_core_cmp_numbers_U8PartialEq(p1, p2, address(constant_246), 5);
+            if (t38 != 0) {
+                p1 = address(constant_338);
+                p2 = 42;
+                put64(p0 + 8, p2);
+                put64(p0, p1);
+                return;
+            }
+        }
+    }
+    if (v4 != 0) {
+        put64(v3 + 24, 4);
+        put64(v3 + 16, address(constant_21));
+        put64(v3 + 8, p2);
+        put64(v3, p1);
+        t39 = core_slice_scan_any_in_run_953750c03e87c3e2(v3, 0, 4);
+        if (t39 == 0) {
+            t40 = core_cmp_slices_groups_equal_i8_31_core_cmp_numbers_U8PartialEq(p1, p2, address(constant_21), 4);
+            if (t40 != 0) {
+                p1 = address(constant_339);
+                p2 = 37;
+                put64(p0 + 8, p2);
+                put64(p0, p1);
+                return;
+            }
+        }
+        put64(v3 + 24, 4);
+        put64(v3 + 16, address(constant_2));
+        put64(v3 + 8, p2);
+        put64(v3, p1);
+        t41 = core_slice_scan_any_in_run_953750c03e87c3e2(v3, 0, 4);
+        if (t41 == 0) {
+            t42 = core_cmp_slices_groups_equal_i8_31_core_cmp_numbers_U8PartialEq(p1, p2, address(constant_2), 4);
+            if (t42 != 0) {
+                p1 = address(constant_340);
+                p2 = 31;
+                put64(p0 + 8, p2);
+                put64(p0, p1);
+                return;
+            }
+        }
+    }
+    p1 = address(constant_341);
+    p2 = 34;
+    put64(p0 + 8, p2);
     put64(p0, p1);
-    v4 = std_alloc_fmt_undo_if_err_c9f0b165bbde0115(p0, v3, v4);
-    return v4 & 255;
-}
-
-LOCAL uint32_t core_fmt_formatter_Formatter_write_piece_021956a9582caf01(uint64_t p0, uint64_t p1)
-{
-    uint32_t t1, t2;
-    uint64_t v2 = 0;
-    put64(p0 + 28, 0);
-    put32(p0 + 24, 32);
-    put32(p0 + 36, 0);
-    put64(p0 + 40, ~0ULL);
-    v2 = get64(p1 + 8);
-    p1 = get64(p1);
-    if (get64(p0 + 48) == 0) {
-        t1 = std_alloc_string_String_push_str_c9f0b165bbde0115(p0, p1, v2);
-        return t1 & 255;
-    }
-    t2 = core_fmt_formatter_Formatter_write_indented_bd2afacae86e23b6(p0, p1, v2);
-    return t2 & 255;
-}
-
-LOCAL uint32_t std_alloc_fmt_undo_if_err_c9f0b165bbde0115(uint64_t p0, uint64_t p1, uint32_t p2)
-{
-    uint64_t v3 = 0;
-    if ((p2 & 255) == 0) return 0;
-    v3 = get64(p0 + 8);
-    if (p1 != 0 && p1 != v3) {
-        p2 = 1;
-        if (v3 < p1 || v3 <= p1) return p2;
-        if (ordered32(extend32(get8(get64(p0) + p1), 0x80)) > 0x7fffffbfU) goto l4;
-        return p2;
-    }
-    if (v3 <= p1) goto l3;
-l4:;
-    put64(p0 + 8, p1);
-l3:;
-    p2 = 1;
-    return p2;
-}
-
-LOCAL uint32_t std_alloc_string_String_push_str_c9f0b165bbde0115(uint64_t p0, uint64_t p1, uint64_t p2)
-{
-    unsigned char frame_octets[16 + 15];
-    uint32_t v4 = 0, t1;
-    uint64_t v3 = 0, v5 = 0, v6 = 0, v7 = 0, v8 = 0, v9 = 0, v10 = 0;
-    v3 = aligned(frame_octets);
-    v4 = 1;
-    t1 = std_alloc_vec_Vec_grow_bbd08ad089034210(p0, p2);
-    if (t1 == 0) return v4;
-    v5 = p0 + 8;
-    v6 = get64(v5);
-    put64(v5, 0);
-    v7 = p0 + 16;
-    v8 = get64(v7);
-    put64(v7, 0);
-    v9 = get64(p0);
-    put64(v3, v9);
-    v10 = v6 + p2;
-    put64(v3 + 8, v10);
-    core_slots_Slots_copy_in_i8_20_core_clone_U8Clone(v3, v6, p1, p2);
-    put64(v7, v8);
-    put64(v5, v10);
-    put64(p0, v9);
-    v4 = 0;
-    return v4;
-}
-
-LOCAL uint32_t core_fmt_formatter_Formatter_write_indented_bd2afacae86e23b6(uint64_t p0, uint64_t p1, uint64_t p2)
-{
-    uint32_t v7 = 0, t1, t2;
-    uint64_t v3 = 0, v4 = 0, v5 = 0, v6 = 0;
-    v3 = 0;
-    for (;;) {
-        v4 = v3;
-        do {
-            if (p2 == v4) goto l3;
-            v5 = p1 + v4;
-            v6 = v4 + 1;
-            v4 = v6;
-        } while (get8(v5) != 10);
-        v4 = v6 - v3;
-        v5 = (v6 < v3) ? 0ULL : v3;
-        v7 = 1;
-        v3 = v6;
-        t1 = core_fmt_formatter_Formatter_write_indented_line_bd2afacae86e23b6(p0, p1 + v5, (v4 > v6) ? 0ULL : v4, 1);
-        if ((t1 & 255) == 0) continue;
-        return v7;
-    l3:;
-        break;
-    }
-    v4 = p2 - v3;
-    t2 = core_fmt_formatter_Formatter_write_indented_line_bd2afacae86e23b6(p0, p1 + ((p2 < v3) ? 0ULL : v3), (v4 > p2)
-        ? 0ULL : v4, 0);
-    v7 = t2 & 255;
-    return v7;
-}
-
-LOCAL uint32_t std_alloc_vec_Vec_grow_bbd08ad089034210(uint64_t p0, uint64_t p1)
-{
-    uint64_t v2 = 0, v3 = 0;
-    v2 = get64(p0 + 16);
-    v3 = get64(p0 + 8);
-    if (p1 <= (v2 - v3)) return 1;
-    if (p1 > ~v3) return 0;
-    p1 = v3 + p1;
-    p1 = (p1 > 8) ? p1 : 8ULL;
-    v3 = v2 << 1;
-    return std_alloc_vec_Vec_move_to_bbd08ad089034210(p0, (v2 < 0x4000000000000000ULL) ? ((p1 > v3) ? p1 : v3) : p1);
-}
-
-LOCAL uint32_t std_alloc_vec_Vec_move_to_bbd08ad089034210(uint64_t p0, uint64_t p1)
-{
-    unsigned char frame_octets[32 + 15];
-    uint32_t v3 = 0, v5 = 0;
-    uint64_t v2 = 0, v4 = 0;
-    v2 = aligned(frame_octets);
-    v3 = 0;
-    if (p1 > 0x7fffffffffffffffULL) return v3;
-    if (get64(p0 + 16) != 0) {
-        std_heap_GlobalAllocator_grow_i8(v2 + 16, get64(p0), get64(p0 + 8), p1);
-        v4 = get64(v2 + 24);
-        v5 = get8(v2 + 16);
-    } else {
-        std_heap_GlobalAllocator_allocate(v2, p1, 1);
-        v5 = get8(v2);
-        v4 = (v5 != 0) ? 0ULL : get64(v2 + 8);
-    }
-    if ((v5 & 255) != 0) return v3;
-    put64(p0 + 16, p1);
-    put64(p0, v4);
-    v3 = 1;
-    return v3;
-}
-
-LOCAL uint32_t core_fmt_formatter_Formatter_write_indented_line_bd2afacae86e23b6(uint64_t p0, uint64_t p1, uint64_t
-    p2, uint32_t p3)
-{
-    uint32_t t1, t2;
-    uint64_t v4 = 0, v5 = 0;
-    if (p2 == 0) return 0;
-    v4 = p0 + 56;
-    if (get8(v4) != 1) {
-        put8(v4, p3);
-        t2 = core_fmt_formatter_Formatter_write_raw_bd2afacae86e23b6(p0, p1, p2);
-        return t2 & 255;
-    }
-    v5 = get64(p0 + 48) + 1;
-    do {
-        v5 = v5 - 1;
-        if (v5 == 0) {
-            put8(v4, p3);
-            t2 = core_fmt_formatter_Formatter_write_raw_bd2afacae86e23b6(p0, p1, p2);
-            return t2 & 255;
-        }
-        t1 = core_fmt_formatter_Formatter_write_raw_bd2afacae86e23b6(p0, address(constant_112), 4);
-    } while ((t1 & 255) == 0);
-    return 1;
-}
-
-LOCAL uint32_t core_fmt_formatter_Formatter_write_raw_bd2afacae86e23b6(uint64_t p0, uint64_t p1, uint64_t p2)
-{
-    uint32_t v3 = 0, t1, t2;
-    v3 = 1;
-    t1 = core_fmt_utf8_is_utf8(p1, p2);
-    if (t1 == 0) return v3;
-    t2 = std_alloc_string_String_push_str_c9f0b165bbde0115(p0, p1, p2);
-    v3 = t2 & 255;
-    return v3;
+    return;
 }
 
 LOCAL uint32_t script_link_node_LinkNodeNode_answer(uint64_t p0, uint64_t p1, uint64_t p2)
@@ -47473,20 +47362,20 @@ LOCAL uint32_t script_link_node_LinkNodeNode_answer(uint64_t p0, uint64_t p1, ui
         put64(v3 + 264, v12);
         put64(v3 + 256, v5);
         put64(v3 + 1352, 11);
-        put64(v3 + 1344, address(constant_421));
+        put64(v3 + 1344, address(constant_420));
         put64(v3 + 1328, 11);
-        put64(v3 + 1320, address(constant_420));
+        put64(v3 + 1320, address(constant_419));
         t17 = cop1_vocabulary_FopMode_name(v4);
         put64(v3 + 1304, t17);
         put64(v3 + 1296, 7);
-        put64(v3 + 1288, address(constant_419));
+        put64(v3 + 1288, address(constant_418));
         v4 = 1;
         v9 = v9 & 1;
         v7 = v7 & 255;
         put64(v3 + 1272, (v7 != 0) ? ((v9 != 0) ? address(constant_179) : address(constant_184)) :
-            address(constant_422));
+            address(constant_421));
         put64(v3 + 1264, 6);
-        put64(v3 + 1256, address(constant_418));
+        put64(v3 + 1256, address(constant_417));
         put64(v3 + 1312, 2);
         put64(v3 + 1280, (v7 != 0) ? ((v9 != 0) ? 3ULL : 2ULL) : 4ULL);
         p1 = p2 + 8;
@@ -47544,9 +47433,9 @@ LOCAL uint32_t script_link_node_LinkNodeNode_answer(uint64_t p0, uint64_t p1, ui
         put64(v3 + 256, get64(p0 + 0xf68));
         put64(v3 + 1216, get64(p0 + 0xf90) - get64(p0 + 0xf80));
         put64(v3 + 336, 10);
-        put64(v3 + 328, address(constant_430));
+        put64(v3 + 328, address(constant_429));
         put64(v3 + 312, 6);
-        put64(v3 + 304, address(constant_429));
+        put64(v3 + 304, address(constant_428));
         p1 = p2 + 8;
         v10 = get64(p1);
         put64(v3 + 344, v3 + 0x4c0);
@@ -47585,9 +47474,9 @@ LOCAL uint32_t script_link_node_LinkNodeNode_answer(uint64_t p0, uint64_t p1, ui
         put64(p2, p1);
         t31 = std_alloc_fmt_undo_if_err_4e689c9ecf7a3082(p2, v10, v9);
         if ((t31 & 255) != 0) return v4;
-        t32 = script_show_push_count(p2, address(constant_431), 14, get64(p0 + 0xf78));
+        t32 = script_show_push_count(p2, address(constant_430), 14, get64(p0 + 0xf78));
         if ((t32 & 255) != 0) return v4;
-        t33 = script_show_push_count(p2, address(constant_432), 13, get64(p0 + 216) + get64(p0 + 152) +
+        t33 = script_show_push_count(p2, address(constant_431), 13, get64(p0 + 216) + get64(p0 + 152) +
             (uint64_t)(uint32_t)(get8(p0 + 96) == 1));
         v4 = t33 & 255;
         return v4;
@@ -49459,7 +49348,7 @@ l2:;
     put64(v3 + 272, p1);
     if (v7 != 0) {
         p1 = ((uint64_t)v9 & 255) << 3;
-        t52 = node_lines_answers_push_fault(p2, address(constant_349), v9 + 6, get64(p1 +
+        t52 = node_lines_answers_push_fault(p2, address(constant_348), v9 + 6, get64(p1 +
             aligned(switch_table_script_link_node_LinkNodeNode_answer_6)), get64(p1 +
             address(switch_table_script_link_node_LinkNodeNode_answer)));
         v4 = t52 & 255;
@@ -49468,11 +49357,11 @@ l2:;
     v5 = v3 + 256 + 16;
     switch ((uint32_t)((uint64_t)v9 & 255)) {
     case 1:
-        t37 = std_alloc_vec_Vec_extend_from_slice_88ed08f11f194af0(p2, address(constant_351), 7);
+        t37 = std_alloc_vec_Vec_extend_from_slice_88ed08f11f194af0(p2, address(constant_350), 7);
         v4 = t37 & 255;
         break;
     case 2:
-        t38 = std_alloc_vec_Vec_extend_from_slice_88ed08f11f194af0(p2, address(constant_352), 4);
+        t38 = std_alloc_vec_Vec_extend_from_slice_88ed08f11f194af0(p2, address(constant_351), 4);
         v4 = t38 & 255;
         break;
     case 3:
@@ -49496,7 +49385,7 @@ l2:;
             v10 = get64(v3);
             break;
         }
-        t40 = node_lines_answers_push_fault(p2, address(constant_349), v4, v10, p1);
+        t40 = node_lines_answers_push_fault(p2, address(constant_348), v4, v10, p1);
         v4 = t40 & 255;
         break;
     case 4:
@@ -49529,7 +49418,7 @@ l2:;
         break;
     case 10:
         put64(v3 + 1216, p1);
-        put64(v3 + 1088, address(constant_413));
+        put64(v3 + 1088, address(constant_412));
         put64(v3 + 1096, 8);
         p1 = p2 + 8;
         v10 = get64(p1);
@@ -49579,7 +49468,7 @@ l2:;
         v4 = t51 & 255;
         break;
     default:
-        t53 = std_alloc_vec_Vec_extend_from_slice_88ed08f11f194af0(p2, address(constant_350), 2);
+        t53 = std_alloc_vec_Vec_extend_from_slice_88ed08f11f194af0(p2, address(constant_349), 2);
         v4 = t53 & 255;
         break;
     }
@@ -50874,9 +50763,6 @@ LOCAL void nodes_ground_node_Ground_peek(uint64_t p0, uint64_t p1)
     return;
 }
 
-#endif
-
-#if !defined PART || PART == 6
 LOCAL void std_alloc_vec_Vec_with_capacity_49bbd27f022ae39a(uint64_t p0, uint64_t p1)
 {
     unsigned char frame_octets[32 + 15];
@@ -50993,6 +50879,9 @@ l2:;
     return v2;
 }
 
+#endif
+
+#if !defined PART || PART == 6
 LOCAL uint32_t std_alloc_vec_Vec_try_reserve_1598ebf9113514c4(uint64_t p0, uint64_t p1)
 {
     uint32_t t1;
@@ -51759,7 +51648,7 @@ LOCAL uint64_t nodes_spacecraft_Spacecraft_report(uint64_t p0, uint64_t p1)
         v16 = (v5 < v13) ? v5 : v13;
         v17 = v5 - v16;
         v18 = v3 + v16;
-        v19 = address(constant_347 + 7) - v13;
+        v19 = address(constant_346 + 7) - v13;
         if ((v3 - v19) < v16) {
             v20 = v3;
             do {
@@ -51783,18 +51672,18 @@ LOCAL uint64_t nodes_spacecraft_Spacecraft_report(uint64_t p0, uint64_t p1)
         } else if (v12 != 0) copy(v18, v11, v12);
         v19 = v18 + v12;
         if (v16 <= 6) {
-            if ((v19 - address(constant_347)) < v16) {
+            if ((v19 - address(constant_346)) < v16) {
                 v11 = 0;
                 do {
-                    put8(v19 + v11, get8(v11 + address(constant_347)));
+                    put8(v19 + v11, get8(v11 + address(constant_346)));
                     v11 = v11 + 1;
                 } while (v16 != v11);
                 goto l12;
             }
             if (v16 == 0) goto l12;
-            copy(v19, address(constant_347), v16);
+            copy(v19, address(constant_346), v16);
         } else {
-            if ((v19 - address(constant_347)) <= 3) {
+            if ((v19 - address(constant_346)) <= 3) {
                 put32(v19, 0xc0ff07);
             } else {
                 put32(v19, 0xc0ff07);
@@ -52699,6 +52588,18 @@ LOCAL void std_alloc_vec_deque_VecDeque_push_back_reserved_0956fa20d2e9e8d8(uint
     return;
 }
 
+LOCAL void std_alloc_vec_Vec_drop_030412a25431895c(uint64_t p0)
+{
+    unsigned char frame_octets[32 + 15];
+    uint64_t v1 = 0;
+    v1 = aligned(frame_octets);
+    put64(v1 + 16, 0);
+    put64(v1 + 24, get64(p0 + 16));
+    put64(v1 + 8, get64(p0));
+    std_alloc_vec_Vec_destroy_empty_2ad1318893ccf184(v1 + 8);
+    return;
+}
+
 LOCAL void std_alloc_vec_opened_drop_run_03d4c2b8051eaf83(uint64_t p0, uint64_t p1, uint64_t p2)
 {
     unsigned char frame_octets[32 + 15];
@@ -52910,11 +52811,11 @@ LOCAL uint32_t node_lines_answers_push_alert(uint64_t p0, uint32_t p1, uint32_t 
         put64(v3 + 24, 1);
         put64(v3 + 40, get64(v3 + 16));
         put64(v3 + 32, get64(v3 + 8));
-        t1 = node_lines_answers_push_named(p0, address(constant_376), 6, v3 + 24);
+        t1 = node_lines_answers_push_named(p0, address(constant_375), 6, v3 + 24);
         p1 = t1 & 255;
         return p1;
     }
-    t2 = std_alloc_string_String_push_str_c9f0b165bbde0115(p0, address(constant_350), 2);
+    t2 = std_alloc_string_String_push_str_c9f0b165bbde0115(p0, address(constant_349), 2);
     p1 = t2 & 255;
     return p1;
 }
@@ -52923,7 +52824,7 @@ LOCAL uint32_t node_lines_answers_push_sent(uint64_t p0, uint64_t p1, uint64_t p
 {
     uint32_t v3 = 0, t1, t2;
     v3 = 1;
-    t1 = std_alloc_string_String_push_str_c9f0b165bbde0115(p0, address(constant_382), 5);
+    t1 = std_alloc_string_String_push_str_c9f0b165bbde0115(p0, address(constant_381), 5);
     if ((t1 & 255) != 0) return v3;
     t2 = node_lines_answers_push_digits(p0, p1, p2);
     v3 = t2 & 255;
@@ -52936,7 +52837,7 @@ LOCAL uint32_t node_lines_answers_push_report(uint64_t p0, uint64_t p1)
     uint32_t v3 = 0, t1, t2;
     uint64_t v2 = 0;
     v2 = aligned(frame_octets);
-    t1 = std_alloc_string_String_push_str_c9f0b165bbde0115(p0, address(constant_383), 7);
+    t1 = std_alloc_string_String_push_str_c9f0b165bbde0115(p0, address(constant_382), 7);
     if ((t1 & 255) != 0) {
         v3 = 1;
         return v3;
@@ -52961,13 +52862,13 @@ LOCAL uint32_t node_lines_answers_push_received(uint64_t p0, uint64_t p1)
     fill(v2 + 56, 0, 24);
     switch ((uint32_t)(uint64_t)get8(p1)) {
     case 1:
-        t2 = std_alloc_string_String_push_str_c9f0b165bbde0115(p0, address(constant_385), 7);
+        t2 = std_alloc_string_String_push_str_c9f0b165bbde0115(p0, address(constant_384), 7);
         v3 = t2 & 255;
         return v3;
     case 2:
         v4 = (uint64_t)get8(p1 + 2);
         put64(v2 + 192, address(constant_108));
-        put64(v2 + 168, address(constant_386));
+        put64(v2 + 168, address(constant_385));
         put64(v2 + 200, 1);
         put64(v2 + 184, p1 + 1);
         put64(v2 + 176, 3);
@@ -53015,7 +52916,7 @@ LOCAL uint32_t node_lines_answers_push_received(uint64_t p0, uint64_t p1)
         if (v4 <= 1) {
             switch ((uint32_t)v4) {
             case 1:
-                t9 = std_alloc_string_String_push_str_c9f0b165bbde0115(p0, address(constant_404), 6);
+                t9 = std_alloc_string_String_push_str_c9f0b165bbde0115(p0, address(constant_403), 6);
                 if ((t9 & 255) != 0) return v3;
                 goto l8;
             default:
@@ -53023,7 +52924,7 @@ LOCAL uint32_t node_lines_answers_push_received(uint64_t p0, uint64_t p1)
             }
         }
         put64(v2 + 112, 7);
-        put64(v2 + 104, address(constant_405));
+        put64(v2 + 104, address(constant_404));
         put64(v2 + 120, v2 + 168);
         t8 = std_alloc_string_String_write_fmt_edbd865421d4e70b(p0, v2 + 104);
         if ((t8 & 255) != 0) return v3;
@@ -53039,26 +52940,26 @@ LOCAL uint32_t node_lines_answers_push_received(uint64_t p0, uint64_t p1)
         put64(v2 + 72, v5);
         put64(v2 + 64, v4);
         put64(v2 + 56, v7);
-        t10 = node_lines_answers_push_named(p0, address(constant_387), 9, v2 + 56);
+        t10 = node_lines_answers_push_named(p0, address(constant_386), 9, v2 + 56);
         v3 = t10 & 255;
         return v3;
     case 3:
         if (get8(p1 + 1) == 1) {
-            t11 = std_alloc_string_String_push_str_c9f0b165bbde0115(p0, address(constant_388), 7);
+            t11 = std_alloc_string_String_push_str_c9f0b165bbde0115(p0, address(constant_387), 7);
             v3 = t11 & 255;
             return v3;
         }
-        t12 = std_alloc_string_String_push_str_c9f0b165bbde0115(p0, address(constant_389), 10);
+        t12 = std_alloc_string_String_push_str_c9f0b165bbde0115(p0, address(constant_388), 10);
         v3 = t12 & 255;
         return v3;
     case 4:
         if (get8(p1 + 1) == 0) {
-            t13 = std_alloc_string_String_push_str_c9f0b165bbde0115(p0, address(constant_390), 9);
+            t13 = std_alloc_string_String_push_str_c9f0b165bbde0115(p0, address(constant_389), 9);
             v3 = t13 & 255;
             return v3;
         }
         put64(v2 + 40, 7);
-        put64(v2 + 32, address(constant_391));
+        put64(v2 + 32, address(constant_390));
         put64(v2 + 48, p1 + 2);
         t14 = std_alloc_string_String_write_fmt_0fab95e6fbdc1d1f(p0, v2 + 32);
         v3 = t14 & 255;
@@ -53066,7 +52967,7 @@ LOCAL uint32_t node_lines_answers_push_received(uint64_t p0, uint64_t p1)
     default:
         v3 = get8(p1 + 1);
         tc_frame_fault_TcFault_name(v2, v3);
-        t1 = node_lines_answers_push_fault(p0, address(constant_384), v3 + 1, get64(v2), get64(v2 + 8));
+        t1 = node_lines_answers_push_fault(p0, address(constant_383), v3 + 1, get64(v2), get64(v2 + 8));
         v3 = t1 & 255;
         return v3;
     }
@@ -53081,7 +52982,7 @@ LOCAL uint32_t node_lines_answers_push_heard(uint64_t p0, uint64_t p1)
     v2 = aligned(frame_octets);
     switch ((uint32_t)(uint64_t)get8(p1)) {
     case 1:
-        t2 = std_alloc_string_String_push_str_c9f0b165bbde0115(p0, address(constant_385), 7);
+        t2 = std_alloc_string_String_push_str_c9f0b165bbde0115(p0, address(constant_384), 7);
         v3 = t2 & 255;
         return v3;
     case 2:
@@ -53099,7 +53000,7 @@ LOCAL uint32_t node_lines_answers_push_heard(uint64_t p0, uint64_t p1)
         if ((t4 & 255) != 0) goto l5;
     l6:;
         put64(v2 + 64, 9);
-        put64(v2 + 56, address(constant_408));
+        put64(v2 + 56, address(constant_407));
         put64(v2 + 72, p1 + 8);
         t5 = std_alloc_string_String_write_fmt_edbd865421d4e70b(p0, v2 + 56);
         if ((t5 & 255) == 0) {
@@ -53114,7 +53015,7 @@ LOCAL uint32_t node_lines_answers_push_heard(uint64_t p0, uint64_t p1)
             put64(v2 + 48, v5);
             put64(v2 + 40, v4);
             put64(v2 + 32, v6);
-            t6 = node_lines_answers_push_named(p0, address(constant_409), 7, v2 + 32);
+            t6 = node_lines_answers_push_named(p0, address(constant_408), 7, v2 + 32);
             v3 = t6 & 255;
             return v3;
         }
@@ -53124,7 +53025,7 @@ LOCAL uint32_t node_lines_answers_push_heard(uint64_t p0, uint64_t p1)
     default:
         v3 = get8(p1 + 1);
         tm_link_fault_TmFault_name(v2, v3);
-        t1 = node_lines_answers_push_fault(p0, address(constant_384), v3 + 1, get64(v2), get64(v2 + 8));
+        t1 = node_lines_answers_push_fault(p0, address(constant_383), v3 + 1, get64(v2), get64(v2 + 8));
         v3 = t1 & 255;
         return v3;
     }
@@ -53141,7 +53042,7 @@ LOCAL uint32_t node_lines_answers_push_reported(uint64_t p0, uint64_t p1)
     case 1:
         v3 = get8(p1 + 1);
         clcw_fault_ClcwFault_name(v2, v3);
-        t2 = node_lines_answers_push_fault(p0, address(constant_384), v3 + 1, get64(v2), get64(v2 + 8));
+        t2 = node_lines_answers_push_fault(p0, address(constant_383), v3 + 1, get64(v2), get64(v2 + 8));
         v3 = t2 & 255;
         return v3;
     case 2:
@@ -53151,7 +53052,7 @@ LOCAL uint32_t node_lines_answers_push_reported(uint64_t p0, uint64_t p1)
         v3 = t1 & 255;
         return v3;
     }
-    t3 = std_alloc_string_String_push_str_c9f0b165bbde0115(p0, address(constant_385), 7);
+    t3 = std_alloc_string_String_push_str_c9f0b165bbde0115(p0, address(constant_384), 7);
     v3 = t3 & 255;
     return v3;
 }
@@ -53195,7 +53096,7 @@ LOCAL uint32_t node_lines_answers_push_packet(uint64_t p0, uint32_t p1, uint64_t
     put64(v4 + 32, 1);
     put64(v4 + 24, address(constant_108));
     put64(v4 + 8, 7);
-    put64(v4, address(constant_414));
+    put64(v4, address(constant_413));
     put8(v4 + 47, p1);
     put64(v4 + 16, v4 + 47);
     p1 = 1;
@@ -53411,6 +53312,39 @@ LOCAL uint32_t map_service_cutting_append(uint64_t p0, uint64_t p1)
     return v4;
 }
 
+LOCAL void std_alloc_vec_deque_VecDeque_with_capacity_ab161963403435e1(uint64_t p0, uint64_t p1)
+{
+    unsigned char frame_octets[32 + 15];
+    uint32_t t1;
+    uint64_t v2 = 0, v3 = 0, v4 = 0;
+    v2 = aligned(frame_octets);
+    fill(v2 + 8, 0, 16);
+    put64(v2, v2 + 24);
+    if (p1 == 0) {
+        p1 = v2 + 24;
+        v3 = 0;
+        v4 = 0;
+    } else {
+        t1 = std_alloc_vec_Vec_move_to_ab161963403435e1(v2, p1);
+        if (t1 == 0) {
+            std_alloc_vec_Vec_destroy_empty_ab161963403435e1(v2);
+            put8(p0, 1);
+            fill(p0 + 8, 0, 40);
+            return;
+        }
+        v3 = get64(v2 + 16);
+        v4 = get64(v2 + 8);
+        p1 = get64(v2);
+    }
+    put8(p0, 0);
+    put64(p0 + 32, 0);
+    put64(p0 + 24, v3);
+    put64(p0 + 16, v4);
+    put64(p0 + 8, p1);
+    put64(p0 + 40, 0);
+    return;
+}
+
 LOCAL void std_alloc_vec_deque_VecDeque_push_back_reserved_ab161963403435e1(uint64_t p0, uint64_t p1)
 {
     unsigned char frame_octets[32 + 15];
@@ -53421,6 +53355,21 @@ LOCAL void std_alloc_vec_deque_VecDeque_push_back_reserved_ab161963403435e1(uint
     put64(v2 + 8, get64(p1 + 8));
     put64(v2, get64(p1));
     std_alloc_vec_deque_VecDeque_write_back_ab161963403435e1(p0, v2);
+    return;
+}
+
+LOCAL void std_alloc_vec_deque_VecDeque_drop_695a0d5c0a17370d(uint64_t p0)
+{
+    unsigned char frame_octets[64 + 15];
+    uint64_t v1 = 0;
+    v1 = aligned(frame_octets);
+    copy(v1, p0, 40);
+    std_alloc_vec_deque_VecDeque_clear_b91120b3987bfff5(v1);
+    p0 = get64(v1);
+    put64(v1 + 56, get64(v1 + 16));
+    put64(v1 + 48, 0);
+    put64(v1 + 40, p0);
+    std_alloc_vec_Vec_destroy_empty_ab161963403435e1(v1 + 40);
     return;
 }
 
@@ -53576,6 +53525,13 @@ LOCAL uint32_t std_alloc_vec_Vec_extend_from_slice_8e16d1c3a9c68bc1(uint64_t p0,
     return v8;
 }
 
+LOCAL void std_alloc_vec_Vec_destroy_empty_2ad1318893ccf184(uint64_t p0)
+{
+    if (get64(p0 + 16) == 0) return;
+    rattle_dealloc_at(get64(p0));
+    return;
+}
+
 LOCAL uint32_t std_alloc_vec_Vec_move_to_2ad1318893ccf184(uint64_t p0, uint64_t p1)
 {
     unsigned char frame_octets[32 + 15];
@@ -53598,6 +53554,142 @@ LOCAL uint32_t std_alloc_vec_Vec_move_to_2ad1318893ccf184(uint64_t p0, uint64_t 
     put64(p0, v4);
     v3 = 1;
     return v3;
+}
+
+LOCAL uint32_t std_alloc_vec_Vec_move_to_ab161963403435e1(uint64_t p0, uint64_t p1)
+{
+    unsigned char frame_octets[16 + 15];
+    uint32_t v3 = 0;
+    uint64_t v2 = 0, v4 = 0, v5 = 0;
+    v2 = aligned(frame_octets);
+    v3 = 0;
+    if (p1 >= 0x400000000000000ULL) return v3;
+    v4 = p0 + 16;
+    std_alloc_vec_resize_ab161963403435e1(v2, get64(p0), get64(p0 + 8), get64(v4), p1);
+    if (get8(v2) != 0) return v3;
+    v5 = get64(v2 + 8);
+    put64(v4, p1);
+    put64(p0, v5);
+    v3 = 1;
+    return v3;
+}
+
+LOCAL void std_alloc_vec_Vec_destroy_empty_ab161963403435e1(uint64_t p0)
+{
+    if (get64(p0 + 16) == 0) return;
+    rattle_dealloc_at(get64(p0));
+    return;
+}
+
+LOCAL void std_alloc_vec_resize_ab161963403435e1(uint64_t p0, uint64_t p1, uint64_t p2, uint64_t p3, uint64_t p4)
+{
+    unsigned char frame_octets[32 + 15];
+    uint32_t v6 = 0;
+    uint64_t v5 = 0;
+    v5 = aligned(frame_octets);
+    if (p3 != 0) {
+        std_heap_GlobalAllocator_grow_34_nodes_owned_segment_OwnedSegment(v5 + 16, p1, p2, p4);
+        p3 = get64(v5 + 24);
+        v6 = get8(v5 + 16);
+    } else {
+        std_heap_GlobalAllocator_allocate(v5, p4 << 5, 8);
+        v6 = get8(v5);
+        p3 = (v6 != 0) ? 0ULL : get64(v5 + 8);
+    }
+    put8(p0, v6);
+    put64(p0 + 8, p3);
+    return;
+}
+
+LOCAL void std_heap_GlobalAllocator_grow_34_nodes_owned_segment_OwnedSegment(uint64_t p0, uint64_t p1, uint64_t p2,
+    uint64_t p3)
+{
+    unsigned char frame_octets[16 + 15];
+    uint32_t v5 = 0;
+    uint64_t v4 = 0;
+    v4 = aligned(frame_octets);
+    rattle_realloc_at(v4, p1, p2 << 5, p3 << 5, 8);
+    v5 = get32(v4);
+    put64(p0 + 8, ((v5 & 1) != 0) ? get64(v4 + 8) : 0ULL);
+    put8(p0, ~v5 & 1);
+    return;
+}
+
+LOCAL void std_alloc_vec_deque_VecDeque_clear_b91120b3987bfff5(uint64_t p0)
+{
+    unsigned char frame_octets[16 + 15];
+    uint64_t v1 = 0, v2 = 0, v3 = 0, v4 = 0, v5 = 0, v6 = 0, v7 = 0, v8 = 0, v9 = 0, v10 = 0;
+    v1 = aligned(frame_octets);
+    v2 = p0 + 8;
+    v3 = get64(v2);
+    if (v3 == 0) return;
+    put64(v2, 0);
+    v4 = p0 + 16;
+    v5 = get64(v4);
+    put64(v2 + 8, 0);
+    v6 = p0 + 24;
+    v7 = get64(v6);
+    put64(v2 + 16, 0);
+    v8 = p0 + 32;
+    v9 = get64(v8);
+    put64(v2 + 24, 0);
+    v10 = get64(p0);
+    put64(v1, v10);
+    put64(v1 + 8, v5);
+    std_alloc_vec_opened_drop_run_09dedc624c4eb86b(v1, v7, v7 + (v3 - v9));
+    std_alloc_vec_opened_drop_run_09dedc624c4eb86b(v1, 0, v9);
+    put64(v8, 0);
+    put64(v6, v7);
+    put64(v4, v5);
+    put64(v2, 0);
+    put64(p0, v10);
+    return;
+}
+
+LOCAL void std_alloc_vec_opened_drop_run_09dedc624c4eb86b(uint64_t p0, uint64_t p1, uint64_t p2)
+{
+    unsigned char frame_octets[32 + 15];
+    uint64_t v3 = 0, v4 = 0;
+    v3 = aligned(frame_octets);
+    v4 = p2 - p1;
+    p2 = (v4 > p2) ? 0ULL : v4;
+    v4 = p1 << 5;
+    for (;;) {
+        if (p2 == 0) return;
+        p1 = get64(p0) + v4;
+        put64(v3, get64(p1));
+        put64(v3 + 8, get64(p1 + 8));
+        put64(v3 + 16, get64(p1 + 16));
+        put64(v3 + 24, get64(p1 + 24));
+        p2 = p2 - 1;
+        v4 = v4 + 32;
+        core_mem_drop_09dedc624c4eb86b(v3);
+    }
+}
+
+LOCAL void core_mem_drop_09dedc624c4eb86b(uint64_t p0)
+{
+    unsigned char frame_octets[32 + 15];
+    uint64_t v1 = 0;
+    v1 = aligned(frame_octets);
+    put64(v1 + 24, get64(p0 + 24));
+    put64(v1 + 16, get64(p0 + 16));
+    put64(v1 + 8, get64(p0 + 8));
+    put64(v1, get64(p0));
+    nodes_nodes_owned_segment_OwnedSegment_Destruct_drop(v1);
+    return;
+}
+
+LOCAL void nodes_nodes_owned_segment_OwnedSegment_Destruct_drop(uint64_t p0)
+{
+    unsigned char frame_octets[32 + 15];
+    uint64_t v1 = 0;
+    v1 = aligned(frame_octets);
+    put64(v1 + 24, get64(p0 + 24));
+    put64(v1 + 16, get64(p0 + 16));
+    put64(v1 + 8, get64(p0 + 8));
+    std_alloc_vec_Vec_drop_030412a25431895c(v1 + 8);
+    return;
 }
 
 LOCAL void std_alloc_vec_deque_VecDeque_write_back_ab161963403435e1(uint64_t p0, uint64_t p1)
@@ -53648,6 +53740,18 @@ LOCAL uint32_t space_packet_whole_is_packet(uint64_t p0, uint64_t p1)
     return v3 & (uint32_t)(v2 == p1);
 }
 
+LOCAL void std_alloc_vec_Vec_destroy_empty_49bbd27f022ae39a(uint64_t p0)
+{
+    unsigned char frame_octets[32 + 15];
+    uint64_t v1 = 0;
+    v1 = aligned(frame_octets);
+    put64(v1 + 24, get64(p0 + 16));
+    put64(v1 + 16, get64(p0 + 8));
+    put64(v1 + 8, get64(p0));
+    std_alloc_vec_Vec_free_block_49bbd27f022ae39a(v1 + 8);
+    return;
+}
+
 LOCAL uint32_t std_alloc_vec_Vec_move_to_49bbd27f022ae39a(uint64_t p0, uint64_t p1)
 {
     unsigned char frame_octets[32 + 15];
@@ -53672,6 +53776,13 @@ LOCAL uint32_t std_alloc_vec_Vec_move_to_49bbd27f022ae39a(uint64_t p0, uint64_t 
     return v3;
 }
 
+LOCAL void std_alloc_vec_Vec_free_block_49bbd27f022ae39a(uint64_t p0)
+{
+    if (get64(p0 + 16) == 0) return;
+    rattle_dealloc_at(get64(p0));
+    return;
+}
+
 LOCAL uint32_t std_alloc_vec_Vec_move_to_1598ebf9113514c4(uint64_t p0, uint64_t p1)
 {
     unsigned char frame_octets[16 + 15];
@@ -53688,6 +53799,13 @@ LOCAL uint32_t std_alloc_vec_Vec_move_to_1598ebf9113514c4(uint64_t p0, uint64_t 
     put64(p0, v5);
     v3 = 1;
     return v3;
+}
+
+LOCAL void std_alloc_vec_Vec_destroy_empty_1598ebf9113514c4(uint64_t p0)
+{
+    if (get64(p0 + 16) == 0) return;
+    rattle_dealloc_at(get64(p0));
+    return;
 }
 
 LOCAL void std_alloc_vec_resize_1598ebf9113514c4(uint64_t p0, uint64_t p1, uint64_t p2, uint64_t p3, uint64_t p4)
@@ -53734,6 +53852,81 @@ LOCAL uint32_t std_alloc_vec_Vec_grow_1598ebf9113514c4(uint64_t p0, uint64_t p1)
     p1 = (p1 > 4) ? p1 : 4ULL;
     v3 = v2 << 1;
     return std_alloc_vec_Vec_move_to_1598ebf9113514c4(p0, (v2 < 0x4000000000000000ULL) ? ((p1 > v3) ? p1 : v3) : p1);
+}
+
+LOCAL void std_alloc_vec_Vec_clear_e6cd4f9016244943(uint64_t p0)
+{
+    unsigned char frame_octets[16 + 15];
+    uint64_t v1 = 0, v2 = 0, v3 = 0, v4 = 0, v5 = 0, v6 = 0;
+    v1 = aligned(frame_octets);
+    v2 = p0 + 8;
+    v3 = get64(v2);
+    if (v3 == 0) return;
+    put64(v2, 0);
+    v4 = p0 + 16;
+    v5 = get64(v4);
+    put64(v2 + 8, 0);
+    put64(v1 + 8, v3);
+    v6 = get64(p0);
+    put64(v1, v6);
+    std_alloc_vec_opened_drop_run_daeed4d2c71e939d(v1, 0, v3);
+    put64(v4, v5);
+    put64(v2, 0);
+    put64(p0, v6);
+    return;
+}
+
+LOCAL void std_alloc_vec_opened_drop_run_daeed4d2c71e939d(uint64_t p0, uint64_t p1, uint64_t p2)
+{
+    unsigned char frame_octets[32 + 15];
+    uint64_t v3 = 0, v4 = 0;
+    v3 = aligned(frame_octets);
+    v4 = p2 - p1;
+    p2 = (v4 > p2) ? 0ULL : v4;
+    p1 = p1 * 24;
+    for (;;) {
+        if (p2 == 0) return;
+        v4 = get64(p0) + p1;
+        put64(v3 + 24, get64(v4 + 16));
+        put64(v3 + 16, get64(v4 + 8));
+        put64(v3 + 8, get64(v4));
+        p2 = p2 - 1;
+        p1 = p1 + 24;
+        std_alloc_vec_Vec_drop_4e50c14c2e726a6c(v3 + 8);
+    }
+}
+
+LOCAL void std_alloc_vec_opened_drop_run_2be10895257269c2(uint64_t p0, uint64_t p1, uint64_t p2)
+{
+    unsigned char frame_octets[32 + 15];
+    uint64_t v3 = 0, v4 = 0;
+    v3 = aligned(frame_octets);
+    v4 = p2 - p1;
+    p2 = (v4 > p2) ? 0ULL : v4;
+    v4 = p1 << 5;
+    for (;;) {
+        if (p2 == 0) return;
+        p1 = get64(p0) + v4;
+        put64(v3, get64(p1));
+        put64(v3 + 8, get64(p1 + 8));
+        put64(v3 + 16, get64(p1 + 16));
+        put64(v3 + 24, get64(p1 + 24));
+        p2 = p2 - 1;
+        v4 = v4 + 32;
+        core_mem_drop_2be10895257269c2(v3);
+    }
+}
+
+LOCAL void core_mem_drop_2be10895257269c2(uint64_t p0)
+{
+    unsigned char frame_octets[32 + 15];
+    uint64_t v1 = 0;
+    v1 = aligned(frame_octets);
+    put64(v1 + 24, get64(p0 + 24));
+    put64(v1 + 16, get64(p0 + 16));
+    put64(v1 + 8, get64(p0 + 8));
+    std_alloc_vec_Vec_drop_4e50c14c2e726a6c(v1 + 8);
+    return;
 }
 
 LOCAL uint64_t std_alloc_vec_copy_34_nodes_owned_segment_OwnedSegment(uint64_t p0, uint64_t p1, uint64_t p2)
@@ -53959,6 +54152,24 @@ LOCAL void cop1_fop_trim_trim_09dedc624c4eb86b(uint64_t p0, uint64_t p1, uint64_
         p2 = p2 + 1;
     } while (p2 != 0);
     return;
+}
+
+LOCAL void circular_buffer_cells_Cells_drop_slice_09dedc624c4eb86b(uint64_t p0, uint64_t p1, uint64_t p2)
+{
+    unsigned char frame_octets[32 + 15];
+    uint64_t v3 = 0;
+    v3 = aligned(frame_octets);
+    p1 = p0 + (p1 << 5);
+    for (;;) {
+        if (p2 == 0) return;
+        put64(v3 + 24, get64(p1 + 24));
+        put64(v3 + 16, get64(p1 + 16));
+        put64(v3 + 8, get64(p1 + 8));
+        put64(v3, get64(p1));
+        p2 = p2 - 1;
+        p1 = p1 + 32;
+        core_mem_drop_09dedc624c4eb86b(v3);
+    }
 }
 
 LOCAL void core_array_array_drop_12acdf539b3d520a(uint64_t p0)
@@ -55469,6 +55680,173 @@ LOCAL uint32_t node_lines_answers_push_named(uint64_t p0, uint64_t p1, uint64_t 
     return v6;
 }
 
+LOCAL uint32_t std_alloc_string_String_push_str_c9f0b165bbde0115(uint64_t p0, uint64_t p1, uint64_t p2)
+{
+    unsigned char frame_octets[16 + 15];
+    uint32_t v4 = 0, t1;
+    uint64_t v3 = 0, v5 = 0, v6 = 0, v7 = 0, v8 = 0, v9 = 0, v10 = 0;
+    v3 = aligned(frame_octets);
+    v4 = 1;
+    t1 = std_alloc_vec_Vec_grow_bbd08ad089034210(p0, p2);
+    if (t1 == 0) return v4;
+    v5 = p0 + 8;
+    v6 = get64(v5);
+    put64(v5, 0);
+    v7 = p0 + 16;
+    v8 = get64(v7);
+    put64(v7, 0);
+    v9 = get64(p0);
+    put64(v3, v9);
+    v10 = v6 + p2;
+    put64(v3 + 8, v10);
+    core_slots_Slots_copy_in_i8_20_core_clone_U8Clone(v3, v6, p1, p2);
+    put64(v7, v8);
+    put64(v5, v10);
+    put64(p0, v9);
+    v4 = 0;
+    return v4;
+}
+
+LOCAL uint32_t core_fmt_formatter_Formatter_write_piece_021956a9582caf01(uint64_t p0, uint64_t p1)
+{
+    uint32_t t1, t2;
+    uint64_t v2 = 0;
+    put64(p0 + 28, 0);
+    put32(p0 + 24, 32);
+    put32(p0 + 36, 0);
+    put64(p0 + 40, ~0ULL);
+    v2 = get64(p1 + 8);
+    p1 = get64(p1);
+    if (get64(p0 + 48) == 0) {
+        t1 = std_alloc_string_String_push_str_c9f0b165bbde0115(p0, p1, v2);
+        return t1 & 255;
+    }
+    t2 = core_fmt_formatter_Formatter_write_indented_bd2afacae86e23b6(p0, p1, v2);
+    return t2 & 255;
+}
+
+LOCAL uint32_t std_alloc_fmt_undo_if_err_c9f0b165bbde0115(uint64_t p0, uint64_t p1, uint32_t p2)
+{
+    uint64_t v3 = 0;
+    if ((p2 & 255) == 0) return 0;
+    v3 = get64(p0 + 8);
+    if (p1 != 0 && p1 != v3) {
+        p2 = 1;
+        if (v3 < p1 || v3 <= p1) return p2;
+        if (ordered32(extend32(get8(get64(p0) + p1), 0x80)) > 0x7fffffbfU) goto l4;
+        return p2;
+    }
+    if (v3 <= p1) goto l3;
+l4:;
+    put64(p0 + 8, p1);
+l3:;
+    p2 = 1;
+    return p2;
+}
+
+LOCAL uint32_t core_fmt_formatter_Formatter_write_indented_bd2afacae86e23b6(uint64_t p0, uint64_t p1, uint64_t p2)
+{
+    uint32_t v7 = 0, t1, t2;
+    uint64_t v3 = 0, v4 = 0, v5 = 0, v6 = 0;
+    v3 = 0;
+    for (;;) {
+        v4 = v3;
+        do {
+            if (p2 == v4) goto l3;
+            v5 = p1 + v4;
+            v6 = v4 + 1;
+            v4 = v6;
+        } while (get8(v5) != 10);
+        v4 = v6 - v3;
+        v5 = (v6 < v3) ? 0ULL : v3;
+        v7 = 1;
+        v3 = v6;
+        t1 = core_fmt_formatter_Formatter_write_indented_line_bd2afacae86e23b6(p0, p1 + v5, (v4 > v6) ? 0ULL : v4, 1);
+        if ((t1 & 255) == 0) continue;
+        return v7;
+    l3:;
+        break;
+    }
+    v4 = p2 - v3;
+    t2 = core_fmt_formatter_Formatter_write_indented_line_bd2afacae86e23b6(p0, p1 + ((p2 < v3) ? 0ULL : v3), (v4 > p2)
+        ? 0ULL : v4, 0);
+    v7 = t2 & 255;
+    return v7;
+}
+
+LOCAL uint32_t core_fmt_formatter_Formatter_write_indented_line_bd2afacae86e23b6(uint64_t p0, uint64_t p1, uint64_t
+    p2, uint32_t p3)
+{
+    uint32_t t1, t2;
+    uint64_t v4 = 0, v5 = 0;
+    if (p2 == 0) return 0;
+    v4 = p0 + 56;
+    if (get8(v4) != 1) {
+        put8(v4, p3);
+        t2 = core_fmt_formatter_Formatter_write_raw_bd2afacae86e23b6(p0, p1, p2);
+        return t2 & 255;
+    }
+    v5 = get64(p0 + 48) + 1;
+    do {
+        v5 = v5 - 1;
+        if (v5 == 0) {
+            put8(v4, p3);
+            t2 = core_fmt_formatter_Formatter_write_raw_bd2afacae86e23b6(p0, p1, p2);
+            return t2 & 255;
+        }
+        t1 = core_fmt_formatter_Formatter_write_raw_bd2afacae86e23b6(p0, address(constant_112), 4);
+    } while ((t1 & 255) == 0);
+    return 1;
+}
+
+LOCAL uint32_t core_fmt_formatter_Formatter_write_raw_bd2afacae86e23b6(uint64_t p0, uint64_t p1, uint64_t p2)
+{
+    uint32_t v3 = 0, t1, t2;
+    v3 = 1;
+    t1 = core_fmt_utf8_is_utf8(p1, p2);
+    if (t1 == 0) return v3;
+    t2 = std_alloc_string_String_push_str_c9f0b165bbde0115(p0, p1, p2);
+    v3 = t2 & 255;
+    return v3;
+}
+
+LOCAL uint32_t std_alloc_vec_Vec_grow_bbd08ad089034210(uint64_t p0, uint64_t p1)
+{
+    uint64_t v2 = 0, v3 = 0;
+    v2 = get64(p0 + 16);
+    v3 = get64(p0 + 8);
+    if (p1 <= (v2 - v3)) return 1;
+    if (p1 > ~v3) return 0;
+    p1 = v3 + p1;
+    p1 = (p1 > 8) ? p1 : 8ULL;
+    v3 = v2 << 1;
+    return std_alloc_vec_Vec_move_to_bbd08ad089034210(p0, (v2 < 0x4000000000000000ULL) ? ((p1 > v3) ? p1 : v3) : p1);
+}
+
+LOCAL uint32_t std_alloc_vec_Vec_move_to_bbd08ad089034210(uint64_t p0, uint64_t p1)
+{
+    unsigned char frame_octets[32 + 15];
+    uint32_t v3 = 0, v5 = 0;
+    uint64_t v2 = 0, v4 = 0;
+    v2 = aligned(frame_octets);
+    v3 = 0;
+    if (p1 > 0x7fffffffffffffffULL) return v3;
+    if (get64(p0 + 16) != 0) {
+        std_heap_GlobalAllocator_grow_i8(v2 + 16, get64(p0), get64(p0 + 8), p1);
+        v4 = get64(v2 + 24);
+        v5 = get8(v2 + 16);
+    } else {
+        std_heap_GlobalAllocator_allocate(v2, p1, 1);
+        v5 = get8(v2);
+        v4 = (v5 != 0) ? 0ULL : get64(v2 + 8);
+    }
+    if ((v5 & 255) != 0) return v3;
+    put64(p0 + 16, p1);
+    put64(p0, v4);
+    v3 = 1;
+    return v3;
+}
+
 LOCAL uint32_t node_lines_answers_push_digits(uint64_t p0, uint64_t p1, uint64_t p2)
 {
     unsigned char frame_octets[64 + 15];
@@ -55882,6 +56260,193 @@ LOCAL uint32_t std_alloc_string_String_write_fmt_06a3df4cdf1475bb(uint64_t p0, u
     return v4 & 255;
 }
 
+LOCAL void tm_link_extractor_Extractor_new(uint64_t p0)
+{
+    unsigned char frame_octets[16 + 15];
+    uint32_t v3 = 0, v4 = 0;
+    uint64_t v1 = 0, v2 = 0, v5 = 0;
+    v1 = aligned(frame_octets);
+    v2 = 0x10006;
+    rattle_alloc_at(v1, 0x10006, 1);
+    v3 = 1;
+    if (((uint32_t)get64(v1) & 1) == 0) {
+        v4 = 6;
+        v5 = 0;
+        v2 = 0;
+    } else {
+        v5 = get64(v1 + 8);
+        v3 = 0;
+        v4 = 0;
+    }
+    put8(p0, v3);
+    put64(p0 + 32, v2);
+    put64(p0 + 24, 0);
+    put64(p0 + 16, v5);
+    put16(p0 + 8, 0);
+    put8(p0 + 1, v4);
+    return;
+}
+
+LOCAL void circular_buffer_heap_HeapCircularBuffer_drop_695a0d5c0a17370d(uint64_t p0)
+{
+    uint64_t v1 = 0, v2 = 0, v3 = 0;
+    v1 = get64(p0);
+    v2 = get64(p0 + 16);
+    if (v2 != 0) {
+        v3 = get64(p0 + 24);
+        p0 = get64(p0 + 8);
+        v3 = v3 - ((v3 < p0) ? 0ULL : p0);
+        p0 = p0 - v3;
+        p0 = (p0 < v2) ? p0 : v2;
+        circular_buffer_cells_Cells_drop_slice_09dedc624c4eb86b(v1, v3, p0);
+        circular_buffer_cells_Cells_drop_slice_09dedc624c4eb86b(v1, 0, v2 - p0);
+    }
+    rattle_dealloc_at(v1);
+    return;
+}
+
+LOCAL void std_alloc_vec_deque_VecDeque_truncate_ab712b15485b8137(uint64_t p0, uint64_t p1)
+{
+    unsigned char frame_octets[16 + 15];
+    uint64_t v2 = 0, v3 = 0, v4 = 0, v5 = 0, v6 = 0, v7 = 0, v8 = 0, v9 = 0, v10 = 0, v11 = 0;
+    v2 = aligned(frame_octets);
+    v3 = p0 + 8;
+    v4 = get64(v3);
+    if (v4 <= p1) return;
+    put64(v3, 0);
+    v5 = p0 + 16;
+    v6 = get64(v5);
+    put64(v3 + 8, 0);
+    v7 = p0 + 24;
+    v8 = get64(v7);
+    put64(v3 + 16, 0);
+    v9 = p0 + 32;
+    v10 = get64(v9);
+    put64(v3 + 24, 0);
+    v11 = get64(p0);
+    put64(v2, v11);
+    put64(v2 + 8, v6);
+    v4 = v4 - v10;
+    std_alloc_vec_opened_drop_run_14a212f36676944b(v2, v8 + ((p1 > v4) ? v4 : p1), v8 + v4);
+    v4 = p1 - v4;
+    v4 = (v4 > p1) ? 0ULL : v4;
+    std_alloc_vec_opened_drop_run_14a212f36676944b(v2, v4, v10);
+    put64(v9, v4);
+    put64(v7, v8);
+    put64(v5, v6);
+    put64(v3, p1);
+    put64(p0, v11);
+    return;
+}
+
+LOCAL void std_alloc_vec_Vec_destroy_empty_0956fa20d2e9e8d8(uint64_t p0)
+{
+    if (get64(p0 + 16) == 0) return;
+    rattle_dealloc_at(get64(p0));
+    return;
+}
+
+LOCAL void std_alloc_vec_deque_VecDeque_drop_54ecb467e50d9ac7(uint64_t p0)
+{
+    if (get64(p0 + 16) == 0) return;
+    rattle_dealloc_at(get64(p0));
+    return;
+}
+
+LOCAL void std_alloc_vec_opened_drop_run_14a212f36676944b(uint64_t p0, uint64_t p1, uint64_t p2)
+{
+    unsigned char frame_octets[32 + 15];
+    uint64_t v3 = 0, v4 = 0;
+    v3 = aligned(frame_octets);
+    v4 = p2 - p1;
+    p2 = (v4 > p2) ? 0ULL : v4;
+    p1 = (p1 << 5) | 8;
+    for (;;) {
+        if (p2 == 0) return;
+        v4 = get64(p0) + p1;
+        put64(v3 + 24, get64(v4 + 16));
+        put64(v3 + 16, get64(v4 + 8));
+        put64(v3 + 8, get64(v4));
+        p2 = p2 - 1;
+        p1 = p1 + 32;
+        std_alloc_vec_Vec_drop_030412a25431895c(v3 + 8);
+    }
+}
+
+LOCAL void script_nodes_owned_segment_OwnedSegment_Destruct_drop(uint64_t p0)
+{
+    unsigned char frame_octets[32 + 15];
+    uint64_t v1 = 0;
+    v1 = aligned(frame_octets);
+    put64(v1 + 24, get64(p0 + 24));
+    put64(v1 + 16, get64(p0 + 16));
+    put64(v1 + 8, get64(p0 + 8));
+    std_alloc_vec_Vec_drop_cf0198d8b37205d8(v1 + 8);
+    return;
+}
+
+LOCAL void script_core_option_Option_Destruct_drop_817c41fc4efae97a(uint64_t p0)
+{
+    unsigned char frame_octets[32 + 15];
+    uint64_t v1 = 0;
+    v1 = aligned(frame_octets);
+    if (get8(p0) == 0) return;
+    put64(v1 + 24, get64(p0 + 24));
+    put64(v1 + 16, get64(p0 + 16));
+    put64(v1 + 8, get64(p0 + 8));
+    std_alloc_vec_Vec_drop_cf0198d8b37205d8(v1 + 8);
+    return;
+}
+
+LOCAL void script_Destruct_array_drop_f7db9ec84d303bc9(uint64_t p0)
+{
+    unsigned char frame_octets[1536 + 15];
+    uint64_t v1 = 0;
+    v1 = aligned(frame_octets);
+    copy(v1, p0, 0x600);
+    core_array_array_drop_f7db9ec84d303bc9(v1);
+    return;
+}
+
+LOCAL uint32_t std_alloc_string_String_write_fmt_d55c35ff3b7cb7a7(uint64_t p0, uint64_t p1)
+{
+    unsigned char frame_octets[144 + 15];
+    uint32_t v4 = 0, t1, t2, t3;
+    uint64_t v2 = 0, v3 = 0, v5 = 0, v6 = 0;
+    v2 = aligned(frame_octets);
+    copy(v2 + 96, p1, 48);
+    p1 = p0 + 8;
+    v3 = get64(p1);
+    put64(v2 + 60, 0);
+    fill(v2 + 80, 0, 16);
+    put32(v2 + 56, 32);
+    put32(v2 + 68, 0);
+    put64(v2 + 72, ~0ULL);
+    put64(v2 + 48, get64(p0 + 16));
+    put64(v2 + 40, get64(p1));
+    put64(v2 + 32, get64(p0));
+    v4 = 1;
+    t1 = core_fmt_formatter_Formatter_write_piece_021956a9582caf01(v2 + 32, v2 + 96);
+    if ((t1 & 255) == 0) {
+        t2 = core_fmt_formatter_Formatter_write_piece_021956a9582caf01(v2 + 32, v2 + 112);
+        if ((t2 & 255) == 0) {
+            t3 = core_fmt_formatter_Formatter_write_piece_021956a9582caf01(v2 + 32, v2 + 128);
+            v4 = t3 & 255;
+        }
+    }
+    p1 = get64(v2 + 32);
+    put64(v2 + 8, p1);
+    v5 = get64(v2 + 40);
+    put64(v2 + 16, v5);
+    v6 = get64(v2 + 48);
+    put64(v2 + 24, v6);
+    put64(p0 + 16, v6);
+    put64(p0 + 8, v5);
+    put64(p0, p1);
+    v4 = std_alloc_fmt_undo_if_err_c9f0b165bbde0115(p0, v3, v4);
+    return v4 & 255;
+}
+
 LOCAL void circular_buffer_cells_Cells_drop_slice_1ec76edc3950092e(uint64_t p0, uint64_t p1, uint64_t p2)
 {
     unsigned char frame_octets[32 + 15];
@@ -56217,13 +56782,13 @@ LOCAL void node_lines_player_answer_3b2f382f1ae54c4e(uint64_t p0, uint64_t p1, u
         v9 = 1;
         put64(v4 + 1112, get64(p1 + 216) + get64(p1 + 152) + (uint64_t)(uint32_t)(get8(p1 + 96) == 1));
         put64(v4 + 144, 13);
-        put64(v4 + 136, address(constant_432));
+        put64(v4 + 136, address(constant_431));
         put64(v4 + 120, 14);
-        put64(v4 + 112, address(constant_431));
+        put64(v4 + 112, address(constant_430));
         put64(v4 + 96, 6);
-        put64(v4 + 88, address(constant_429));
+        put64(v4 + 88, address(constant_428));
         put64(v4 + 72, 11);
-        put64(v4 + 64, address(constant_420));
+        put64(v4 + 64, address(constant_419));
         p2 = p3 + 8;
         p1 = get64(p2);
         put64(v4 + 152, v4 + 0x458);
@@ -56290,7 +56855,7 @@ LOCAL void node_lines_player_answer_3b2f382f1ae54c4e(uint64_t p0, uint64_t p1, u
     case 1:
         nodes_ground_node_Ground_bypass(v4, p1, (uint32_t)(v6 >> 8), v5, p2);
         if (get8(v4) == 0) {
-            t2 = std_alloc_string_String_push_str_c9f0b165bbde0115(p3, address(constant_350), 2);
+            t2 = std_alloc_string_String_push_str_c9f0b165bbde0115(p3, address(constant_349), 2);
             if ((t2 & 255) == 0) goto l6;
             goto l4;
         }
@@ -56306,7 +56871,7 @@ LOCAL void node_lines_player_answer_3b2f382f1ae54c4e(uint64_t p0, uint64_t p1, u
         if (get8(v4 + 1160) != 0) {
             cop1_fault_CopFault_name(v4 + 8, v8);
             v9 = 1;
-            t48 = node_lines_answers_push_fault(p3, address(constant_349), v8 + 1, get64(v4 + 8), get64(v4 + 16));
+            t48 = node_lines_answers_push_fault(p3, address(constant_348), v8 + 1, get64(v4 + 8), get64(v4 + 16));
             if ((t48 & 255) != 0) {
                 put8(p0 + 1, v7);
                 put8(p0, v9);
@@ -56324,12 +56889,12 @@ LOCAL void node_lines_player_answer_3b2f382f1ae54c4e(uint64_t p0, uint64_t p1, u
             v9 = get8(v4 + 1089);
             v7 = nodes_fault_LinkFault_number(v9);
             nodes_fault_LinkFault_name(v4 + 24, v9);
-            t9 = node_lines_answers_push_fault(p3, address(constant_349), v7, get64(v4 + 24), get64(v4 + 32));
+            t9 = node_lines_answers_push_fault(p3, address(constant_348), v7, get64(v4 + 24), get64(v4 + 32));
             if ((t9 & 255) == 0) goto l6;
             goto l4;
         }
         put64(v4 + 1128, get64(v4 + 1096));
-        put64(v4 + 1160, address(constant_413));
+        put64(v4 + 1160, address(constant_412));
         put64(v4 + 1168, 8);
         p2 = p3 + 8;
         p1 = get64(p2);
@@ -56371,7 +56936,7 @@ LOCAL void node_lines_player_answer_3b2f382f1ae54c4e(uint64_t p0, uint64_t p1, u
         v9 = 1;
         if (get8(v4 + 1160) != 1) {
             nodes_ground_node_Ground_advance(p1);
-            t11 = std_alloc_string_String_push_str_c9f0b165bbde0115(p3, address(constant_351), 7);
+            t11 = std_alloc_string_String_push_str_c9f0b165bbde0115(p3, address(constant_350), 7);
             if ((t11 & 255) == 0) goto l6;
             put8(p0 + 1, v7);
             put8(p0, v9);
@@ -56426,7 +56991,7 @@ LOCAL void node_lines_player_answer_3b2f382f1ae54c4e(uint64_t p0, uint64_t p1, u
             goto l6;
         }
         nodes_ground_node_Ground_commit(p1, v4 + 64 + 8);
-        t1 = std_alloc_string_String_push_str_c9f0b165bbde0115(p3, address(constant_350), 2);
+        t1 = std_alloc_string_String_push_str_c9f0b165bbde0115(p3, address(constant_349), 2);
         if ((t1 & 255) == 0) goto l6;
         goto l2;
     }
@@ -56455,7 +57020,7 @@ LOCAL void node_lines_player_answer_3b2f382f1ae54c4e(uint64_t p0, uint64_t p1, u
         std_alloc_vec_Vec_destroy_empty_9144b5853a75d9b2(v4 + 64);
         p2 = get64(v6);
         if (p2 == 0) {
-            t15 = std_alloc_string_String_push_str_c9f0b165bbde0115(p3, address(constant_351), 7);
+            t15 = std_alloc_string_String_push_str_c9f0b165bbde0115(p3, address(constant_350), 7);
             if ((t15 & 255) == 0) goto l6;
             goto l4;
         }
@@ -56473,7 +57038,7 @@ LOCAL void node_lines_player_answer_3b2f382f1ae54c4e(uint64_t p0, uint64_t p1, u
     v6 = get64(p2 + 16);
     p1 = get64(p2 + 8);
     p2 = get64(p2);
-    t13 = std_alloc_string_String_push_str_c9f0b165bbde0115(p3, address(constant_414), 7);
+    t13 = std_alloc_string_String_push_str_c9f0b165bbde0115(p3, address(constant_413), 7);
     if ((t13 & 255) != 0) {
         put64(v4 + 1176, v6);
         put64(v4 + 1168, p1);
@@ -56517,7 +57082,7 @@ LOCAL uint32_t node_lines_ground_push_refusal(uint64_t p0, uint32_t p1)
     if ((p1 & 255) == 5) return v3;
     v3 = nodes_fault_LinkFault_number(p1);
     nodes_fault_LinkFault_name(v2, p1);
-    t2 = node_lines_answers_push_fault(p0, address(constant_349), v3, get64(v2), get64(v2 + 8));
+    t2 = node_lines_answers_push_fault(p0, address(constant_348), v3, get64(v2), get64(v2 + 8));
     v3 = t2 & 255;
     return v3;
 }
@@ -57093,7 +57658,7 @@ LOCAL void node_lines_player_answer_54fc8b3eca759606(uint64_t p0, uint64_t p1, u
         goto l4;
     case 3:
         if (get8(p1 + 74) != 0) {
-            p2 = address(constant_377);
+            p2 = address(constant_376);
             v7 = 7;
         } else {
             p2 = (get8(p1 + 75) != 0) ? address(constant_449) : address(constant_448);
@@ -57276,7 +57841,7 @@ LOCAL void node_lines_player_answer_54fc8b3eca759606(uint64_t p0, uint64_t p1, u
         nodes_spacecraft_Spacecraft_take(v4 + 64, p1);
         v8 = 1;
         if (get8(v4 + 64) != 1) {
-            t5 = std_alloc_string_String_push_str_c9f0b165bbde0115(p3, address(constant_351), 7);
+            t5 = std_alloc_string_String_push_str_c9f0b165bbde0115(p3, address(constant_350), 7);
             if ((t5 & 255) != 0) goto l2;
             goto l4;
         }
@@ -57294,7 +57859,7 @@ LOCAL void node_lines_player_answer_54fc8b3eca759606(uint64_t p0, uint64_t p1, u
         nodes_spacecraft_Spacecraft_take_bypass(v4 + 64, p1);
         v8 = 1;
         if (get8(v4 + 64) != 1) {
-            t7 = std_alloc_string_String_push_str_c9f0b165bbde0115(p3, address(constant_351), 7);
+            t7 = std_alloc_string_String_push_str_c9f0b165bbde0115(p3, address(constant_350), 7);
             if ((t7 & 255) != 0) goto l2;
             goto l4;
         }
@@ -57311,7 +57876,7 @@ LOCAL void node_lines_player_answer_54fc8b3eca759606(uint64_t p0, uint64_t p1, u
     case 16:
         nodes_spacecraft_Spacecraft_telemetry(v4 + 24, p1, v6, v5);
         if (get8(v4 + 24) == 0) {
-            t1 = std_alloc_string_String_push_str_c9f0b165bbde0115(p3, address(constant_350), 2);
+            t1 = std_alloc_string_String_push_str_c9f0b165bbde0115(p3, address(constant_349), 2);
             if ((t1 & 255) == 0) goto l4;
             goto l3;
         }
@@ -57319,7 +57884,7 @@ LOCAL void node_lines_player_answer_54fc8b3eca759606(uint64_t p0, uint64_t p1, u
         if ((v9 & 255) == 6) goto l3;
         tm_link_fault_TmFault_name(v4 + 8, v9);
         v8 = 1;
-        t2 = node_lines_answers_push_fault(p3, address(constant_349), v9 + 1, get64(v4 + 8), get64(v4 + 16));
+        t2 = node_lines_answers_push_fault(p3, address(constant_348), v9 + 1, get64(v4 + 8), get64(v4 + 16));
         if ((t2 & 255) == 0) goto l4;
         goto l2;
     default:
@@ -59619,12 +60184,12 @@ l1:;
         put64(v7 + 88, v16);
         put64(v7 + 96, v9);
         v9 = 6;
-        v16 = address(constant_358);
+        v16 = address(constant_357);
         v17 = 7;
         switch (v18) {
         case 1:
             v9 = 5;
-            v16 = address(constant_392);
+            v16 = address(constant_391);
             v17 = 6;
             break;
         case 2:
@@ -59785,12 +60350,12 @@ l1:;
         put64(v7 + 88, v16);
         put64(v7 + 96, v9);
         v9 = 6;
-        v16 = address(constant_358);
+        v16 = address(constant_357);
         v17 = 7;
         switch (v18) {
         case 1:
             v9 = 5;
-            v16 = address(constant_392);
+            v16 = address(constant_391);
             v17 = 6;
             break;
         case 2:
@@ -60815,6 +61380,9 @@ LOCAL void listings_stream_ListerTaker_end_0a48a0b378ff9a34(uint64_t p0, uint64_
     return;
 }
 
+#endif
+
+#if !defined PART || PART == 7
 LOCAL void listings_stream_ListerTaker_end_8c693edc7c12fcd8(uint64_t p0, uint64_t p1, uint64_t p2, uint64_t p3)
 {
     unsigned char frame_octets[160 + 15];
@@ -61189,7 +61757,7 @@ LOCAL void listings_stream_ListerTaker_end_4af81c6089f9d215(uint64_t p0, uint64_
         put64(v4 + 88, v8);
         put64(v4 + 96, v6);
         v5 = 1;
-        t2 = listings_lines_push_invalid(v7, v4 + 56, 1, address(constant_392), 5);
+        t2 = listings_lines_push_invalid(v7, v4 + 56, 1, address(constant_391), 5);
         if ((t2 & 255) != 0) {
             put16(p0, 513);
             fill(p0 + 8, 0, 24);
@@ -61229,9 +61797,6 @@ LOCAL void listings_stream_ListerTaker_end_4af81c6089f9d215(uint64_t p0, uint64_
     return;
 }
 
-#endif
-
-#if !defined PART || PART == 7
 LOCAL void listings_stream_ListerTaker_end_0fd1a2a2aa0409f8(uint64_t p0, uint64_t p1, uint64_t p2, uint64_t p3)
 {
     unsigned char frame_octets[160 + 15];
@@ -61278,7 +61843,7 @@ LOCAL void listings_stream_ListerTaker_end_0fd1a2a2aa0409f8(uint64_t p0, uint64_
         put64(v4 + 88, v8);
         put64(v4 + 96, v6);
         v5 = 1;
-        t2 = listings_lines_push_invalid(v7, v4 + 56, 1, address(constant_392), 5);
+        t2 = listings_lines_push_invalid(v7, v4 + 56, 1, address(constant_391), 5);
         if ((t2 & 255) != 0) {
             put16(p0, 513);
             fill(p0 + 8, 0, 24);
@@ -61363,7 +61928,7 @@ LOCAL void listings_stream_ListerTaker_end_d105f8a4e42f5ef6(uint64_t p0, uint64_
         put64(v4 + 80, v9);
         put64(v4 + 88, v8);
         put64(v4 + 96, v6);
-        t2 = listings_lines_push_invalid(v7, v4 + 56, 6, address(constant_392), 5);
+        t2 = listings_lines_push_invalid(v7, v4 + 56, 6, address(constant_391), 5);
         if ((t2 & 255) != 0) {
             put16(p0, 513);
             fill(p0 + 8, 0, 24);
@@ -61449,7 +62014,7 @@ LOCAL void listings_stream_ListerTaker_end_24be98f3b31f67e0(uint64_t p0, uint64_
         put64(v4 + 80, v9);
         put64(v4 + 88, v8);
         put64(v4 + 96, v6);
-        t2 = listings_lines_push_invalid(v7, v4 + 56, 6, address(constant_392), 5);
+        t2 = listings_lines_push_invalid(v7, v4 + 56, 6, address(constant_391), 5);
         if ((t2 & 255) != 0) {
             put16(p0, 513);
             fill(p0 + 8, 0, 24);
@@ -61546,7 +62111,7 @@ LOCAL void listings_stream_ListerTaker_end_22a6f1353491a703(uint64_t p0, uint64_
     put64(v4 + 88, v8);
     put64(v4 + 96, v5);
     v7 = 1;
-    t2 = listings_lines_push_invalid(v6, v4 + 56, 1, address(constant_367), 6);
+    t2 = listings_lines_push_invalid(v6, v4 + 56, 1, address(constant_366), 6);
     if ((t2 & 255) != 0) {
         put16(p0, 513);
         fill(p0 + 8, 0, 24);
@@ -61632,7 +62197,7 @@ LOCAL void listings_stream_ListerTaker_end_5f2cf3317dd2ae53(uint64_t p0, uint64_
     put64(v4 + 88, v8);
     put64(v4 + 96, v5);
     v7 = 1;
-    t2 = listings_lines_push_invalid(v6, v4 + 56, 1, address(constant_367), 6);
+    t2 = listings_lines_push_invalid(v6, v4 + 56, 1, address(constant_366), 6);
     if ((t2 & 255) != 0) {
         put16(p0, 513);
         fill(p0 + 8, 0, 24);
@@ -61708,7 +62273,7 @@ LOCAL void listings_stream_ListerTaker_end_63200b5f1e74724b(uint64_t p0, uint64_
         put64(v4 + 88, v8);
         put64(v4 + 96, v6);
         v5 = 1;
-        t2 = listings_lines_push_invalid(v7, v4 + 56, 1, address(constant_392), 5);
+        t2 = listings_lines_push_invalid(v7, v4 + 56, 1, address(constant_391), 5);
         if ((t2 & 255) != 0) {
             put16(p0, 513);
             fill(p0 + 8, 0, 24);
@@ -61794,7 +62359,7 @@ LOCAL void listings_stream_ListerTaker_end_d9b7d5214a77e0dd(uint64_t p0, uint64_
         put64(v4 + 88, v8);
         put64(v4 + 96, v6);
         v5 = 1;
-        t2 = listings_lines_push_invalid(v7, v4 + 56, 1, address(constant_392), 5);
+        t2 = listings_lines_push_invalid(v7, v4 + 56, 1, address(constant_391), 5);
         if ((t2 & 255) != 0) {
             put16(p0, 513);
             fill(p0 + 8, 0, 24);
@@ -61880,7 +62445,7 @@ LOCAL void listings_stream_ListerTaker_end_81bc1b674a460d0b(uint64_t p0, uint64_
         put64(v4 + 88, v8);
         put64(v4 + 96, v6);
         v5 = 1;
-        t2 = listings_lines_push_invalid(v7, v4 + 56, 1, address(constant_392), 5);
+        t2 = listings_lines_push_invalid(v7, v4 + 56, 1, address(constant_391), 5);
         if ((t2 & 255) != 0) {
             put16(p0, 513);
             fill(p0 + 8, 0, 24);
@@ -61966,7 +62531,7 @@ LOCAL void listings_stream_ListerTaker_end_ad2f97c76d7aa93a(uint64_t p0, uint64_
         put64(v4 + 88, v8);
         put64(v4 + 96, v6);
         v5 = 1;
-        t2 = listings_lines_push_invalid(v7, v4 + 56, 1, address(constant_392), 5);
+        t2 = listings_lines_push_invalid(v7, v4 + 56, 1, address(constant_391), 5);
         if ((t2 & 255) != 0) {
             put16(p0, 513);
             fill(p0 + 8, 0, 24);
@@ -62052,7 +62617,7 @@ LOCAL void listings_stream_ListerTaker_end_012fed91f5969607(uint64_t p0, uint64_
         put64(v4 + 88, v8);
         put64(v4 + 96, v6);
         v5 = 1;
-        t2 = listings_lines_push_invalid(v7, v4 + 56, 1, address(constant_392), 5);
+        t2 = listings_lines_push_invalid(v7, v4 + 56, 1, address(constant_391), 5);
         if ((t2 & 255) != 0) {
             put16(p0, 513);
             fill(p0 + 8, 0, 24);
@@ -62138,7 +62703,7 @@ LOCAL void listings_stream_ListerTaker_end_0a0a00cf72be523d(uint64_t p0, uint64_
         put64(v4 + 88, v8);
         put64(v4 + 96, v6);
         v5 = 1;
-        t2 = listings_lines_push_invalid(v7, v4 + 56, 1, address(constant_392), 5);
+        t2 = listings_lines_push_invalid(v7, v4 + 56, 1, address(constant_391), 5);
         if ((t2 & 255) != 0) {
             put16(p0, 513);
             fill(p0 + 8, 0, 24);
@@ -62224,7 +62789,7 @@ LOCAL void listings_stream_ListerTaker_end_893c241206619660(uint64_t p0, uint64_
         put64(v4 + 88, v8);
         put64(v4 + 96, v6);
         v5 = 1;
-        t2 = listings_lines_push_invalid(v7, v4 + 56, 1, address(constant_392), 5);
+        t2 = listings_lines_push_invalid(v7, v4 + 56, 1, address(constant_391), 5);
         if ((t2 & 255) != 0) {
             put16(p0, 513);
             fill(p0 + 8, 0, 24);
@@ -62310,7 +62875,7 @@ LOCAL void listings_stream_ListerTaker_end_5227d576d21a8fa4(uint64_t p0, uint64_
         put64(v4 + 88, v8);
         put64(v4 + 96, v6);
         v5 = 1;
-        t2 = listings_lines_push_invalid(v7, v4 + 56, 1, address(constant_392), 5);
+        t2 = listings_lines_push_invalid(v7, v4 + 56, 1, address(constant_391), 5);
         if ((t2 & 255) != 0) {
             put16(p0, 513);
             fill(p0 + 8, 0, 24);
@@ -62396,7 +62961,7 @@ LOCAL void listings_stream_ListerTaker_end_d3506b4da1ca2568(uint64_t p0, uint64_
         put64(v4 + 88, v8);
         put64(v4 + 96, v6);
         v5 = 1;
-        t2 = listings_lines_push_invalid(v7, v4 + 56, 1, address(constant_392), 5);
+        t2 = listings_lines_push_invalid(v7, v4 + 56, 1, address(constant_391), 5);
         if ((t2 & 255) != 0) {
             put16(p0, 513);
             fill(p0 + 8, 0, 24);
@@ -62482,7 +63047,7 @@ LOCAL void listings_stream_ListerTaker_end_27f6970d06efe1c6(uint64_t p0, uint64_
         put64(v4 + 88, v8);
         put64(v4 + 96, v6);
         v5 = 1;
-        t2 = listings_lines_push_invalid(v7, v4 + 56, 1, address(constant_392), 5);
+        t2 = listings_lines_push_invalid(v7, v4 + 56, 1, address(constant_391), 5);
         if ((t2 & 255) != 0) {
             put16(p0, 513);
             fill(p0 + 8, 0, 24);
@@ -62568,7 +63133,7 @@ LOCAL void listings_stream_ListerTaker_end_8f193a53b2f2ce97(uint64_t p0, uint64_
         put64(v4 + 88, v8);
         put64(v4 + 96, v6);
         v5 = 1;
-        t2 = listings_lines_push_invalid(v7, v4 + 56, 1, address(constant_392), 5);
+        t2 = listings_lines_push_invalid(v7, v4 + 56, 1, address(constant_391), 5);
         if ((t2 & 255) != 0) {
             put16(p0, 513);
             fill(p0 + 8, 0, 24);
@@ -62654,7 +63219,7 @@ LOCAL void listings_stream_ListerTaker_end_e1b1ecab63d7ddaf(uint64_t p0, uint64_
         put64(v4 + 88, v8);
         put64(v4 + 96, v6);
         v5 = 1;
-        t2 = listings_lines_push_invalid(v7, v4 + 56, 1, address(constant_392), 5);
+        t2 = listings_lines_push_invalid(v7, v4 + 56, 1, address(constant_391), 5);
         if ((t2 & 255) != 0) {
             put16(p0, 513);
             fill(p0 + 8, 0, 24);
@@ -64699,7 +65264,7 @@ LOCAL void listings_stream_list_records_b6c386a7203b004a(uint64_t p0, uint64_t p
         }
         v9 = 1;
         if (v19 < 5) {
-            v22 = address(constant_392);
+            v22 = address(constant_391);
             v11 = 1;
             v7 = 5;
             goto l10;
@@ -64707,23 +65272,23 @@ LOCAL void listings_stream_list_records_b6c386a7203b004a(uint64_t p0, uint64_t p
         v7 = 7;
         v23 = get8(v16);
         if (v23 > 63) {
-            v22 = address(constant_368);
+            v22 = address(constant_367);
             v11 = 2;
             goto l10;
         }
         if ((v23 & 48) == 16) {
-            v22 = address(constant_393);
+            v22 = address(constant_392);
             v11 = 3;
             v7 = 12;
             goto l10;
         }
         if ((v23 & 12) != 0) {
-            v22 = address(constant_394);
+            v22 = address(constant_393);
             v11 = 4;
             v7 = 5;
             goto l10;
         }
-        v22 = address(constant_367);
+        v22 = address(constant_366);
         v7 = 6;
         v11 = 5;
         v18 = (((uint64_t)get8(v17) << 8) & 768) | (uint64_t)get8(v18);
@@ -64732,14 +65297,14 @@ LOCAL void listings_stream_list_records_b6c386a7203b004a(uint64_t p0, uint64_t p
         v11 = get16(v16 + v7);
         t3 = octets_frame_check_check(v16, v7);
         if ((((v11 << 8) | (v11 >> 8)) & 0xffff) != (t3 & 0xffff)) {
-            v22 = address(constant_369);
+            v22 = address(constant_368);
             v11 = 6;
             v7 = 5;
             goto l10;
         }
         v11 = get8(v16 + 4);
         if (v23 >= 32 && (v11 & 255) != 0) {
-            v22 = address(constant_395);
+            v22 = address(constant_394);
             v11 = 7;
             v7 = 12;
             goto l10;
@@ -64747,7 +65312,7 @@ LOCAL void listings_stream_list_records_b6c386a7203b004a(uint64_t p0, uint64_t p
         if ((v23 & 16) != 0) {
             v19 = v19 - 7;
             if (v19 > 3) goto l17;
-            v22 = address(constant_396);
+            v22 = address(constant_395);
             v7 = 9;
             v11 = 8;
             switch ((uint32_t)v19) {
@@ -64858,7 +65423,7 @@ LOCAL void listings_stream_list_records_b6c386a7203b004a(uint64_t p0, uint64_t p
             goto l18;
         }
         if ((v19 - 9) >= ~1ULL) {
-            v22 = address(constant_396);
+            v22 = address(constant_395);
             v7 = 9;
             v11 = 8;
             goto l10;
@@ -65073,7 +65638,7 @@ LOCAL void listings_stream_list_records_b6c386a7203b004a(uint64_t p0, uint64_t p
         put8(v19 + 32, 1);
         goto l9;
     l17:;
-        v22 = address(constant_397);
+        v22 = address(constant_396);
         v11 = 9;
         v7 = 7;
     l10:;
@@ -65270,7 +65835,7 @@ LOCAL void listings_stream_list_records_cd460a7a0db93756(uint64_t p0, uint64_t p
         }
         v10 = 1;
         if (v25 < 5) {
-            v27 = address(constant_392);
+            v27 = address(constant_391);
             v12 = 1;
             v8 = 5;
             goto l15;
@@ -65278,23 +65843,23 @@ LOCAL void listings_stream_list_records_cd460a7a0db93756(uint64_t p0, uint64_t p
         v8 = 7;
         v28 = get8(v22);
         if (v28 > 63) {
-            v27 = address(constant_368);
+            v27 = address(constant_367);
             v12 = 2;
             goto l15;
         }
         if ((v28 & 48) == 16) {
-            v27 = address(constant_393);
+            v27 = address(constant_392);
             v12 = 3;
             v8 = 12;
             goto l15;
         }
         if ((v28 & 12) != 0) {
-            v27 = address(constant_394);
+            v27 = address(constant_393);
             v12 = 4;
             v8 = 5;
             goto l15;
         }
-        v27 = address(constant_367);
+        v27 = address(constant_366);
         v8 = 6;
         v12 = 5;
         v24 = (((uint64_t)get8(v23) << 8) & 768) | (uint64_t)get8(v24);
@@ -65303,14 +65868,14 @@ LOCAL void listings_stream_list_records_cd460a7a0db93756(uint64_t p0, uint64_t p
         v12 = get16(v22 + v8);
         t3 = octets_frame_check_check(v22, v8);
         if ((((v12 << 8) | (v12 >> 8)) & 0xffff) != (t3 & 0xffff)) {
-            v27 = address(constant_369);
+            v27 = address(constant_368);
             v12 = 6;
             v8 = 5;
             goto l15;
         }
         v12 = get8(v22 + 4);
         if (v28 >= 32 && (v12 & 255) != 0) {
-            v27 = address(constant_395);
+            v27 = address(constant_394);
             v12 = 7;
             v8 = 12;
             goto l15;
@@ -65318,7 +65883,7 @@ LOCAL void listings_stream_list_records_cd460a7a0db93756(uint64_t p0, uint64_t p
         if ((v28 & 16) != 0) {
             v24 = v25 - 7;
             if (v24 > 3) goto l16;
-            v27 = address(constant_396);
+            v27 = address(constant_395);
             v8 = 9;
             v12 = 8;
             switch ((uint32_t)v24) {
@@ -65429,7 +65994,7 @@ LOCAL void listings_stream_list_records_cd460a7a0db93756(uint64_t p0, uint64_t p
             goto l32;
         }
         if ((v25 - 9) >= ~1ULL) {
-            v27 = address(constant_396);
+            v27 = address(constant_395);
             v8 = 9;
             v12 = 8;
             goto l15;
@@ -65644,7 +66209,7 @@ LOCAL void listings_stream_list_records_cd460a7a0db93756(uint64_t p0, uint64_t p
             goto l12;
         }
     l16:;
-        v27 = address(constant_397);
+        v27 = address(constant_396);
         v12 = 9;
         v8 = 7;
     l15:;
@@ -65848,36 +66413,36 @@ LOCAL void listings_stream_list_records_f16314989bed69cf(uint64_t p0, uint64_t p
         v7 = 5;
         v9 = 1;
         if (v19 < 5) {
-            v19 = address(constant_392);
+            v19 = address(constant_391);
             v11 = 1;
             goto l10;
         }
         v11 = get8(v16);
         if (v11 > 63) {
-            v19 = address(constant_368);
+            v19 = address(constant_367);
             v11 = 2;
             goto l12;
         }
         if ((v11 & 48) == 16) {
-            v19 = address(constant_393);
+            v19 = address(constant_392);
             v11 = 3;
             v7 = 12;
             goto l10;
         }
         if ((v11 & 12) != 0) {
-            v19 = address(constant_394);
+            v19 = address(constant_393);
             v11 = 4;
             goto l10;
         }
         if (v19 != (((uint64_t)get8(v18) | (((uint64_t)get8(v17) << 8) & 768)) + 1)) {
-            v19 = address(constant_367);
+            v19 = address(constant_366);
             v7 = 6;
             v11 = 5;
             goto l10;
         }
         v22 = get8(v16 + 4);
         if (v11 >= 32 && (v22 & 255) != 0) {
-            v19 = address(constant_395);
+            v19 = address(constant_394);
             v11 = 7;
             v7 = 12;
             goto l10;
@@ -65885,7 +66450,7 @@ LOCAL void listings_stream_list_records_f16314989bed69cf(uint64_t p0, uint64_t p
         if ((v11 & 16) != 0) {
             v18 = v19 - 5;
             if (v18 > 3) goto l18;
-            v19 = address(constant_396);
+            v19 = address(constant_395);
             v7 = 9;
             v11 = 8;
             switch ((uint32_t)v18) {
@@ -65996,7 +66561,7 @@ LOCAL void listings_stream_list_records_f16314989bed69cf(uint64_t p0, uint64_t p
             goto l19;
         }
         if (v19 <= 6) {
-            v19 = address(constant_396);
+            v19 = address(constant_395);
             v7 = 9;
             v11 = 8;
             goto l10;
@@ -66211,7 +66776,7 @@ LOCAL void listings_stream_list_records_f16314989bed69cf(uint64_t p0, uint64_t p
         put8(v19 + 32, 1);
         goto l9;
     l18:;
-        v19 = address(constant_397);
+        v19 = address(constant_396);
         v11 = 9;
     l12:;
         v7 = 7;
@@ -66342,36 +66907,36 @@ LOCAL void listings_stream_list_records_1b6331a07bca5abd(uint64_t p0, uint64_t p
         v8 = 5;
         v10 = 1;
         if (v25 < 5) {
-            v24 = address(constant_392);
+            v24 = address(constant_391);
             v12 = 1;
             goto l15;
         }
         v12 = get8(v22);
         if (v12 > 63) {
-            v24 = address(constant_368);
+            v24 = address(constant_367);
             v12 = 2;
             goto l16;
         }
         if ((v12 & 48) == 16) {
-            v24 = address(constant_393);
+            v24 = address(constant_392);
             v12 = 3;
             v8 = 12;
             goto l15;
         }
         if ((v12 & 12) != 0) {
-            v24 = address(constant_394);
+            v24 = address(constant_393);
             v12 = 4;
             goto l15;
         }
         if (v25 != (((uint64_t)get8(v24) | (((uint64_t)get8(v23) << 8) & 768)) + 1)) {
-            v24 = address(constant_367);
+            v24 = address(constant_366);
             v8 = 6;
             v12 = 5;
             goto l15;
         }
         v27 = get8(v22 + 4);
         if (v12 >= 32 && (v27 & 255) != 0) {
-            v24 = address(constant_395);
+            v24 = address(constant_394);
             v12 = 7;
             v8 = 12;
             goto l15;
@@ -66379,7 +66944,7 @@ LOCAL void listings_stream_list_records_1b6331a07bca5abd(uint64_t p0, uint64_t p
         if ((v12 & 16) != 0) {
             v28 = v25 - 5;
             if (v28 > 3) goto l17;
-            v24 = address(constant_396);
+            v24 = address(constant_395);
             v8 = 9;
             v12 = 8;
             switch ((uint32_t)v28) {
@@ -66489,7 +67054,7 @@ LOCAL void listings_stream_list_records_1b6331a07bca5abd(uint64_t p0, uint64_t p
             goto l33;
         }
         if (v25 <= 6) {
-            v24 = address(constant_396);
+            v24 = address(constant_395);
             v8 = 9;
             v12 = 8;
             goto l15;
@@ -66704,7 +67269,7 @@ LOCAL void listings_stream_list_records_1b6331a07bca5abd(uint64_t p0, uint64_t p
             goto l12;
         }
     l17:;
-        v24 = address(constant_397);
+        v24 = address(constant_396);
         v12 = 9;
     l16:;
         v8 = 7;
@@ -66833,7 +67398,7 @@ LOCAL void listings_stream_list_records_5b2e813392a4f761(uint64_t p0, uint64_t p
         put64(v8, get64(v8) + v38);
         v10 = 1;
         if (v38 < 5) {
-            v9 = address(constant_392);
+            v9 = address(constant_391);
             v12 = 1;
             v8 = 5;
             goto l13;
@@ -66841,23 +67406,23 @@ LOCAL void listings_stream_list_records_5b2e813392a4f761(uint64_t p0, uint64_t p
         v8 = 7;
         v39 = get8(v35);
         if (v39 > 63) {
-            v9 = address(constant_368);
+            v9 = address(constant_367);
             v12 = 2;
             goto l13;
         }
         if ((v39 & 48) == 16) {
-            v9 = address(constant_393);
+            v9 = address(constant_392);
             v12 = 3;
             v8 = 12;
             goto l13;
         }
         if ((v39 & 12) != 0) {
-            v9 = address(constant_394);
+            v9 = address(constant_393);
             v12 = 4;
             v8 = 5;
             goto l13;
         }
-        v9 = address(constant_367);
+        v9 = address(constant_366);
         v8 = 6;
         v12 = 5;
         v37 = (((uint64_t)get8(v36) << 8) & 768) | (uint64_t)get8(v37);
@@ -66866,14 +67431,14 @@ LOCAL void listings_stream_list_records_5b2e813392a4f761(uint64_t p0, uint64_t p
         v12 = get16(v35 + v8);
         t2 = octets_frame_check_check(v35, v8);
         if ((((v12 << 8) | (v12 >> 8)) & 0xffff) != (t2 & 0xffff)) {
-            v9 = address(constant_369);
+            v9 = address(constant_368);
             v12 = 6;
             v8 = 5;
             goto l13;
         }
         v12 = get8(v35 + 4);
         if (v39 >= 32 && (v12 & 255) != 0) {
-            v9 = address(constant_395);
+            v9 = address(constant_394);
             v12 = 7;
             v8 = 12;
             goto l13;
@@ -66881,7 +67446,7 @@ LOCAL void listings_stream_list_records_5b2e813392a4f761(uint64_t p0, uint64_t p
         if ((v39 & 16) != 0) {
             v37 = v38 - 7;
             if (v37 > 3) goto l20;
-            v9 = address(constant_396);
+            v9 = address(constant_395);
             v8 = 9;
             v12 = 8;
             switch ((uint32_t)v37) {
@@ -66909,7 +67474,7 @@ LOCAL void listings_stream_list_records_5b2e813392a4f761(uint64_t p0, uint64_t p
             }
         }
         if ((v38 - 9) > ~2ULL) {
-            v9 = address(constant_396);
+            v9 = address(constant_395);
             v8 = 9;
             v12 = 8;
             goto l13;
@@ -67014,7 +67579,7 @@ LOCAL void listings_stream_list_records_5b2e813392a4f761(uint64_t p0, uint64_t p
         v10 = 0;
         goto l6;
     l20:;
-        v9 = address(constant_397);
+        v9 = address(constant_396);
         v12 = 9;
         v8 = 7;
     l13:;
@@ -67910,29 +68475,29 @@ LOCAL void listings_one_map_OneMap_push_frame(uint64_t p0, uint64_t p1, uint64_t
     fill(v7 + 512, 0, 6);
     v9 = 5;
     if (p6 < 5) {
-        v10 = address(constant_392);
+        v10 = address(constant_391);
         v11 = 1;
         goto l4;
     }
     v12 = get8(p5);
     if (v12 > 63) {
-        v10 = address(constant_368);
+        v10 = address(constant_367);
         v9 = 7;
         v11 = 2;
         goto l4;
     }
     if ((v12 & 48) == 16) {
-        v10 = address(constant_393);
+        v10 = address(constant_392);
         v9 = 12;
         v11 = 3;
         goto l4;
     }
     if ((v12 & 12) != 0) {
-        v10 = address(constant_394);
+        v10 = address(constant_393);
         v11 = 4;
         goto l4;
     }
-    v10 = address(constant_367);
+    v10 = address(constant_366);
     v9 = 6;
     v11 = 5;
     v13 = ((((uint64_t)get8(p5 + 2) << 8) & 768) | (uint64_t)get8(p5 + 3)) + 1;
@@ -67944,7 +68509,7 @@ LOCAL void listings_one_map_OneMap_push_frame(uint64_t p0, uint64_t p1, uint64_t
         v11 = get16(p5 + v9);
         t1 = octets_frame_check_check(p5, v9);
         if ((((v11 << 8) | (v11 >> 8)) & 0xffff) != (t1 & 0xffff)) {
-            v10 = address(constant_369);
+            v10 = address(constant_368);
             v9 = 5;
             v11 = 6;
             goto l4;
@@ -67952,14 +68517,14 @@ LOCAL void listings_one_map_OneMap_push_frame(uint64_t p0, uint64_t p1, uint64_t
     }
     v11 = get8(p5 + 4);
     if (v12 >= 32 && (v11 & 255) != 0) {
-        v10 = address(constant_395);
+        v10 = address(constant_394);
         v9 = 12;
         v11 = 7;
         goto l4;
     }
     p6 = p6 - v14;
     if ((v12 & 16) != 0) {
-        v10 = address(constant_397);
+        v10 = address(constant_396);
         v9 = 7;
         v11 = 9;
         p6 = p6 - 5;
@@ -68180,7 +68745,7 @@ l24:;
     put8(p0, v11);
     return;
 l11:;
-    v10 = address(constant_396);
+    v10 = address(constant_395);
     v9 = 9;
     v11 = 8;
 l4:;
@@ -68723,36 +69288,36 @@ LOCAL void listings_stream_list_records_ba330065ffbb15ec(uint64_t p0, uint64_t p
         v8 = 5;
         v10 = 1;
         if (v37 < 5) {
-            v9 = address(constant_392);
+            v9 = address(constant_391);
             v12 = 1;
             goto l13;
         }
         v12 = get8(v34);
         if (v12 > 63) {
-            v9 = address(constant_368);
+            v9 = address(constant_367);
             v12 = 2;
             goto l15;
         }
         if ((v12 & 48) == 16) {
-            v9 = address(constant_393);
+            v9 = address(constant_392);
             v12 = 3;
             v8 = 12;
             goto l13;
         }
         if ((v12 & 12) != 0) {
-            v9 = address(constant_394);
+            v9 = address(constant_393);
             v12 = 4;
             goto l13;
         }
         if (v37 != (((uint64_t)get8(v36) | (((uint64_t)get8(v35) << 8) & 768)) + 1)) {
-            v9 = address(constant_367);
+            v9 = address(constant_366);
             v8 = 6;
             v12 = 5;
             goto l13;
         }
         v38 = get8(v34 + 4);
         if (v12 >= 32 && (v38 & 255) != 0) {
-            v9 = address(constant_395);
+            v9 = address(constant_394);
             v12 = 7;
             v8 = 12;
             goto l13;
@@ -68760,7 +69325,7 @@ LOCAL void listings_stream_list_records_ba330065ffbb15ec(uint64_t p0, uint64_t p
         if ((v12 & 16) != 0) {
             v36 = v37 - 5;
             if (v36 > 3) goto l21;
-            v9 = address(constant_396);
+            v9 = address(constant_395);
             v8 = 9;
             v12 = 8;
             switch ((uint32_t)v36) {
@@ -68788,7 +69353,7 @@ LOCAL void listings_stream_list_records_ba330065ffbb15ec(uint64_t p0, uint64_t p
             }
         }
         if (v37 < 7) {
-            v9 = address(constant_396);
+            v9 = address(constant_395);
             v8 = 9;
             v12 = 8;
             goto l13;
@@ -68893,7 +69458,7 @@ LOCAL void listings_stream_list_records_ba330065ffbb15ec(uint64_t p0, uint64_t p
         v10 = 0;
         goto l6;
     l21:;
-        v9 = address(constant_397);
+        v9 = address(constant_396);
         v12 = 9;
     l15:;
         v8 = 7;
@@ -69593,30 +70158,30 @@ LOCAL void listings_stream_list_records_a6411f65d84d9133(uint64_t p0, uint64_t p
         }
         v9 = 1;
         if (v19 < 5) {
-            v7 = address(constant_392);
+            v7 = address(constant_391);
             v11 = 1;
             v22 = 5;
             goto l6;
         }
         v23 = get8(v16);
         if (v23 > 63) {
-            v7 = address(constant_368);
+            v7 = address(constant_367);
             v11 = 2;
             goto l7;
         }
         if ((v23 & 48) == 16) {
-            v7 = address(constant_393);
+            v7 = address(constant_392);
             v11 = 3;
             v22 = 12;
             goto l6;
         }
         if ((v23 & 12) != 0) {
-            v7 = address(constant_394);
+            v7 = address(constant_393);
             v11 = 4;
             v22 = 5;
             goto l6;
         }
-        v7 = address(constant_367);
+        v7 = address(constant_366);
         v22 = 6;
         v11 = 5;
         v24 = get8(v17);
@@ -69627,14 +70192,14 @@ LOCAL void listings_stream_list_records_a6411f65d84d9133(uint64_t p0, uint64_t p
         v11 = get16(v16 + v7);
         t3 = octets_frame_check_check(v16, v7);
         if ((((v11 << 8) | (v11 >> 8)) & 0xffff) != (t3 & 0xffff)) {
-            v7 = address(constant_369);
+            v7 = address(constant_368);
             v11 = 6;
             v22 = 5;
             goto l6;
         }
         v11 = get8(v16 + 4);
         if (v23 >= 32 && (v11 & 255) != 0) {
-            v7 = address(constant_395);
+            v7 = address(constant_394);
             v11 = 7;
             v22 = 12;
             goto l6;
@@ -69644,7 +70209,7 @@ LOCAL void listings_stream_list_records_a6411f65d84d9133(uint64_t p0, uint64_t p
         if ((v23 & 16) != 0) {
             v19 = v19 - 7;
             if (v19 <= 3) {
-                v7 = address(constant_396);
+                v7 = address(constant_395);
                 v22 = 9;
                 v11 = 8;
                 switch ((uint32_t)v19) {
@@ -69658,7 +70223,7 @@ LOCAL void listings_stream_list_records_a6411f65d84d9133(uint64_t p0, uint64_t p
                 case 2:
                     break;
                 case 3:
-                    v7 = address(constant_397);
+                    v7 = address(constant_396);
                     v11 = 9;
                     if (get8(v16 + 5) != 130) goto l7;
                     v22 = 7;
@@ -69670,12 +70235,12 @@ LOCAL void listings_stream_list_records_a6411f65d84d9133(uint64_t p0, uint64_t p
                     goto l6;
                 }
             }
-            v7 = address(constant_397);
+            v7 = address(constant_396);
             v11 = 9;
             goto l7;
         }
         if ((v19 - 9) >= ~1ULL) {
-            v7 = address(constant_396);
+            v7 = address(constant_395);
             v22 = 9;
             v11 = 8;
             goto l6;
@@ -70184,30 +70749,30 @@ LOCAL void listings_stream_list_records_0d08f2c9fd6c1606(uint64_t p0, uint64_t p
         }
         v9 = 1;
         if (v21 < 5) {
-            v7 = address(constant_392);
+            v7 = address(constant_391);
             v11 = 1;
             v25 = 5;
             goto l6;
         }
         v26 = get8(v18);
         if (v26 > 63) {
-            v7 = address(constant_368);
+            v7 = address(constant_367);
             v11 = 2;
             goto l7;
         }
         if ((v26 & 48) == 16) {
-            v7 = address(constant_393);
+            v7 = address(constant_392);
             v11 = 3;
             v25 = 12;
             goto l6;
         }
         if ((v26 & 12) != 0) {
-            v7 = address(constant_394);
+            v7 = address(constant_393);
             v11 = 4;
             v25 = 5;
             goto l6;
         }
-        v7 = address(constant_367);
+        v7 = address(constant_366);
         v25 = 6;
         v11 = 5;
         v27 = get8(v19);
@@ -70218,14 +70783,14 @@ LOCAL void listings_stream_list_records_0d08f2c9fd6c1606(uint64_t p0, uint64_t p
         v11 = get16(v18 + v7);
         t3 = octets_frame_check_check(v18, v7);
         if ((((v11 << 8) | (v11 >> 8)) & 0xffff) != (t3 & 0xffff)) {
-            v7 = address(constant_369);
+            v7 = address(constant_368);
             v11 = 6;
             v25 = 5;
             goto l6;
         }
         v11 = get8(v18 + 4);
         if (v26 >= 32 && (v11 & 255) != 0) {
-            v7 = address(constant_395);
+            v7 = address(constant_394);
             v11 = 7;
             v25 = 12;
             goto l6;
@@ -70235,7 +70800,7 @@ LOCAL void listings_stream_list_records_0d08f2c9fd6c1606(uint64_t p0, uint64_t p
         if ((v26 & 16) != 0) {
             v20 = v21 - 7;
             if (v20 <= 3) {
-                v7 = address(constant_396);
+                v7 = address(constant_395);
                 v25 = 9;
                 v11 = 8;
                 switch ((uint32_t)v20) {
@@ -70249,7 +70814,7 @@ LOCAL void listings_stream_list_records_0d08f2c9fd6c1606(uint64_t p0, uint64_t p
                 case 2:
                     break;
                 case 3:
-                    v7 = address(constant_397);
+                    v7 = address(constant_396);
                     v11 = 9;
                     if (get8(v18 + 5) != 130) goto l7;
                     v25 = 7;
@@ -70261,12 +70826,12 @@ LOCAL void listings_stream_list_records_0d08f2c9fd6c1606(uint64_t p0, uint64_t p
                     goto l6;
                 }
             }
-            v7 = address(constant_397);
+            v7 = address(constant_396);
             v11 = 9;
             goto l7;
         }
         if ((v21 - 9) >= ~1ULL) {
-            v7 = address(constant_396);
+            v7 = address(constant_395);
             v25 = 9;
             v11 = 8;
             goto l6;
@@ -70633,24 +71198,24 @@ LOCAL void listings_stream_list_records_e177318a9a85db28(uint64_t p0, uint64_t p
         v7 = 5;
         v9 = 1;
         if (v19 < 5) {
-            v19 = address(constant_392);
+            v19 = address(constant_391);
             v11 = 1;
             goto l6;
         }
         v11 = get8(v16);
         if (v11 > 63) {
-            v19 = address(constant_368);
+            v19 = address(constant_367);
             v11 = 2;
             goto l7;
         }
         if ((v11 & 48) == 16) {
-            v19 = address(constant_393);
+            v19 = address(constant_392);
             v11 = 3;
             v7 = 12;
             goto l6;
         }
         if ((v11 & 12) != 0) {
-            v19 = address(constant_394);
+            v19 = address(constant_393);
             v11 = 4;
             goto l6;
         }
@@ -70658,7 +71223,7 @@ LOCAL void listings_stream_list_records_e177318a9a85db28(uint64_t p0, uint64_t p
         t3 = (uint64_t)get8(v18);
         v18 = (uint64_t)v22 & 255;
         if (v19 != ((t3 | ((v18 << 8) & 768)) + 1)) {
-            v19 = address(constant_367);
+            v19 = address(constant_366);
             v7 = 6;
             v11 = 5;
             goto l6;
@@ -70666,7 +71231,7 @@ LOCAL void listings_stream_list_records_e177318a9a85db28(uint64_t p0, uint64_t p
         v23 = get8(v16 + 1);
         v24 = get8(v16 + 4);
         if (v11 >= 32 && (v24 & 255) != 0) {
-            v19 = address(constant_395);
+            v19 = address(constant_394);
             v11 = 7;
             v7 = 12;
             goto l6;
@@ -70675,7 +71240,7 @@ LOCAL void listings_stream_list_records_e177318a9a85db28(uint64_t p0, uint64_t p
         if ((v11 & 16) != 0) {
             v20 = v19 - 5;
             if (v20 <= 3) {
-                v19 = address(constant_396);
+                v19 = address(constant_395);
                 v7 = 9;
                 v11 = 8;
                 switch ((uint32_t)v20) {
@@ -70689,7 +71254,7 @@ LOCAL void listings_stream_list_records_e177318a9a85db28(uint64_t p0, uint64_t p
                 case 2:
                     break;
                 case 3:
-                    v19 = address(constant_397);
+                    v19 = address(constant_396);
                     v11 = 9;
                     if (get8(v16 + 5) != 130) goto l7;
                     v7 = 7;
@@ -70701,12 +71266,12 @@ LOCAL void listings_stream_list_records_e177318a9a85db28(uint64_t p0, uint64_t p
                     goto l6;
                 }
             }
-            v19 = address(constant_397);
+            v19 = address(constant_396);
             v11 = 9;
             goto l7;
         }
         if (v19 <= 6) {
-            v19 = address(constant_396);
+            v19 = address(constant_395);
             v7 = 9;
             v11 = 8;
             goto l6;
@@ -71065,31 +71630,31 @@ LOCAL void listings_stream_list_records_0dc0f3df8b57304a(uint64_t p0, uint64_t p
         v7 = 5;
         v9 = 1;
         if (v20 < 5) {
-            v19 = address(constant_392);
+            v19 = address(constant_391);
             v11 = 1;
             goto l6;
         }
         v11 = get8(v17);
         if (v11 > 63) {
-            v19 = address(constant_368);
+            v19 = address(constant_367);
             v11 = 2;
             goto l7;
         }
         if ((v11 & 48) == 16) {
-            v19 = address(constant_393);
+            v19 = address(constant_392);
             v11 = 3;
             v7 = 12;
             goto l6;
         }
         if ((v11 & 12) != 0) {
-            v19 = address(constant_394);
+            v19 = address(constant_393);
             v11 = 4;
             goto l6;
         }
         v24 = get8(v18);
         v25 = (uint64_t)v24 & 255;
         if (v20 != (((uint64_t)get8(v19) | ((v25 << 8) & 768)) + 1)) {
-            v19 = address(constant_367);
+            v19 = address(constant_366);
             v7 = 6;
             v11 = 5;
             goto l6;
@@ -71097,7 +71662,7 @@ LOCAL void listings_stream_list_records_0dc0f3df8b57304a(uint64_t p0, uint64_t p
         v26 = get8(v17 + 1);
         v27 = get8(v17 + 4);
         if (v11 >= 32 && (v27 & 255) != 0) {
-            v19 = address(constant_395);
+            v19 = address(constant_394);
             v11 = 7;
             v7 = 12;
             goto l6;
@@ -71106,7 +71671,7 @@ LOCAL void listings_stream_list_records_0dc0f3df8b57304a(uint64_t p0, uint64_t p
         if ((v11 & 16) != 0) {
             v22 = v20 - 5;
             if (v22 <= 3) {
-                v19 = address(constant_396);
+                v19 = address(constant_395);
                 v7 = 9;
                 v11 = 8;
                 switch ((uint32_t)v22) {
@@ -71120,7 +71685,7 @@ LOCAL void listings_stream_list_records_0dc0f3df8b57304a(uint64_t p0, uint64_t p
                 case 2:
                     break;
                 case 3:
-                    v19 = address(constant_397);
+                    v19 = address(constant_396);
                     v11 = 9;
                     if (get8(v17 + 5) != 130) goto l7;
                     v7 = 7;
@@ -71132,12 +71697,12 @@ LOCAL void listings_stream_list_records_0dc0f3df8b57304a(uint64_t p0, uint64_t p
                     goto l6;
                 }
             }
-            v19 = address(constant_397);
+            v19 = address(constant_396);
             v11 = 9;
             goto l7;
         }
         if (v20 <= 6) {
-            v19 = address(constant_396);
+            v19 = address(constant_395);
             v7 = 9;
             v11 = 8;
             goto l6;
@@ -72342,33 +72907,33 @@ LOCAL void listings_reports_ReportListingListingSplitterControlWords_take(uint64
     uint64_t v5 = 0, v9 = 0, v10 = 0, v11 = 0, v12 = 0, v13 = 0, v14 = 0, v15 = 0, v16 = 0, v17 = 0;
     v5 = 5;
     if (p4 < 4) {
-        p4 = address(constant_392);
+        p4 = address(constant_391);
         v6 = 6;
         goto l2;
     }
     v7 = extend32(get8(p3), 0x80);
     if (v7 > 0x7fffffffU) {
-        p4 = address(constant_410);
+        p4 = address(constant_409);
         v6 = 1;
         v5 = 4;
         goto l2;
     }
     if (v7 > 31) {
         v5 = 7;
-        p4 = address(constant_368);
+        p4 = address(constant_367);
         v6 = 2;
         goto l2;
     }
     v6 = 3;
     if ((v7 & 3) != 1) {
         v5 = 3;
-        p4 = address(constant_411);
+        p4 = address(constant_410);
         goto l2;
     }
     v6 = extend32(get8(p3 + 2), 0x80);
     v8 = get8(p3 + 1);
     if (((v6 & 1) | (v8 & 3)) != 0) {
-        p4 = address(constant_394);
+        p4 = address(constant_393);
         v6 = 4;
         goto l2;
     }
@@ -72621,7 +73186,7 @@ LOCAL void listings_stream_list_records_55ffe1bd67bffb21(uint64_t p0, uint64_t p
         put64(v10, get64(v10) + v18);
         v5 = 1;
         if (v18 < 5) {
-            v11 = address(constant_392);
+            v11 = address(constant_391);
             v7 = 1;
             v10 = 5;
             goto l4;
@@ -72629,23 +73194,23 @@ LOCAL void listings_stream_list_records_55ffe1bd67bffb21(uint64_t p0, uint64_t p
         v10 = 7;
         v19 = get8(v15);
         if (v19 > 63) {
-            v11 = address(constant_368);
+            v11 = address(constant_367);
             v7 = 2;
             goto l4;
         }
         if ((v19 & 48) == 16) {
-            v11 = address(constant_393);
+            v11 = address(constant_392);
             v7 = 3;
             v10 = 12;
             goto l4;
         }
         if ((v19 & 12) != 0) {
-            v11 = address(constant_394);
+            v11 = address(constant_393);
             v7 = 4;
             v10 = 5;
             goto l4;
         }
-        v11 = address(constant_367);
+        v11 = address(constant_366);
         v10 = 6;
         v7 = 5;
         v20 = get8(v16);
@@ -72655,27 +73220,27 @@ LOCAL void listings_stream_list_records_55ffe1bd67bffb21(uint64_t p0, uint64_t p
         v7 = get16(v15 + v10);
         t2 = octets_frame_check_check(v15, v10);
         if ((((v7 << 8) | (v7 >> 8)) & 0xffff) != (t2 & 0xffff)) {
-            v11 = address(constant_369);
+            v11 = address(constant_368);
             v7 = 6;
             v10 = 5;
             goto l4;
         }
         if (v19 >= 32 && (get8(v15 + 4) & 255) != 0) {
-            v11 = address(constant_395);
+            v11 = address(constant_394);
             v7 = 7;
             v10 = 12;
             goto l4;
         }
         if ((v19 & 16) == 0) {
             if ((v18 - 9) < ~1ULL) goto l16;
-            v11 = address(constant_396);
+            v11 = address(constant_395);
             v10 = 9;
             v7 = 8;
             goto l4;
         }
         v18 = v18 - 7;
         if (v18 > 3) goto l5;
-        v11 = address(constant_396);
+        v11 = address(constant_395);
         v10 = 9;
         v7 = 8;
         switch ((uint32_t)v18) {
@@ -72710,7 +73275,7 @@ LOCAL void listings_stream_list_records_55ffe1bd67bffb21(uint64_t p0, uint64_t p
         put8(v18 + 32, 1);
         goto l3;
     l5:;
-        v11 = address(constant_397);
+        v11 = address(constant_396);
         v7 = 9;
         v10 = 7;
     l4:;
@@ -72812,7 +73377,7 @@ LOCAL void listings_stream_list_records_25c4577a56999124(uint64_t p0, uint64_t p
         }
         v5 = 1;
         if (v20 < 5) {
-            v21 = address(constant_392);
+            v21 = address(constant_391);
             v7 = 1;
             v10 = 5;
             goto l4;
@@ -72820,23 +73385,23 @@ LOCAL void listings_stream_list_records_25c4577a56999124(uint64_t p0, uint64_t p
         v10 = 7;
         v22 = get8(v17);
         if (v22 > 63) {
-            v21 = address(constant_368);
+            v21 = address(constant_367);
             v7 = 2;
             goto l4;
         }
         if ((v22 & 48) == 16) {
-            v21 = address(constant_393);
+            v21 = address(constant_392);
             v7 = 3;
             v10 = 12;
             goto l4;
         }
         if ((v22 & 12) != 0) {
-            v21 = address(constant_394);
+            v21 = address(constant_393);
             v7 = 4;
             v10 = 5;
             goto l4;
         }
-        v21 = address(constant_367);
+        v21 = address(constant_366);
         v10 = 6;
         v7 = 5;
         v19 = (((uint64_t)get8(v18) << 8) & 768) | (uint64_t)get8(v19);
@@ -72845,27 +73410,27 @@ LOCAL void listings_stream_list_records_25c4577a56999124(uint64_t p0, uint64_t p
         v7 = get16(v17 + v10);
         t2 = octets_frame_check_check(v17, v10);
         if ((((v7 << 8) | (v7 >> 8)) & 0xffff) != (t2 & 0xffff)) {
-            v21 = address(constant_369);
+            v21 = address(constant_368);
             v7 = 6;
             v10 = 5;
             goto l4;
         }
         if (v22 >= 32 && (get8(v17 + 4) & 255) != 0) {
-            v21 = address(constant_395);
+            v21 = address(constant_394);
             v7 = 7;
             v10 = 12;
             goto l4;
         }
         if ((v22 & 16) == 0) {
             if ((v20 - 9) < ~1ULL) goto l10;
-            v21 = address(constant_396);
+            v21 = address(constant_395);
             v10 = 9;
             v7 = 8;
             goto l4;
         }
         v19 = v20 - 7;
         if (v19 > 3) goto l5;
-        v21 = address(constant_396);
+        v21 = address(constant_395);
         v10 = 9;
         v7 = 8;
         switch ((uint32_t)v19) {
@@ -72924,7 +73489,7 @@ LOCAL void listings_stream_list_records_25c4577a56999124(uint64_t p0, uint64_t p
         put8(v10 + 32, 1);
         goto l3;
     l5:;
-        v21 = address(constant_397);
+        v21 = address(constant_396);
         v7 = 9;
         v10 = 7;
     l4:;
@@ -73032,7 +73597,7 @@ LOCAL void stream_commands_found_list_found_4eed5df9a5215028(uint64_t p0, uint64
         }
         v9 = 1;
         if (v24 < 5) {
-            v27 = address(constant_392);
+            v27 = address(constant_391);
             v25 = 1;
             v26 = 5;
             goto l12;
@@ -73040,23 +73605,23 @@ LOCAL void stream_commands_found_list_found_4eed5df9a5215028(uint64_t p0, uint64
         v26 = 7;
         v28 = get8(v23);
         if (v28 > 63) {
-            v27 = address(constant_368);
+            v27 = address(constant_367);
             v25 = 2;
             goto l12;
         }
         if ((v28 & 48) == 16) {
-            v27 = address(constant_393);
+            v27 = address(constant_392);
             v25 = 3;
             v26 = 12;
             goto l12;
         }
         if ((v28 & 12) != 0) {
-            v27 = address(constant_394);
+            v27 = address(constant_393);
             v25 = 4;
             v26 = 5;
             goto l12;
         }
-        v27 = address(constant_367);
+        v27 = address(constant_366);
         v26 = 6;
         v25 = 5;
         v29 = (((uint64_t)get8(v23 + 2) << 8) & 768) | (uint64_t)get8(v23 + 3);
@@ -73065,14 +73630,14 @@ LOCAL void stream_commands_found_list_found_4eed5df9a5215028(uint64_t p0, uint64
         v25 = get16(v23 + v26);
         t4 = octets_frame_check_check(v23, v26);
         if ((((v25 << 8) | (v25 >> 8)) & 0xffff) != (t4 & 0xffff)) {
-            v27 = address(constant_369);
+            v27 = address(constant_368);
             v25 = 6;
             v26 = 5;
             goto l12;
         }
         v25 = get8(v23 + 4);
         if (v28 >= 32 && (v25 & 255) != 0) {
-            v27 = address(constant_395);
+            v27 = address(constant_394);
             v25 = 7;
             v26 = 12;
             goto l12;
@@ -73080,7 +73645,7 @@ LOCAL void stream_commands_found_list_found_4eed5df9a5215028(uint64_t p0, uint64
         if ((v28 & 16) != 0) {
             v29 = v24 - 7;
             if (v29 > 3) goto l19;
-            v27 = address(constant_396);
+            v27 = address(constant_395);
             v26 = 9;
             v25 = 8;
             switch ((uint32_t)v29) {
@@ -73191,7 +73756,7 @@ LOCAL void stream_commands_found_list_found_4eed5df9a5215028(uint64_t p0, uint64
             goto l20;
         }
         if ((v24 - 9) >= ~1ULL) {
-            v27 = address(constant_396);
+            v27 = address(constant_395);
             v26 = 9;
             v25 = 8;
             goto l12;
@@ -73386,7 +73951,7 @@ LOCAL void stream_commands_found_list_found_4eed5df9a5215028(uint64_t p0, uint64
         put64(v19, v10 + 1);
         goto l5;
     l19:;
-        v27 = address(constant_397);
+        v27 = address(constant_396);
         v25 = 9;
         v26 = 7;
     l12:;
@@ -73888,30 +74453,30 @@ LOCAL void stream_commands_found_list_found_b031bfd9fc225180(uint64_t p0, uint64
         }
         v17 = 1;
         if (v18 < 5) {
-            v20 = address(constant_392);
+            v20 = address(constant_391);
             v19 = 1;
             v22 = 5;
             goto l6;
         }
         v23 = get8(v16);
         if (v23 > 63) {
-            v20 = address(constant_368);
+            v20 = address(constant_367);
             v19 = 2;
             goto l7;
         }
         if ((v23 & 48) == 16) {
-            v20 = address(constant_393);
+            v20 = address(constant_392);
             v19 = 3;
             v22 = 12;
             goto l6;
         }
         if ((v23 & 12) != 0) {
-            v20 = address(constant_394);
+            v20 = address(constant_393);
             v19 = 4;
             v22 = 5;
             goto l6;
         }
-        v20 = address(constant_367);
+        v20 = address(constant_366);
         v22 = 6;
         v19 = 5;
         v24 = get8(v16 + 2);
@@ -73922,14 +74487,14 @@ LOCAL void stream_commands_found_list_found_b031bfd9fc225180(uint64_t p0, uint64
         v19 = get16(v16 + v20);
         t4 = octets_frame_check_check(v16, v20);
         if ((((v19 << 8) | (v19 >> 8)) & 0xffff) != (t4 & 0xffff)) {
-            v20 = address(constant_369);
+            v20 = address(constant_368);
             v19 = 6;
             v22 = 5;
             goto l6;
         }
         v19 = get8(v16 + 4);
         if (v23 >= 32 && (v19 & 255) != 0) {
-            v20 = address(constant_395);
+            v20 = address(constant_394);
             v19 = 7;
             v22 = 12;
             goto l6;
@@ -73939,7 +74504,7 @@ LOCAL void stream_commands_found_list_found_b031bfd9fc225180(uint64_t p0, uint64
         if ((v23 & 16) != 0) {
             v21 = v18 - 7;
             if (v21 <= 3) {
-                v20 = address(constant_396);
+                v20 = address(constant_395);
                 v22 = 9;
                 v19 = 8;
                 switch ((uint32_t)v21) {
@@ -73953,7 +74518,7 @@ LOCAL void stream_commands_found_list_found_b031bfd9fc225180(uint64_t p0, uint64
                 case 2:
                     break;
                 case 3:
-                    v20 = address(constant_397);
+                    v20 = address(constant_396);
                     v19 = 9;
                     if (get8(v16 + 5) != 130) goto l7;
                     v22 = 7;
@@ -73965,12 +74530,12 @@ LOCAL void stream_commands_found_list_found_b031bfd9fc225180(uint64_t p0, uint64
                     goto l6;
                 }
             }
-            v20 = address(constant_397);
+            v20 = address(constant_396);
             v19 = 9;
             goto l7;
         }
         if ((v18 - 9) >= ~1ULL) {
-            v20 = address(constant_396);
+            v20 = address(constant_395);
             v22 = 9;
             v19 = 8;
             goto l6;
@@ -74283,7 +74848,7 @@ LOCAL void stream_commands_found_list_found_fc90f202856bd0f5(uint64_t p0, uint64
         }
         v15 = 1;
         if (v16 < 5) {
-            v18 = address(constant_392);
+            v18 = address(constant_391);
             v19 = 1;
             v17 = 5;
             goto l11;
@@ -74291,23 +74856,23 @@ LOCAL void stream_commands_found_list_found_fc90f202856bd0f5(uint64_t p0, uint64
         v17 = 7;
         v20 = get8(v14);
         if (v20 > 63) {
-            v18 = address(constant_368);
+            v18 = address(constant_367);
             v19 = 2;
             goto l11;
         }
         if ((v20 & 48) == 16) {
-            v18 = address(constant_393);
+            v18 = address(constant_392);
             v19 = 3;
             v17 = 12;
             goto l11;
         }
         if ((v20 & 12) != 0) {
-            v18 = address(constant_394);
+            v18 = address(constant_393);
             v19 = 4;
             v17 = 5;
             goto l11;
         }
-        v18 = address(constant_367);
+        v18 = address(constant_366);
         v17 = 6;
         v19 = 5;
         v21 = (((uint64_t)get8(v14 + 2) << 8) & 768) | (uint64_t)get8(v14 + 3);
@@ -74316,26 +74881,26 @@ LOCAL void stream_commands_found_list_found_fc90f202856bd0f5(uint64_t p0, uint64
         v19 = get16(v14 + v17);
         t3 = octets_frame_check_check(v14, v17);
         if ((((v19 << 8) | (v19 >> 8)) & 0xffff) != (t3 & 0xffff)) {
-            v18 = address(constant_369);
+            v18 = address(constant_368);
             v19 = 6;
             v17 = 5;
             goto l11;
         }
         if (v20 >= 32 && (get8(v14 + 4) & 255) != 0) {
-            v18 = address(constant_395);
+            v18 = address(constant_394);
             v19 = 7;
             v17 = 12;
         } else {
             if ((v20 & 16) == 0) {
                 if ((v16 - 9) < ~1ULL) goto l5;
-                v18 = address(constant_396);
+                v18 = address(constant_395);
                 v17 = 9;
                 v19 = 8;
                 goto l11;
             }
             v21 = v16 - 7;
             if (v21 <= 3) {
-                v18 = address(constant_396);
+                v18 = address(constant_395);
                 v17 = 9;
                 v19 = 8;
                 switch ((uint32_t)v21) {
@@ -74357,7 +74922,7 @@ LOCAL void stream_commands_found_list_found_fc90f202856bd0f5(uint64_t p0, uint64
                     goto l11;
                 }
             }
-            v18 = address(constant_397);
+            v18 = address(constant_396);
             v19 = 9;
             v17 = 7;
         }
@@ -74495,7 +75060,7 @@ LOCAL void listings_packets_PacketListingListingSplitterPackets_take(uint64_t p0
     if (p5 < 6) goto l3;
     v9 = get8(p4);
     if (v9 > 31) {
-        v6 = address(constant_368);
+        v6 = address(constant_367);
         v7 = 7;
         v8 = 2;
         goto l3;
@@ -77839,12 +78404,12 @@ l1:;
     put64(v6 + 88, v15);
     put64(v6 + 96, v8);
     v8 = 6;
-    v15 = address(constant_358);
+    v15 = address(constant_357);
     v18 = 7;
     switch (v16) {
     case 1:
         v8 = 5;
-        v15 = address(constant_392);
+        v15 = address(constant_391);
         v18 = 6;
         break;
     case 2:
@@ -78035,12 +78600,12 @@ l1:;
     put64(v6 + 88, v15);
     put64(v6 + 96, v8);
     v8 = 6;
-    v15 = address(constant_358);
+    v15 = address(constant_357);
     v18 = 7;
     switch (v16) {
     case 1:
         v8 = 5;
-        v15 = address(constant_392);
+        v15 = address(constant_391);
         v18 = 6;
         break;
     case 2:
@@ -79731,7 +80296,7 @@ LOCAL void listings_stream_ListerTaker_end_7b7a36397d8478ff(uint64_t p0, uint64_
     put64(v3 + 80, v8);
     put64(v3 + 88, v7);
     put64(v3 + 96, v5);
-    t2 = listings_lines_push_invalid(v6, v3 + 56, 1, address(constant_392), 5);
+    t2 = listings_lines_push_invalid(v6, v3 + 56, 1, address(constant_391), 5);
     if ((t2 & 255) != 0) {
         put16(p0, 513);
         fill(p0 + 8, 0, 24);
@@ -79832,7 +80397,7 @@ LOCAL void listings_stream_ListerTaker_end_c3818332a3c82e5e(uint64_t p0, uint64_
     put64(v3 + 80, v8);
     put64(v3 + 88, v7);
     put64(v3 + 96, v5);
-    t2 = listings_lines_push_invalid(v6, v3 + 56, 1, address(constant_392), 5);
+    t2 = listings_lines_push_invalid(v6, v3 + 56, 1, address(constant_391), 5);
     if ((t2 & 255) != 0) {
         put16(p0, 513);
         fill(p0 + 8, 0, 24);
@@ -79933,7 +80498,7 @@ LOCAL void listings_stream_ListerTaker_end_f23f64b283b6e92c(uint64_t p0, uint64_
     put64(v3 + 80, v8);
     put64(v3 + 88, v7);
     put64(v3 + 96, v5);
-    t2 = listings_lines_push_invalid(v6, v3 + 56, 6, address(constant_392), 5);
+    t2 = listings_lines_push_invalid(v6, v3 + 56, 6, address(constant_391), 5);
     if ((t2 & 255) != 0) {
         put16(p0, 513);
         fill(p0 + 8, 0, 24);
@@ -80034,7 +80599,7 @@ LOCAL void listings_stream_ListerTaker_end_9c9d9d6b726a5156(uint64_t p0, uint64_
     put64(v3 + 80, v8);
     put64(v3 + 88, v7);
     put64(v3 + 96, v5);
-    t2 = listings_lines_push_invalid(v6, v3 + 56, 6, address(constant_392), 5);
+    t2 = listings_lines_push_invalid(v6, v3 + 56, 6, address(constant_391), 5);
     if ((t2 & 255) != 0) {
         put16(p0, 513);
         fill(p0 + 8, 0, 24);
@@ -80135,7 +80700,7 @@ LOCAL void listings_stream_ListerTaker_end_0870f97df3e074f7(uint64_t p0, uint64_
     put64(v3 + 80, v8);
     put64(v3 + 88, v7);
     put64(v3 + 96, v4);
-    t2 = listings_lines_push_invalid(v5, v3 + 56, 1, address(constant_367), 6);
+    t2 = listings_lines_push_invalid(v5, v3 + 56, 1, address(constant_366), 6);
     if ((t2 & 255) != 0) {
         put16(p0, 513);
         fill(p0 + 8, 0, 24);
@@ -80236,7 +80801,7 @@ LOCAL void listings_stream_ListerTaker_end_e11dd1b85b0c2883(uint64_t p0, uint64_
     put64(v3 + 80, v8);
     put64(v3 + 88, v7);
     put64(v3 + 96, v4);
-    t2 = listings_lines_push_invalid(v5, v3 + 56, 1, address(constant_367), 6);
+    t2 = listings_lines_push_invalid(v5, v3 + 56, 1, address(constant_366), 6);
     if ((t2 & 255) != 0) {
         put16(p0, 513);
         fill(p0 + 8, 0, 24);
@@ -80337,7 +80902,7 @@ LOCAL void listings_stream_ListerTaker_end_9bd75bc0ac20d091(uint64_t p0, uint64_
     put64(v3 + 80, v8);
     put64(v3 + 88, v7);
     put64(v3 + 96, v5);
-    t2 = listings_lines_push_invalid(v6, v3 + 56, 1, address(constant_392), 5);
+    t2 = listings_lines_push_invalid(v6, v3 + 56, 1, address(constant_391), 5);
     if ((t2 & 255) != 0) {
         put16(p0, 513);
         fill(p0 + 8, 0, 24);
@@ -80438,7 +81003,7 @@ LOCAL void listings_stream_ListerTaker_end_3cb05c68c06934bf(uint64_t p0, uint64_
     put64(v3 + 80, v8);
     put64(v3 + 88, v7);
     put64(v3 + 96, v5);
-    t2 = listings_lines_push_invalid(v6, v3 + 56, 1, address(constant_392), 5);
+    t2 = listings_lines_push_invalid(v6, v3 + 56, 1, address(constant_391), 5);
     if ((t2 & 255) != 0) {
         put16(p0, 513);
         fill(p0 + 8, 0, 24);
@@ -80539,7 +81104,7 @@ LOCAL void listings_stream_ListerTaker_end_021f57e494a80a09(uint64_t p0, uint64_
     put64(v3 + 80, v8);
     put64(v3 + 88, v7);
     put64(v3 + 96, v5);
-    t2 = listings_lines_push_invalid(v6, v3 + 56, 1, address(constant_392), 5);
+    t2 = listings_lines_push_invalid(v6, v3 + 56, 1, address(constant_391), 5);
     if ((t2 & 255) != 0) {
         put16(p0, 513);
         fill(p0 + 8, 0, 24);
@@ -80640,7 +81205,7 @@ LOCAL void listings_stream_ListerTaker_end_066cdb3ebc4c2860(uint64_t p0, uint64_
     put64(v3 + 80, v8);
     put64(v3 + 88, v7);
     put64(v3 + 96, v5);
-    t2 = listings_lines_push_invalid(v6, v3 + 56, 1, address(constant_392), 5);
+    t2 = listings_lines_push_invalid(v6, v3 + 56, 1, address(constant_391), 5);
     if ((t2 & 255) != 0) {
         put16(p0, 513);
         fill(p0 + 8, 0, 24);
@@ -80741,7 +81306,7 @@ LOCAL void listings_stream_ListerTaker_end_df4df3f09e32fd21(uint64_t p0, uint64_
     put64(v3 + 80, v8);
     put64(v3 + 88, v7);
     put64(v3 + 96, v5);
-    t2 = listings_lines_push_invalid(v6, v3 + 56, 1, address(constant_392), 5);
+    t2 = listings_lines_push_invalid(v6, v3 + 56, 1, address(constant_391), 5);
     if ((t2 & 255) != 0) {
         put16(p0, 513);
         fill(p0 + 8, 0, 24);
@@ -80842,7 +81407,7 @@ LOCAL void listings_stream_ListerTaker_end_653ac93d6c96f9bb(uint64_t p0, uint64_
     put64(v3 + 80, v8);
     put64(v3 + 88, v7);
     put64(v3 + 96, v5);
-    t2 = listings_lines_push_invalid(v6, v3 + 56, 1, address(constant_392), 5);
+    t2 = listings_lines_push_invalid(v6, v3 + 56, 1, address(constant_391), 5);
     if ((t2 & 255) != 0) {
         put16(p0, 513);
         fill(p0 + 8, 0, 24);
@@ -80943,7 +81508,7 @@ LOCAL void listings_stream_ListerTaker_end_7c204f1bcd1cf54e(uint64_t p0, uint64_
     put64(v3 + 80, v8);
     put64(v3 + 88, v7);
     put64(v3 + 96, v5);
-    t2 = listings_lines_push_invalid(v6, v3 + 56, 1, address(constant_392), 5);
+    t2 = listings_lines_push_invalid(v6, v3 + 56, 1, address(constant_391), 5);
     if ((t2 & 255) != 0) {
         put16(p0, 513);
         fill(p0 + 8, 0, 24);
@@ -81044,7 +81609,7 @@ LOCAL void listings_stream_ListerTaker_end_fcff8f53d59c7062(uint64_t p0, uint64_
     put64(v3 + 80, v8);
     put64(v3 + 88, v7);
     put64(v3 + 96, v5);
-    t2 = listings_lines_push_invalid(v6, v3 + 56, 1, address(constant_392), 5);
+    t2 = listings_lines_push_invalid(v6, v3 + 56, 1, address(constant_391), 5);
     if ((t2 & 255) != 0) {
         put16(p0, 513);
         fill(p0 + 8, 0, 24);
@@ -81145,7 +81710,7 @@ LOCAL void listings_stream_ListerTaker_end_fb0fecb2f0900f4a(uint64_t p0, uint64_
     put64(v3 + 80, v8);
     put64(v3 + 88, v7);
     put64(v3 + 96, v5);
-    t2 = listings_lines_push_invalid(v6, v3 + 56, 1, address(constant_392), 5);
+    t2 = listings_lines_push_invalid(v6, v3 + 56, 1, address(constant_391), 5);
     if ((t2 & 255) != 0) {
         put16(p0, 513);
         fill(p0 + 8, 0, 24);
@@ -81246,7 +81811,7 @@ LOCAL void listings_stream_ListerTaker_end_b636d68b829a8314(uint64_t p0, uint64_
     put64(v3 + 80, v8);
     put64(v3 + 88, v7);
     put64(v3 + 96, v5);
-    t2 = listings_lines_push_invalid(v6, v3 + 56, 1, address(constant_392), 5);
+    t2 = listings_lines_push_invalid(v6, v3 + 56, 1, address(constant_391), 5);
     if ((t2 & 255) != 0) {
         put16(p0, 513);
         fill(p0 + 8, 0, 24);
@@ -81347,7 +81912,7 @@ LOCAL void listings_stream_ListerTaker_end_e70c36e11fbaccd1(uint64_t p0, uint64_
     put64(v3 + 80, v8);
     put64(v3 + 88, v7);
     put64(v3 + 96, v5);
-    t2 = listings_lines_push_invalid(v6, v3 + 56, 1, address(constant_392), 5);
+    t2 = listings_lines_push_invalid(v6, v3 + 56, 1, address(constant_391), 5);
     if ((t2 & 255) != 0) {
         put16(p0, 513);
         fill(p0 + 8, 0, 24);
@@ -81448,7 +82013,7 @@ LOCAL void listings_stream_ListerTaker_end_e03a23617824b8ad(uint64_t p0, uint64_
     put64(v3 + 80, v8);
     put64(v3 + 88, v7);
     put64(v3 + 96, v5);
-    t2 = listings_lines_push_invalid(v6, v3 + 56, 1, address(constant_392), 5);
+    t2 = listings_lines_push_invalid(v6, v3 + 56, 1, address(constant_391), 5);
     if ((t2 & 255) != 0) {
         put16(p0, 513);
         fill(p0 + 8, 0, 24);

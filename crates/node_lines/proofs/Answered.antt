@@ -8,6 +8,7 @@ use Rattle.octets.specs.Beginning.{Appends}
 use Rattle.tc_frame.specs.declared.frame.Check.TheVariants.{On}
 use Rattle.tc_frame.specs.Layout.{FrameView, IsTcFrame, body_octets}
 use Rattle.tc_frame.specs.Encoding.{spelling, total_of}
+use Rattle.nodes.specs.declared.config.Config.{Config}
 use Rattle.nodes.specs.Parameters.{config_fault}
 use Rattle.nodes.specs.Frames.{size_of, written_over, BeginsWith}
 use Rattle.nodes.specs.declared.fault.LinkFault.{LinkFault}
@@ -16,23 +17,19 @@ use Rattle.nodes.specs.Faults.{fault_row}
 use Rattle.nodes.specs.Ground.{GroundState, unless_refused}
 use Rattle.node_lines.specs.Answers.{sent_text, fault_text}
 use Rattle.node_lines.specs.declared.player.NodePlayer.{NodePlayer}
-use Rattle.node_lines.specs.declared.player.NodePlayer.TheVariants.{Configured, Made}
+use Rattle.node_lines.specs.declared.player.NodePlayer.TheVariants.{Configured}
 use Rattle.node_lines.specs.Nodes.{Turn, NodeRules, turned, Takes}
-use Rattle.node_lines.specs.Player.{LineOutcome, asked_step, made_step, answered}
+use Rattle.node_lines.specs.Player.{asked_step, made_step}
 use Rattle.node_lines.specs.Ground.{pulled_text, done_text}
 
 -- What comes of what a node may be asked.
 
-abbrev pub taken_step : {S : Type 0} → NodeRules S → NodePlayer S → (S → Turn S) → LineOutcome S
-taken_step rules (Configured c) turn = made_step rules c (config_fault c) turn
-taken_step rules (Made s) turn = answered (turn s)
-
-pub asked_as : {S : Type 0} (rules : NodeRules S) (cause : List ℕ) (p : NodePlayer S) (o : Option (S → Turn S))
-    → is_some o ≡ true
-    → asked_step rules cause p o ≡ taken_step rules p (turned o)
-asked_as rules cause p None is = cc is
-asked_as rules cause (Configured c) (Some turn) is = refl
-asked_as rules cause (Made s) (Some turn) is = refl
+-- what is asked first, of a node that is made of this configuration
+pub first_as : {S : Type 0} (rules : NodeRules S) (cause : List ℕ) (p : NodePlayer S) (c : Config)
+    (o : Option (S → Turn S)) → p ≡ Configured c → is_some o ≡ true
+    → asked_step rules cause p o ≡ made_step rules c (config_fault c) (turned o)
+first_as rules cause p c None is takes = cc takes
+first_as rules cause p c (Some turn) is takes = rw is refl
 
 -- The octets of a frame that is sent.
 

@@ -49,24 +49,32 @@ borrow_of octets = record { ref_ptr = (0, 0); now = octets }
 abbrev pub directed : Directive → AskView
 directed directive = Happening (events.Directive directive)
 
-abbrev pub plain_asks : List (List ℕ × AskView)
-plain_asks =
-    (codes "init none", directed directives.InitWithoutCheck)
-    ∷ (codes "init check", directed directives.InitWithCheck)
-    ∷ (codes "init unlock", directed directives.InitUnlock)
-    ∷ (codes "terminate", directed directives.Terminate)
-    ∷ (codes "send", Happening events.Send)
-    ∷ (codes "report", Happening events.Report)
-    ∷ (codes "up deliver", Happening events.UpDeliver)
+abbrev pub link_asks : List (List ℕ × AskView)
+link_asks =
+    (codes "up deliver", Happening events.UpDeliver)
     ∷ (codes "up lose", Happening events.UpLose)
     ∷ (codes "down deliver", Happening events.DownDeliver)
     ∷ (codes "down lose", Happening events.DownLose)
     ∷ (codes "down clcw", Happening events.DownClcw)
+    ∷ []
+
+abbrev pub event_asks : List (List ℕ × AskView)
+event_asks =
+    (codes "send", Happening events.Send)
+    ∷ (codes "report", Happening events.Report)
     ∷ (codes "tick", Happening events.Tick)
     ∷ (codes "take", Happening events.Take)
     ∷ (codes "takebypass", Happening events.TakeBypass)
-    ∷ (codes "show", Show)
-    ∷ []
+    ∷ link_asks
+
+abbrev pub plain_asks : List (List ℕ × AskView)
+plain_asks =
+    (codes "show", Show)
+    ∷ (codes "init none", directed directives.InitWithoutCheck)
+    ∷ (codes "init check", directed directives.InitWithCheck)
+    ∷ (codes "init unlock", directed directives.InitUnlock)
+    ∷ (codes "terminate", directed directives.Terminate)
+    ∷ event_asks
 
 -- ---- lines that begin with words and go on with a number or octets
 

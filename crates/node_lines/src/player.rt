@@ -24,7 +24,9 @@ pub enum NodePlayer<N> {
 }
 
 impl<N: Node + Drop> NodePlayer<N> {
-    ghost use Rattle.node_lines.specs.Player.{fresh_player, set_step, asked_step};
+    ghost use Rattle.node_lines.specs.Player.{fresh_player, asked_step, made_step, set_step};
+    ghost use Rattle.node_lines.specs.declared.player.NodePlayer.TheVariants.{Configured};
+    ghost use Rattle.nodes.specs.Parameters.{config_fault};
 
     /// A player of the default configuration, whose node is not made.
     pub fn new() -> NodePlayer<N>
@@ -73,16 +75,40 @@ impl<N: Node + Drop> NodePlayer<N> {
             return push_unreadable(text, cause);
         }
         match self {
-            NodePlayer::Configured(config) => match config.valid() {
-                Ok(config) => {
-                    let mut node = N::made(alloc, &config)?;
-                    answer(&mut node, alloc, ask, text)?;
-                    *self = NodePlayer::Made(node);
-                    Ok(true)
-                }
-                Err(field) => push_out_of_range(text, field),
-            },
             NodePlayer::Made(node) => answer(node, alloc, ask, text),
+            NodePlayer::Configured(config) => {
+                let config = *config;
+                self.ask_first(alloc, &config, ask, text)
+            }
+        }
+    }
+
+    // Makes the node of a configuration and asks it, if each field is in its range. A call of its own, since it takes
+    // room for a node that is moved, which no later line needs.
+    #[inline(never)]
+    fn ask_first(
+        &mut self,
+        alloc: Global,
+        config: &Config,
+        ask: Ask<'_>,
+        text: &mut String,
+    ) -> Result<bool, AllocError>
+        requires { self.old ≡ Configured config.now }
+        ensures text { Appends result text.old text.new
+            (made_step N.rules config.now (config_fault config.now) (turned (N.rules.asked (ask_view ask.entry)))).answer }
+        ensures state { OnOk result (self.new
+            ≡ (made_step N.rules config.now (config_fault config.now) (turned (N.rules.asked (ask_view ask.entry)))).after) }
+        ensures good { IfOk result (λ good. good
+            ≡ (made_step N.rules config.now (config_fault config.now) (turned (N.rules.asked (ask_view ask.entry)))).is_good) }
+    {
+        match config.valid() {
+            Ok(config) => {
+                let mut node = N::made(alloc, &config)?;
+                answer(&mut node, alloc, ask, text)?;
+                *self = NodePlayer::Made(node);
+                Ok(true)
+            }
+            Err(field) => push_out_of_range(text, field),
         }
     }
 

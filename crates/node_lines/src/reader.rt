@@ -5,7 +5,7 @@ ghost use Rattle.std.specs.Map.{lookup};
 ghost use Rattle.std.specs.Str.{bytes_eq};
 ghost use Rattle.cop1.specs.declared.vocabulary.Directive.{Directive};
 ghost use Rattle.streams.specs.Words.{number_in_word, octets_in_word};
-ghost use Rattle.node_lines.specs.Lines.{ask_by, ask_in, ask_said, ask_with, directed, line_in, line_view, most_for, numbered_asks, octets_in, plain_asks, setting_in, worded_asks, IsWellRead};
+ghost use Rattle.node_lines.specs.Lines.{ask_by, ask_in, ask_said, ask_with, directed, event_asks, line_in, line_view, link_asks, most_for, numbered_asks, octets_in, plain_asks, setting_in, worded_asks, IsWellRead};
 
 use crate::line::{Ask, Line, octets_in};
 use cop1::Directive;
@@ -61,55 +61,76 @@ fn ask_in(line: &[u8]) -> Option<Ask<'_>>
     }
 }
 
-// What stands beside a text.
-fn beside(text: &[u8], asks: &[(&str, Ask<'static>)]) -> Option<Ask<'static>>
-    ensures { option_map ask_said result
-        ≡ lookup (bytes_eq text.now) (map (λ row. (row.0.now, ask_said row.1)) asks.now) }
-{
-    let (_, ask) = asks.iter().find(|row| is(text, row.0)).copied()?;
-    Some(ask)
-}
-
 fn directed<'a>(directive: Directive) -> Ask<'a>
     ensures { ask_said result ≡ directed directive }
 {
     Ask::Happening(Event::Directive(directive))
 }
 
+// What a line of the link asks.
+fn link_ask(line: &[u8]) -> Option<Ask<'static>>
+    ensures { option_map ask_said result ≡ lookup (bytes_eq line.now) link_asks }
+{
+    if is(line, "up deliver") {
+        return Some(Ask::Happening(Event::UpDeliver));
+    }
+    if is(line, "up lose") {
+        return Some(Ask::Happening(Event::UpLose));
+    }
+    if is(line, "down deliver") {
+        return Some(Ask::Happening(Event::DownDeliver));
+    }
+    if is(line, "down lose") {
+        return Some(Ask::Happening(Event::DownLose));
+    }
+    if is(line, "down clcw") {
+        return Some(Ask::Happening(Event::DownClcw));
+    }
+    None
+}
+
+// What a line asks that is an event by itself.
+fn event_ask(line: &[u8]) -> Option<Ask<'static>>
+    ensures { option_map ask_said result ≡ lookup (bytes_eq line.now) event_asks }
+{
+    if is(line, "send") {
+        return Some(Ask::Happening(Event::Send));
+    }
+    if is(line, "report") {
+        return Some(Ask::Happening(Event::Report));
+    }
+    if is(line, "tick") {
+        return Some(Ask::Happening(Event::Tick));
+    }
+    if is(line, "take") {
+        return Some(Ask::Happening(Event::Take));
+    }
+    if is(line, "takebypass") {
+        return Some(Ask::Happening(Event::TakeBypass));
+    }
+    link_ask(line)
+}
+
 // What a line with neither a number nor octets asks.
 fn plain_ask(line: &[u8]) -> Option<Ask<'static>>
     ensures { option_map ask_said result ≡ lookup (bytes_eq line.now) plain_asks }
 {
-    let asks = [
-        (
-            "init none",
-            Ask::Happening(Event::Directive(Directive::InitWithoutCheck)),
-        ),
-        (
-            "init check",
-            Ask::Happening(Event::Directive(Directive::InitWithCheck)),
-        ),
-        (
-            "init unlock",
-            Ask::Happening(Event::Directive(Directive::InitUnlock)),
-        ),
-        (
-            "terminate",
-            Ask::Happening(Event::Directive(Directive::Terminate)),
-        ),
-        ("send", Ask::Happening(Event::Send)),
-        ("report", Ask::Happening(Event::Report)),
-        ("up deliver", Ask::Happening(Event::UpDeliver)),
-        ("up lose", Ask::Happening(Event::UpLose)),
-        ("down deliver", Ask::Happening(Event::DownDeliver)),
-        ("down lose", Ask::Happening(Event::DownLose)),
-        ("down clcw", Ask::Happening(Event::DownClcw)),
-        ("tick", Ask::Happening(Event::Tick)),
-        ("take", Ask::Happening(Event::Take)),
-        ("takebypass", Ask::Happening(Event::TakeBypass)),
-        ("show", Ask::Show),
-    ];
-    beside(line, &asks)
+    if is(line, "show") {
+        return Some(Ask::Show);
+    }
+    if is(line, "init none") {
+        return Some(directed(Directive::InitWithoutCheck));
+    }
+    if is(line, "init check") {
+        return Some(directed(Directive::InitWithCheck));
+    }
+    if is(line, "init unlock") {
+        return Some(directed(Directive::InitUnlock));
+    }
+    if is(line, "terminate") {
+        return Some(directed(Directive::Terminate));
+    }
+    event_ask(line)
 }
 
 fn byte_in(word: &[u8]) -> Option<u8>

@@ -12,6 +12,7 @@ use std::alloc::{AllocError, Global};
 use std::str;
 
 /// Whether a word is this one.
+#[inline(always)]
 pub fn is(word: &[u8], text: &str) -> bool
     ensures { result ≡ bytes_eq word.now text.now }
 {
