@@ -1,6 +1,6 @@
 -- What a node does with what lines ask of it, whichever node it is.
-use Rattle.std.specs.Prelude.{ℕ, List, [], ◌≡◌, Option, Some, None, Result, String, OnOk, Bool, true}
-use Rattle.std.specs.Prelude.{false}
+use Rattle.std.specs.Prelude.{ℕ, List, [], ◌≡◌, Option, Some, None, Result, String, OnOk, Bool}
+use Rattle.std.specs.Prelude.{true, false}
 use Rattle.octets.specs.Beginning.{Appends}
 use Rattle.nodes.specs.declared.event.Event.TheVariants as events
 use Rattle.nodes.specs.declared.config.Config.{Config}

@@ -1,8 +1,9 @@
-//! The lines of scripts and of nodes, as docs/PROFILE.md has them ("Scripts of the simulated link" and "One node,
-//! line by line"): what each says, what a node answers to it, and a node that is played line by line.
+//! The lines of scripts and of nodes, as docs/PROFILE.md has them ("Scripts of the simulated link" and "One
+//! node, line by line"): what each says, what a node answers to it, and a node that is played line by line.
 //!
-//! `read_line` reads what a line says. A `NodePlayer` makes its `Node` at the first line that asks something of it,
-//! and answers each line by one: so any program drives a ground or a spacecraft by a pipe. There are no devices here.
+//! `read_line` reads what a line says. A `NodePlayer` makes its `Node` at the first line that asks something
+//! of it, and answers each line by one: so any program drives a ground or a spacecraft by a pipe. There are
+//! no devices here.
 #![tactic(auto)]
 
 mod answers;

@@ -83,8 +83,8 @@ impl<N: Node + Drop> NodePlayer<N> {
         }
     }
 
-    // Makes the node of a configuration and asks it, if each field is in its range. A call of its own, since it takes
-    // room for a node that is moved, which no later line needs.
+    // Makes the node of a configuration and asks it, if each field is in its range. A call of its own, since
+    // it takes room for a node that is moved, which no later line needs.
     #[inline(never)]
     fn ask_first(
         &mut self,

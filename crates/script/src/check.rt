@@ -58,8 +58,8 @@ impl Seen {
     }
 }
 
-/// Why a script is not played, where it is not: the first line that is unreadable, or else the first field of its
-/// configuration that is out of its range.
+/// Why a script is not played, where it is not: the first line that is unreadable, or else the first field of
+/// its configuration that is out of its range.
 /// Cost: n.
 pub fn fault_of(script: &[u8]) -> Option<ScriptFault>
     requires { length script.now < 2 ^ 64 - 1 }

@@ -74,8 +74,8 @@ impl<W: Sink> Taker<(), W> for Script {
     ghost of_nothing = { λ s k text. refl };
 }
 
-/// Reads a script to its end, and then plays it, where all its lines are readable and its configuration is in range;
-/// else it answers why not. Before the whole script is read nothing is written.
+/// Reads a script to its end, and then plays it, where all its lines are readable and its configuration is in
+/// range; else it answers why not. Before the whole script is read nothing is written.
 /// Faults: Read, Write, Memory, TooLong. Memory: the script. Cost: that of the events and answers.
 pub fn play_script<R: Source, W: Sink>(
     alloc: Global,

@@ -1,5 +1,5 @@
-//! Octets and text that come in pieces: where they come from and go to, the one loop over pieces, the lines of
-//! a text and the words of a line.
+//! Octets and text that come in pieces: where they come from and go to, the one loop over pieces, the lines
+//! of a text and the words of a line.
 //!
 //! `go_through` reads a `Source` in pieces, has a `Taker` make something of each, and write it to a `Sink`
 //! before the next is read. `play_stream` is such a loop over lines, each of which a `Player` answers.

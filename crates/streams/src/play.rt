@@ -151,10 +151,10 @@ fn write_answers<W: Sink>(writer: &mut W, answers: &[u8]) -> Result<(), StreamFa
     }
 }
 
-/// Plays the lines of a text that is at hand, what follows its last line feed too, and writes the answers, of some
-/// 4,096 octets and more at a time; they are gathered in `text`.
-/// Faults: Write, Memory; what is written by then is a beginning of the answers. Memory: yes. Cost: n, and the
-/// player's.
+/// Plays the lines of a text that is at hand, what follows its last line feed too, and writes the answers, of
+/// some 4,096 octets and more at a time; they are gathered in `text`.
+/// Faults: Write, Memory; what is written by then is a beginning of the answers. Memory: yes. Cost: n, and
+/// the player's.
 pub fn play_lines<T: Gathered + Drop, P: Player<T>, W: Sink>(
     alloc: Global,
     writer: &mut W,
