@@ -1,24 +1,33 @@
 /* cbmc: what writes octets equals the reference, with the FECF as any function of what it is given (MODEL.c of
- * c/equal/model), for every struct, every octet of data, every room up to 20 octets more than the data, and all numbers
+ * c/equal/model), which is as many octets, as they are written in the end; for every struct, every octet of data, every room up to 20 octets more than the data, and all numbers
  * of octets of data from 0 to COUNT, or with -DFROM=n from that. No octet after what is written changes. */
 #include <stddef.h>
 #include <stdint.h>
 #include <stdlib.h>
 static const unsigned char *checked_octets;
+static size_t checked_count, reference_count, place;
+static unsigned char checked;
 static unsigned short the_check;
 unsigned nondet_u(void);
 #define CHECK(x, what) __CPROVER_assert(x, what)
 
 unsigned model_check(const unsigned char *octets, size_t count) {
     CHECK(octets == checked_octets, "the check is that of these octets");
+    checked_count = count;
+    if (place < count) checked = octets[place];
     return (nondet_u() & 0xffff0000U) | the_check;
+}
+
+static unsigned short reference_check(size_t count) {
+    reference_count = count;
+    return the_check;
 }
 
 uint64_t model_quotient(uint64_t of, uint64_t by) {
     return of + by;
 }
 
-#define REF_CRC(o, n) the_check
+#define REF_CRC(o, n) reference_check(n)
 #include "reference_encode.h"
 #ifndef COUNT
 #define COUNT 7
@@ -44,6 +53,8 @@ static void begin(void) {
     __CPROVER_assume(room <= ROOM);
     total = the_total = nondet_size();
     checked_octets = out;
+    checked_count = reference_count = SIZE_MAX;
+    place = nondet_size();
     the_check = nondet_16();
 }
 
@@ -51,21 +62,23 @@ static void end(void) {
     size_t k = nondet_size();
     CHECK(total == the_total, "total");
     if (k < ROOM) CHECK(out[k] == other[k], "octets");
+    CHECK(checked_count == reference_count, "as many octets are checked");
+    if (checked_count != SIZE_MAX && place < checked_count) CHECK(out[place] == checked, "they are checked as written");
 }
 
-static void tc(struct sedge_tc_frame f, size_t n, bool checked) {
+static void tc(struct sedge_tc_frame f, size_t n, bool with_check) {
     begin();
-    CHECK(sedge_tc_encode(&f, data, n, checked, out, room, &total) ==
-              ref_tc_encode(&f, data, n, checked, other, room, &the_total),
+    CHECK(sedge_tc_encode(&f, data, n, with_check, out, room, &total) ==
+              ref_tc_encode(&f, data, n, with_check, other, room, &the_total),
           "answer");
     end();
 }
 
-static void tc_of(uint8_t kind, bool checked) {
+static void tc_of(uint8_t kind, bool with_check) {
     for (size_t n = FROM; n <= COUNT; n++) {
         struct sedge_tc_frame f = nondet_tc();
         f.kind = kind;
-        tc(f, n, checked);
+        tc(f, n, with_check);
     }
 }
 

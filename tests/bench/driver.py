@@ -196,8 +196,11 @@ class Bench:
 
     def is_different(self, lines):
         """Whether the program and the model differ in their answers to these lines, or in the status after them."""
-        (node, given), program = self.walk(lines), Program(self.command)
+        node, given = self.walk(lines)
         wanted = [answer for _, answer, _ in given if answer is not None]
+        if self.link and any(it.startswith("config out of range") for it in wanted):
+            return False  # the program has its configuration built in, and does not see these lines
+        program = Program(self.command)
         got = program.answers([line for line, _, _ in given], len(wanted))
         end, differs = program.close(), [*map(self.compared, got)] != [*map(self.compared, wanted)]
         return differs or not self.link and end != ending(node)
