@@ -1,5 +1,5 @@
--- What the receiver does with a Type-AD frame, and why the sender has given up: a row each. The names
--- of the states.
+-- What the receiver does with a Type-AD frame, and why the sender has given up: a row each. And the
+-- names of the states.
 use Rattle.std.specs.Prelude.{ℕ, List, codes}
 use Rattle.cop1.specs.declared.vocabulary.Alert.{Alert}
 use Rattle.cop1.specs.declared.vocabulary.Alert.TheVariants.{Lockout, NnR, Clcw, Synch, Limit}
