@@ -33,7 +33,7 @@ COMMANDS, MAPS, PLACES, UNKNOWN, LONGEST = 12, (4, 5), 3, 2, 20000
 SILENT, OPENING, OPEN = "silent", "opening", "open"
 # A frame of the spacecraft's own channel whose number is in neither window.
 LOCKING = sc.TcFrame(scid=1, vcid=2, kind=sc.Kind.AD, n=128, flags=sc.Segment.ALONE, map=0).encode(b"\0")
-state, begun = 1, 0
+state, begun = 2, 0
 counts = collections.Counter()
 
 
@@ -294,6 +294,7 @@ class Program:
             self.is_to_restart, self.word, self.orders = False, None, [RESTART] * (1 + draw(3))
         else:
             self.begins(said, self.on_board(said))
+        self.sends(self.run.now)  # before another report is heard
 
     def on_board(self, said):
         """The commands that are executed or given up, or on board."""
@@ -393,9 +394,10 @@ class Run:
         self.program = Program(self, now, kept)
 
     def flies(self, now):
-        """A turn on board, or a restart in the middle of it."""
+        """A turn on board, or a restart in the middle of it, which loses what else arrives then."""
+        frames = list(self.up.arrived(now))
         try:
-            self.down.send(now, self.board.turn(self.up.arrived(now)))
+            self.down.send(now, self.board.turn(frames))
         except Restart:
             counts["restarts"] += 1
             if self.loses_records and draw(8) == 0:
@@ -404,19 +406,23 @@ class Run:
             self.board.start()
 
     def tick(self, now):
-        program = self.program
         self.flies(now)
-        for frame in self.down.arrived(now):
+        try:
+            self.goes_on(list(self.down.arrived(now)), now)
+        except Lost:
+            self.fails_over(now)
+
+    def goes_on(self, frames, now):
+        """A turn on the ground. In some runs it gives a session up for no reason, most often at first."""
+        program = self.program
+        for frame in frames:
             program.hears(frame, now)
             program.store()
         program.sees(program.ground.tick(), now)
-        if program.phase == OPEN and draw(self.patience if self.now < 500 else 80) == 0:
+        if program.phase == OPEN and draw(self.patience if now < 500 else 80) == 0:
             program.is_to_restart = self.restarts_on_purpose and draw(2) == 0
             program.stops(now, True)
-        try:
-            program.sends(now)
-        except Lost:
-            self.fails_over(now)
+        program.sends(now)
 
     def play(self):
         """Until telemetry says that all commands are executed, and nothing is outstanding."""

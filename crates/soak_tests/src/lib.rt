@@ -1,5 +1,5 @@
-//! A soak of the link and its parts by their public calls alone, where memory is ample: no call may answer that
-//! there was none, at the ends of every range and in runs with a fixed seed, and what goes in comes out.
+//! What goes on for long, and what is long, where memory is ample: no call may answer that there was none, and
+//! what goes in comes out. The accounts of memory are kept of it (`accounts`).
 #![tactic(auto)]
 
 #[cfg(test)]

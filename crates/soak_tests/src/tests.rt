@@ -2,9 +2,5 @@
 
 mod accounts;
 mod cutters;
-mod driver;
 mod pair;
-mod random;
-mod ranges;
 mod scripts;
-mod telemetry;

@@ -1,9 +1,8 @@
 // Both nodes with ample memory, between which telemetry frames come down, and packets of any size, each of which differs
 // from the one before it.
 
-use cop1::{Directive, Verdict};
-use map_service::Dropped;
-use nodes::{Config, Ground, Heard, LinkFault, Received, Spacecraft};
+use cop1::Directive;
+use nodes::{Config, Ground, Heard, Spacecraft};
 use std::alloc::Global;
 use std::process::Abort;
 
@@ -16,16 +15,10 @@ pub struct Pair {
 
 impl Pair {
     pub fn new(rt: &impl Abort, alloc: Global, config: &Config) -> Pair {
-        Pair::apart(rt, alloc, config, config)
-    }
-
-    /// Nodes that are configured apart.
-    pub fn apart(rt: &impl Abort, alloc: Global, ground: &Config, spacecraft: &Config) -> Pair {
-        let of_ground = ground.valid().expect(rt, "a configuration");
-        let of_spacecraft = spacecraft.valid().expect(rt, "a configuration");
+        let valid = config.valid().expect(rt, "a configuration");
         Pair {
-            ground: Ground::of(alloc, &of_ground).expect(rt, "a ground"),
-            spacecraft: Spacecraft::of(alloc, &of_spacecraft).expect(rt, "a spacecraft"),
+            ground: Ground::of(alloc, &valid).expect(rt, "a ground"),
+            spacecraft: Spacecraft::of(alloc, &valid).expect(rt, "a spacecraft"),
         }
     }
 
@@ -54,11 +47,6 @@ impl Pair {
             None => false,
         };
         assert!(rt; is_it);
-    }
-
-    /// No packet is left that came down.
-    pub fn has_no_more(&mut self, rt: &impl Abort) {
-        assert!(rt; self.ground.take_telemetry().is_none());
     }
 
     /// Begins a session.
@@ -98,59 +86,6 @@ impl Pair {
     }
 }
 
-impl Pair {
-    // The next frame goes up, is accepted and makes nothing ready: why its octets are dropped, where they are.
-    fn drops_one(&mut self, rt: &impl Abort) -> Option<Dropped> {
-        let mut out = [0; 1024];
-        let size = self.ground.pull(&mut out).expect(rt, "a frame");
-        match self.spacecraft.receive(out.get(..size).unwrap_or_default()) {
-            Ok(
-                Received::Sequence {
-                    verdict: Verdict::Accepted,
-                    ready: 0,
-                    dropped,
-                    ..
-                },
-            ) => dropped,
-            received => panic!(rt; "{received:?}"),
-        }
-    }
-
-    /// A packet goes up in segments, of which no packet comes, and the report comes down.
-    pub fn drops(
-        &mut self,
-        rt: &impl Abort,
-        map: u8,
-        packet: &Vec<u8>,
-        causes: &[Option<Dropped>],
-    ) {
-        assert!(rt; self.ground.submit(map, packet.as_slice()).is_ok());
-        for cause in causes {
-            let dropped = self.drops_one(rt);
-            assert_eq!(rt; dropped, *cause);
-        }
-        let _ = self.hears(rt);
-        assert_eq!(rt; self.ground.outstanding(), 0);
-    }
-
-    /// A packet goes up past the sequence control, and is not kept.
-    pub fn keeps_nothing(&mut self, rt: &impl Abort, map: u8, packet: &Vec<u8>) {
-        let mut out = [0; 1024];
-        assert!(rt; self.ground.bypass(map, packet.as_slice()).is_ok());
-        let size = self.ground.pull(&mut out).expect(rt, "a frame");
-        let received = self.spacecraft.receive(out.get(..size).unwrap_or_default());
-        assert_eq!(rt; received, Ok(Received::Bypass { kept: false }));
-    }
-
-    /// The ground refuses a packet under the sequence control and past it.
-    pub fn refuses(&mut self, rt: &impl Abort, map: u8, packet: &Vec<u8>, fault: LinkFault) {
-        let submitted = self.ground.submit(map, packet.as_slice());
-        assert_eq!(rt; submitted, Err(fault));
-        let bypassed = self.ground.bypass(map, packet.as_slice());
-        assert_eq!(rt; bypassed, Err(fault));
-    }
-}
-
 // Whether it is this packet, on this MAP.
 fn is_on(taken: Option<(u8, Vec<u8>)>, map: u8, packet: &Vec<u8>) -> bool {
     match taken {
@@ -181,90 +116,4 @@ pub fn command(rt: &impl Abort, alloc: Global, size: usize, count: usize) -> Vec
 /// A packet of telemetry.
 pub fn measurement(rt: &impl Abort, alloc: Global, size: usize, count: usize) -> Vec<u8> {
     packet(rt, alloc, 0x00, size, count)
-}
-
-/// Command packets of this size, one after another.
-pub fn commands(rt: &impl Abort, alloc: Global, size: usize, number: usize) -> Vec<u8> {
-    let mut octets = Vec::new(alloc);
-    for count in 0..number {
-        append(rt, &mut octets, &command(rt, alloc, size, count));
-    }
-    octets
-}
-
-fn append(rt: &impl Abort, octets: &mut Vec<u8>, one: &Vec<u8>) {
-    octets
-        .extend_from_slice(one.as_slice())
-        .expect(rt, "packets");
-}
-
-// ---- nodes that are configured apart: what the ground sends, the spacecraft drops
-
-// A spacecraft on which MAPs 0 and 63 alone are open, and no packet has more than 3,000 octets.
-fn narrow() -> Config {
-    Config {
-        maps: 0x8000_0000_0000_0001,
-        max_packet: 3000,
-        ..Config::default()
-    }
-}
-
-fn begun(rt: &impl Abort, alloc: Global) -> Pair {
-    let mut pair = Pair::apart(rt, alloc, &Config::default(), &narrow());
-    pair.begins(rt);
-    pair
-}
-
-// Packets of one segment and of two on each closed MAP.
-#[test]
-fn a_closed_map(rt: HostRuntime) {
-    let mut pair = begun(&rt, rt.alloc());
-    for map in 1..63u8 {
-        drops_closed(&rt, rt.alloc(), &mut pair, map);
-    }
-}
-
-fn drops_closed(rt: &impl Abort, alloc: Global, pair: &mut Pair, map: u8) {
-    let closed = Some(Dropped::ClosedMap);
-    let count = usize::from(map);
-    let whole = command(rt, alloc, 1016, count);
-    pair.drops(rt, map, &whole, &[closed]);
-    pair.keeps_nothing(rt, map, &whole);
-    pair.drops(rt, map, &command(rt, alloc, 1017, count), &[closed; 2]);
-}
-
-// The third segment goes past 3,000 octets; the MAP carries the next packet.
-#[test]
-fn a_packet_that_is_too_long(rt: HostRuntime) {
-    let mut pair = begun(&rt, rt.alloc());
-    for count in 0..300 {
-        drops_long(&rt, rt.alloc(), &mut pair, count);
-        pair.carries(&rt, rt.alloc(), count);
-    }
-}
-
-fn drops_long(rt: &impl Abort, alloc: Global, pair: &mut Pair, count: usize) {
-    let long = Some(Dropped::TooLong);
-    let orphan = Some(Dropped::NoBeginning);
-    pair.drops(
-        rt,
-        63,
-        &command(rt, alloc, 3001, count),
-        &[None, None, long],
-    );
-    let four = [None, None, long, orphan];
-    pair.drops(rt, 63, &command(rt, alloc, 3049, count), &four);
-}
-
-// What the ground itself may not send.
-#[test]
-fn packets_that_are_refused(rt: HostRuntime) {
-    let mut pair = Pair::new(&rt, rt.alloc(), &narrow());
-    pair.begins(&rt);
-    let short = command(&rt, rt.alloc(), 7, 1);
-    let long = command(&rt, rt.alloc(), 3001, 1);
-    for map in 1..63u8 {
-        pair.refuses(&rt, map, &short, LinkFault::ClosedMap);
-    }
-    pair.refuses(&rt, 63, &long, LinkFault::TooLong);
 }
