@@ -1,5 +1,5 @@
-// Both nodes with ample memory, between which telemetry frames come down, and packets of any size, each of which differs
-// from the one before it.
+// Both nodes with ample memory, between which telemetry frames come down, and packets of any size, each of
+// which differs from the one before it.
 
 use cop1::Directive;
 use nodes::{Config, Ground, Heard, Spacecraft};
