@@ -1,10 +1,11 @@
 """Follows docs/CONTROL.md, "The steps", with a board that does what docs/FLIGHT.md, "Restarts", asks of it, over random
-links, until that many sessions have begun: `steps.py SESSIONS`. Frames are delayed and lost. In some runs the board
-restarts, at any point of its work, or has lost its record then; in some it is restarted on purpose; and in some the
-ground is lost, and another goes on at what was kept of it, or with nothing. Each command has to be executed once and in
-order on its MAP, but for those of which the board says that nothing is known, and none may be left out. No alert may
-show a broken condition in a session in which nothing restarted. A second word, one of `FAULTS`, leaves a step out, and
-is found out; `steps.py faults` writes these words."""
+links, until that many sessions have begun: `steps.py SESSIONS`. The board has a node, or is over the core. Frames are
+delayed and lost. In some runs the board restarts, at any point of its work, in the middle of a write too, or a copy of
+its record is spoiled then, or both; in some it is restarted on purpose; in some the ground leaves a command out, or
+submits one twice; and in some the ground is lost, and another goes on at what was kept of it, or with nothing. Each
+command has to be executed once and in order on its MAP, but for those of which the board says that nothing is known,
+and none may be left out. No alert may show a broken condition in a session in which nothing restarted. A second word,
+one of `FAULTS`, leaves a step out, and is found out; `steps.py faults` writes these words."""
 import collections
 import sys
 
@@ -23,6 +24,9 @@ FAULTS = {
     "waiting": "the board does not say which commands it has on board",
     "mark": "the board goes on with numbers that it kept for another start",
     "order": "the board restarts on purpose some time after the order came",
+    "copies": "the board keeps one copy of its record",
+    "mended": "a start leaves the second copy as it is until it writes both",
+    "turn": "the board executes a command that is not the next one of its MAP",
 }
 if sys.argv[1:] == ["faults"]:
     sys.exit(print(*FAULTS))
@@ -33,7 +37,7 @@ COMMANDS, MAPS, PLACES, UNKNOWN, LONGEST = 12, (4, 5), 3, 2, 20000
 SILENT, OPENING, OPEN = "silent", "opening", "open"
 # A frame of the spacecraft's own channel whose number is in neither window.
 LOCKING = sc.TcFrame(scid=1, vcid=2, kind=sc.Kind.AD, n=128, flags=sc.Segment.ALONE, map=0).encode(b"\0")
-state, begun = 2, 0
+state, begun = 3, 0
 counts = collections.Counter()
 
 
@@ -74,11 +78,11 @@ class Way:
 
 # ---- On board. ----
 
-# What a board keeps over restarts: how often it has begun; of each MAP the number of the last command that was executed
-# or given up; the command that it has begun; those of which nothing is known; and for a start on purpose the count
-# before it, and the numbers of the node.
+# The record that a board keeps over restarts: how often it has begun; of each MAP the number of the last command that
+# was executed or given up; the command that it has begun; those of which nothing is known; and for a start on purpose
+# the count before it, and the numbers of the receiver.
 Record = collections.namedtuple("Record", "starts last begun unknown mark")
-# What it says: its record, the commands on board that are not executed, and how many packets wait to be taken.
+# What it says: its record, the commands in its own list, and how many packets wait to be taken into it.
 # (`starts` are those that truly were: by them alerts are judged.)
 Said = collections.namedtuple("Said", "record waiting ready starts")
 # Orders, which come past the sequence control: a restart; a record for a board that has none; and a decision about a
@@ -88,26 +92,105 @@ Recording = collections.namedtuple("Recording", "starts last")
 Decided = collections.namedtuple("Decided", "command")
 
 
+class Memory:
+    """Two copies of the record, each with a check: None where that is wrong."""
+
+    def __init__(self):
+        self.copies = [None] * (1 if WITHOUT == "copies" else 2)
+
+    def write(self, record, may_restart):
+        """One copy after the other, but for one that has it. A restart spoils the one that is being written."""
+        for at in range(len(self.copies)):
+            if self.copies[at] != record:
+                self.copies[at] = None
+                may_restart()
+                self.copies[at] = record
+
+    def read(self, may_restart):
+        """The first copy whose check is right, since the second one is never newer, once the other one has it too."""
+        record = next((it for it in self.copies if it), None)
+        if record and WITHOUT != "mended":
+            self.write(record, may_restart)
+        return record
+
+
+class Core:
+    """A receiver over the core, with what a board uses of a `Spacecraft`. What it accepts goes to the board's own list
+    at once, and nothing waits elsewhere."""
+
+    ready = 0
+
+    def __init__(self, board, kept=sc.KeptNumbers()):
+        config, self.waiting, self.bypassed = board.run.config, board.waiting, []
+        self.farm = sc.Farm(config.width, kept.vr)
+        self.farm.farm_b = kept.farm_b
+        self.maps = {map: sc.Map(config.max_packet) for map in MAPS}
+        self.builder = sc.TmBuilder(config.scid, config.tm_vcid, config.frame_length)
+        self.builder._builder.next_count = kept.vc_count  # a field of the struct in C
+        self.vcid, self.telemetry = config.vcid, self.builder.queue
+
+    def receive(self, octets):
+        frame, data = sc.TcFrame.decode(octets)
+        verdict = None
+        if frame.kind == sc.Kind.AD:
+            verdict = self.farm.ad(frame.n, len(self.waiting) < PLACES)
+            if verdict == sc.Verdict.ACCEPTED:
+                packets = self.maps[frame.map].take(frame.flags, data).packets
+                self.waiting.extend((frame.map, packet[6]) for packet in packets)
+        elif frame.kind == sc.Kind.BD:
+            self.farm.bd()
+            self.bypassed.append(sc.OnMap(frame.map, data))
+        elif frame.command == sc.Command.UNLOCK:
+            self.farm.unlock()
+        else:
+            self.farm.set_vr(frame.vr)
+        return sc.Received(sc.Arrived.AD, verdict=verdict)
+
+    def take(self):
+        return None
+
+    def take_bypass(self):
+        return self.bypassed.pop(0) if self.bypassed else None
+
+    def released(self):
+        self.farm.released()
+
+    def telemetry_frame(self):
+        return self.builder.build(self.farm.control_word(self.vcid).encode())
+
+    @property
+    def kept_numbers(self):
+        count = self.builder._builder.next_count
+        return sc.KeptNumbers(self.farm.vr, self.farm.farm_b, count, count)
+
+    def close(self):
+        pass
+
+
 class Board:
-    """The spacecraft's node and its program. `record` alone is kept over restarts."""
+    """The spacecraft's receiver, a node or over the core, and its program. `memory` alone is kept over restarts."""
 
     def __init__(self, run):
-        self.run, self.record = run, None
+        self.run, self.memory, self.record = run, Memory(), None
         self.executed, self.given_up = [], set()  # what truly was executed, and what a start gave up
-        self.node = sc.Spacecraft(run.config, kept=sc.KeptNumbers(248 + draw(8), 0, 0, 0))
         self.waiting, self.due = [], None
+        self.node = self.opened(sc.KeptNumbers(248 + draw(8), 0, 0, 0))
+
+    def opened(self, kept=sc.KeptNumbers()):
+        return Core(self, kept) if self.run.has_core else sc.Spacecraft(self.run.config, kept=kept)
 
     def start(self):
         """Begins, in Lockout unless the start is on purpose, and counts it before it takes a frame. Of a command that
         was begun nothing is known, and the next one is that after it."""
-        record, self.waiting, self.due = self.record, [], None
+        self.waiting, self.due = [], None
+        self.record = record = self.memory.read(self.may_restart)
         self.run.starts += 1
         self.node.close()
         mark = record and record.mark
         if mark and (mark[0] == record.starts or WITHOUT == "mark"):
-            self.node = sc.Spacecraft(self.run.config, kept=mark[1])
+            self.node = self.opened(mark[1])
         else:
-            self.node = sc.Spacecraft(self.run.config)
+            self.node = self.opened()
             if WITHOUT != "lockout":
                 assert self.node.receive(LOCKING).verdict == sc.Verdict.OUTSIDE
         if record:
@@ -115,11 +198,25 @@ class Board:
             if record.begun:
                 unknown, last = unknown + (record.begun,), self.passed(record.begun)
                 self.given_up.add(record.begun)
-                counts["unknown"] += 1
-            self.record = Record(record.starts + 1, last, None, unknown, mark)
+            self.keep(Record(record.starts + 1, last, None, unknown, mark))
+            counts["unknown"] += len(unknown) - len(record.unknown)
+
+    def keep(self, record):
+        self.memory.write(record, self.may_restart)
+        self.record = record
 
     def passed(self, command):
         return {**self.record.last, command[0]: command[1]}
+
+    def is_next(self, command):
+        """Whether a command is the next one of its MAP; if it is not, the board executes none."""
+        is_it = command[1] == self.record.last[command[0]] + 1
+        if not is_it and not self.run.makes_mistakes:
+            wrong(f"{command} is not the next one on board")
+        return is_it or WITHOUT == "turn"
+
+    def has_place(self):
+        return len(self.record.unknown) < UNKNOWN
 
     def may_restart(self):
         """In some runs it restarts for some time, most often while the command that begins a session is on its way."""
@@ -136,10 +233,8 @@ class Board:
     def execute(self):
         """The next command: its number is written, then it is executed, and then that is written."""
         command = self.waiting[0]
-        if command[1] != self.record.last[command[0]] + 1:
-            wrong(f"{command} is not the next one on board")
         if WITHOUT != "before":
-            self.record = self.record._replace(begun=command)
+            self.keep(self.record._replace(begun=command))
         self.may_restart()
         if not {(command[0], n) for n in range(1, command[1])} <= {*self.executed} | self.given_up:
             wrong(f"{command} is executed before its turn")
@@ -147,19 +242,21 @@ class Board:
             wrong(f"{command} is executed again")
         self.executed.append(command)
         self.may_restart()
-        self.record = self.record._replace(begun=None, last=self.passed(command))
+        self.keep(self.record._replace(begun=None, last=self.passed(command)))
         self.waiting.pop(0)
+        if self.run.has_core:
+            self.node.released()
 
     def obey(self, order):
         """Carries an order out as it comes. A board without a record obeys the one that brings it alone."""
         if isinstance(order, Recording):
             if not self.record:
-                self.record = Record(order.starts, order.last, None, (), None)
+                self.keep(Record(order.starts, order.last, None, (), None))
         elif not self.record:
             return
         elif isinstance(order, Decided):
             left = tuple(it for it in self.record.unknown if it != order.command)
-            self.record = self.record._replace(unknown=left)
+            self.keep(self.record._replace(unknown=left))
         elif WITHOUT == "order":
             self.due = 1 + draw(40)
         else:
@@ -167,7 +264,7 @@ class Board:
 
     def ends(self):
         """A restart on purpose: the numbers are the last that is asked of the node."""
-        self.record = self.record._replace(mark=(self.record.starts, self.node.kept_numbers))
+        self.keep(self.record._replace(mark=(self.record.starts, self.node.kept_numbers)))
         counts["on purpose"] += 1
         raise Restart
 
@@ -184,7 +281,7 @@ class Board:
                 self.ends()
         if self.record:
             self.take()
-            while self.waiting and len(self.record.unknown) < UNKNOWN and draw(self.run.pause) == 0:
+            while self.waiting and self.is_next(self.waiting[0]) and self.has_place() and draw(self.run.pause) == 0:
                 self.execute()
                 self.take()
         self.may_restart()
@@ -274,6 +371,9 @@ class Program:
             self.orders = [Recording(self.run.highest + 100, self.run.board.true_last())] * (draw(20) == 0)
             return
         self.run.highest = max(self.run.highest, count)
+        if said.waiting and said.waiting[0][1] != said.record.last[said.waiting[0][0]] + 1:
+            self.orders_a_restart(now)
+            return
         on_board, is_late = self.on_board(said), now - self.quiet > self.run.round_trip
         if self.phase == OPEN or said.ready:  # a full list of these holds up what waits
             self.orders = [Decided(it) for it in said.record.unknown if draw(20) == 0]
@@ -282,8 +382,19 @@ class Program:
         elif self.phase == OPENING and is_late and self.is_set:
             self.phase = OPEN
         elif self.phase == OPEN and self.ground.state == sc.State.S1 and self.ground.submitted == len(self.session):
-            if self.ground.outstanding == 0:
-                self.run.is_done = len(on_board) == COMMANDS and not said.waiting or WITHOUT == "end"
+            if self.ground.outstanding == 0 and len(on_board) < COMMANDS and WITHOUT != "end":
+                self.stops(now, True)
+            elif self.ground.outstanding == 0:
+                self.run.is_done = not said.waiting or WITHOUT == "end"
+
+    def orders_a_restart(self, now):
+        """A command came out of turn: the session ends, and in the silence a restart is ordered, which loses what is on
+        board."""
+        counts["out of turn"] += 1
+        if self.phase == SILENT:
+            self.orders = [RESTART]
+        else:
+            self.stops(now, True)
 
     def begins_where_good(self, said):
         """Begins a session; or orders a restart on purpose, once or several times, after which the silence begins
@@ -323,12 +434,19 @@ class Program:
                 wrong("resume counts otherwise")
             self.before |= {*self.session[:known]}
             counts["resumed"] += 1
-        self.session = tuple(it for it in self.run.commands if it not in self.before)
+        self.session = self.chosen([it for it in self.run.commands if it not in self.before])
         self.phase = OPEN if WITHOUT == "second" else OPENING
         self.begun_with, self.word, self.is_known = said.record.starts, None, True
         self.is_set = self.has_disagreed = False
         self.run.starts_of_session, self.run.begun_at = said.starts, self.run.now
         begun += 1
+
+    def chosen(self, commands):
+        """The commands of a session. In some runs one is left out by mistake, or is there twice."""
+        if self.run.makes_mistakes and commands and self.run.now < 2000 and draw(2) == 0:
+            at = draw(len(commands))
+            commands[at:at + 1] = commands[at:at + 1] * (2 * draw(2))
+        return tuple(commands)
 
     def begins_by(self, value):
         if not self.word.lockout and draw(2):
@@ -370,7 +488,8 @@ class Run:
             part=(40, 8 + draw(20))[draw(2)], ready_slots=1 + draw(4), queue_slots=500, frame_length=32)
         self.up, self.down, self.pause = Way(delay), Way(delay), (1, 2, 4, 30)[draw(4)]
         self.patience = (3, 10, 80)[draw(3)]
-        self.restarts, self.loses_records = draw(2) == 0, draw(2) == 0
+        self.restarts, self.loses_records, self.spoils = draw(2) == 0, draw(2) == 0, draw(2) == 0
+        self.has_core, self.makes_mistakes = draw(2) == 0, draw(8) == 0 and WITHOUT in ("", "turn")
         self.restarts_on_purpose, self.loses_grounds = draw(2) == 0, draw(2) == 0
         self.commands = [(map, n) for n in range(1, COMMANDS // len(MAPS) + 1) for map in MAPS]
         self.said, self.starts, self.starts_of_session, self.highest, self.is_done = [], 0, 0, 0, False
@@ -399,11 +518,24 @@ class Run:
         try:
             self.down.send(now, self.board.turn(frames))
         except Restart:
-            counts["restarts"] += 1
-            if self.loses_records and draw(8) == 0:
-                self.board.record = None
-                counts["records lost"] += 1
+            self.restart()
+
+    def restart(self):
+        """In some runs the record is lost, or one of two good copies is spoiled. A start may end in a restart too."""
+        counts["restarts"] += 1
+        copies = self.board.memory.copies
+        if self.loses_records and draw(8) == 0:
+            copies[:] = [None] * len(copies)
+            counts["records lost"] += 1
+        elif self.spoils and all(copies) and draw(2) == 0:
+            copies[draw(len(copies))] = None
+            counts["copies spoiled"] += 1
+        elif not any(copies) and self.board.record and not self.loses_records:
+            wrong("the record is lost")
+        try:
             self.board.start()
+        except Restart:
+            self.restart()
 
     def tick(self, now):
         self.flies(now)
