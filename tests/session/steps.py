@@ -37,7 +37,7 @@ COMMANDS, MAPS, PLACES, UNKNOWN, LONGEST = 12, (4, 5), 3, 2, 20000
 SILENT, OPENING, OPEN = "silent", "opening", "open"
 # A frame of the spacecraft's own channel whose number is in neither window.
 LOCKING = sc.TcFrame(scid=1, vcid=2, kind=sc.Kind.AD, n=128, flags=sc.Segment.ALONE, map=0).encode(b"\0")
-state, begun = 3, 0
+state, begun = 6, 0
 counts = collections.Counter()
 
 
@@ -417,7 +417,7 @@ class Program:
         value = self.word.value
         is_same = self.begun_with == said.record.starts or WITHOUT == "numbers"
         known = self.ground.known_on_board(value) if self.is_known and is_same else None
-        if self.word.lockout or self.ground.vs == self.ground.nn != value:
+        if self.word.lockout or self.ground.vs == self.ground.nn != value or draw(8) == 0:
             known = None
         if known is None:
             self.before = on_board
