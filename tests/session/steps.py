@@ -37,7 +37,7 @@ COMMANDS, MAPS, PLACES, UNKNOWN, LONGEST = 12, (4, 5), 3, 2, 20000
 SILENT, OPENING, OPEN = "silent", "opening", "open"
 # A frame of the spacecraft's own channel whose number is in neither window.
 LOCKING = sc.TcFrame(scid=1, vcid=2, kind=sc.Kind.AD, n=128, flags=sc.Segment.ALONE, map=0).encode(b"\0")
-state, begun = 6, 0
+state, begun = 4, 0
 counts = collections.Counter()
 
 
@@ -382,10 +382,11 @@ class Program:
         elif self.phase == OPENING and is_late and self.is_set:
             self.phase = OPEN
         elif self.phase == OPEN and self.ground.state == sc.State.S1 and self.ground.submitted == len(self.session):
-            if self.ground.outstanding == 0 and len(on_board) < COMMANDS and WITHOUT != "end":
-                self.stops(now, True)
-            elif self.ground.outstanding == 0:
-                self.run.is_done = not said.waiting or WITHOUT == "end"
+            if self.ground.outstanding == 0:
+                is_named = len(on_board) == COMMANDS
+                self.run.is_done = is_named and not said.waiting or WITHOUT == "end"
+                if not (is_named or said.ready or self.run.is_done):
+                    self.stops(now, True)
 
     def orders_a_restart(self, now):
         """A command came out of turn: the session ends, and in the silence a restart is ordered, which loses what is on
