@@ -138,13 +138,14 @@ void accepted_beyond(void) {
 }
 
 void clcw_decode(void) {
-    uint8_t o[6];
+    uint8_t o[6], p[6];
     struct sedge_clcw w = nondet_word(), x = w;
     size_t c = nondet_size();
     __CPROVER_assume(c <= 6);
-    for (int i = 0; i < 6; i++) o[i] = nondet_8();
-    CHECK(sedge_clcw_decode(o, c, &w) == ref_clcw_decode(o, c, &x), "answer");
+    for (int i = 0; i < 6; i++) o[i] = p[i] = nondet_8();
+    CHECK(sedge_clcw_decode(o + 6 - c, c, &w) == ref_clcw_decode(p + 6 - c, c, &x), "answer");
     CHECK(same_word(w, x), "struct");
+    for (int i = 0; i < 6; i++) CHECK(o[i] == p[i], "octets");
 }
 
 void clcw_encode(void) {

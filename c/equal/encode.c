@@ -1,6 +1,7 @@
 /* cbmc: what writes octets equals the reference, with the FECF as any function of what it is given (MODEL.c of
- * c/equal/model), which is as many octets, as they are written in the end; for every struct, every octet of data, every room up to 20 octets more than the data, and all numbers
- * of octets of data from 0 to COUNT, or with -DFROM=n from that. No octet after what is written changes. */
+ * c/equal/model), which is as many octets, as they are written in the end; for every struct, every octet of data, every
+ * room up to 20 octets more than the data, and all numbers of octets of data from 0 to COUNT, or with -DFROM=n from that.
+ * No octet after what is written changes, nor do the data, which end where their memory does. */
 #include <stddef.h>
 #include <stdint.h>
 #include <stdlib.h>
@@ -42,11 +43,12 @@ size_t nondet_size(void);
 struct sedge_tc_frame nondet_tc(void);
 struct sedge_tm_frame nondet_tm(void);
 struct sedge_packet nondet_packet(void);
-static uint8_t data[COUNT + 1], out[ROOM], other[ROOM];
+static uint8_t data[COUNT], before[COUNT], out[ROOM], other[ROOM];
 static size_t room, total, the_total;
 
 static void begin(void) {
     __CPROVER_havoc_object(data);
+    __CPROVER_array_copy(before, data);
     __CPROVER_havoc_object(out);
     __CPROVER_array_copy(other, out);
     room = nondet_size();
@@ -62,14 +64,17 @@ static void end(void) {
     size_t k = nondet_size();
     CHECK(total == the_total, "total");
     if (k < ROOM) CHECK(out[k] == other[k], "octets");
+    if (k < COUNT) CHECK(data[k] == before[k], "data");
     CHECK(checked_count == reference_count, "as many octets are checked");
-    if (checked_count != SIZE_MAX && place < checked_count) CHECK(out[place] == checked, "they are checked as written");
+    if (checked_count != SIZE_MAX && place < checked_count) {
+        CHECK(checked_octets[place] == checked, "they are checked as written");
+    }
 }
 
 static void tc(struct sedge_tc_frame f, size_t n, bool with_check) {
     begin();
-    CHECK(sedge_tc_encode(&f, data, n, with_check, out, room, &total) ==
-              ref_tc_encode(&f, data, n, with_check, other, room, &the_total),
+    CHECK(sedge_tc_encode(&f, data + COUNT - n, n, with_check, out, room, &total) ==
+              ref_tc_encode(&f, data + COUNT - n, n, with_check, other, room, &the_total),
           "answer");
     end();
 }
@@ -107,8 +112,8 @@ void packet_encode(void) {
     for (size_t n = FROM; n <= COUNT; n++) {
         struct sedge_packet p = nondet_packet();
         begin();
-        CHECK(sedge_packet_encode(&p, data, n, out, room, &total) ==
-                  ref_packet_encode(&p, data, n, other, room, &the_total),
+        CHECK(sedge_packet_encode(&p, data + COUNT - n, n, out, room, &total) ==
+                  ref_packet_encode(&p, data + COUNT - n, n, other, room, &the_total),
               "answer");
         end();
     }
@@ -118,7 +123,8 @@ void tm_encode(void) {
     for (size_t n = FROM; n <= COUNT; n++) {
         struct sedge_tm_frame f = nondet_tm();
         begin();
-        CHECK(sedge_tm_encode(&f, data, n, out, room, &total) == ref_tm_encode(&f, data, n, other, room, &the_total),
+        CHECK(sedge_tm_encode(&f, data + COUNT - n, n, out, room, &total) ==
+                  ref_tm_encode(&f, data + COUNT - n, n, other, room, &the_total),
               "answer");
         end();
     }
@@ -127,7 +133,8 @@ void tm_encode(void) {
 void check_append(void) {
     for (size_t n = FROM; n <= COUNT; n++) {
         begin();
-        CHECK(sedge_check_append(out, n) == ref_check_append(other, n), "answer");
+        checked_octets = out + ROOM - n;
+        CHECK(sedge_check_append(out + ROOM - n, n) == ref_check_append(other + ROOM - n, n), "answer");
         end();
     }
 }
@@ -135,7 +142,8 @@ void check_append(void) {
 void check_holds(void) {
     for (size_t n = FROM; n <= COUNT; n++) {
         begin();
-        CHECK(sedge_check_holds(out, n) == ref_check_holds(other, n), "answer");
+        checked_octets = out + ROOM - n;
+        CHECK(sedge_check_holds(out + ROOM - n, n) == ref_check_holds(other + ROOM - n, n), "answer");
         end();
     }
 }
