@@ -386,7 +386,7 @@ class Program:
                 is_named = len(on_board) == COMMANDS
                 self.run.is_done = is_named and not said.waiting or WITHOUT == "end"
                 if not (is_named or said.ready or self.run.is_done):
-                    self.stops(now, True)
+                    self.stops(now, False)
 
     def orders_a_restart(self, now):
         """A command came out of turn: the session ends, and in the silence a restart is ordered, which loses what is on
