@@ -399,8 +399,8 @@ abbrev config_of : {wanted : List PacketOn} {w : World} {done : ℕ} {before : �
     → Sessions wanted w done before → Config
 config_of (first initiation past begins fits idle) = past.config
 config_of (goes_on step s goes quiet fits submits) = config_of s
-config_of (resumes value more s quiet small_value is answered) = config_of s
-config_of (fails_over value more s quiet small_value is answered) = config_of s
+config_of (resumes value more s now answered) = config_of s
+config_of (fails_over value more s now answered) = config_of s
 config_of (begins_anew since initiation s lasts numbers none begins fits idle) = config_of s
 
 leads : {wanted : List PacketOn} {w : World} {done : ℕ} {before : ℕ → List (List ℕ)}
@@ -413,11 +413,11 @@ leads {wanted} (first {w} initiation past begins fits idle) = record {
 }
 leads {wanted} (goes_on {w} {done} step s goes quiet fits submits) =
     record { began = began_on (config_of s) w (leads s).began step goes quiet fits; submits = submits }
-leads {wanted} (resumes {w} {done} value more s quiet small_value is answered) =
-    leads_resumed (config_of s) wanted w done (leads s) value more quiet small_value
+leads {wanted} (resumes {w} {done} value more s now answered) =
+    leads_resumed (config_of s) wanted w done (leads s) value more now.quiet now.small
     (answered_by w value more (ground_step w.ground_node (Resume value)).answer answered)
-leads {wanted} (fails_over {w} {done} value more s quiet small_value is answered) =
-    leads_over (config_of s) wanted w done (leads s) value more quiet small_value
+leads {wanted} (fails_over {w} {done} value more s now answered) =
+    leads_over (config_of s) wanted w done (leads s) value more now.quiet now.small
     (answered_by (with_another w) value more (ground_step (failed_over w.ground_node) (Resume value)).answer answered)
 leads {wanted} (begins_anew {w} {done} since initiation s lasts numbers none begins fits idle) =
     leads_anew (config_of s) wanted w done (leads s) since numbers initiation begins fits idle
@@ -433,15 +433,15 @@ module _ (wanted : List PacketOn) (small : length wanted < 2 ^ 64) (m : ℕ) whe
       → AllByRecursion (IsOneGroup (config_of s).part) wanted → before m ≡ packets_on_map (take done wanted) m
   given (first initiation past begins fits idle) single = refl
   given (goes_on step s goes quiet fits submits) single = given s single
-  given (resumes {w} {done} {before} value more s quiet small_value is answered) single =
+  given (resumes {w} {done} {before} value more s now answered) single =
       let c : Config = config_of s in
-      let count = more_is c wanted w done (leads s) small value more is
+      let count = more_is c wanted w done (leads s) small value more now.same
       (answered_by w value more (ground_step w.ground_node (Resume value)).answer answered) in
       given_on c wanted w done (leads s) small single (whole_now s) before m (given s single)
       ∙ ap (λ (k : ℕ). packets_on_map (take (done + k) wanted) m) (sym count)
-  given (fails_over {w} {done} {before} value more s quiet small_value is answered) single =
+  given (fails_over {w} {done} {before} value more s now answered) single =
       let c : Config = config_of s in
-      let count = more_over c wanted w done (leads s) small value more is
+      let count = more_over c wanted w done (leads s) small value more now.same
       (answered_by (with_another w) value more (ground_step (failed_over w.ground_node) (Resume value)).answer answered)
       in
       given_on c wanted w done (leads s) small single (whole_now s) before m (given s single)

@@ -35,6 +35,13 @@ packets_on_map submissions m =
 abbrev pub with_another : World → World
 with_another w = record w { ground_node = failed_over w.ground_node }
 
+-- with nothing on its way up, and on its way down no report but such as are made now, this is the
+-- value of one
+pub record IsOfNow (w : World) (value : ℕ) : Type 0 where
+  pub quiet : is_idle w ≡ true
+  pub small : value < 256
+  pub same : value ≡ w.spacecraft.farm.vr
+
 -- The sessions of a program that wants these submissions delivered, in this order: the link now,
 -- how many of the submissions the sessions before this one have brought on board, and what these
 -- have delivered on each MAP.
@@ -49,18 +56,16 @@ pub data Sessions (wanted : List PacketOn) : World → ℕ → (ℕ → List (Li
       → Sessions wanted w done before → LeavesSession w step → LeavesNumbers w step
       → IsLinkStep step → IsBeginning (link_step w step).session.submissions (drop done wanted)
       → Sessions wanted (link_step w step) done before
-  -- with nothing on its way up, and on its way down no report but such as are made now, the program
-  -- resumes by the value of one, and goes on after as many more as `resume` answers
+  -- the program resumes by the value of a report that is made now, and goes on after as many more
+  -- as `resume` answers
   resumes : {w : World} {done : ℕ} {before : ℕ → List (List ℕ)} (value more : ℕ)
-      → Sessions wanted w done before → is_idle w ≡ true → value < 256
-      → value ≡ w.spacecraft.farm.vr
+      → Sessions wanted w done before → IsOfNow w value
       → (world_step w (events.Resume value)).answer ≡ Ok (Resumed more)
       → Sessions wanted (world_step w (events.Resume value)).after (done + more)
       (λ m. before m ++ delivered w m)
   -- so it does where the ground was lost: another is opened at what was kept of it, and resumes
   fails_over : {w : World} {done : ℕ} {before : ℕ → List (List ℕ)} (value more : ℕ)
-      → Sessions wanted w done before → is_idle w ≡ true → value < 256
-      → value ≡ w.spacecraft.farm.vr
+      → Sessions wanted w done before → IsOfNow w value
       → (world_step (with_another w) (events.Resume value)).answer ≡ Ok (Resumed more)
       → Sessions wanted (world_step (with_another w) (events.Resume value)).after (done + more)
       (λ m. before m ++ delivered w m)
