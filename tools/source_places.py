@@ -8,9 +8,18 @@ EXPORT = "rattle::export "
 
 
 @functools.lru_cache(None)
-def lines_of(file):
-    with open(file, encoding="utf-8") as it:
-        return it.read().splitlines()
+def functions_in(file):
+    """The functions of a file: of each its name, the types that its `impl` or trait names, or None outside, and its line."""
+    own, found = [None], []
+    with open(file, encoding="utf-8") as lines:
+        for number, line in enumerate(lines, 1):
+            if re.match(r"impl\b|(pub )?trait\b", line):
+                own = re.findall(r"\b[A-Z]\w*", line.partition("requires")[0])
+            elif line.startswith("}"):
+                own = [None]
+            if it := re.match(r"\s*(pub(\([\w ]+\))? )?(const |unsafe )*(extern \"C\" )?fn (?P<name>\w+)", line):
+                found.append((it["name"], own, number))
+    return found
 
 
 def files_below(crate):
@@ -27,15 +36,7 @@ def files_of(crate, modules):
 
 def line_in(file, kind, name):
     """The line of a function in a file, of the type of this name or of none; None where it does not stand there once."""
-    found, own = [], None
-    for number, line in enumerate(lines_of(file), 1):
-        if re.match(r"impl\b|(pub )?trait\b", line):
-            own = re.findall(r"\b[A-Z]\w*", line.partition("requires")[0])
-        elif line.startswith("}"):
-            own = None
-        is_here = re.match(rf"\s*(pub(\([\w ]+\))? )?(const |unsafe )*(extern \"C\" )?fn {name}\b", line)
-        if is_here and (own is None if kind is None else own and kind in own):
-            found.append(number)
+    found = [number for it, own, number in functions_in(file) if it == name and kind in own]
     return found[0] if len(found) == 1 else None
 
 

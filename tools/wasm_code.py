@@ -12,6 +12,7 @@ each frame where the code was compiled. LLVM writes `|` for `+` where it knows t
 
 What breaks a rule, or is not known here, is refused with the name of the function."""
 import collections
+import functools
 import itertools
 import re
 import struct
@@ -343,14 +344,19 @@ class Translation:
             self.take_value(op)
         return op in (0x00, 0x0C, 0x0E, RETURN)
 
+    @functools.cached_property
+    def alone(self):
+        """The instructions that stand in no table, and what each does."""
+        found = {0x01: lambda: None, 0x10: self.call, 0x1A: lambda: self.pop(1), 0x1B: self.select}
+        found |= {0x20: self.get, 0x21: self.set, 0x22: self.tee, 0x23: self.get_pointer, 0x24: self.set_pointer}
+        found |= {0x41: lambda: self.constant(I32), 0x42: lambda: self.constant(I64), 0xFC: self.move_octets}
+        found |= {0x45: self.is_zero, 0x50: self.is_zero, 0xA7: lambda: self.cast(I32), 0xAD: lambda: self.cast(I64)}
+        return found
+
     def take_value(self, op):
         r = self.reader
-        simple = {0x01: lambda: None, 0x10: self.call, 0x1A: lambda: self.pop(1), 0x1B: self.select}
-        simple |= {0x20: self.get, 0x21: self.set, 0x22: self.tee, 0x23: self.get_pointer, 0x24: self.set_pointer}
-        simple |= {0x41: lambda: self.constant(I32), 0x42: lambda: self.constant(I64), 0xFC: self.move_octets}
-        simple |= {0x45: self.is_zero, 0x50: self.is_zero, 0xA7: lambda: self.cast(I32), 0xAD: lambda: self.cast(I64)}
-        if op in simple:
-            simple[op]()
+        if op in self.alone:
+            self.alone[op]()
         elif op in READ:
             self.read(*READ[op])
         elif op in WRITE:
@@ -713,9 +719,9 @@ class Translation:
         body = self.program.with_fields(self.function, body) if self.program.header else with_fillings(body)
         if any(TABLE in it for it in body):
             raise Refused(f"{self.name}: {MISREAD}")
-        used = set(re.findall(r"\b[vt]\d+\b", "\n".join(body)))
+        used = set(re.findall(r"\w+", "\n".join(body)))
         own = [name for name, _ in self.locals[: len(self.function.params)]]
-        body = [*(f"    (void){it};" for it in own if not re.search(rf"\b{it}\b", "\n".join(body))), *body]
+        body = [*(f"    (void){it};" for it in own if it not in used), *body]
         variables = {f"{name}@=@0": kind for name, kind in self.locals[len(self.function.params) :] if name in used}
         variables |= {name: kind for name, kind in self.kinds.items() if name in used}
         lines = [*wrapped(self.signature()), "{"]
@@ -731,8 +737,7 @@ class Translation:
         """A body in which no variable is set to a number, or to where the frame is, that nothing reads."""
         text = "\n".join(body)
         for name, _ in self.locals:
-            reads = re.findall(rf"^ *(?!{name} = )\S.*\b{name}\b|^ *{name} = .*\b{name}\b", text, re.M)
-            if not reads:
+            if not re.search(rf"^ *(?!{name} = )\S.*\b{name}\b|^ *{name} = .*\b{name}\b", text, re.M):
                 text = re.sub(rf"^ *{name} = ({SET_ALONE});\n", "", text, flags=re.M)
         return text.split("\n")
 
