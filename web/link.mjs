@@ -1,4 +1,4 @@
-// The simulated link by the lines of scripts (docs/PROFILE.md, "Scripts of the simulated link"): lines are read here and
+// The simulated link by the lines of scripts (docs/TCTOOL.md, "Scripts of the simulated link"): lines are read here and
 // answered in the words of `tctool sim`. What happens is the library's.
 import { defaults as DEFAULTS, lines, numbers as n } from './calls.mjs';
 

@@ -1,21 +1,22 @@
 """Sedgechisel for Python: both ends of the CCSDS telecommand link with COP-1, over a library whose calls are proved.
+(The package itself, and the portable C that `pip` compiles from the sources, are tested, not proved.)
 
 - Codecs: the FECF of frames, telecommand frames (`TcFrame`), space packets (`Packet`), control words (`Clcw`) and
   telemetry frames (`TmFrame`).
 - Machines: the receiver FARM-1 (`Farm`), the sender FOP-1 (`Fop`), packets in segments (`Map`, `segments`), and packets
-  in telemetry frames (`TmBuilder`, `TmExtractor`). `GapCheck` counts the packets that are missing.
+  in telemetry frames (`TmBuilder`, `TmExtractor`). `GapCheck` counts missing packets.
 - Nodes: the ground (`Ground`) and the spacecraft (`Spacecraft`), with their queues, and the simulated link between them
   (`Link`).
 - Files: `read_frames` reads telemetry frames.
-- Old names, which give a DeprecationWarning and go after 0.3: `Farm.report` (now `control_word`), `Fop.report` (now
-  `clcw`), `Ground.report_in` (now `clcw_in`), `Spacecraft.report` (now `telemetry_frame`), `Report.NONE` and
-  `Report.OTHER` (now `REFUSED` and `OTHER_CHANNEL`).
+- Old names, which give a DeprecationWarning and will be removed after 0.3: `Farm.report` (now `control_word`),
+  `Fop.report` (now `clcw`), `Ground.report_in` (now `clcw_in`), `Spacecraft.report` (now `telemetry_frame`),
+  `Report.NONE` and `Report.OTHER` (now `REFUSED` and `OTHER_CHANNEL`).
 
-Octets are `bytes`. What the library refuses is a `Fault` of the class of its kind, with its number and its name, those of
-the headers for C, and its meaning. The number is a member of an enumeration: `fault.number is TcFault.Number.CHECK`. What
-`take` and `take_all` give are named tuples. The fields of structs are those of the headers too; a number that does not
-fit its field is an OverflowError. The books are
-CCSDS 133.0-B-2 (space packets), 132.0-B-3 (telemetry), 232.0-B-4 (telecommand) and 232.1-B-2 (COP-1)."""
+Octets are `bytes`. What the library refuses raises a `Fault` of the class for its kind, with the number and the name
+that the C headers give it, and its meaning. The number is a member of an enumeration: `fault.number is
+TcFault.Number.CHECK`. `take` and `take_all` return named tuples. The fields of structs are those of the C headers; a
+number that does not fit its field raises an OverflowError. The standards are CCSDS 133.0-B-2 (space packets), 132.0-B-3
+(telemetry), 232.0-B-4 (telecommand) and 232.1-B-2 (COP-1)."""
 from ._calls import (
     NO_START, ONLY_IDLE, Alert, Assembled, Clcw, Command, Control, Extracted, Farm, Flags, Fop, GapCheck, Kind, Map, Mode,
     Next, Packet, PacketKind, Segment, SequenceFlags, State, TakenFrame, TcFrame, TmBuilder, TmExtractor, TmFrame, Verdict,

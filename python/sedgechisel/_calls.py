@@ -29,7 +29,7 @@ def _call(name: str, answer: Any, *kinds: Any) -> Callable[..., Any]:
 
 
 class _Struct(ctypes.Structure):
-    """A struct of the header: it compares by its fields, shows them, and holds no number that does not fit."""
+    """A struct of the C header. It compares by its fields, shows them, and accepts no number that does not fit."""
 
     _kinds: Dict[str, Any] = {}
 
@@ -44,7 +44,7 @@ class _Struct(ctypes.Structure):
         super().__setattr__(name, value)
 
     def _values(self) -> Dict[str, Any]:
-        """Its fields by their names. The octets between them are not looked at."""
+        """Returns its fields by name. The octets between them are ignored."""
         return {name: getattr(self, name) for name in (it.lstrip("_") for it in self._kinds)}
 
     def __eq__(self, other: object) -> bool:
@@ -57,8 +57,8 @@ class _Struct(ctypes.Structure):
 
 
 def _typed(**fields: Dict[int, Any]) -> Callable[[Type[_Own]], Type[_Own]]:
-    """Makes fields of an octet answer members, by their numbers. A number that has none, as only a caller can set it,
-    stays a number."""
+    """Makes one-octet fields return members, by their numbers. A number that has no member, which only a caller can
+    have set, stays a number."""
     def made(struct: Type[_Own]) -> Type[_Own]:
         for name, members in fields.items():
             field, of_all = getattr(struct, name), tuple(members.get(number, number) for number in range(256))
@@ -98,13 +98,14 @@ _check_holds = _call("check_holds", c_bool, c_char_p, c_size_t)
 
 
 def check(octets: bytes) -> int:
-    """The check of the octets (232.0-B-4, 4.1.4.2)."""
+    """Returns the check (FECF) of the octets (232.0-B-4, 4.1.4.2)."""
     octets = _octets_of("octets", octets)
     return int(_check(octets, len(octets)))
 
 
 def check_append(octets: bytes) -> bytes:
-    """The octets with the last two set to the check of those before them; a CheckFault for fewer than two."""
+    """Returns the octets, with the last two set to the check of those before them. Raises CheckFault for fewer than
+    two."""
     octets = _octets_of("octets", octets)
     out = ctypes.create_string_buffer(octets, len(octets)) if len(octets) > 1 else None
     if out is None or not _check_append(out, len(octets)):
@@ -113,7 +114,7 @@ def check_append(octets: bytes) -> bytes:
 
 
 def check_holds(octets: bytes) -> bool:
-    """Whether the last two octets are the check of those before them; False for fewer than two."""
+    """Returns whether the last two octets are the check of those before them; False for fewer than two."""
     octets = _octets_of("octets", octets)
     return bool(_check_holds(octets, len(octets)))
 
@@ -128,7 +129,7 @@ class Flags(_Bits):
 
 
 def _flag(name: str, bit: Flags, note: str) -> Any:
-    """A flag of `Clcw.flags` as a field of its own."""
+    """Makes a flag of `Clcw.flags` a field of its own."""
     def put(word: Any, is_set: bool) -> None:
         word.flags = int(word.flags) | bit if _number_of(name, is_set) else int(word.flags) & ~bit
 
@@ -140,7 +141,7 @@ class Clcw(_Struct):
     """A communications link control word (232.0-B-4, 4.2).
 
     - `status`, 0 to 7, is carried and not interpreted; `vcid`, 0 to 63, is the channel that is reported on
-    - `flags`, a Flags, which holds `no_rf`, `no_bit_lock`, `lockout`, `wait` and `retransmit`, each True or False
+    - `flags`, a Flags; `no_rf`, `no_bit_lock`, `lockout`, `wait` and `retransmit` are its flags, each True or False
     - `farm_b`, the FARM-B counter, 0 to 3; `value`, the report value, V(R) of the receiver"""
 
     _fields_ = [("status", c_uint8), ("vcid", c_uint8), ("flags", c_uint8), ("farm_b", c_uint8), ("value", c_uint8)]
@@ -160,13 +161,13 @@ class Clcw(_Struct):
 
     @classmethod
     def decode(cls, octets: bytes) -> Clcw:
-        """Reads four octets; a ClcwFault where they are none, or not four."""
+        """Reads four octets. Raises ClcwFault if they are not a control word, or not four."""
         octets, word = _octets_of("octets", octets), cls.__new__(cls)
         ClcwFault._look_at(_clcw_decode(octets, len(octets), word))
         return word
 
     def encode(self) -> bytes:
-        """The four octets; a ClcwFault where a field is too large."""
+        """Returns the four octets. Raises ClcwFault if a field is too large."""
         out = ctypes.create_string_buffer(4)
         ClcwFault._look_at(_clcw_encode(self, out, 4))
         return out.raw
@@ -179,19 +180,19 @@ _clcw_encode = _call("clcw_encode", c_uint8, POINTER(Clcw), c_char_p, c_size_t)
 
 
 def _answered(kind: Type[_Member], answer: int) -> _Member:
-    """What a receiver or a sender answers; CopFault 255 where it answers that it is damaged."""
+    """Returns what a receiver or a sender answers. Raises CopFault 255 if it answers that it is damaged."""
     CopFault._look_at(answer == _DAMAGED and answer)
     return kind(answer)
 
 
 class Verdict(_Numbers):
-    """What a receiver does with a Type-AD frame. `word` is the word of tctool, such as "nobuffer" for NO_BUFFER."""
+    """What a receiver does with a Type-AD frame. `word` is what tctool prints, such as "nobuffer" for NO_BUFFER."""
 
     ACCEPTED, AHEAD, NO_BUFFER, BEHIND, OUTSIDE, DISCARDED = range(6)
 
     @property
     def word(self) -> str:
-        """The word of tctool."""
+        """The word that tctool prints."""
         return _verdict_word(self)
 
 
@@ -205,8 +206,8 @@ class Mode(_Numbers):
 
 
 class Farm(_Struct):
-    """A receiver FARM-1 of one virtual channel (232.1-B-2, section 6). Read its fields as you like; with fields that no
-    receiver has, each call is a CopFault, 255 Damaged, and changes nothing."""
+    """A receiver FARM-1 of one virtual channel (232.1-B-2, section 6). Its fields may be read freely. If they have
+    values that no receiver has, each call raises CopFault 255 (Damaged) and changes nothing."""
 
     _fields_ = [("width", c_uint8), ("vr", c_uint8), ("lockout", c_uint8), ("wait", c_uint8), ("retransmit", c_uint8),
                 ("farm_b", c_uint8)]
@@ -218,32 +219,34 @@ class Farm(_Struct):
     farm_b: int
 
     def __init__(self, width: int, vr: int = 0) -> None:
-        """An open receiver with this window width, which expects the number vr; or CopFault 1."""
+        """Creates an open receiver with this window width, which expects the number `vr`. Raises CopFault 1."""
         super().__init__()
         CopFault._look_at(_farm_open(self, width, vr))
 
     def ad(self, n: int, buffer_free: bool = True) -> Verdict:
-        """A Type-AD frame with the number n has come: its Verdict. Hand its data on where that is ACCEPTED."""
+        """Takes a Type-AD frame with N(S) = `n`; `buffer_free` says whether there is room for its data. Returns the
+        Verdict. If that is ACCEPTED, pass the data on."""
         return _answered(Verdict, _farm_ad(self, n, buffer_free))
 
     def bd(self) -> None:
-        """A Type-BD frame has come; hand its data on in every state."""
+        """Takes a Type-BD frame. Pass its data on in every state."""
         CopFault._look_at(_farm_bd(self))
 
     def unlock(self) -> None:
-        """The control command Unlock has come."""
+        """Takes the control command Unlock."""
         CopFault._look_at(_farm_unlock(self))
 
     def set_vr(self, vr: int) -> None:
-        """The control command Set V(R) has come."""
+        """Takes the control command Set V(R)."""
         CopFault._look_at(_farm_set_vr(self, vr))
 
     def released(self) -> None:
-        """There is room on board again."""
+        """Notes that there is room on board again."""
         CopFault._look_at(_farm_released(self))
 
     def control_word(self, vcid: int) -> Clcw:
-        """The Clcw that reports the receiver as it is for a virtual channel; a ClcwFault where that is not below 64."""
+        """Returns the Clcw that reports the receiver as it is, for a virtual channel. Raises ClcwFault unless `vcid` <
+        64."""
         word = Clcw.__new__(Clcw)
         ClcwFault._look_at(_farm_control_word(self, vcid, word))
         return word
@@ -252,7 +255,7 @@ class Farm(_Struct):
 
     @property
     def mode(self) -> Mode:
-        """The state, a Mode."""
+        """The receiver's state, a Mode."""
         return _answered(Mode, _farm_state(self))
 
 
@@ -269,40 +272,39 @@ _farm_state = _call("farm_state", c_uint8, POINTER(Farm))
 
 
 class Alert(_Numbers):
-    """Why a sender has given up (232.1-B-2, 5.2.5); NONE, which is false, where it has not. An alert lets go of all
-    units.
+    """Why a sender has given up (232.1-B-2, 5.2.5); NONE, which is false, if it has not. An alert discards all units.
 
-    - LOCKOUT: a report has the lockout flag
-    - NNR: a report's value is not from NN(R) to V(S)
-    - CLCW: a report has the wait flag without the retransmit flag
-    - SYNCH: a report asks to repeat what was not sent, or stops asking before it got any of it
-    - LIMIT: a report asks for units again, and the transmission limit is 1
-    - TIMER: the timer has ended, and units may not be sent again
+    - LOCKOUT: a CLCW has the lockout flag
+    - NNR: a CLCW's value is not in the range from NN(R) to V(S)
+    - CLCW: a CLCW has the wait flag without the retransmit flag
+    - SYNCH: a CLCW requests retransmission of what was not sent, or ends its request before any of it was received
+    - LIMIT: a CLCW requests retransmission, and the transmission limit is 1
+    - TIMER: the timer has run out, and units may not be retransmitted
     - TERMINATED: the directive Terminate
 
-    `shows_a_broken_condition` says by which of two ways a program goes on, and `advice` what to look for. `word` is the
-    word of tctool, such as "NnR" for NNR; that of NONE is empty."""
+    `shows_a_broken_condition` says which of two ways to recover applies, and `advice` what to look for. `word` is what
+    tctool prints, such as "NnR" for NNR; for NONE it is empty."""
 
     NONE, LOCKOUT, NNR, CLCW, SYNCH, LIMIT, TIMER, TERMINATED = range(8)
 
     @property
     def word(self) -> str:
-        """The word of tctool; of NONE an empty one."""
+        """The word that tctool prints; empty for NONE."""
         return _alert_word(self) if self else ""
 
     @property
     def shows_a_broken_condition(self) -> bool:
-        """Whether it says that a condition of the link is broken: of LOCKOUT, NNR, CLCW and SYNCH. None of these can come
-        in a session that was begun by CLCW check, Unlock or Set V(R) and is confirmed, while the conditions hold. So the
-        spacecraft has restarted, the link reorders or repeats frames, or there is a second station; and before a session
-        is confirmed there may be what an earlier one left, as a receiver in Lockout. After one of these nothing is known
-        of what is on board until a session begins (docs/CONTROL.md, "After a reset"). After another one `Ground.resume`
-        begins the next session (docs/CONTROL.md, "After an alert")."""
+        """Whether the alert shows that a condition of the link is broken: True for LOCKOUT, NNR, CLCW and SYNCH. In a
+        confirmed session that was begun by CLCW check, Unlock or Set V(R), none of these is raised while the conditions
+        hold, so the spacecraft has restarted, the link reorders or repeats frames, or there is a second station. Before
+        a session is confirmed, the cause may also be what an earlier one left, such as a receiver in Lockout. After one
+        of these alerts nothing is known of what is on board until a session begins (docs/CONTROL.md, "After a reset").
+        After any other alert, `Ground.resume` begins the next session (docs/CONTROL.md, "After an alert")."""
         return bool(_alert_shows_broken_condition(self))
 
     @property
     def advice(self) -> str:
-        """What to look for after it, and the way on: a text for people; of NONE an empty one."""
+        """What to look for after the alert, and how to recover, as a text for people; empty for NONE."""
         return str(_alert_advice(self).text.decode()) if self else ""
 
 
@@ -329,7 +331,7 @@ class Control(_Numbers):
 
 
 class Next(_Numbers):
-    """What goes on the link next: a control command, the unit that waits, or the one kept under the number."""
+    """What goes on the link next: a control command, the unit that waits, or the unit kept under the number."""
 
     NOTHING, UNLOCK, SET_VR, FIRST, AGAIN = range(5)
 
@@ -384,16 +386,16 @@ _DIRECTIVES = {name: number for number, name in enumerate((it for it in vars(Dir
 
 
 def _directive(name: str, own: str, value: int, kind: Any) -> Tuple[int, int]:
-    """The number of a directive, and its value, of this name and type; 0 where it has none."""
+    """Returns the number of a directive, and its value, which has this name and type; the value is 0 if it has none."""
     _within(own, kind, value)
     return _DIRECTIVES[name], value
 
 
 @_typed(state=dict(enumerate(State, 1)), control=dict(enumerate(Control)))
 class Fop(_Struct, Directives):
-    """A sender FOP-1 of one virtual channel (232.1-B-2, section 5). It keeps numbers, and its caller the units. Its
-    `state` is a State, and its `control` a Control. With fields that no sender has, each call is a CopFault, 255
-    Damaged, and changes nothing."""
+    """A sender FOP-1 of one virtual channel (232.1-B-2, section 5). It keeps numbers, and its caller keeps the units.
+    Its `state` is a State, and its `control` a Control. If its fields have values that no sender has, each call raises
+    CopFault 255 (Damaged) and changes nothing."""
 
     _fields_ = [("timer", c_uint16), ("ticks", c_uint16), ("room", c_uint8), ("state", c_uint8), ("vs", c_uint8),
                 ("nn", c_uint8), ("waiting", c_uint8), ("sent", c_uint8), ("due", c_uint8), ("window", c_uint8),
@@ -414,8 +416,8 @@ class Fop(_Struct, Directives):
     vr: int
 
     def __init__(self, width: int, window: int, limit: int, timer: int) -> None:
-        """A sender in S6 to a receiver of this window width, with the window K, the transmission limit and the timer's
-        value in ticks; or CopFault 1 to 4."""
+        """Creates a sender in S6, for a receiver of this window width, with the window K, the transmission limit and
+        the timer's value in ticks. Raises CopFault 1 to 4."""
         super().__init__()
         CopFault._look_at(_fop_open(self, width, window, limit, timer))
 
@@ -423,17 +425,17 @@ class Fop(_Struct, Directives):
         CopFault._look_at(_fop_directive(self, *_directive(name, own, value, kind)))
 
     def submit(self) -> None:
-        """A unit has come, and waits; or CopFault 6 (not open) or 7 (one waits already)."""
+        """Takes a unit, which then waits. Raises CopFault 6 (not open) or 7 (one waits already)."""
         CopFault._look_at(_fop_submit(self))
 
     def next(self) -> Tuple[Next, int]:
-        """Takes what goes on the link next: its Next, and its number."""
+        """Takes what goes on the link next. Returns its Next and its number."""
         number = c_uint8()
         return _answered(Next, _fop_next(self, number)), number.value
 
     def clcw(self, vcid: int, word: Clcw) -> Optional[Tuple[Alert, int]]:
-        """A Clcw has come, and the sender is that of the virtual channel vcid: the Alert, and how many of the oldest
-        units are acknowledged. None, and nothing changes, for a word that reports on another channel."""
+        """Takes a Clcw, as the sender of the virtual channel `vcid`. Returns the Alert, and how many of the oldest
+        units are acknowledged. Returns None, and changes nothing, if the word is about another channel."""
         released = c_uint8()
         answer = _fop_clcw(self, vcid, _struct_of("word", Clcw, word), released)
         return None if answer == _ABSENT else (_answered(Alert, answer), released.value)
@@ -441,23 +443,23 @@ class Fop(_Struct, Directives):
     report = renamed("report", clcw)
 
     def tick(self) -> Alert:
-        """A tick of the clock has passed: the Alert."""
+        """Counts a tick of the clock. Returns the Alert."""
         return _answered(Alert, _fop_tick(self))
 
     def accepted_beyond(self, value: int) -> Optional[int]:
-        """How many of the units that were sent and not acknowledged were accepted on board when a report of this value
-        was made, the oldest ones. Where V(S) = NN(R) it is 0, whatever the value. Elsewhere None, where the value is
-        beyond V(S): nothing is known of them. After an alert too, in S6, until V(S) is set or an initiation begins
-        (5.1), by the numbers alone: after one that shows a broken condition nothing is known of them, whatever it
-        says."""
+        """Returns how many of the sent and unacknowledged units, oldest first, had been accepted on board when a CLCW
+        with this value was made. Returns 0 if V(S) = NN(R), whatever the value; otherwise None if the value is beyond
+        V(S), because nothing is known of them. Also answers after an alert, in S6, until V(S) is set or an initiation
+        begins (5.1), but by the numbers only: after an alert that shows a broken condition nothing is known of the
+        units, whatever this returns."""
         return _accepted_of(_fop_accepted_beyond, self, value)
 
 
 def accepted_beyond(nn: int, vs: int, value: int) -> Optional[int]:
-    """How many units, of those that a sender with these numbers for NN(R) and V(S) has sent and that are not
-    acknowledged, were accepted on board when a report of this value was made, the oldest ones. Where V(S) = NN(R) it is
-    0, whatever the value. Elsewhere None, where the value is beyond V(S): nothing is known of them. `Fop` and `Ground`
-    have a method of this name for their own numbers."""
+    """Returns how many of the sent and unacknowledged units of a sender with these NN(R) and V(S), oldest first, had
+    been accepted on board when a CLCW with this value was made. Returns 0 if V(S) = NN(R), whatever the value;
+    otherwise None if the value is beyond V(S), because nothing is known of them. `Fop` and `Ground` have a method of
+    this name for their own numbers."""
     return _accepted_of(_accepted_beyond, nn, vs, value)
 
 
@@ -526,8 +528,9 @@ class TcFrame(_Struct):
 
     @classmethod
     def decode(cls, octets: bytes, checked: bool = True) -> Tuple[TcFrame, bytes]:
-        """Reads all of the octets as one frame, which ends with its FECF unless `checked` is False: the frame, and the
-        data after the segment header, which a control frame lacks. A TcFault of 1 to 9 where they are none."""
+        """Reads all of the octets as one frame, which ends with its FECF unless `checked` is False. Returns the frame,
+        and the data after the segment header (a control frame has neither). Raises TcFault 1 to 9 if the octets are not
+        a frame."""
         octets, frame, part = _octets_of("octets", octets), cls.__new__(cls), _Part()
         TcFault._look_at(_tc_decode(octets, len(octets), checked, frame, part))
         return frame, part.of(octets)
@@ -535,24 +538,24 @@ class TcFrame(_Struct):
     @classmethod
     def decode_all(cls, octets: bytes, checked: bool = True, *, scid: Optional[int] = None,
                    vcid: Optional[int] = None) -> Iterator[Tuple[Union[TcFrame, TcFault], bytes]]:
-        """Reads the frames that stand one after another in the octets, each as long as it declares: for each the frame
-        and its data, as `decode` gives them, or in place of these its TcFault and its octets. With `scid` or `vcid`
-        those alone whose header names this spacecraft or virtual channel, refused ones too; an OverflowError for a
-        number that no header has. Where octets are left after the last whole frame, these come at the end, with TcFault
-        1 for fewer than 5, or 5; no frame before has either."""
+        """Reads consecutive frames in the octets, each as long as it declares. Yields for each the frame and its data,
+        as `decode` returns them, or its TcFault and its octets instead. With `scid` or `vcid`, yields only frames whose
+        header names this spacecraft or virtual channel, refused ones too. If octets are left after the last whole
+        frame, yields them at the end, with TcFault 1 for fewer than 5, or else TcFault 5; no frame before has either.
+        Raises OverflowError for a number that no header has."""
         return chain.from_iterable(_frames_in(cls, _octets_of("octets", octets), checked, [
             *_wanted("scid", scid, 0x3FF, ((0, 255, 0), (1, 3, 8))), *_wanted("vcid", vcid, 0x3F, ((2, 63, 0),))]))
 
     def encode(self, data: bytes = b"", checked: bool = True) -> bytes:
-        """The octets of the frame with these data, at most 1,024 with its FECF, which it lacks where `checked` is False;
-        a TcFault where a field is out of its range."""
+        """Returns the octets of the frame with these data: at most 1,024, with its FECF, which it lacks if `checked` is
+        False. Raises TcFault if a field is out of range."""
         data = _octets_of("data", data)
         return _written(TcFault._look_at, _tc_encode, 1024, self, data, len(data), checked)
 
     @staticmethod
     def declared(octets: bytes, checked: bool = True) -> int:
-        """How many octets the frame has that these begin, with its FECF unless `checked` is False; TcFault 1 for fewer
-        than 5, or 5."""
+        """Returns the length of the frame that these octets begin, with its FECF unless `checked` is False. Raises
+        TcFault 1 for fewer than 5 octets, or 5."""
         octets = _octets_of("octets", octets)
         return _count_of(_tc_declared, TcFault, octets, len(octets), checked)
 
@@ -570,7 +573,7 @@ _PIECE, _MOST = 65536, 512
 
 
 def _columns(records: bytes, size: int, places: Sequence[int], room: bytearray, own: int) -> bytearray:
-    """The octets at these places of each record of this size, in `own` octets of the room for each."""
+    """Copies the octets at these places of each record of this size to `room`, which has `own` octets for each."""
     end = len(records) // size * own
     for k, place in enumerate(places):
         room[k:end:own] = records[place::size]
@@ -578,8 +581,8 @@ def _columns(records: bytes, size: int, places: Sequence[int], room: bytearray, 
 
 
 def _places_of(kinds: Iterable[Any], begun: int, order: str = byteorder) -> List[int]:
-    """Where the octets of fields of these kinds stand in a record from this place on, in which the lower octet of a
-    number comes first."""
+    """Returns where the octets of fields of these kinds are in a record, from this place on. In the record the lower
+    octet of a number comes first."""
     places: List[int] = []
     for kind in kinds:
         own = range(begun, begun := begun + ctypes.sizeof(kind))
@@ -588,19 +591,19 @@ def _places_of(kinds: Iterable[Any], begun: int, order: str = byteorder) -> List
 
 
 def _structs_of(many: Any, records: bytes, size: int, begun: int) -> Any:
-    """The structs whose fields stand from this place on in each record of this size, in memory for an array that all of
-    them share: it takes half the time to make them together."""
+    """Returns the structs whose fields begin at this place in each record of this size. They share the memory of one
+    array: making them together takes half the time."""
     places = _places_of(many._type_._kinds.values(), begun)
     room = _columns(records, size, places, bytearray(ctypes.sizeof(many)), ctypes.sizeof(many._type_))
     return many.from_buffer(room)[:len(records) // size]
 
 
-_Wanted = Tuple[int, bytes]  # a place in a record, and a table with 1 for each octet that may stand there, or 0
+_Wanted = Tuple[int, bytes]  # a place in a record, and a table with 1 for each octet that may be there, or 0
 
 
 def _wanted(name: str, number: Optional[int], most: int, parts: Iterable[Tuple[int, int, int]]) -> Iterator[_Wanted]:
-    """What octets are that have this number, unless it is None. Each part is a place, the bits of its octet that have
-    bits of the number, and how far up these stand in the number, or where that is below 0, down."""
+    """Yields what octets must be to have this number, unless it is None. Each part is a place, the bits of its octet
+    that have bits of the number, and how far up these bits are in the number, or how far down if that is below 0."""
     if number is None:
         return
     if not 0 <= _number_of(name, number) <= most:
@@ -611,7 +614,7 @@ def _wanted(name: str, number: Optional[int], most: int, parts: Iterable[Tuple[i
 
 
 def _chosen(records: bytes, size: int, count: int, wanted: Iterable[_Wanted]) -> bytearray:
-    """1 for each of so many records of this size that have the octets wanted, or 0."""
+    """Returns, for each of `count` records of this size, 1 if it has the octets wanted, or 0."""
     chosen = int.from_bytes(b"\1" * count, "little")
     for place, table in wanted:
         chosen &= int.from_bytes(records[place:count * size:size].translate(table), "little")
@@ -620,8 +623,8 @@ def _chosen(records: bytes, size: int, count: int, wanted: Iterable[_Wanted]) ->
 
 def _frames_in(cls: Type[TcFrame], octets: bytes, checked: bool,
                channel: Sequence[_Wanted]) -> Iterator[Iterable[Tuple[Union[TcFrame, TcFault], bytes]]]:
-    """The frames in octets, those of a piece together, and what is left of these. The channel is what the fields are of
-    those that are wanted, the lower octet of the scid, its higher one and the vcid."""
+    """Yields the frames in the octets, piece by piece, and then what is left. `channel` has what the fields of the
+    frames wanted must be: the lower octet of the scid, its higher octet, and the vcid."""
     total, begun, many = c_size_t(), 0, cls * _MOST
     out: Any = ctypes.create_string_buffer(_MOST * _FOUND)  # its slices are bytes, which Debian's mypy 1.0.1 does not know
     check, control, number = 2 if checked else 0, Kind.BC.value, _places_of([c_uint16], 0)
@@ -667,9 +670,9 @@ class SequenceFlags(_Numbers):
 class Packet(_Struct):
     """A space packet without its data field (133.0-B-2, 4.1).
 
-    - `apid`, the application process identifier, 0 to 2,047, which is that of idle packets
+    - `apid`, the application process identifier, 0 to 2,047; 2,047 is that of idle packets
     - `count`, the sequence count or the packet's name, 0 to 16,383
-    - `kind`, a PacketKind; `secondary`, 1 where the data field begins with a secondary header, or 0
+    - `kind`, a PacketKind; `secondary`, 1 if the data field begins with a secondary header, or 0
     - `flags`, a SequenceFlags; a new packet is UNSEGMENTED"""
 
     _fields_ = [("apid", c_uint16), ("count", c_uint16), ("kind", c_uint8), ("secondary", c_uint8), ("flags", c_uint8)]
@@ -685,19 +688,20 @@ class Packet(_Struct):
 
     @classmethod
     def decode(cls, octets: bytes) -> Tuple[Packet, bytes]:
-        """Reads the packet that the octets begin with: the packet, and its data field. A PacketFault where there is none."""
+        """Reads the packet at the beginning of the octets. Returns it and its data field. Raises PacketFault if there
+        is none."""
         octets, packet, part = _octets_of("octets", octets), cls.__new__(cls), _Part()
         PacketFault._look_at(_packet_decode(octets, len(octets), packet, part))
         return packet, part.of(octets)
 
     def encode(self, data: bytes) -> bytes:
-        """The octets of the packet with this data field; a PacketFault where a field is out of its range."""
+        """Returns the octets of the packet with this data field. Raises PacketFault if a field is out of range."""
         data = _octets_of("data", data)
         return _written(PacketFault._look_at, _packet_encode, len(data) + 6, self, data, len(data))
 
     @staticmethod
     def declared(octets: bytes) -> int:
-        """How many octets the packet has that these begin; a PacketFault where they begin none."""
+        """Returns the length of the packet that these octets begin. Raises PacketFault if they do not begin one."""
         octets = _octets_of("octets", octets)
         return _count_of(_packet_declared, PacketFault, octets, len(octets))
 
@@ -713,16 +717,16 @@ class _GapCheck(ctypes.Structure):
 
 
 class GapCheck(Single):
-    """How many packets are missing, by the sequence counts of all application processes (133.0-B-2, 4.1.3.4.3)."""
+    """Counts missing packets by the sequence counts of all application processes (133.0-B-2, 4.1.3.4.3)."""
 
     def __init__(self) -> None:
         self._check = _GapCheck()
         _gap_check_open(self._check)
 
     def see(self, apid: int, count: int) -> Optional[int]:
-        """Sees a packet with these numbers, as a Packet has them: how many are missing before it, (count - last - 1)
-        modulo 16,384, or None for the first of its APID. A PacketFault, 5 FieldRange, where `apid` is above 2,047 or
-        `count` above 16,383."""
+        """Takes the `apid` and `count` of a Packet. Returns how many packets are missing before it, (count - last - 1)
+        modulo 16,384, or None for the first packet of its APID. Raises PacketFault 5 (FieldRange) if `apid` is above
+        2,047 or `count` above 16,383."""
         missing = c_uint16()
         answer = _gap_check_see(self._check, apid, count, missing)
         if answer == _ABSENT:
@@ -744,7 +748,7 @@ class TmFrame(_Struct):
     """A telemetry frame without its data (132.0-B-3, 4.1).
 
     - `scid`, 0 to 1,023, and `vcid`, 0 to 7; `mc_count` and `vc_count`, the frame counts
-    - `pointer`, the place in the data, from 0, where the first packet starts, or ONLY_IDLE or NO_START
+    - `pointer`, the place in the data, counted from 0, where the first packet starts, or ONLY_IDLE or NO_START
     - `ocf`, the operational control field, the four octets of a Clcw"""
 
     _fields_ = [("scid", c_uint16), ("pointer", c_uint16), ("vcid", c_uint8), ("mc_count", c_uint8),
@@ -774,15 +778,15 @@ class TmFrame(_Struct):
 
     @classmethod
     def decode(cls, octets: bytes, length: Optional[int] = None) -> Tuple[TmFrame, bytes]:
-        """Reads all of the octets as one frame of the channel's length, or of their own: the frame, and its data. A
-        TmFault of 1 to 6 where they are none."""
+        """Reads all of the octets as one frame, of the channel's `length`, or of their own length. Returns the frame
+        and its data. Raises TmFault 1 to 6 if the octets are not a frame."""
         octets, frame, part = _octets_of("octets", octets), cls.__new__(cls), _Part()
         length = len(octets) if length is None else length
         TmFault._look_at(_tm_decode(octets, len(octets), length, frame, part))
         return frame, part.of(octets)
 
     def encode(self, data: bytes) -> bytes:
-        """The octets of the frame with these data; a TmFault where a field is out of its range."""
+        """Returns the octets of the frame with these data. Raises TmFault if a field is out of range."""
         data = _octets_of("data", data)
         return _written(TmFault._look_at, _tm_encode, 2048, self, data, len(data))
 
@@ -807,9 +811,9 @@ class _TmExtracted(ctypes.Structure):
 
 
 class TmBuilder(Single):
-    """Builds the telemetry frames of one virtual channel, all of `length` octets, 16 to 2,048, out of packets of which at
-    most `room` octets wait to be sent (132.0-B-3, 4.2). A TmFault, 10 FieldRange, for a spacecraft or a virtual channel
-    that is none, or another length."""
+    """Builds the telemetry frames of one virtual channel, all of `length` octets, 16 to 2,048, from packets, of which
+    at most `room` octets wait to be sent (132.0-B-3, 4.2). Raises TmFault 10 (FieldRange) for a spacecraft or virtual
+    channel that is not valid, or for any other length."""
 
     def __init__(self, scid: int, vcid: int, length: int, room: int = 65542) -> None:
         self._builder, self._memory = _TmBuilder(), _room_of("room", room)
@@ -817,48 +821,48 @@ class TmBuilder(Single):
 
     @property
     def waiting(self) -> int:
-        """The number of octets that are to be sent."""
+        """The number of octets that wait to be sent."""
         return int(self._builder.count)
 
     def queue(self, packet: bytes) -> None:
-        """Queues a packet, all of its octets. A TmFault, 8 NotAPacket for octets that are not exactly one packet or an idle
-        one, and 7 Memory where more octets would wait than there is room for."""
+        """Queues a packet, with all of its octets. Raises TmFault 8 (NotAPacket) if the octets are not exactly one
+        packet, or are an idle packet, and 7 (Memory) if more octets would wait than there is room for."""
         packet = _octets_of("packet", packet)
         TmFault._look_at(_tm_builder_queue(self._builder, packet, len(packet), self._memory, len(self._memory)))
 
     def build(self, ocf: bytes) -> bytes:
-        """The octets of the next frame, with this operational control field, the four octets of a Clcw. Where packets run
-        out it has an idle packet, and where none are left only idle data. A TmFault, 254 WrongCount, for other octets than
-        four."""
+        """Returns the octets of the next frame, with this operational control field, the four octets of a Clcw. If
+        packets run out, the frame has an idle packet; if there are none, it has only idle data. Raises TmFault 254
+        (WrongCount) unless the octets are four."""
         ocf = _octets_of("ocf", ocf)
         return _written(TmFault._look_at, _tm_builder_build, 2048, self._builder, ocf, len(ocf), self._memory,
                         len(self._memory))
 
 
 class Extracted(NamedTuple):
-    """What came of a telemetry frame, by `TmExtractor.take`."""
+    """What `TmExtractor.take` makes of a telemetry frame."""
 
     packets: List[bytes]
-    """The packets whose last octets the frame has, but for idle ones."""
+    """The packets whose last octets the frame has, except idle ones."""
     lost: Optional[int]
     """The number of frames missing before it, modulo 256; None for the first."""
 
 
 class TakenFrame(NamedTuple):
-    """What came of a telemetry frame among others, by `TmExtractor.take_all`."""
+    """What `TmExtractor.take_all` makes of a telemetry frame."""
 
     frame: Union[TmFrame, TmFault]
-    """The frame; or why the octets are none."""
+    """The frame, or the fault of octets that are not a frame."""
     packets: List[bytes]
-    """The packets whose last octets the frame has, but for idle ones."""
+    """The packets whose last octets the frame has, except idle ones."""
     lost: Optional[int]
-    """The number of frames missing before it, modulo 256; None for the first, and where there is no frame."""
+    """The number of frames missing before it, modulo 256; None for the first, and if there is no frame."""
 
 
 class TmExtractor(Single):
-    """Extracts packets from the telemetry frames of one virtual channel, of which any may be missing (132.0-B-3, 4.3).
-    It has memory for each packet of at most `longest` octets, idle ones too, 7 to 65,542; or ValueError. Of longer
-    packets it hands out those that need no more memory."""
+    """Extracts packets from the telemetry frames of one virtual channel, any of which may be missing (132.0-B-3, 4.3).
+    It has memory for every packet of at most `longest` octets, 7 to 65,542, idle packets included. It delivers a longer
+    packet if that needs no more memory. Raises ValueError for any other `longest`."""
 
     def __init__(self, longest: int = 65542) -> None:
         if not 7 <= _number_of("longest", longest) <= 65542:
@@ -868,16 +872,17 @@ class TmExtractor(Single):
 
     @property
     def dropped(self) -> int:
-        """The number of packets so far that were begun and dropped: frames are missing after their first octets, or a
-        frame does not go on with them (docs/PROFILE.md, "Extraction", 1 to 4). Idle packets do not count, unless only
-        one octet of one had come. Packets that are missing from their first octet on show in the sequence counts."""
+        """The number of packets so far that were begun and then dropped, because frames are missing after their first
+        octets, or because a frame does not continue them (docs/PROFILE.md, "Extraction", 1 to 4). An idle packet does
+        not count, unless only one octet of it had arrived. A packet that is missing from its first octet on shows in
+        the sequence counts."""
         return self._dropped
 
     def take(self, frame: TmFrame, data: bytes) -> Extracted:
-        """Takes the next frame that came, a TmFrame and its data: an Extracted with the `packets` whose last octets it
-        has, but for idle ones, and the number of frames missing before it, `lost`, modulo 256, or None for the first. A
-        TmFault, 10 FieldRange for a pointer after the data, and 7 Memory where the packets need more memory; then the
-        frame counts as missing."""
+        """Takes the next received frame, a TmFrame and its data. Returns an Extracted: the `packets` whose last octets
+        the frame has, except idle packets, and the number of frames missing before it (`lost`), modulo 256, or None for
+        the first. Raises TmFault 10 (FieldRange) for a pointer after the data, and 7 (Memory) if the packets need more
+        memory; the frame then counts as missing."""
         extracted = _TmExtracted()
         fault, packets = self._taken(_struct_of("frame", TmFrame, frame), _octets_of("data", data), extracted)
         TmFault._look_at(fault)
@@ -885,12 +890,11 @@ class TmExtractor(Single):
 
     def take_all(self, octets: bytes, length: int, *, scid: Optional[int] = None,
                  vcid: Optional[int] = None) -> List[TakenFrame]:
-        """Takes the frames of `length` octets that stand one after another: of each a TakenFrame with the `frame`, as
-        `TmFrame.decode` gives it, and its `packets` and the number of frames missing before it, `lost`, as `take` gives
-        them; or in place of the frame its TmFault, with no packets. With `scid` or `vcid` those alone whose header
-        names this spacecraft or virtual channel, refused ones too; an OverflowError for a number that no header has.
-        Where octets are left at the end, the last one has TmFault 1. A ValueError for a length that is not in 16 to
-        2,048."""
+        """Takes consecutive frames of `length` octets. Returns for each a TakenFrame: the `frame`, as `TmFrame.decode`
+        returns it, and `packets` and `lost`, as `take` returns them; or the frame's TmFault instead, with no packets.
+        With `scid` or `vcid`, takes only frames whose header names this spacecraft or virtual channel, refused ones
+        too. If octets are left at the end, the last TakenFrame has TmFault 1. Raises OverflowError for a number that no
+        header has, and ValueError unless the length is 16 to 2,048."""
         octets, length = _octets_of("octets", octets), _frame_length_of(length)
         channel = [*_wanted("scid", scid, 0x3FF, ((0, 63, 4), (1, 240, -4))), *_wanted("vcid", vcid, 7, ((1, 14, -1),))]
         if channel:
@@ -912,7 +916,7 @@ class TmExtractor(Single):
         return answers
 
     def _taken(self, frame: TmFrame, data: bytes, extracted: _TmExtracted) -> Tuple[int, List[bytes]]:
-        """What the library answers, and the packets."""
+        """Returns what the library answers, and the packets."""
         with self._lock:
             begun = self._begun()
             fault = _tm_extractor_frame(
@@ -929,26 +933,27 @@ class TmExtractor(Single):
         return 0, packets
 
     def _begun(self) -> bytes:
-        """The first octets of the packet whose end is to come, two at most; none where there is none."""
+        """Returns the first octets, two at most, of the packet whose end is to come; none if there is no such
+        packet."""
         start = self._extractor.start
         return bytes(self._memory[start:start + min(self._extractor.count, 2)])
 
 
 def _frames_with(octets: bytes, length: int, wanted: Sequence[_Wanted]) -> bytes:
-    """Those of the frames of this length that have the octets wanted, and what is left after all of them."""
+    """Returns the frames of this length that have the octets wanted, and what is left after the last frame."""
     whole, view = len(octets) // length, memoryview(octets)
     chosen = compress(range(0, whole * length, length), _chosen(octets, length, whole, wanted))
     return b"".join([*(view[begun:begun + length] for begun in chosen), view[whole * length:]])
 
 
 # What `_tm_extractor_frames` writes of a frame: the number of octets of its packets, its fault, whether it is the first
-# one, how many are missing before it, and whether a packet is dropped; and its fields, from the ninth octet on.
+# frame, how many are missing before it, and whether a packet is dropped; and its fields, from the ninth octet on.
 _TAKEN, _TAKEN_FIELDS = Struct("<IBBBB11x"), 8
 
 
 def _add_taken(answers: List[TakenFrame], many: Any, records: bytes, octets: bytes) -> int:
-    """Adds what these records say of at most so many frames, whose packets have these octets, and gives the number of
-    those that were dropped."""
+    """Adds what these records say of at most so many frames, whose packets have these octets. Returns the number of
+    packets that were dropped."""
     frames, end, all_dropped = _structs_of(many, records, _TAKEN.size, _TAKEN_FIELDS), 0, 0
     for frame, (count, fault, first, lost, dropped) in zip(frames, _TAKEN.iter_unpack(records)):
         packets: List[bytes] = []
@@ -965,12 +970,12 @@ def _add_taken(answers: List[TakenFrame], many: Any, records: bytes, octets: byt
 
 
 def _before_start(pointer: int, data: bytes) -> bytes:
-    """The octets of a frame's data before the first packet that starts in it."""
+    """Returns the octets of a frame's data before the first packet that starts in it."""
     return data if pointer == NO_START else b"" if pointer == ONLY_IDLE else data[:pointer]
 
 
 def _is_idle(octets: bytes) -> bool:
-    """Whether they begin an idle packet (133.0-B-2, 4.1.3.3.4)."""
+    """Returns whether the octets begin an idle packet (133.0-B-2, 4.1.3.3.4)."""
     return len(octets) > 1 and octets[0] & 7 == 7 and octets[1] == 255
 
 
@@ -1005,32 +1010,33 @@ class _Limits(ctypes.Structure):
 
 
 def _parts_of(octets: bytes) -> Iterator[_Part]:
-    """Where the packets are in the octets, one after another; a part is as it is until the next is asked for."""
+    """Yields where the packets are in the octets, one after another. Each part is valid until the next is requested."""
     part = _Part()
     while _map_packet(octets, len(octets), part):
         yield part
 
 
 class Assembled(NamedTuple):
-    """What came of a segment, by `Map.take`."""
+    """What `Map.take` makes of a segment."""
 
     packets: List[bytes]
     """The packets that are whole now."""
     dropped: Optional[str]
-    """Why octets were dropped, in the word of tctool; or None."""
+    """Why octets were dropped, in the word that tctool prints; or None."""
 
 
 class Map(Single):
-    """One MAP on board, which joins segments to packets of at most `longest` octets (232.0-B-4, 4.1.3.2.2). With blocking
-    an alone segment may hold several whole packets."""
+    """One MAP on board, which joins segments into packets of at most `longest` octets (232.0-B-4, 4.1.3.2.2). With
+    blocking, an alone segment may contain several whole packets."""
 
     def __init__(self, longest: int = 65542, blocking: bool = False) -> None:
         self._map, self._memory = _Map(blocking=bool(blocking)), _room_of("longest", longest)
         self._lock = RLock()
 
     def take(self, flags: int, data: bytes) -> Assembled:
-        """Takes the next segment, its Segment flags and its data: an Assembled with the `packets` that are whole now,
-        and why octets were `dropped`, in the word of tctool, or None. A MapFault, 255 Damaged, for flags that are none."""
+        """Takes the next segment, its Segment flags and its data. Returns an Assembled: the `packets` that are whole
+        now, and why octets were `dropped`, in the word that tctool prints, or None. Raises MapFault 255 (Damaged) for
+        flags that are not valid."""
         data, taken = _octets_of("data", data), _Taken()
         with self._lock:
             MapFault._look_at(_map_take(self._map, flags, data, len(data), self._memory, len(self._memory), taken))
@@ -1040,8 +1046,9 @@ class Map(Single):
 
 
 def segments(octets: bytes, part: int, longest: int = 65542, blocking: bool = False) -> List[Tuple[Segment, bytes]]:
-    """The segments of a packet, or with blocking of packets one after another, of at most `part` octets each: for each
-    its Segment flags and its data. A MapFault where the octets are no packet, or one of more than `longest`."""
+    """Cuts a packet, or with blocking consecutive packets, into segments of at most `part` octets. Returns for each
+    segment its Segment flags and its data. Raises MapFault if the octets are not a packet, or one has more than
+    `longest`."""
     for name, value in (("part", part), ("longest", longest)):
         _within(name, c_uint32, value)
     octets, limits = _octets_of("octets", octets), _Limits(part, longest, bool(blocking))
@@ -1056,8 +1063,8 @@ def segments(octets: bytes, part: int, longest: int = 65542, blocking: bool = Fa
 
 
 def _groups_of(octets: bytes, part: int) -> Iterator[bytes]:
-    """The packets that go into one segment together, or a packet that has more than `part` octets, from the left. A
-    segment is asked for among those of its group, since the library looks at all packets that it is given."""
+    """Yields, from the left, the packets that go into one segment together, or a packet of more than `part` octets. A
+    segment is requested within its group, because the library scans all packets that it is given."""
     start = end = 0
     for packet in _parts_of(octets):
         next_end = packet.start + packet.count

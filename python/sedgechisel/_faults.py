@@ -1,5 +1,5 @@
-"""What the libraries refuse: the kinds of faults, and what each number means. `tools/bindings` writes what they
-mean, as the headers for C have it."""
+"""What the libraries refuse: the kinds of faults, and what each number means. `tools/bindings` writes the meanings,
+as the C headers state them."""
 from __future__ import annotations
 
 import ctypes
@@ -18,18 +18,18 @@ class Text(ctypes.Structure):
 
 
 def word_of(kind: str, library: ctypes.PyDLL = FIRST) -> Callable[[int], str]:
-    """What gives the words of numbers of a kind, as tctool writes them."""
+    """Returns a function that gives the words of a kind of numbers, as tctool prints them."""
     name = call_of(library, kind + "_name", Text, ("number", c_uint8))
     return lambda number: str(name(number).text.decode())
 
 
 class Fault(Exception):
-    """What the library refuses: its `number` and its `name`, as the headers for C have them, and its `meaning`. Its
-    text is all three. Faults of one kind are equal where their numbers are. The `number` is a member of the
-    enumeration `Number` of its class, as in `fault.number is LinkFault.Number.QUEUE_FULL`."""
+    """What the library refuses: its `number` and `name`, as in the C headers, and its `meaning`. Its text contains all
+    three. Faults of one kind are equal if their numbers are equal. The `number` is a member of the enumeration `Number`
+    of its class, as in `fault.number is LinkFault.Number.QUEUE_FULL`."""
 
     class Number(Numbers):
-        """The numbers of a kind of faults, by their names."""
+        """The numbers of one kind of faults, by name."""
 
     number: int
     name: str
@@ -67,7 +67,7 @@ class Fault(Exception):
 
 
 class CheckFault(Fault):
-    """Fewer than two octets have no check."""
+    """Fewer than two octets have no check (FECF)."""
 
     class Number(Numbers):
         WRONG_COUNT = 254
@@ -178,13 +178,13 @@ class TmFault(Fault):
 
 
 class TelemetryFault(TmFault):
-    """Why a packet is not queued on board to be sent as telemetry, by two of the numbers of a TmFault."""
+    """Why a packet is not queued on board as telemetry, by two of the numbers of a TmFault."""
 
     _meanings = {7: "there was no memory", 8: TmFault._meanings[8]}
 
 
 class MapFault(Fault):
-    """Why octets are not cut into segments, or a MAP is refused."""
+    """Why octets are not cut into segments, or a call of a MAP is refused."""
 
     class Number(Numbers):
         NOT_A_PACKET, TOO_LONG, DAMAGED = 1, 2, 255
@@ -216,7 +216,7 @@ class LinkFault(Fault):
 
 
 class SimFault(Fault):
-    """Why an event does not happen on a simulated link."""
+    """Why an event does not take place on a simulated link."""
 
     class Number(Numbers):
         MEMORY, NOTHING_IN_TRANSIT, NOT_DETECTABLE = range(6, 9)

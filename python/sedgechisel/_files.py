@@ -1,4 +1,4 @@
-"""Telemetry frames out of files."""
+"""Reads telemetry frames from files."""
 from __future__ import annotations
 
 from typing import Callable, Iterator, Optional, Protocol
@@ -9,20 +9,20 @@ _PIECE = 65536
 
 
 class Readable(Protocol):
-    """A file, or what is read like one."""
+    """A file, or an object that is read like one."""
 
     def read(self, size: int, /) -> Optional[bytes]:
-        """At most this many octets; none at the end."""
+        """Returns at most this many octets, and none at the end."""
 
 
 def read_frames(file: Readable, length: int) -> Iterator[bytes]:
-    """Reads telemetry frames of `length` octets, 16 to 2,048, one after another until the file ends: each as `bytes`,
-    for `Ground.telemetry` or `TmFrame.decode`. A ValueError for another length; and at the end, after the last frame,
-    one with the number of octets that are left, if there are any.
+    """Reads telemetry frames of `length` octets, 16 to 2,048, one after another until the file ends. Yields each as
+    `bytes`, for `Ground.telemetry` or `TmFrame.decode`. Raises ValueError for any other length; and, after the last
+    frame, if octets are left at the end, with their number.
 
-    The file is one of octets that waits until there are some: one that `open` gives for "rb", buffered or not, a pipe,
-    `socket.makefile("rb")`, or one that is decompressed. A frame is given once its last octet came. About 65,536 octets
-    are read at once, so the file is read further than the frame that was given."""
+    The file must be a binary file whose reads wait for octets: one opened with "rb", buffered or not, a pipe,
+    `socket.makefile("rb")`, or a file that is decompressed. A frame is yielded once its last octet has arrived. About
+    65,536 octets are read at once, so the file is read beyond the frame that was yielded."""
     read = getattr(file, "read1", None) or getattr(file, "read", None)
     if read is None:
         raise TypeError(f"file: {file!r} has no read")
@@ -30,7 +30,7 @@ def read_frames(file: Readable, length: int) -> Iterator[bytes]:
 
 
 def _piece_of(read: Callable[[int], Optional[bytes]]) -> bytes:
-    """The next octets, as many as came."""
+    """Returns the next octets, as many as have arrived."""
     piece = read(_PIECE)
     if piece is None:
         raise BlockingIOError("file: it does not wait until there are octets")
@@ -40,7 +40,7 @@ def _piece_of(read: Callable[[int], Optional[bytes]]) -> bytes:
 
 
 def _cut(read: Callable[[int], Optional[bytes]], length: int) -> Iterator[bytes]:
-    """What is read, in frames of this length."""
+    """Yields what is read, in frames of this length."""
     octets = b""
     while piece := _piece_of(read):
         octets += piece

@@ -1,4 +1,4 @@
-"""The shared libraries, and how their calls are made."""
+"""Loads the shared libraries, and makes their calls."""
 from __future__ import annotations
 
 import ctypes
@@ -17,11 +17,11 @@ _Own = TypeVar("_Own", bound="Single")
 _Call = TypeVar("_Call", bound=Callable[..., Any])
 _MOST: Dict[Any, int] = {c_uint8: 0xFF, c_uint16: 0xFFFF, c_uint32: 0xFFFFFFFF, c_uint64: 0xFFFF_FFFF_FFFF_FFFF}
 LONGEST = 65542
-_rooms: List[Any] = []  # of LONGEST octets each, that no call has
+_rooms: List[Any] = []  # buffers of LONGEST octets each, which no call is using
 
 
 def _load(name: str) -> ctypes.PyDLL:
-    """A library beside this module. Each call holds the interpreter's lock, so threads cannot call at once."""
+    """Loads a library next to this module. Each call holds the interpreter's lock, so no two threads call at once."""
     file = path.join(path.dirname(path.abspath(__file__)), name)
     try:
         return ctypes.PyDLL(file)
@@ -30,12 +30,12 @@ def _load(name: str) -> ctypes.PyDLL:
 
 
 def warn_of(old: str, new: str) -> None:
-    """Warns a program of a name that goes after 0.3."""
+    """Warns a program of a name that will be removed after 0.3."""
     warnings.warn(f"{old} is {new} now; the old name goes after 0.3", DeprecationWarning, stacklevel=3)
 
 
 def renamed(old: str, call: _Call) -> _Call:
-    """A method under the name that it had, which `help` shows as such."""
+    """Makes a method under its old name, which `help` shows as such."""
     @wraps(call)
     def called(*values: Any, **named: Any) -> Any:
         warn_of(old, call.__name__)
@@ -46,35 +46,35 @@ def renamed(old: str, call: _Call) -> _Call:
 
 
 def number_of(name: str, value: Any) -> int:
-    """A number; a TypeError where there is none."""
+    """Returns the number. Raises TypeError if the value is not one."""
     if not isinstance(value, int):
         raise TypeError(f"{name}: {value!r} is not a number")
     return value
 
 
 def frame_length_of(value: Any) -> int:
-    """A length that telemetry frames may have; a ValueError for another one."""
+    """Returns the length, if telemetry frames may have it. Raises ValueError for any other."""
     if not 16 <= number_of("length", value) <= 2048:
         raise ValueError(f"length: {value} is not in 16 to 2048")
     return int(value)
 
 
 def within(name: str, kind: Any, value: Any) -> None:
-    """A number that its kind does not hold is an OverflowError, and what is no number a TypeError."""
+    """Raises OverflowError if the number does not fit its kind, and TypeError if the value is not a number."""
     most = _MOST.get(kind)
     if most is not None and not 0 <= number_of(name, value) <= most:
         raise OverflowError(f"{name}: {value} is not in 0 to {most}")
 
 
 def room_of(name: str, count: Any) -> Any:
-    """Memory of this many octets."""
+    """Allocates a buffer of this many octets."""
     within(name, c_size_t, count)
     return ctypes.create_string_buffer(count)
 
 
 def written(look_at: Callable[[int], Any], call: Callable[..., int], most: int, *values: Any) -> bytes:
-    """The octets that a call writes, and says the number of, given room for the most that it may write. Rooms are kept,
-    since to make one takes longer than most calls; each is that of one call at a time."""
+    """Returns the octets that a call writes (it writes their number too), given a buffer for the maximum. Buffers are
+    kept, because creating one takes longer than most calls; only one call at a time uses each."""
     count = c_size_t()
     try:
         room = _rooms.pop() if most <= LONGEST else room_of("most", most)
@@ -88,12 +88,12 @@ def written(look_at: Callable[[int], Any], call: Callable[..., int], most: int, 
 
 
 def octets_of(name: str, value: Any) -> bytes:
-    """Octets as `bytes`; a TypeError where there are none, as in a number or a str."""
+    """Returns octets as `bytes`. Raises TypeError if the value has none, as a number or a str."""
     if type(value) is bytes:
         return value
     if isinstance(value, bytes):
         return bytes(value)
-    if isinstance(value, ctypes.Structure):  # it lends its memory, which is not what it is on the link
+    if isinstance(value, ctypes.Structure):  # its buffer is its memory, which is not its octets on the link
         raise TypeError(f"{name}: {value!r} is not bytes; `encode` gives them")
     try:
         return bytes(memoryview(value))
@@ -102,16 +102,16 @@ def octets_of(name: str, value: Any) -> bytes:
 
 
 def struct_of(name: str, kind: Any, value: Any) -> Any:
-    """A struct of this kind; a TypeError where the value is none."""
+    """Returns the struct. Raises TypeError if the value is not of this kind."""
     if not isinstance(value, kind):
         raise TypeError(f"{name}: {value!r} is not a {kind.__name__}")
     return value
 
 
 def call_of(library: ctypes.PyDLL, name: str, answer: Any, *kinds: Any) -> Callable[..., Any]:
-    """A call of a library, of which each number that a caller gives has its name and its kind. A number that its kind
-    does not hold is an OverflowError, where ctypes would cut it. A struct is given as it is: ctypes makes the pointer,
-    in half the time that `byref` takes."""
+    """Makes a call of a library. Each number that a caller passes has a name and a kind; one that does not fit its kind
+    raises an OverflowError, where ctypes would truncate it. A struct is passed as it is: ctypes makes the pointer, in
+    half the time that `byref` takes."""
     call: Any = getattr(library, "sedge_" + name)
     call.restype, call.argtypes = answer, [it[1] if isinstance(it, tuple) else it for it in kinds]
     numbers = [(place, *it) for place, it in enumerate(kinds) if isinstance(it, tuple)]
@@ -126,7 +126,7 @@ def call_of(library: ctypes.PyDLL, name: str, answer: Any, *kinds: Any) -> Calla
 
 
 class Numbers(IntEnum):
-    """An enumeration whose members print as their numbers, in each version of Python."""
+    """An enumeration whose members print as their numbers, in every version of Python."""
 
     def __str__(self) -> str:
         return int.__repr__(self)
@@ -136,7 +136,7 @@ class Numbers(IntEnum):
 
 
 class Bits(IntFlag):
-    """Flags that print as their number, in each version of Python."""
+    """Flags that print as their number, in every version of Python."""
 
     def __str__(self) -> str:
         return int.__repr__(self)
@@ -146,7 +146,7 @@ class Bits(IntFlag):
 
 
 class Single:
-    """What has memory of its own, which a copy would share: copies and pickles are a TypeError."""
+    """An object with memory of its own, which a copy would share: copying and pickling raise a TypeError."""
 
     def __reduce__(self) -> Tuple[Any, ...]:
         raise TypeError(f"a {type(self).__name__} is not copied")

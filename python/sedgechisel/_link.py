@@ -17,7 +17,7 @@ _SUBMITTED, _DELIVERED, _SENT, _ACCEPTED = range(1, 5)
 
 
 class Begun(Numbers):
-    """How a session began; NOT where none has."""
+    """How a session began; NOT if none has begun."""
 
     NOT, WITHOUT_CHECK, WITH_CHECK, UNLOCK, SET_VR = range(5)
 
@@ -57,11 +57,11 @@ _sim_close = _call("sim_close", None, POINTER(_Raw))
 
 
 class Link(Directives, Handle):
-    """A simulated link: a ground, a spacecraft of the same parameters, and the frames on their way between them, first
-    in, first out. It keeps the records of its session, which begins with each initiation that the ground accepts.
+    """A simulated link: a ground, a spacecraft with the same parameters, and the frames in transit between them, first
+    in, first out. It keeps the records of its session; each initiation that the ground accepts begins a new one.
 
-    An event that a node refuses is its fault, as of `Ground` and `Spacecraft`. A LinkFault or TelemetryFault, Memory,
-    and a SimFault say that there was no memory; each event may be one. Nothing has changed then."""
+    An event that a node refuses raises the node's fault, as in `Ground` and `Spacecraft`. Any event may also run out of
+    memory and raise a LinkFault or TelemetryFault (Memory) or a SimFault. Nothing has changed then."""
 
     _opens, _closes = _sim_open, _sim_close
 
@@ -75,69 +75,74 @@ class Link(Directives, Handle):
         return reply
 
     def _octets(self, reply: _Reply) -> Optional[bytes]:
-        """The frame or the packet of the event, if there is one."""
+        """Returns the frame or the packet of the event, if there is one."""
         return self._given(_sim_octets, reply.count) if reply.count else None
 
     def _direct(self, name: str, own: str = "", value: int = 0, kind: Any = c_uint8) -> None:
         self._event("directive", directive=_directive(name, own, value, kind))
 
     def submit(self, map: int, packets: bytes) -> None:
-        """Packets are to be sent on a MAP under sequence control, as by `Ground.submit`."""
+        """Queues packets on the ground for a MAP under sequence control, as `Ground.submit` does."""
         self._event("submit", map, octets_of("packets", packets))
 
     def bypass(self, map: int, packet: bytes) -> None:
-        """One packet is to be sent on a MAP past the sequence control, as by `Ground.bypass`."""
+        """Queues one packet on the ground for a MAP by bypass, as `Ground.bypass` does."""
         self._event("bypass", map, octets_of("packet", packet))
 
     def send(self) -> Optional[bytes]:
-        """The ground sends a frame, which is on its way up then; None where nothing is to be sent."""
+        """Sends a frame from the ground; it is then in transit on the uplink. Returns it, or None if nothing is to be
+        sent."""
         with self._lock:
             return self._octets(self._event("send"))
 
     def up_deliver(self) -> Received:
-        """The first frame on its way up arrives. A SimFault, 7 NothingInTransit, where there is none."""
+        """Delivers the first frame in transit on the uplink. Raises SimFault 7 (NothingInTransit) if there is none."""
         return self._event("up_deliver").up.value()
 
     def up_lose(self) -> None:
-        """The first frame on its way up is lost. A SimFault, 7 NothingInTransit, where there is none."""
+        """Loses the first frame in transit on the uplink. Raises SimFault 7 (NothingInTransit) if there is none."""
         self._event("up_lose")
 
     def up_damage(self, octets: bytes) -> Received:
-        """These octets arrive in place of the first frame on its way up, and are no frame. A SimFault, 7
-        NothingInTransit where no frame is on its way up, and 8 NotDetectable where the octets are one."""
+        """Delivers these octets, which must not form a valid frame, instead of the first frame in transit on the
+        uplink. Raises SimFault 7 (NothingInTransit) if there is none, and 8 (NotDetectable) if the octets are a valid
+        frame."""
         return self._event("up_damage", 0, octets_of("octets", octets)).up.value()
 
     def report(self) -> Clcw:
-        """The spacecraft sends a telemetry frame, which is on its way down then: the report in it."""
+        """Sends a telemetry frame from the spacecraft; it is then in transit on the downlink. Returns the CLCW in
+        it."""
         return Clcw.from_buffer_copy(self._event("report").report)
 
     def down_deliver(self) -> Heard:
-        """The first frame on its way down arrives. A SimFault, 7 NothingInTransit, where there is none."""
+        """Delivers the first frame in transit on the downlink. Raises SimFault 7 (NothingInTransit) if there is
+        none."""
         return self._event("down_deliver").down.value()
 
     def down_lose(self) -> None:
-        """The first frame on its way down is lost. A SimFault, 7 NothingInTransit, where there is none."""
+        """Loses the first frame in transit on the downlink. Raises SimFault 7 (NothingInTransit) if there is none."""
         self._event("down_lose")
 
     def down_damage(self, octets: bytes) -> Heard:
-        """These octets arrive in place of the first frame on its way down, and are no frame. A SimFault, 7
-        NothingInTransit where no frame is on its way down, and 8 NotDetectable where the octets are one."""
+        """Delivers these octets, which must not form a valid frame, instead of the first frame in transit on the
+        downlink. Raises SimFault 7 (NothingInTransit) if there is none, and 8 (NotDetectable) if the octets are a valid
+        frame."""
         return self._event("down_damage", 0, octets_of("octets", octets)).down.value()
 
     def down_clcw(self) -> Heard:
-        """The first frame on its way down arrives, and its report alone reaches the ground, as by `Ground.clcw`:
-        telemetry is not touched. A SimFault, 7 NothingInTransit, where there is none."""
+        """Delivers the first frame in transit on the downlink, but only its CLCW reaches the ground, as by
+        `Ground.clcw`; telemetry is unchanged. Raises SimFault 7 (NothingInTransit) if there is none."""
         return self._event("down_clcw").down.value()
 
     def resume(self, value: int) -> int:
-        """The ground goes on after an alert, as by `Ground.resume`: a session begins, by Unlock. Returns how many first
-        ones of the submissions of the session that ended are on board whole. A LinkFault, 10 NotKnown, as of that
-        call."""
+        """Resumes on the ground after an alert, as `Ground.resume` does: a session begins, by Unlock. Returns how many
+        of the ended session's submissions, counted from the first, are on board whole. Raises LinkFault 10 (NotKnown)
+        as that call does."""
         within("value", c_uint8, value)
         return self._event("resume", directive=(0, value)).whole
 
     def tick(self) -> Alert:
-        """A tick of the ground's clock passes: the Alert."""
+        """Counts a tick of the ground's clock. Returns the Alert."""
         return Alert(self._event("tick").alert)
 
     def _taken(self, name: str) -> Optional[OnMap]:
@@ -147,16 +152,16 @@ class Link(Directives, Handle):
         return None if packet is None else OnMap(reply.map, packet)
 
     def take(self) -> Optional[OnMap]:
-        """A packet of sequence-controlled frames is taken on board: an OnMap, its `map` and the `packet`; or None."""
+        """Takes a packet of sequence-controlled frames on board. Returns an OnMap, its `map` and the `packet`, or
+        None."""
         return self._taken("take")
 
     def take_bypass(self) -> Optional[OnMap]:
-        """A packet that came past the sequence control is taken on board: an OnMap, its `map` and the `packet`; or
-        None."""
+        """Takes a packet that arrived by bypass on board. Returns an OnMap, its `map` and the `packet`, or None."""
         return self._taken("take_bypass")
 
     def telemetry(self, packet: bytes) -> None:
-        """A packet is queued on board to be sent as telemetry, as by `Spacecraft.telemetry`."""
+        """Queues a packet on board to be sent as telemetry, as `Spacecraft.telemetry` does."""
         self._event("telemetry", 0, octets_of("packet", packet))
 
     # The session.
@@ -182,7 +187,7 @@ class Link(Directives, Handle):
 
     @property
     def acknowledged(self) -> int:
-        """How many of the first ones of `sent` the ground holds acknowledged."""
+        """How many of `sent`, counted from the first, the ground counts as acknowledged."""
         return int(self._read().acknowledged)
 
     @property
@@ -192,7 +197,7 @@ class Link(Directives, Handle):
 
     @property
     def clean(self) -> bool:
-        """Whether the session began with nothing on its way, and without a CLCW check only where V(R) was V(S)."""
+        """Whether the session began with nothing in transit, and, if it began without CLCW check, with V(R) = V(S)."""
         return bool(self._read().clean)
 
     @property
@@ -202,7 +207,7 @@ class Link(Directives, Handle):
 
     @property
     def confirmed(self) -> bool:
-        """Whether a report has taken the ground from S4 or S5 to S1."""
+        """Whether a CLCW has taken the ground from S4 or S5 to S1."""
         return bool(self._read().confirmed)
 
     # Its nodes.
@@ -214,7 +219,7 @@ class Link(Directives, Handle):
 
     @property
     def vs(self) -> int:
-        """V(S) of the ground, the number of the next segment that is sent for the first time."""
+        """V(S) of the ground, the number of the next segment to be sent for the first time."""
         return int(self._read_ground().vs)
 
     @property
@@ -224,12 +229,12 @@ class Link(Directives, Handle):
 
     @property
     def unsent(self) -> int:
-        """How many of the segments that are outstanding wait to be sent for the first time."""
+        """How many of the outstanding segments wait to be sent for the first time."""
         return int(self._read_ground().unsent)
 
     @property
     def due(self) -> int:
-        """How many of the segments that are outstanding are to be sent again."""
+        """How many of the outstanding segments are to be retransmitted."""
         return int(self._read_ground().due)
 
     @property
@@ -239,7 +244,7 @@ class Link(Directives, Handle):
 
     @property
     def ticks(self) -> int:
-        """The ticks that are left of the ground's timer, or 0 where it does not run."""
+        """The ticks left on the ground's timer, or 0 if it does not run."""
         return int(self._read_ground().ticks)
 
     @property
@@ -254,7 +259,7 @@ class Link(Directives, Handle):
 
     @property
     def control_word(self) -> Clcw:
-        """The report that the next telemetry frame carries."""
+        """The CLCW that the next telemetry frame carries."""
         it = self._read_spacecraft()
         return Clcw(it.status, it.vcid, it.flags, it.farm_b, it.value)
 
@@ -270,7 +275,7 @@ class Link(Directives, Handle):
 
     @property
     def bypass_ready(self) -> int:
-        """How many packets that came past the sequence control wait on board to be taken."""
+        """How many packets that arrived by bypass wait on board to be taken."""
         return int(self._read_spacecraft().bypassed)
 
     # The records of its session.
@@ -297,21 +302,21 @@ class Link(Directives, Handle):
         return found
 
     def submitted(self, map: int) -> List[bytes]:
-        """The packets that were submitted on a MAP in the session."""
+        """Returns the packets that were submitted on a MAP in the session."""
         return self._entries(_SUBMITTED, map)
 
     def delivered(self, map: int) -> List[bytes]:
-        """The packets that were ready on board on a MAP, taken or not."""
+        """Returns the packets that became ready on board on a MAP in the session, taken or not."""
         return self._entries(_DELIVERED, map)
 
     @property
     def sent(self) -> List[bytes]:
-        """The data fields of Type-AD frames, in the order in which they were first sent."""
+        """The data fields of Type-AD frames in the session, in the order in which they were first sent."""
         return self._entries(_SENT)
 
     @property
     def accepted(self) -> List[bytes]:
-        """The data fields of Type-AD frames that were accepted on board."""
+        """The data fields of Type-AD frames that were accepted on board in the session."""
         return self._entries(_ACCEPTED)
 
 

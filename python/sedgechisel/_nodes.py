@@ -25,9 +25,9 @@ def _call(name: str, answer: Any, *kinds: Any) -> Callable[..., Any]:
 
 class Config(_Struct):
     """The managed parameters of a node, with the defaults and the ranges of docs/PROFILE.md. Both ends of a link have
-    the same `scid`, `vcid`, `tm_vcid`, `width`, `max_packet`, `maps`, `frame_length` and `blocking`. Of the others the
-    ground alone reads `window`, `limit`, `timer`, `part` and `queue_slots`, and the spacecraft alone `ready_slots` and
-    `bypass_slots`. `Config(window=4, timer=3)` sets two of them:
+    the same `scid`, `vcid`, `tm_vcid`, `width`, `max_packet`, `maps`, `frame_length` and `blocking`. Of the others,
+    only the ground reads `window`, `limit`, `timer`, `part` and `queue_slots`, and only the spacecraft reads
+    `ready_slots` and `bypass_slots`. `Config(window=4, timer=3)` sets two of them:
 
     - `scid`: the spacecraft identifier, 0 to 1,023; default 1
     - `vcid`: the virtual channel of telecommand frames, 0 to 63; default 2
@@ -74,7 +74,7 @@ class Config(_Struct):
                          bypass_slots, queue_slots, frame_length, blocking)
 
     def fault(self) -> Optional[str]:
-        """The name of the first parameter that is out of its range, or None."""
+        """Returns the name of the first parameter that is out of range, or None."""
         number = _config_fault(self)
         return ConfigFault(number).name if number else None
 
@@ -83,7 +83,7 @@ _config_fault = _call("config_fault", c_uint8, POINTER(Config))
 
 
 class ConfigFault(Fault):
-    """The first managed parameter that is out of its range: its number, its name, and the range."""
+    """The first managed parameter that is out of range: its number, its name, and the range."""
 
     class Number(Numbers):
         (SCID, VCID, TM_VCID, WIDTH, WINDOW, LIMIT, TIMER, PART, MAX_PACKET, MAPS, READY_SLOTS, BYPASS_SLOTS,
@@ -100,13 +100,13 @@ class _Raw(ctypes.Structure):
 
 
 def _fields_of(given: Dict[str, Any]) -> Dict[str, Any]:
-    """Those of these arguments that are managed parameters, and are given."""
+    """Returns the arguments that are managed parameters and are given."""
     return {name: value for name, value in given.items() if name in Config._kinds and value is not None}
 
 
 class Handle(Single):
-    """What the nodes share. A node is closed by `close`, at the end of its `with`, or when nothing refers to it any
-    more; each later call is a ValueError."""
+    """What the nodes share. A node is closed by `close`, at the end of its `with` block, or when nothing refers to it
+    any more; each later call raises a ValueError."""
 
     _opens: Callable[..., int]
     _closes: Callable[..., Any]
@@ -119,8 +119,8 @@ class Handle(Single):
             maps: Optional[int] = None, ready_slots: Optional[int] = None, bypass_slots: Optional[int] = None,
             queue_slots: Optional[int] = None, frame_length: Optional[int] = None,
             blocking: Optional[int] = None) -> None:
-        """A node with these managed parameters: a Config, or some of its fields, each by its name; the others have their
-        defaults. A ConfigFault where one is out of its range, or a LinkFault, 6 Memory."""
+        """Opens a node with these managed parameters: a Config, or some of its fields, each by name; the others have
+        their defaults. Raises ConfigFault if one is out of range, or LinkFault 6 (Memory)."""
         fields = _fields_of(locals())
         if not isinstance(config, (Config, type(None))):
             raise TypeError(f"config: {config!r} is not a Config; parameters are given by name, as in timer=3")
@@ -135,7 +135,7 @@ class Handle(Single):
         LinkFault._look_at(answer)
 
     def __setattr__(self, name: str, value: Any) -> None:
-        """Nothing is set on a node by its name: `set_timer` and the like are the directives."""
+        """Refuses to set a field of a node by name: `set_timer` and the like are the directives."""
         if not name.startswith("_") and not hasattr(type(self), name):
             raise AttributeError(f"{type(self).__name__} has no field {name}")
         super().__setattr__(name, value)
@@ -144,17 +144,17 @@ class Handle(Single):
         return type(self)._opens(config, self._handle)
 
     def close(self) -> None:
-        """Closes it, and gives its memory back; again does nothing."""
+        """Closes the node and releases its memory. A second call does nothing."""
         with self._lock:
             type(self)._closes(self._handle)
 
     @property
     def closed(self) -> bool:
-        """Whether it is closed."""
+        """Whether the node is closed."""
         return self._handle.node is None
 
     def _shown(self) -> str:
-        """Its state, in few words."""
+        """Returns its state, in a few words."""
         raise NotImplementedError
 
     def __repr__(self) -> str:
@@ -173,39 +173,39 @@ class Handle(Single):
             self.close()
 
     def _asked(self, answer: int, fault: Type[Fault] = LinkFault) -> int:
-        """The answer of a call, which is a fault where it is not 0."""
+        """Returns the answer of a call. Raises the fault unless the answer is 0."""
         if answer == _NONE:
             raise ValueError(f"the {type(self).__name__.lower()} is closed")
         fault._look_at(answer)
         return answer
 
     def _is_absent(self, answer: int) -> bool:
-        """Whether a call answers that there is nothing; a fault where it answers neither that nor 0."""
+        """Returns whether a call answers that there is nothing. Raises the fault if it answers neither that nor 0."""
         return answer == _ABSENT or bool(self._asked(answer))
 
     def _number(self, call: Callable[..., int]) -> int:
-        """The number that a call writes."""
+        """Returns the number that a call writes."""
         number = c_size_t()
         self._asked(call(self._handle, number))
         return number.value
 
     def _given(self, call: Callable[..., int], most: int, *values: Any) -> bytes:
-        """What a call writes, given room for the most octets that it may write."""
+        """Returns what a call writes, given a buffer for the maximum that it may write."""
         return _written(self._asked, call, most, self._handle, *values)
 
 
-# ---- What comes of octets ----
+# ---- Received octets ----
 
 
 class Arrived(Numbers):
-    """What octets were that arrived: no frame, one of another spacecraft or channel, a telecommand frame of a type, a
-    telemetry frame, or a report by itself."""
+    """What received octets were: not a valid frame, a frame of another spacecraft or channel, a telecommand frame of
+    one of the types, a telemetry frame, or a CLCW by itself."""
 
     INVALID, FOREIGN, AD, BD, BC, TM, CLCW = range(1, 8)
 
 
 class _Renamed(EnumMeta):
-    """An enumeration whose members have other names too, those of before 0.3."""
+    """An enumeration whose members also have their names from before 0.3."""
 
     def __getattr__(cls, name: str) -> Any:
         new = {"NONE": "REFUSED", "OTHER": "OTHER_CHANNEL"}.get(name, name)
@@ -217,25 +217,25 @@ class _Renamed(EnumMeta):
 
 
 class Report(Numbers, metaclass=_Renamed):
-    """What becomes of a report: it is given to the sender (USED), it is none, the octets being no control word
-    (REFUSED), or it is about another virtual channel (OTHER_CHANNEL)."""
+    """What became of a report: it was given to the sender (USED), its octets are not a control word (REFUSED), or it is
+    about another virtual channel (OTHER_CHANNEL)."""
 
     USED, REFUSED, OTHER_CHANNEL = range(3)
 
 
-# Members by their numbers, in a tenth of the time that a call of their enumeration takes.
+# Members by their numbers: a lookup takes a tenth of the time of a call of their enumeration.
 _ARRIVED, _REPORTS = dict(enumerate(Arrived, 1)), dict(enumerate(Report))
 _ALERTS, _VERDICTS = dict(enumerate(Alert)), dict(enumerate(Verdict))
 
 
 @dataclass(frozen=True)
 class Received:
-    """What the spacecraft makes of octets: their `kind`, and what that kind has.
+    """What the spacecraft makes of received octets: their `kind`, and what that kind has.
 
     - INVALID: `fault`
-    - AD: its number `n`, the `verdict`, the number of packets that are `ready` with it, and why octets on its MAP were
-      `dropped`, in the word of tctool, or None
-    - BD: whether it carried a packet, which is `kept`
+    - AD: the frame's number `n`, the `verdict`, the number of packets that became `ready` with it, and why octets on
+      its MAP were `dropped`, in the word that tctool prints, or None
+    - BD: whether it carried a packet, which is then `kept`
     - BC: the `command`, and the number `vr` of Set V(R)"""
 
     kind: Arrived
@@ -267,15 +267,15 @@ class _Received(ctypes.Structure):
 
 @dataclass(frozen=True)
 class Heard:
-    """What the ground makes of octets: their `kind`, and what that kind has.
+    """What the ground makes of received octets: their `kind`, and what that kind has.
 
     - INVALID: `fault`
-    - TM: the number of frames that are missing before it, `gap`, or None for the first; the number of `packets` that
-      came to wait to be taken; what became of its `report`; the `word` itself, or where the report is REFUSED the
-      `word_fault`; and why the sender has given up, `alert`
-    - CLCW: `report`, `word`, `word_fault` and `alert` in the same way
+    - TM: the number of frames missing before it (`gap`), or None for the first; the number of `packets` that it added
+      to those that wait to be taken; what became of its `report`; the `word` itself, or the `word_fault` if the report
+      is REFUSED; and why the sender has given up (`alert`)
+    - CLCW: `report`, `word`, `word_fault` and `alert`, as for TM
 
-    `word` is a Clcw, about whichever virtual channel; of a `Link` it is None, since `Link.report` has given it."""
+    `word` is a Clcw, of any virtual channel. From a `Link` it is None, because `Link.report` has returned it."""
 
     kind: Arrived
     fault: Optional[TmFault] = None
@@ -292,7 +292,7 @@ class _Heard(ctypes.Structure):
                 ("report", c_uint8), ("word_fault", c_uint8), ("alert", c_uint8)]
 
     def value(self, ocf: bytes = b"") -> Heard:
-        """What came, with these four octets for its word."""
+        """Returns what arrived, with these four octets for its word."""
         if self.kind == 1:
             return Heard(Arrived.INVALID, fault=TmFault(self.fault))
         if self.kind == 2:
@@ -327,13 +327,13 @@ _ground_close = _call("ground_close", None, POINTER(_Raw))
 
 @dataclass(frozen=True)
 class KeptGround:
-    """What is kept of a ground, with which another goes on where it was lost.
+    """The record of a ground, from which another one can continue if that ground is lost.
 
     - `acknowledged`, how many submissions are acknowledged whole
-    - `vs`, V(S), the number of the next segment that is sent for the first time
+    - `vs`, V(S), the number of the next segment to be sent for the first time
     - `nn`, NN(R), the number that the spacecraft was last known to expect
-    - `known`, whether these are a session's, and no alert has shown that a condition is broken
-    - `segments`, of each submission more that was sent whole how many of its segments are not acknowledged"""
+    - `known`, whether these are a session's numbers, and no alert has shown that a condition is broken
+    - `segments`, for each further submission that was sent whole, how many of its segments are not acknowledged"""
 
     acknowledged: int = 0
     vs: int = 0
@@ -353,7 +353,7 @@ class KeptGround:
 
 
 class Ground(Directives, Handle):
-    """The ground: it sends packets until they are accepted, and takes telemetry."""
+    """The ground node: it sends packets until they are accepted, and takes telemetry."""
 
     _opens, _closes = _ground_open, _ground_close
 
@@ -365,10 +365,10 @@ class Ground(Directives, Handle):
             maps: Optional[int] = None, ready_slots: Optional[int] = None, bypass_slots: Optional[int] = None,
             queue_slots: Optional[int] = None, frame_length: Optional[int] = None,
             blocking: Optional[int] = None) -> None:
-        """A ground with these managed parameters: a Config, or some of its fields, each by its name; the others have
-        their defaults. With `kept` it goes on in S6 where another was lost, at what its `kept` was: `resume` begins the
-        next session, as after an alert. A ConfigFault where a parameter is out of its range; an OverflowError for a
-        record that no ground of this configuration gives; or a LinkFault, 6 Memory."""
+        """Opens a ground with these managed parameters: a Config, or some of its fields, each by name; the others have
+        their defaults. With `kept`, the `kept` of a ground that was lost, it continues from there in S6: `resume`
+        begins the next session, as after an alert. Raises ConfigFault if a parameter is out of range, OverflowError for
+        a record that no ground of this configuration gives, or LinkFault 6 (Memory)."""
         self._kept = None if kept is None else _struct_of("kept", KeptGround, kept)._record()
         super().__init__(config, **_fields_of(locals()))
 
@@ -382,10 +382,9 @@ class Ground(Directives, Handle):
 
     @property
     def kept(self) -> KeptGround:
-        """What is kept of this ground, in a record of fixed size. A program stores it after each call, and after a pull
-        before the frame goes out; where the ground is lost, `Ground(config, kept=..)` opens another at it. Of
-        submissions that were not sent whole nothing is kept, nor of bypass packets, of telemetry, and of what
-        directives set."""
+        """The record of this ground, of fixed size. A program stores it after each call, and after a pull before the
+        frame goes out. If the ground is lost, `Ground(config, kept=..)` opens another one at it. The record has nothing
+        of submissions that were not sent whole, of bypass packets, of telemetry, or of what directives set."""
         it = _GroundKept()
         self._asked(_ground_kept(self._handle, it))
         return KeptGround(it.acknowledged, it.vs, it.nn, it.known == 1, tuple(it._segments[:it.whole]))
@@ -394,10 +393,10 @@ class Ground(Directives, Handle):
         self._asked(_ground_directive(self._handle, *_directive(name, own, value, kind)), CopFault)
 
     def submit(self, map: int, packets: bytes) -> int:
-        """Packets are to be sent on a MAP under sequence control: one, or with blocking several, one after another.
-        Returns the number of this submission in its session, from 0. `resume` counts submissions: of several packets that
-        do not fit into one segment together, of `part` octets, some may be on board when the submission is not counted.
-        The first LinkFault of 1 to 6 that applies; nothing has changed then."""
+        """Queues one packet, or with blocking several consecutive packets, for transmission on a MAP under sequence
+        control. Returns the number of this submission in its session, from 0. `resume` counts submissions: if the
+        packets do not fit into one segment of `part` octets together, some of them may be on board although the
+        submission is not counted. Raises the first of LinkFault 1 to 6 that applies; nothing has changed then."""
         packets = _octets_of("packets", packets)
         with self._lock:
             number = self.submitted
@@ -405,25 +404,25 @@ class Ground(Directives, Handle):
         return number
 
     def bypass(self, map: int, packet: bytes) -> None:
-        """One packet is to be sent on a MAP past the sequence control, in any state. The first LinkFault of 2 to 6 that
-        applies."""
+        """Queues one packet for transmission on a MAP by bypass, in any state. Raises the first of LinkFault 2 to 6
+        that applies."""
         packet = _octets_of("packet", packet)
         self._asked(_ground_bypass(self._handle, map, packet, len(packet)))
 
     def pull(self) -> Optional[bytes]:
-        """Takes the telecommand frame that goes on the link next, with its FECF, at most 1,024 octets; None where
-        nothing is to be sent now."""
+        """Takes the telecommand frame that goes on the link next. Returns it with its FECF, at most 1,024 octets, or
+        None if nothing is to be sent now."""
         return self._given(_ground_pull, 1024) or None
 
     def frames(self) -> Iterator[bytes]:
-        """Pulls frames until nothing is to be sent. Each counts as sent when it is given; those that are not asked for
-        stay in the ground."""
+        """Pulls frames until nothing is to be sent. A frame counts as sent when it is yielded; frames that are not
+        requested stay in the ground."""
         return iter(self.pull, None)
 
     def peek(self) -> Optional[bytes]:
-        """The telecommand frame that goes on the link next, as `pull` gives it; None where nothing is to be sent now.
-        The ground stays as it is: the frame counts as sent once `advance` is called, as where a radio that may refuse
-        it has taken it."""
+        """Returns the telecommand frame that goes on the link next, as `pull` does, or None if nothing is to be sent
+        now. Changes nothing: the frame counts as sent once `advance` is called, for example when a radio that may
+        refuse the frame has taken it."""
         return self._given(_ground_peek, 1024) or None
 
     def advance(self) -> None:
@@ -431,100 +430,106 @@ class Ground(Directives, Handle):
         self._asked(_ground_advance(self._handle))
 
     def telemetry(self, octets: bytes) -> Heard:
-        """Octets came from the spacecraft, which are one telemetry frame if all is well. A LinkFault, 6 Memory."""
+        """Takes octets received from the spacecraft, normally one telemetry frame. Returns a Heard. Raises LinkFault 6
+        (Memory)."""
         octets, heard = _octets_of("octets", octets), _Heard()
         self._asked(_ground_telemetry(self._handle, octets, len(octets), heard))
         return heard.value(octets[-6:-2])
 
     def telemetry_all(self, octets: bytes, length: int) -> Iterator[Heard]:
-        """Octets came that are telemetry frames of `length` octets, one after another: what comes of each, as
-        `telemetry` gives it, when it is asked for, and in the same time. Take the `packets` of each, or at the end
-        those of all. What is left at the end is no frame. A ValueError for a length that is not in 16 to 2,048, and a
-        LinkFault, 6 Memory."""
+        """Takes received octets that are consecutive telemetry frames of `length` octets. Yields for each what
+        `telemetry` returns, when it is requested, and takes the same time. Take the `packets` after each frame, or
+        those of all at the end. Octets left at the end are yielded as an invalid frame. Raises ValueError unless the
+        length is 16 to 2,048, and LinkFault 6 (Memory)."""
         octets, length = _octets_of("octets", octets), _frame_length_of(length)
         return (self.telemetry(octets[start:start + length]) for start in range(0, len(octets), length))
 
     def clcw(self, word: bytes) -> Heard:
-        """A report came by itself, a CLCW of four octets as a front end hands it on. The sender gets it as it does that
-        of a telemetry frame; telemetry is not touched. The last one may be given again before the next, which changes
-        nothing; an older one may not come again as if it were new. A ValueError for octets that are not four."""
+        """Takes a CLCW of four octets by itself, as a front end passes it on. Gives it to the sender, as if it had come
+        in a telemetry frame; telemetry is unchanged. The last CLCW may be given again before the next one, which
+        changes nothing; an older one must not be given again as if it were new. Raises ValueError unless the octets are
+        four."""
         octets, heard = _octets_of("word", word), _Heard()
         if self._is_absent(_ground_clcw(self._handle, octets, len(octets), heard)):
             raise ValueError(f"word: {len(octets)} octets, where a control word has four")
         return heard.value(octets)
 
     def forget_telemetry(self) -> None:
-        """Begins to take packets out of telemetry anew, as after a restart of the spacecraft: a packet that is not
-        finished is dropped. Packets that wait to be taken stay."""
+        """Begins the extraction of packets from telemetry anew, as after a restart of the spacecraft: drops a packet
+        that is not finished. Packets that wait to be taken stay."""
         self._asked(_ground_forget_telemetry(self._handle))
 
     def clcw_in(self, octets: bytes) -> Optional[Clcw]:
-        """The report that a telemetry frame carries, of whichever spacecraft and virtual channel; None where the octets
-        are no frame, or the frame carries no report. The ground stays as it is."""
+        """Returns the CLCW that a telemetry frame of any spacecraft and virtual channel carries, or None if the octets
+        are not a frame or the frame carries no CLCW. Changes nothing."""
         octets, word = _octets_of("octets", octets), Clcw.__new__(Clcw)
         return None if self._is_absent(_ground_clcw_in(self._handle, octets, len(octets), word)) else word
 
     report_in = renamed("report_in", clcw_in)
 
     def take_telemetry(self) -> Optional[bytes]:
-        """Takes the oldest packet that telemetry frames carried, or None."""
+        """Takes the oldest packet that telemetry frames carried. Returns it, or None."""
         return self._given(_ground_take_telemetry, LONGEST) or None
 
     def packets(self) -> Iterator[bytes]:
-        """Takes the packets that telemetry frames carried, the oldest first, until none is left. Those that are not
-        asked for stay in the ground."""
+        """Takes the packets that telemetry frames carried, oldest first, until none is left. Packets that are not
+        requested stay in the ground."""
         return iter(self.take_telemetry, None)
 
     def tick(self) -> Alert:
-        """A tick of the clock has passed: the Alert."""
+        """Counts a tick of the clock. Returns the Alert."""
         answer = _ground_tick(self._handle)
         return _ALERTS[self._asked(answer) if answer == _NONE else answer]
 
     def accepted_beyond(self, value: int) -> Optional[int]:
-        """How many of the segments that were sent and not acknowledged were accepted on board when a report of this
-        value was made, the oldest ones. Where V(S) = NN(R) it is 0, whatever the value. Elsewhere None, where the value
-        is beyond V(S): nothing is known of them. After an alert too, in S6, until V(S) is set or an initiation begins
-        (232.1-B-2, 5.1), by the numbers alone: after one that shows a broken condition nothing is known of them,
-        whatever it says."""
+        """Returns how many of the sent and unacknowledged segments, oldest first, had been accepted on board when a
+        CLCW with this value was made. Returns 0 if V(S) = NN(R), whatever the value; otherwise None if the value is
+        beyond V(S), because nothing is known of them. Also answers after an alert, in S6, until V(S) is set or an
+        initiation begins (232.1-B-2, 5.1), but by the numbers only: after an alert that shows a broken condition
+        nothing is known of the segments, whatever this returns."""
         accepted = c_uint8()
         return None if self._is_absent(_ground_accepted_beyond(self._handle, value, accepted)) else accepted.value
 
     def known_on_board(self, value: int) -> Optional[int]:
-        """How many first ones of the session's submissions are known to be on board whole by a report of this value:
-        those that are acknowledged, and those all of whose segments it says were accepted. After an alert too (232.1-B-2,
-        5.1). None where nothing is known: no session has begun, V(S) was set since, the session ended by an alert that
-        shows a broken condition, or the value does not lie from NN(R) to V(S), which are not equal."""
+        """Returns how many of the session's submissions, counted from the first, are known to be on board whole by a
+        CLCW with this value: those that are acknowledged, and those whose segments were all accepted according to the
+        CLCW. Also answers after an alert (232.1-B-2, 5.1). Returns None if nothing is known: no session has begun, V(S)
+        has been set since, the session ended by an alert that shows a broken condition, or V(S) is not NN(R) and the
+        value is not in the range from NN(R) to V(S)."""
         whole = c_uint64()
         return None if self._is_absent(_ground_known_on_board(self._handle, value, whole)) else whole.value
 
     def resume(self, value: int) -> int:
-        """Begins the next session after the alert Timer, Limit or Terminated, where the last one has got to: sets V(S) to
-        the value of a report that was made when nothing was on its way up, begins by Unlock (232.1-B-2, 5.2.4), and
-        returns how many first ones of the submissions of the session that ended are on board whole; those after them are
-        to be submitted again. (Of a submission of several packets that do not fit into one segment together, some may be
-        on board though it is not counted.) Where V(S) = NN(R) it takes any value: nothing that was sent is in doubt.
+        """Begins the next session after the alert Timer, Limit or Terminated, at the point that the ended session
+        reached. Sets V(S) to the value of a CLCW that was made when nothing was in transit on the uplink, and begins by
+        Unlock (232.1-B-2, 5.2.4). Returns how many of the ended session's submissions, counted from the first, are on
+        board whole; submit those after them again. (If a submission has several packets that do not fit into one
+        segment together, some of them may be on board although it is not counted.) If V(S) = NN(R), any value is taken:
+        nothing that was sent is in doubt.
 
-        A LinkFault, 10 NotKnown, where nothing is known of what is on board: the sender is not in S6, no session has
-        begun, V(S) was set since, the session ended by an alert that shows a broken condition (Lockout, NnR, Clcw or
-        Synch), or the value does not lie from NN(R) to V(S), which are not equal. Nothing has changed then."""
+        Raises LinkFault 10 (NotKnown) if nothing is known of what is on board: the sender is not in S6, no session has
+        begun, V(S) has been set since, the session ended by an alert that shows a broken condition (Lockout, NnR, Clcw
+        or Synch), or V(S) is not NN(R) and the value is not in the range from NN(R) to V(S). Nothing has changed
+        then."""
         whole = c_uint64()
         self._asked(_ground_resume(self._handle, value, whole))
         return whole.value
 
     @property
     def submitted(self) -> int:
-        """How many submissions the session has; they are numbered from 0, in order. This, `sent_whole` and
-        `acknowledged_whole`: after an alert too, and 0 once V(S) is set."""
+        """How many submissions the session has; they are numbered from 0, in order. `submitted`, `sent_whole` and
+        `acknowledged_whole` remain valid after an alert, and become 0 when V(S) is set."""
         return int(self._read().submitted)
 
     @property
     def sent_whole(self) -> int:
-        """How many first ones of the session's submissions were sent whole, each to its last segment."""
+        """How many of the session's submissions, counted from the first, were sent whole, each to its last segment."""
         return int(self._read().sent_whole)
 
     @property
     def acknowledged_whole(self) -> int:
-        """How many first ones of the session's submissions are acknowledged whole, so that they are on board."""
+        """How many of the session's submissions, counted from the first, are acknowledged whole, and so are on
+        board."""
         return int(self._read().acknowledged_whole)
 
     def _read(self) -> _GroundReading:
@@ -543,7 +548,7 @@ class Ground(Directives, Handle):
 
     @property
     def vs(self) -> int:
-        """V(S), the number of the next segment that is sent for the first time."""
+        """V(S), the number of the next segment to be sent for the first time."""
         return int(self._read().vs)
 
     @property
@@ -553,18 +558,18 @@ class Ground(Directives, Handle):
 
     @property
     def outstanding(self) -> int:
-        """How many segments were submitted, and are not acknowledged. After an alert it is 0: the sender has let go of
-        them."""
+        """How many segments were submitted and are not acknowledged. After an alert it is 0, because the sender has
+        discarded them."""
         return int(self._read().outstanding)
 
     @property
     def unsent(self) -> int:
-        """How many of the segments that are outstanding wait to be sent for the first time."""
+        """How many of the outstanding segments wait to be sent for the first time."""
         return int(self._read().unsent)
 
     @property
     def due(self) -> int:
-        """How many of the segments that are outstanding are to be sent again."""
+        """How many of the outstanding segments are to be retransmitted."""
         return int(self._read().due)
 
     @property
@@ -574,7 +579,7 @@ class Ground(Directives, Handle):
 
     @property
     def ticks(self) -> int:
-        """The ticks that are left of the timer, or 0 where it does not run."""
+        """The ticks left on the timer, or 0 if it does not run."""
         return int(self._read().ticks)
 
     @property
@@ -622,7 +627,7 @@ _spacecraft_close = _call("spacecraft_close", None, POINTER(_Raw))
 
 @dataclass(frozen=True)
 class KeptNumbers:
-    """The numbers with which a spacecraft that is restarted on purpose goes on.
+    """The numbers with which a spacecraft that is restarted on purpose continues.
 
     - `vr`, V(R), the number of the next frame to be accepted
     - `farm_b`, FARM-B, the count of Type-B frames modulo 4
@@ -640,14 +645,14 @@ class KeptNumbers:
 
 
 class OnMap(NamedTuple):
-    """A packet and the MAP on which it came."""
+    """A packet and its MAP."""
 
     map: int
     packet: bytes
 
 
 class Spacecraft(Handle):
-    """The spacecraft: it receives packets and reports, and sends telemetry."""
+    """The spacecraft node: it receives packets, reports in CLCWs, and sends telemetry."""
 
     _opens, _closes = _spacecraft_open, _spacecraft_close
 
@@ -659,10 +664,10 @@ class Spacecraft(Handle):
             maps: Optional[int] = None, ready_slots: Optional[int] = None, bypass_slots: Optional[int] = None,
             queue_slots: Optional[int] = None, frame_length: Optional[int] = None,
             blocking: Optional[int] = None) -> None:
-        """A spacecraft with these managed parameters: a Config, or some of its fields, each by its name; the others have
-        their defaults. With `kept` it goes on with the numbers that `kept_numbers` gave before a restart on purpose; its
-        receiver is OPEN with no flag, and no packet is on board. A ConfigFault where a parameter is out of its range; an
-        OverflowError for a number that `kept` cannot have; or a LinkFault, 6 Memory."""
+        """Opens a spacecraft with these managed parameters: a Config, or some of its fields, each by name; the others
+        have their defaults. With `kept` it continues with the numbers that `kept_numbers` had before a restart on
+        purpose; its receiver is OPEN with no flag, and no packet is on board. Raises ConfigFault if a parameter is out
+        of range, OverflowError for a number that `kept` cannot have, or LinkFault 6 (Memory)."""
         self._kept = None if kept is None else _struct_of("kept", KeptNumbers, kept)._read()
         super().__init__(config, **_fields_of(locals()))
 
@@ -675,8 +680,8 @@ class Spacecraft(Handle):
         return answer
 
     def receive(self, octets: bytes) -> Received:
-        """Octets came from the ground, which are one telecommand frame with its FECF if all is well. A LinkFault, 6
-        Memory."""
+        """Takes octets received from the ground, normally one telecommand frame with its FECF. Returns a Received.
+        Raises LinkFault 6 (Memory)."""
         octets, received = _octets_of("octets", octets), _Received()
         self._asked(_spacecraft_receive(self._handle, octets, len(octets), received))
         return received.value()
@@ -687,32 +692,32 @@ class Spacecraft(Handle):
         return OnMap(map.value, packet) if packet else None
 
     def take(self) -> Optional[OnMap]:
-        """Takes the oldest packet of sequence-controlled frames: an OnMap, its `map` and the `packet`; or None."""
+        """Takes the oldest packet of sequence-controlled frames. Returns an OnMap, its `map` and the `packet`, or
+        None."""
         return self._taken(_spacecraft_take)
 
     def take_bypass(self) -> Optional[OnMap]:
-        """Takes the oldest packet that came past the sequence control: an OnMap, its `map` and the `packet`; or
-        None."""
+        """Takes the oldest packet that arrived by bypass. Returns an OnMap, its `map` and the `packet`, or None."""
         return self._taken(_spacecraft_take_bypass)
 
     def packets(self) -> Iterator[OnMap]:
-        """Takes the packets of sequence-controlled frames, the oldest first, each with its MAP, until none is left.
-        Those that are not asked for stay on board."""
+        """Takes the packets of sequence-controlled frames, oldest first, each with its MAP, until none is left. Packets
+        that are not requested stay on board."""
         return iter(self.take, None)
 
     def bypass_packets(self) -> Iterator[OnMap]:
-        """Takes the packets that came past the sequence control, the oldest first, each with its MAP, until none is
-        left. Those that are not asked for stay on board."""
+        """Takes the packets that arrived by bypass, oldest first, each with its MAP, until none is left. Packets that
+        are not requested stay on board."""
         return iter(self.take_bypass, None)
 
     def telemetry(self, packet: bytes) -> None:
-        """A packet is to be sent as telemetry. A TelemetryFault: 8 NotAPacket where the octets are not exactly one
-        packet, or an idle packet; 7 Memory."""
+        """Queues a packet to be sent as telemetry. Raises TelemetryFault 8 (NotAPacket) if the octets are not exactly
+        one packet, or are an idle packet, or TelemetryFault 7 (Memory)."""
         packet = _octets_of("packet", packet)
         self._asked(_spacecraft_telemetry(self._handle, packet, len(packet)), TelemetryFault)
 
     def telemetry_frame(self) -> bytes:
-        """Takes the next telemetry frame, which reports on the receiver: as many octets as `frame_length` says."""
+        """Takes the next telemetry frame, which carries the CLCW. Returns its octets, `frame_length` of them."""
         return self._given(_spacecraft_telemetry_frame, 2048)
 
     report = renamed("report", telemetry_frame)
@@ -728,13 +733,13 @@ class Spacecraft(Handle):
 
     @property
     def kept_numbers(self) -> KeptNumbers:
-        """The numbers with which a spacecraft goes on that is restarted: `Spacecraft(config, kept=..)`."""
+        """The numbers with which a restarted spacecraft continues: `Spacecraft(config, kept=..)`."""
         it = self._read()
         return KeptNumbers(it.value, it.farm_b, it.mc_count, it.vc_count)
 
     @property
     def control_word(self) -> Clcw:
-        """The report that the next telemetry frame carries."""
+        """The CLCW that the next telemetry frame carries."""
         it = self._read()
         return Clcw(it.status, it.vcid, it.flags, it.farm_b, it.value)
 
@@ -750,7 +755,7 @@ class Spacecraft(Handle):
 
     @property
     def bypassed(self) -> int:
-        """How many packets that came past the sequence control wait to be taken."""
+        """How many packets that arrived by bypass wait to be taken."""
         return int(self._read().bypassed)
 
     @property

@@ -1,4 +1,4 @@
-"""The lines of a node, read and answered one by one (docs/PROFILE.md, "One node, line by line")."""
+"""The lines of a node, read and answered one by one (docs/TCTOOL.md, "One node, line by line")."""
 import os
 import re
 import sys
