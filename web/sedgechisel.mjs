@@ -9,6 +9,32 @@ export { numbers };
 const PAGE = 65536;
 const SIZES = { bool: 1, uint8_t: 1, uint16_t: 2, uint32_t: 4, size_t: 4, pointer: 4, uint64_t: 8 };
 
+// The most that a number may be.
+const MOST = { uint8_t: 0xff, uint16_t: 0xffff, uint32_t: 0xffffffff, size_t: 0xffffffff, pointer: 0xffffffff };
+
+// A number as the module takes it. What its kind does not hold is a RangeError, and what is no number a TypeError: a
+// compiler of C says so to its program, and an octet of 260 would be one of 4.
+function numberOf(name, kind, value) {
+    const said = `${name}: ${String(value)}`;
+    if (kind === 'bool') {
+        if (value === true || value === false || value === 0 || value === 1) return Number(value);
+        throw new TypeError(`${said} is not true or false`);
+    }
+    if (kind === 'uint64_t') {
+        if (typeof value !== 'bigint' && !Number.isSafeInteger(value)) throw new TypeError(`${said} is not a whole number`);
+        if (value < 0 || value > 0xffff_ffff_ffff_ffffn) throw new RangeError(`${said} is not in 0 to 2^64 - 1`);
+        return BigInt(value);
+    }
+    if (!Number.isInteger(value)) throw new TypeError(`${said} is not a whole number`);
+    if (value < 0 || value > MOST[kind]) throw new RangeError(`${said} is not in 0 to ${MOST[kind]}`);
+    return value;
+}
+
+function octetsOf(name, value) {
+    if (!(value instanceof Uint8Array)) throw new TypeError(`${name}: ${String(value)} is not a Uint8Array`);
+    return value;
+}
+
 // The memory of nodes, and of what calls are given: places of 16, 32, 64 .. octets after the module's own memory, with
 // lists of those that are free.
 class Places {
@@ -91,21 +117,21 @@ class Given {
         return at;
     }
 
-    write(kind, at, count, value) {
+    write(kind, at, count, value, name) {
         if (kind === 'octets') {
-            const octets = value ?? [];
+            const octets = octetsOf(name, value ?? new Uint8Array());
             this.view.setUint32(at, this.octets(octets), true);
             this.view.setUint32(count, octets.length, true);
         } else if (count > 0) {
-            for (let k = 0; k < count; k++) this.write(kind, at + k * SIZES[kind], 0, value?.[k]);
+            for (let k = 0; k < count; k++) this.write(kind, at + k * SIZES[kind], 0, value?.[k], name);
         } else if (structs[kind]) {
             for (const [field, own, from, many] of structs[kind].fields) {
-                this.write(own, at + from, own === 'octets' ? at + many : many, value?.[field]);
+                this.write(own, at + from, own === 'octets' ? at + many : many, value?.[field], field);
             }
         } else if (kind === 'uint64_t') {
-            this.view.setBigUint64(at, BigInt(value ?? 0), true);
+            this.view.setBigUint64(at, numberOf(name, kind, value ?? 0), true);
         } else {
-            this.view[`setUint${8 * SIZES[kind]}`](at, Number(value ?? 0), true);
+            this.view[`setUint${8 * SIZES[kind]}`](at, numberOf(name, kind, value ?? 0), true);
         }
     }
 }
@@ -136,35 +162,40 @@ function callOf(of, name, result, parameters) {
     return (...values) => {
         const characters = texts[result] ?? 0; // of a text that it returns
         let size = 32 + characters;
-        parameters.forEach(([, way, kind], k) => {
+        const plain = parameters.map(([own, way, kind], k) => {
+            if (way === 'octets' || way === 'room') octetsOf(own, values[k]);
             size += sizeOf(way, kind, values[k]);
+            return way === 'value' ? numberOf(own, kind, values[k]) : 0;
         });
         const given = new Given(of, size), words = [], after = [];
-        const text = characters > 0 ? given.place(characters) : 0;
-        if (characters > 0) words.push(text);
-        parameters.forEach(([, way, kind], k) => {
-            const value = values[k];
-            if (way === 'octets' || way === 'room') {
-                const at = given.octets(value);
-                words.push(at, value.length);
-                if (way === 'room') after.push(() => value.set(new Uint8Array(of.memory.buffer, at, value.length)));
-            } else if (way === 'value') {
-                words.push(kind === 'uint64_t' ? BigInt(value) : Number(value));
-            } else {
-                const at = given.place(structs[kind]?.size ?? 8), isStruct = kind in structs;
-                given.write(kind, at, 0, isStruct ? value : value.value);
-                words.push(at);
-                if (way === 'written') after.push(() => {
-                    const it = read(of.memory, kind, at, 0, isStruct ? value : undefined);
-                    if (!isStruct) value.value = it;
-                });
-            }
-        });
-        const answer = of.exports[name](...words);
-        for (const act of after) act();
-        const shown = characters > 0 ? textAt(of.memory, text, characters) : result === 'bool' ? answer !== 0 : answer;
-        of.places.give(given.room);
-        return shown;
+        try {
+            const text = characters > 0 ? given.place(characters) : 0;
+            if (characters > 0) words.push(text);
+            parameters.forEach(([own, way, kind], k) => {
+                const value = values[k];
+                if (way === 'octets' || way === 'room') {
+                    const at = given.octets(value);
+                    words.push(at, value.length);
+                    if (way === 'room') after.push(() => value.set(new Uint8Array(of.memory.buffer, at, value.length)));
+                } else if (way === 'value') {
+                    words.push(plain[k]);
+                } else {
+                    const at = given.place(structs[kind]?.size ?? 8), isStruct = kind in structs;
+                    given.write(kind, at, 0, isStruct ? value : value.value, own);
+                    words.push(at);
+                    if (way === 'written') after.push(() => {
+                        const it = read(of.memory, kind, at, 0, isStruct ? value : undefined);
+                        if (!isStruct) value.value = it;
+                    });
+                }
+            });
+            const answer = of.exports[name](...words);
+            for (const act of after) act();
+            const shown = characters > 0 ? textAt(of.memory, text, characters) : result === 'bool' ? answer !== 0 : answer;
+            return shown;
+        } finally {
+            of.places.give(given.room);
+        }
     };
 }
 
