@@ -19,9 +19,16 @@ which proves, builds and installs it, and then set one of these to its whole pat
 With `--target TRIPLE`, ./install makes the library of another processor. For that one set SEDGECHISEL_DIR.";
 
 fn main() {
-    for name in
-        ["SEDGECHISEL_DIR", "PKG_CONFIG", "PKG_CONFIG_PATH", "PKG_CONFIG_LIBDIR", "CC", "AR", "DOCS_RS"]
-    {
+    for name in [
+        "SEDGECHISEL_DIR",
+        "PKG_CONFIG",
+        "PKG_CONFIG_PATH",
+        "PKG_CONFIG_LIBDIR",
+        "CC",
+        "AR",
+        "CFLAGS",
+        "DOCS_RS",
+    ] {
         println!("cargo:rerun-if-env-changed={name}");
     }
     if env::var_os("DOCS_RS").is_some() {
@@ -48,16 +55,21 @@ fn link(folder: &Path, name: &str) {
     println!("cargo:rustc-link-lib=static={name}");
 }
 
-/// The folder that pkg-config names. It knows this machine's library alone.
+/// The folder that pkg-config names, where the library is of the crate's version: structs grow between versions. It
+/// knows this machine's library alone.
 fn asked() -> Option<PathBuf> {
     if env::var_os("TARGET") != env::var_os("HOST") {
         return None;
     }
     let program = env::var_os("PKG_CONFIG").unwrap_or("pkg-config".into());
-    let ran = Command::new(program).args(["--variable=prefix", "sedgechisel"]).output().ok()?;
-    let prefix = String::from_utf8(ran.stdout).ok()?;
-    let found = ran.status.success() && !prefix.trim().is_empty();
-    found.then(|| PathBuf::from(prefix.trim()).join("lib"))
+    let version = format!("--exact-version={}", env!("CARGO_PKG_VERSION"));
+    if !Command::new(&program).args([&version, "sedgechisel"]).status().ok()?.success() {
+        return None;
+    }
+    let ran = Command::new(program).args(["--variable=libdir", "sedgechisel"]).output().ok()?;
+    let folder = String::from_utf8(ran.stdout).ok()?;
+    let found = ran.status.success() && !folder.trim().is_empty();
+    found.then(|| PathBuf::from(folder.trim()))
 }
 
 /// The folder with both libraries, made of the portable C of the package or of the repository, if there is any, by the
@@ -71,14 +83,30 @@ fn compiled() -> Option<PathBuf> {
     if env::var_os("TARGET") != env::var_os("HOST") && env::var_os("CC").is_none() {
         give_up("set CC to a compiler of C for the processor that the crate is built for, and AR to its ar");
     }
-    let cc = env::var_os("CC").unwrap_or("cc".into());
-    let ar = env::var_os("AR").unwrap_or("ar".into());
+    // A program may stand with words after it, as in CC='arm-none-eabi-gcc -mcpu=cortex-m4 -mthumb', and so may CFLAGS.
+    let words = |name: &str, otherwise: &str| -> Vec<String> {
+        let said = env::var(name).ok().filter(|it| !it.trim().is_empty()).unwrap_or(otherwise.into());
+        said.split_whitespace().map(String::from).collect()
+    };
+    let (cc, ar, more) = (words("CC", "cc"), words("AR", "ar"), words("CFLAGS", ""));
     for name in ["sedgechisel", "sedgechisel_nodes"] {
         let (from, object) = (source.join(format!("{name}.c")), out.join(format!("{name}.o")));
         println!("cargo:rerun-if-changed={}", from.display());
         let flags = ["-std=c99", "-O2", "-fPIC", "-ffunction-sections", "-c"];
-        run(Command::new(&cc).args(flags).arg("-I").arg(&headers).arg(&from).arg("-o").arg(&object));
-        run(Command::new(&ar).arg("rcs").arg(out.join(format!("lib{name}.a"))).arg(&object));
+        run(Command::new(&cc[0])
+            .args(&cc[1..])
+            .args(flags)
+            .args(&more)
+            .arg("-I")
+            .arg(&headers)
+            .arg(&from)
+            .arg("-o")
+            .arg(&object));
+        run(Command::new(&ar[0])
+            .args(&ar[1..])
+            .arg("rcs")
+            .arg(out.join(format!("lib{name}.a")))
+            .arg(&object));
     }
     Some(out)
 }
