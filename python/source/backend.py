@@ -2,6 +2,7 @@
 libraries of the portable C, by the compiler CC, or cc, and the wheel by python/wheel. It needs nothing else, and no
 network. What goes wrong ends the build with a message, which pip shows."""
 import os
+import re
 import shlex
 import subprocess
 import sys
@@ -24,6 +25,17 @@ def compiled(name, room):
     except subprocess.CalledProcessError as why:
         sys.exit(f"sedgechisel: the C compiler {compiler} ended with status {why.returncode}. {NEEDED}")
     return to
+
+
+def prepare_metadata_for_build_wheel(metadata_directory, config_settings=None):
+    """What the wheel says of itself, without a compiler: so pip refuses another version of Python by its number."""
+    command = [sys.executable, f"{TOP}/python/wheel", "--metadata"]
+    about = subprocess.run(command, stdout=subprocess.PIPE, encoding="utf-8", check=True).stdout
+    name = f"sedgechisel-{re.search('^Version: (.*)$', about, re.M)[1]}.dist-info"
+    os.mkdir(f"{metadata_directory}/{name}")
+    with open(f"{metadata_directory}/{name}/METADATA", "w", encoding="utf-8") as it:
+        it.write(about)
+    return name
 
 
 def build_wheel(wheel_directory, config_settings=None, metadata_directory=None):
