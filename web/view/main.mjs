@@ -10,7 +10,7 @@ import { Player } from './player.mjs';
 import { promisesOf } from './promises.mjs';
 import { KINDS } from './words.mjs';
 
-const PACE = 700, LONG = 90;
+const PACE = 700, LONG = 90, LONGEST = 1 << 20;
 const at = (name) => document.getElementById(name);
 
 class Page {
@@ -22,19 +22,26 @@ class Page {
     attempt(act) {
         try {
             act();
-            at('fault').hidden = true;
+            this.complain(this.broken);
         } catch (error) {
             this.pause();
-            at('fault').textContent = error.message;
-            at('fault').hidden = false;
+            this.complain(error.message);
         }
     }
 
-    // Takes a script, and plays a number of its lines.
+    complain(words) {
+        at('fault').textContent = words ?? '';
+        at('fault').hidden = words === undefined;
+    }
+
+    // Takes a script, and plays a number of its lines; whether it can be read.
     open(text, count) {
+        let isRead = false;
         this.pause();
         this.attempt(() => {
             this.player.load(text);
+            this.broken = undefined;
+            isRead = true;
             this.items = text.replace(/\n$/, '').split('\n').map((line) =>
                 make('li', line.startsWith('#') ? 'remark' : '', make('code', '', line), ' ', make('b', 'answer')));
             this.answered = 0;
@@ -43,18 +50,24 @@ class Page {
             this.ladder.clear();
             this.goTo(count);
         });
+        return isRead;
     }
 
-    // Takes an example; under no name, the script in the field.
+    // Takes an example; under no name, the script in the field. Where that cannot be read, this is said until it can be,
+    // what is shown stays that of the script before, and no line is put into either.
     choose(name, count) {
         const example = this.made.examples[name];
         at('example').value = example === undefined ? '' : name;
         at('own').open = example === undefined;
         if (example !== undefined) at('text').value = example;
-        this.open(at('text').value, count);
+        if (this.open(at('text').value, count)) return;
+        this.broken = at('fault').textContent;
+        if (this.player.events !== undefined) this.broken += '. What is shown is the script before.';
+        this.complain(this.broken);
     }
 
     goTo(count) {
+        if (this.player.events === undefined) throw new Error(this.broken);
         this.player.goTo(count);
         this.show();
     }
@@ -81,6 +94,7 @@ class Page {
         showTransit(at('transit'), this.calls, last);
         showPromises(at('promises'), promisesOf(player.link, last.after));
         this.tell(count, last);
+        this.tellAddress();
         at('list').scrollTop = this.current.offsetTop - at('list').clientHeight / 2;
         at('ladder').scrollTop = at('ladder').scrollHeight;
     }
@@ -119,16 +133,27 @@ class Page {
 
     // Puts a line after the one that was played last, or before the first one, and plays it.
     insert(template) {
+        if (this.broken !== undefined) return;
         const fields = { MAP: at('map').value, OCTETS: at('octets').value.trim() || '-', X: at('number').value };
         const { player } = this, { at: count } = player, line = template.replace(/MAP|OCTETS|X$/g, (it) => fields[it]);
         const lines = player.text === '' ? [] : player.text.replace(/\n$/, '').split('\n');
         lines.splice(count > 0 ? player.last.at + 1 : player.lines[0] ?? lines.length, 0, line);
         const text = `${lines.join('\n')}\n`;
-        this.open(text, count + 1);
-        if (player.text !== text) return;
+        if (!this.open(text, count + 1)) return;
         at('text').value = text;
         at('example').value = '';
         if (/^(submit|bypass)/.test(line)) this.nextPacket();
+    }
+
+    // The address bar says what is shown, a little later, since browsers bound how often it changes.
+    tellAddress() {
+        clearTimeout(this.telling);
+        this.telling = setTimeout(() => {
+            const { player } = this, name = at('example').value;
+            const what = name === '' ? `script=${encodeURIComponent(player.text)}` : `example=${name}`;
+            const line = player.at > 0 ? `&line=${player.last.at + 1}` : '';
+            if (!at('scripts').hidden && this.broken === undefined) history.replaceState(null, '', `#${what}${line}`);
+        }, 300);
     }
 
     // The packet in the field gets the next count.
@@ -212,7 +237,14 @@ function drawAnew({ ladder, player }) {
     ladder.show(player.steps, player.at);
 }
 
-// Binds the buttons of both views; and a file that is dropped anywhere is a capture.
+// Opens a file as a script, and plays it.
+async function openScript(page, file) {
+    turnTo('scripts');
+    at('text').value = (await file.slice(0, LONGEST).text()).replaceAll('\r\n', '\n');
+    page.choose('', Infinity);
+}
+
+// Binds the buttons of both views; and a file that is dropped anywhere is a script by its name, or a capture.
 function bindViews(page, captures) {
     at('to-scripts').addEventListener('click', () => {
         turnTo('scripts');
@@ -231,8 +263,13 @@ function bindViews(page, captures) {
             document.body.classList.toggle('dropping', name === 'dragover');
             if (name !== 'drop' || event.dataTransfer.files.length === 0) return;
             page.pause();
+            const [file] = event.dataTransfer.files;
+            if (/\.(script|txt)$/.test(file.name)) {
+                openScript(page, file);
+                return;
+            }
             turnTo('captures');
-            captures.open(event.dataTransfer.files[0]);
+            captures.open(file);
         });
     }
 }
