@@ -27,7 +27,11 @@ def parameters():
 
 
 def finish(tool, files):
-    """Writes what differs; or with --check compares, with a line for each file that ends in 'passed' or 'failed'."""
+    """Writes what differs; or with --check compares, with a line for each file that ends in 'passed' or 'failed'. Any other
+    word writes nothing."""
+    if sys.argv[1:] not in ([], ["--check"]):
+        print(f"usage: {tool} [--check]", file=sys.stderr)
+        return 2
     well = True
     for file, text in files.items():
         there = text_of(file)
