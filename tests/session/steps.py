@@ -281,8 +281,14 @@ class Board:
                 self.ends()
         if self.record:
             self.take()
-            while self.waiting and self.is_next(self.waiting[0]) and self.has_place() and draw(self.run.pause) == 0:
-                self.execute()
+            while self.waiting and self.has_place() and draw(self.run.pause) == 0:
+                if self.is_next(self.waiting[0]):
+                    self.execute()
+                else:
+                    counts["dropped"] += 1
+                    self.waiting.pop(0)
+                    if self.run.has_core:
+                        self.node.released()
                 self.take()
         self.may_restart()
         if draw(3):
@@ -371,9 +377,6 @@ class Program:
             self.orders = [Recording(self.run.highest + 100, self.run.board.true_last())] * (draw(20) == 0)
             return
         self.run.highest = max(self.run.highest, count)
-        if said.waiting and said.waiting[0][1] != said.record.last[said.waiting[0][0]] + 1:
-            self.orders_a_restart(now)
-            return
         on_board, is_late = self.on_board(said), now - self.quiet > self.run.round_trip
         if self.phase == OPEN or said.ready:  # a full list of these holds up what waits
             self.orders = [Decided(it) for it in said.record.unknown if draw(20) == 0]
@@ -426,10 +429,11 @@ class Program:
                 self.before |= {*self.session[:self.ground.acknowledged_whole]}
             self.begins_by(value)
         elif self.before | {*self.session[:known]} != on_board and WITHOUT != "numbers":
-            if self.has_disagreed:
-                wrong("telemetry does not agree, and a person decides")
-            self.has_disagreed, self.word = True, None
-            return
+            if not self.has_disagreed:
+                self.has_disagreed, self.word = True, None
+                return
+            self.before = on_board
+            self.begins_by(value)
         else:
             if self.ground.resume(value) != known:
                 wrong("resume counts otherwise")
