@@ -4,7 +4,8 @@
  *     -D'SEDGE_PLACES=PLACES(112, 40) PLACES(352, 1) PLACES(65552, 1)'
  * docs/FLIGHT.md says how many a node takes at most. What is asked for gets a free place of the first size that is enough,
  * so where there are as many of each size as are used at once, nothing is ever refused. Each call takes time in
- * proportion to the number of sizes. Nothing here is for two threads at once.
+ * proportion to the number of sizes; rattle_realloc besides to the octets that it keeps, where these get a larger place.
+ * Nothing here is for two threads at once.
  *
  * A place begins at a multiple of what a long double does: 16 on the processors of the proved archives, which ask for
  * up to 16. Elsewhere it may be 8, 4 or 2, and portable C does with any address. */

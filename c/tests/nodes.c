@@ -766,6 +766,32 @@ static void names(void) {
     is_named(sedge_sim_fault_name(SEDGE_SIM_NOT_DETECTABLE), "NotDetectable");
 }
 
+/* Octets that two segments join to no packet, of which the first is 0: it is said why they are dropped. */
+static void joined_to_no_packet(void) {
+    static const uint8_t octets[] = {0x00, 0x05, 0xc0, 0x00, 0x00, 0x07, 0xaa, 0xbb};
+    struct sedge_config own;
+    struct sedge_spacecraft spacecraft = {0};
+    struct sedge_received received = {0};
+    struct sedge_tc_frame frame = {0};
+    size_t count = 0;
+    uint8_t number;
+    sedge_config_default(&own);
+    while (again(sedge_spacecraft_open(&own, &spacecraft)))
+        ;
+    frame.scid = (uint16_t)own.scid;
+    frame.vcid = (uint8_t)own.vcid;
+    for (number = 0; number < 2; number++) {
+        frame.n = number;
+        frame.flags = number == 0 ? SEDGE_SEGMENT_FIRST : SEDGE_SEGMENT_LAST;
+        WANT(sedge_tc_encode(&frame, octets + 4 * number, 4, true, up, sizeof up, &count) == SEDGE_OK);
+        while (again(sedge_spacecraft_receive(&spacecraft, up, count, &received)))
+            ;
+        WANT(received.verdict == SEDGE_ACCEPTED && received.ready == 0);
+    }
+    WANT(received.dropped == SEDGE_DROPPED_NOT_A_PACKET);
+    sedge_spacecraft_close(&spacecraft);
+}
+
 int main(void) {
     long all;
     the_defaults();
@@ -777,6 +803,7 @@ int main(void) {
     past_the_sequence_control();
     after_an_alert();
     on_a_closed_map();
+    joined_to_no_packet();
     a_restart_on_purpose();
     a_ground_that_fails_over();
     link();
@@ -791,6 +818,7 @@ int main(void) {
         past_the_sequence_control();
         after_an_alert();
         on_a_closed_map();
+        joined_to_no_packet();
         a_restart_on_purpose();
         a_ground_that_fails_over();
         link();

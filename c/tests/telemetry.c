@@ -389,6 +389,29 @@ static void a_packet_that_is_too_long(void) {
     WANT(!sedge_tm_packet(FOUR[0], 7, &packet) && packet.from == 0 && packet.count == 7);
 }
 
+/* The number of a packet that is dropped stands in two frames: the idle one is not told of, another is. */
+static unsigned dropped_with(uint8_t first, uint8_t second) {
+    struct sedge_tm_extractor extractor = {0, 0, 0, 0};
+    struct sedge_tm_frame frame = {42, 0, 1, 0, 0, {0, 0, 0, 0}};
+    uint8_t data[52] = {0x00, 0x05, 0xc0, 0, 0, 44}, octets[128], memory[200], out[38], packets[400];
+    size_t total = 0, n = 0;
+    data[51] = first; /* after a packet of 51 octets */
+    WANT(sedge_tm_encode(&frame, data, 52, octets, 64, &n) == SEDGE_OK && n == 64);
+    data[0] = second;
+    memcpy(data + 1, "\0\5\xc0\1\0\54", 6);
+    frame.pointer = 1;
+    frame.mc_count = frame.vc_count = 1;
+    WANT(sedge_tm_encode(&frame, data, 52, octets + 64, 64, &n) == SEDGE_OK && n == 64);
+    WANT(sedge_tm_extractor_frames(&extractor, octets, 128, 64, memory, 200, out, 38, packets, 400, &total) == 2);
+    WANT(out[19 + 4] == SEDGE_OK);
+    return out[19 + 7];
+}
+
+static void a_number_in_two_frames(void) {
+    WANT(dropped_with(0x07, 0xff) == 0);
+    WANT(dropped_with(0x07, 0xfe) == 1);
+}
+
 static void places_past_the_data(void) {
     struct sedge_part packet = {8, 0};
     WANT(!sedge_tm_packet(FOUR[0], 7, &packet) && packet.from == 8 && packet.count == 0);
@@ -583,6 +606,7 @@ int main(void) {
     a_frame_that_ends_and_begins();
     refusals_of_an_extractor();
     a_packet_that_is_too_long();
+    a_number_in_two_frames();
     places_past_the_data();
     packets_through_frames(16, 0);
     packets_through_frames(20, 1);

@@ -342,10 +342,10 @@ class KeptGround:
     segments: Tuple[int, ...] = ()
 
     def _record(self) -> _GroundKept:
-        numbers = {"acknowledged": c_uint64, "vs": c_uint8, "nn": c_uint8}
+        numbers = {"acknowledged": c_uint64, "vs": c_uint8, "nn": c_uint8, "known": c_uint8}
         for name, kind in numbers.items():
             _within(name, kind, getattr(self, name))
-        record = _GroundKept(self.acknowledged, self.vs, self.nn, bool(self.known), min(len(self.segments), 128))
+        record = _GroundKept(self.acknowledged, self.vs, self.nn, self.known, min(len(self.segments), 128))
         for place, count in enumerate(self.segments[:127]):
             _within("segments", c_uint8, count)
             record._segments[place] = count
