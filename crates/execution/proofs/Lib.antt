@@ -1,0 +1,10 @@
+pub mod Numbers
+pub mod Steps
+pub mod Linked
+pub mod Between
+pub mod Pair
+pub mod Good
+pub mod Unknown
+pub mod Rest
+pub mod ReadBack
+pub mod Torn

@@ -1,0 +1,9 @@
+pub mod Record
+pub mod Layout
+pub mod Tearing
+pub mod Executor
+pub mod Board
+pub mod CarriedOut
+pub mod NeverLost
+pub mod KnowsMost
+pub mod Progress
