@@ -145,14 +145,9 @@ impl TmBuilder {
             → IsLaidOutBy self.old packets frames
             → IsLaidOutBy self.new packets (frames ++ (build_step self.old ocf).0 ∷ []) }
     {
-        put_next(
-            &self.turn(),
-            &self.octets[self.start..],
-            ocf,
-            &mut out[..self.total],
-        );
-        self.pass();
-        self.total
+        // (at most 2,048, so there is room)
+        let _ = self.total();
+        self.build_in(ocf, out)
     }
 
     /// The same, where `out` has as many octets at least as all frames.
@@ -178,6 +173,13 @@ impl TmBuilder {
             &mut out[..self.total],
         );
         self.pass();
+        self.total
+    }
+
+    // How many octets each frame has.
+    fn total(&self) -> usize
+        ensures { (result ≡ self.now.total) × (result ≤ 2048) }
+    {
         self.total
     }
 
