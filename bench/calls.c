@@ -123,7 +123,7 @@ static double carries(void)
     size_t count;
     int at, k;
     sedge_config_default(&config);
-    want(sedge_ground_open(&config, &ground) == 0 && sedge_spacecraft_open(&config, &spacecraft) == 0, "two nodes");
+    want(sedge_ground_open(&ground, &config) == 0 && sedge_spacecraft_open(&spacecraft, &config) == 0, "two nodes");
     want(sedge_ground_init_without_check(&ground) == SEDGE_NODE_OK, "a session");
     start = nanoseconds_now();
     for (at = 0; at < PACKETS; at += WINDOW) {

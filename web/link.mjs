@@ -61,7 +61,7 @@ export class Link {
         this.sim = {};
         const number = calls.sedge_config_fault(config);
         if (number !== 0) throw new RangeError(`${calls.sedge_parameter_name(number)} is out of its range`);
-        if (calls.sedge_sim_open(config, this.sim) !== n.SEDGE_NODE_OK) throw new RangeError('no memory');
+        if (calls.sedge_sim_open(this.sim, config) !== n.SEDGE_NODE_OK) throw new RangeError('no memory');
     }
 
     close() {

@@ -163,7 +163,7 @@ export interface sedge_ground_reading {
     count: number;
 }
 
-export interface sedge_ground_kept {
+export interface sedge_kept_ground {
     acknowledged: bigint;
     vs: number;
     nn: number;
@@ -302,7 +302,7 @@ export interface Calls {
     sedge_config_fault(config: Partial<sedge_config>): number;
     sedge_parameter_name(number: number): string;
     sedge_link_fault_name(number: number): string;
-    sedge_ground_open(config: Partial<sedge_config>, ground: Partial<sedge_ground>): number;
+    sedge_ground_open(ground: Partial<sedge_ground>, config: Partial<sedge_config>): number;
     sedge_ground_close(ground: Partial<sedge_ground>): void;
     sedge_ground_directive(ground: Partial<sedge_ground>, directive: number, value: number): number;
     sedge_ground_submit(ground: Partial<sedge_ground>, map: number, octets: Uint8Array): number;
@@ -322,9 +322,9 @@ export interface Calls {
     sedge_ground_accepted_beyond(ground: Partial<sedge_ground>, value: number, accepted: Partial<Box>): number;
     sedge_ground_known_on_board(ground: Partial<sedge_ground>, value: number, whole: Partial<Box>): number;
     sedge_ground_resume(ground: Partial<sedge_ground>, value: number, whole: Partial<Box>): number;
-    sedge_ground_kept(ground: Partial<sedge_ground>, kept: Partial<sedge_ground_kept>): number;
-    sedge_ground_open_kept(config: Partial<sedge_config>, kept: Partial<sedge_ground_kept>, ground: Partial<sedge_ground>): number;
-    sedge_spacecraft_open(config: Partial<sedge_config>, spacecraft: Partial<sedge_spacecraft>): number;
+    sedge_ground_kept(ground: Partial<sedge_ground>, kept: Partial<sedge_kept_ground>): number;
+    sedge_ground_open_kept(ground: Partial<sedge_ground>, config: Partial<sedge_config>, kept: Partial<sedge_kept_ground>): number;
+    sedge_spacecraft_open(spacecraft: Partial<sedge_spacecraft>, config: Partial<sedge_config>): number;
     sedge_spacecraft_close(spacecraft: Partial<sedge_spacecraft>): void;
     sedge_spacecraft_receive(spacecraft: Partial<sedge_spacecraft>, octets: Uint8Array, received: Partial<sedge_received>): number;
     sedge_spacecraft_next(spacecraft: Partial<sedge_spacecraft>, map: Partial<Box>, count: Partial<Box>): number;
@@ -334,8 +334,8 @@ export interface Calls {
     sedge_spacecraft_telemetry(spacecraft: Partial<sedge_spacecraft>, packet: Uint8Array): number;
     sedge_spacecraft_telemetry_frame(spacecraft: Partial<sedge_spacecraft>, out: Uint8Array, count: Partial<Box>): number;
     sedge_spacecraft_read(spacecraft: Partial<sedge_spacecraft>, read: Partial<sedge_spacecraft_reading>): number;
-    sedge_spacecraft_open_kept(config: Partial<sedge_config>, kept: Partial<sedge_spacecraft_reading>, spacecraft: Partial<sedge_spacecraft>): number;
-    sedge_sim_open(config: Partial<sedge_config>, sim: Partial<sedge_sim>): number;
+    sedge_spacecraft_open_kept(spacecraft: Partial<sedge_spacecraft>, config: Partial<sedge_config>, kept: Partial<sedge_spacecraft_reading>): number;
+    sedge_sim_open(sim: Partial<sedge_sim>, config: Partial<sedge_config>): number;
     sedge_sim_close(sim: Partial<sedge_sim>): void;
     sedge_sim_fault_name(number: number): string;
     sedge_sim_step(sim: Partial<sedge_sim>, event: Partial<sedge_event>, reply: Partial<sedge_reply>): number;

@@ -60,8 +60,8 @@ function alerts() {
 // A packet goes up, and the report on it comes down.
 function nodes() {
     const ground = {}, spacecraft = {}, out = new Uint8Array(2048), count = {}, received = {}, heard = {}, map = {};
-    assert.equal(sedge.sedge_ground_open(DEFAULTS, ground), n.SEDGE_NODE_OK);
-    assert.equal(sedge.sedge_spacecraft_open(DEFAULTS, spacecraft), n.SEDGE_NODE_OK);
+    assert.equal(sedge.sedge_ground_open(ground, DEFAULTS), n.SEDGE_NODE_OK);
+    assert.equal(sedge.sedge_spacecraft_open(spacecraft, DEFAULTS), n.SEDGE_NODE_OK);
     assert.equal(sedge.sedge_ground_submit(ground, 4, packet), n.SEDGE_NODE_NOT_OPEN);
     assert.equal(sedge.sedge_ground_directive(ground, n.SEDGE_INIT_WITHOUT_CHECK, 0), n.SEDGE_NODE_OK);
     assert.equal(sedge.sedge_ground_submit(ground, 4, packet), n.SEDGE_NODE_OK);
@@ -80,7 +80,7 @@ function nodes() {
     sedge.sedge_spacecraft_read(spacecraft, board);
     assert.deepEqual([board.value, board.ready, board.bypassed], [1, 0, 0]);
     sedge.sedge_spacecraft_close(spacecraft);
-    assert.equal(sedge.sedge_spacecraft_open_kept(DEFAULTS, board, spacecraft), n.SEDGE_NODE_OK);
+    assert.equal(sedge.sedge_spacecraft_open_kept(spacecraft, DEFAULTS, board), n.SEDGE_NODE_OK);
     assert.equal(sedge.sedge_spacecraft_telemetry_frame(spacecraft, out, count), n.SEDGE_NODE_OK);
     assert.equal(sedge.sedge_ground_telemetry(ground, out.subarray(0, count.value), heard), n.SEDGE_NODE_OK);
     assert.deepEqual([heard.first, heard.missing], [0, 0]);
@@ -88,8 +88,8 @@ function nodes() {
     assert.equal(sedge.sedge_ground_kept(ground, kept), n.SEDGE_NODE_OK);
     assert.deepEqual([kept.acknowledged, kept.vs, kept.nn, kept.known, kept.whole], [1n, 1, 1, 1, 0]);
     sedge.sedge_ground_close(ground);
-    assert.equal(sedge.sedge_ground_open_kept(DEFAULTS, { ...kept, whole: 1 }, ground), n.SEDGE_NODE_OUT_OF_RANGE);
-    assert.equal(sedge.sedge_ground_open_kept(DEFAULTS, kept, ground), n.SEDGE_NODE_OK);
+    assert.equal(sedge.sedge_ground_open_kept(ground, DEFAULTS, { ...kept, whole: 1 }), n.SEDGE_NODE_OUT_OF_RANGE);
+    assert.equal(sedge.sedge_ground_open_kept(ground, DEFAULTS, kept), n.SEDGE_NODE_OK);
     assert.equal(sedge.sedge_ground_resume(ground, 1, value), n.SEDGE_NODE_OK);
     assert.equal(value.value, 1n);
     sedge.sedge_ground_close(ground);
@@ -110,7 +110,7 @@ function waits(it) {
 // The nodes of a link are read: a packet goes up under sequence control, and another one waits past it.
 function linked() {
     const sim = {}, reply = {}, ground = {}, board = {}, none = { octets: new Uint8Array(0) };
-    assert.equal(sedge.sedge_sim_open(DEFAULTS, sim), n.SEDGE_NODE_OK);
+    assert.equal(sedge.sedge_sim_open(sim, DEFAULTS), n.SEDGE_NODE_OK);
     const events = [{ kind: n.SEDGE_EVENT_DIRECTIVE, directive: n.SEDGE_INIT_WITHOUT_CHECK },
         { kind: n.SEDGE_EVENT_SUBMIT, map: 4, octets: packet }, { kind: n.SEDGE_EVENT_SEND },
         { kind: n.SEDGE_EVENT_UP_DELIVER }, { kind: n.SEDGE_EVENT_TICK },
@@ -131,7 +131,7 @@ function memory() {
     const config = { ...DEFAULTS, max_packet: 65542, ready_slots: 64 };
     for (let k = 0; k < 2000; k++) {
         const sim = {};
-        assert.equal(sedge.sedge_sim_open(config, sim), n.SEDGE_NODE_OK);
+        assert.equal(sedge.sedge_sim_open(sim, config), n.SEDGE_NODE_OK);
         sedge.sedge_sim_close(sim);
         assert.equal(sim.link, 0);
     }

@@ -20,7 +20,7 @@ static void open_nodes(uint32_t part, uint32_t length) {
     if (part < 10) config.max_packet = 2000;
     sedge_ground_close(&ground);
     sedge_spacecraft_close(&board);
-    want(sedge_ground_open(&config, &ground) == 0 && sedge_spacecraft_open(&config, &board) == 0);
+    want(sedge_ground_open(&ground, &config) == 0 && sedge_spacecraft_open(&board, &config) == 0);
     want(sedge_ground_init_without_check(&ground) == SEDGE_NODE_OK);
 }
 
@@ -40,11 +40,11 @@ static void opens(void) {
         config.window = widths[k] / 2;
         config.queue_slots = k == 2 ? 16000 : 100;
         TIMED("sedge_config_fault", 0, 0, 0, 0, want(sedge_config_fault(&config) == 0));
-        TIMED("sedge_ground_open", 0, 0, 0, 0, want(sedge_ground_open(&config, &ground) == 0));
-        TIMED("sedge_spacecraft_open", 0, 0, 0, 0, want(sedge_spacecraft_open(&config, &board) == 0));
+        TIMED("sedge_ground_open", 0, 0, 0, 0, want(sedge_ground_open(&ground, &config) == 0));
+        TIMED("sedge_spacecraft_open", 0, 0, 0, 0, want(sedge_spacecraft_open(&board, &config) == 0));
         TIMED("sedge_spacecraft_read", 0, 0, 0, 0, want(sedge_spacecraft_read(&board, &kept) == SEDGE_NODE_OK));
         TIMED("sedge_spacecraft_close", 0, 0, 0, 0, sedge_spacecraft_close(&board));
-        TIMED("sedge_spacecraft_open_kept", 0, 0, 0, 0, want(sedge_spacecraft_open_kept(&config, &kept, &board) == 0));
+        TIMED("sedge_spacecraft_open_kept", 0, 0, 0, 0, want(sedge_spacecraft_open_kept(&board, &config, &kept) == 0));
         TIMED("sedge_ground_close", 0, 0, 0, 0, sedge_ground_close(&ground));
         sedge_spacecraft_close(&board);
     }

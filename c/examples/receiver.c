@@ -42,7 +42,7 @@ int main(void) {
     /* MAPs 4 and 5 are open. The window is the ground's, and yet no more than half of the width. */
     sedge_config_default(&config);
     config.width = 10, config.window = 5, config.max_packet = 4096, config.maps = 3 << 4, config.ready_slots = 2;
-    if (sedge_spacecraft_open(&config, &spacecraft) != SEDGE_NODE_OK) return 1;
+    if (sedge_spacecraft_open(&spacecraft, &config) != SEDGE_NODE_OK) return 1;
     while ((more = fread(octets + held, 1, sizeof octets - held, stdin)) > 0) {
         size_t from = 0;
         held += more;

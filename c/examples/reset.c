@@ -36,7 +36,7 @@ static bool restart(void) {
     uint8_t octets[16];
     size_t count;
     boots++;
-    return sedge_spacecraft_open(&config, &spacecraft) == SEDGE_NODE_OK &&
+    return sedge_spacecraft_open(&spacecraft, &config) == SEDGE_NODE_OK &&
            sedge_tc_encode(&own, &data, 1, true, octets, sizeof octets, &count) == SEDGE_OK &&
            sedge_spacecraft_receive(&spacecraft, octets, count, &received) == SEDGE_NODE_OK &&
            received.verdict == SEDGE_OUTSIDE;
@@ -166,7 +166,7 @@ int main(void) {
     bool is_well;
     sedge_config_default(&config);
     config.frame_length = 32;
-    is_well = sedge_ground_open(&config, &ground) == SEDGE_NODE_OK && restart();
+    is_well = sedge_ground_open(&ground, &config) == SEDGE_NODE_OK && restart();
     for (int number = 0; is_well && number < TURNS; number++) is_well = turn(number);
     sedge_ground_close(&ground);
     sedge_spacecraft_close(&spacecraft);

@@ -251,15 +251,15 @@ static void asks(struct link *l, struct in *i) {
 /* Another ground is opened at what was kept of this one, and the same is kept of it; or at a record with an octet changed,
  * which is refused, or is what is kept of the ground that it opens. */
 static void fails_over(struct link *l, struct in *i, bool changed) {
-    struct sedge_ground_kept kept, again;
+    struct sedge_kept_ground kept, again;
     uint8_t answer;
     WANT(sedge_ground_kept(&l->ground, &kept) == SEDGE_NODE_OK);
-    if (changed) ((uint8_t *)&kept)[in8(i) % offsetof(struct sedge_ground_kept, zeros)] ^= in8(i);
-    answer = sedge_ground_open_kept(&l->config, &kept, &l->ground);
+    if (changed) ((uint8_t *)&kept)[in8(i) % offsetof(struct sedge_kept_ground, zeros)] ^= in8(i);
+    answer = sedge_ground_open_kept(&l->ground, &l->config, &kept);
     WANT(answer == SEDGE_NODE_OK || (answer == SEDGE_NODE_MEMORY && refused) || changed);
     if (answer != SEDGE_NODE_OK) return;
     WANT(sedge_ground_kept(&l->ground, &again) == SEDGE_NODE_OK);
-    WANT(memcmp(&kept, &again, offsetof(struct sedge_ground_kept, zeros)) == 0);
+    WANT(memcmp(&kept, &again, offsetof(struct sedge_kept_ground, zeros)) == 0);
 }
 
 /* A node is opened anew: where there is no memory for it, the old one stays. */
@@ -267,9 +267,9 @@ static void reopens(struct link *l, struct in *i) {
     struct sedge_spacecraft_reading kept;
     uint8_t k = in8(i);
     WANT(sedge_spacecraft_read(&l->spacecraft, &kept) == SEDGE_NODE_OK);
-    if (k & 1) (void)!sedge_spacecraft_open_kept(&l->config, &kept, &l->spacecraft);
+    if (k & 1) (void)!sedge_spacecraft_open_kept(&l->spacecraft, &l->config, &kept);
     else if (k & 2) fails_over(l, i, (k & 12) == 0);
-    else (void)!sedge_ground_open(&l->config, &l->ground);
+    else (void)!sedge_ground_open(&l->ground, &l->config);
 }
 
 static uint8_t step(struct link *l, struct in *i, uint8_t op) {
@@ -293,8 +293,8 @@ static void nodes(struct in *i) {
     struct link l = {.ground = {0}, .spacecraft = {0}};
     struct sedge_ground_reading before, after;
     l.config = config_of(i);
-    if (sedge_ground_open(&l.config, &l.ground) == SEDGE_NODE_OK &&
-        sedge_spacecraft_open(&l.config, &l.spacecraft) == SEDGE_NODE_OK) {
+    if (sedge_ground_open(&l.ground, &l.config) == SEDGE_NODE_OK &&
+        sedge_spacecraft_open(&l.spacecraft, &l.config) == SEDGE_NODE_OK) {
         for (int left = 400; i->left && left > 0; left--) {
             uint8_t op = in8(i);
             WANT(sedge_ground_read(&l.ground, &before) == SEDGE_NODE_OK);
@@ -366,7 +366,7 @@ static void happens(struct sedge_sim *sim, struct in *i, uint8_t k) {
 static void linked(struct in *i) {
     struct sedge_sim sim = {0};
     struct sedge_config config = config_of(i);
-    if (sedge_sim_open(&config, &sim) != SEDGE_NODE_OK) return;
+    if (sedge_sim_open(&sim, &config) != SEDGE_NODE_OK) return;
     for (int left = 400; i->left && left > 0; left--) {
         uint8_t k = in8(i);
         if (k == 19) reads(&sim, in8(i) & 3, config.blocking);

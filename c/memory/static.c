@@ -115,7 +115,7 @@ struct sedge_place rattle_realloc(void *at, size_t kept, size_t count, size_t al
     return place;
 }
 
-bool sedge_static_size(size_t k, struct sedge_static_size *size)
+bool sedge_static_size(size_t k, struct sedge_static_places *size)
 {
     bool found = k < SIZES;
     if (found) {

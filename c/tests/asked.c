@@ -83,7 +83,7 @@ static size_t lists_of_ground(void) {
 static void asks_on_ground(void) {
     size_t most = most_alone(config.part), count = most == 0 ? 0 : 7 + below((uint32_t)most - 6);
     size_t list = config.blocking ? 4 * 16 : 0; /* of the packets of a submission */
-    WANT(ASKED(sedge_ground_open(&config, &ground)) == GROUND + lists_of_ground());
+    WANT(ASKED(sedge_ground_open(&ground, &config)) == GROUND + lists_of_ground());
     WANT(live == 5 && sedge_ground_init_without_check(&ground) == 0 && live == 5);
     if (count == 0) return;
     make_packet(1, count);
@@ -109,7 +109,7 @@ static size_t lists_of_spacecraft(void) {
 
 static void asks_on_board(void) {
     size_t count = 7 + below((uint32_t)most_alone(FRAME) - 6), half = 1 + below((uint32_t)count - 1);
-    WANT(ASKED(sedge_spacecraft_open(&config, &spacecraft)) == SPACECRAFT + lists_of_spacecraft());
+    WANT(ASKED(sedge_spacecraft_open(&spacecraft, &config)) == SPACECRAFT + lists_of_spacecraft());
     WANT(live == 3);
     make_packet(1, count);
     WANT(ASKED(arrives(0, SEDGE_SEGMENT_FIRST, 0, half)) == config.max_packet + PLACE * maps && live == 5);
@@ -122,7 +122,7 @@ static void asks_on_board(void) {
 static void asks_of_link(void) {
     static size_t same;
     size_t nodes = lists_of_ground() + lists_of_spacecraft();
-    size_t more = ASKED(sedge_sim_open(&config, &sim)) - nodes;
+    size_t more = ASKED(sedge_sim_open(&sim, &config)) - nodes;
     if (same == 0) same = more;
     WANT(more == same && more < 65536);
 }

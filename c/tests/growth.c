@@ -109,8 +109,8 @@ static double time_of(void (*pair)(void)) {
 static double least_time(void (*fill)(size_t), void (*pair)(void), size_t length) {
     double least = 1e9;
     int k;
-    DONE(sedge_ground_open(&config, &ground));
-    DONE(sedge_spacecraft_open(&config, &spacecraft));
+    DONE(sedge_ground_open(&ground, &config));
+    DONE(sedge_spacecraft_open(&spacecraft, &config));
     fill(length);
     for (k = 0; k < TRIES; k++) {
         double time = time_of(pair);

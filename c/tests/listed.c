@@ -145,7 +145,7 @@ static void fill_ground(void) {
     rows_count = 0;
     places_of_ground(&config, &traffic);
     set_places();
-    GIVES(0, sedge_ground_open(&config, &ground));
+    GIVES(0, sedge_ground_open(&ground, &config));
     GIVES(0, sedge_ground_init_without_check(&ground));
     submit_all(&ground, config.max_packet);
     for (k = 0; k < config.width / 2; k++) GIVES(0, sedge_ground_pull(&ground, octets, sizeof octets, &count));
@@ -214,7 +214,7 @@ static void fill_spacecraft(void) {
     next_number = 0;
     places_of_spacecraft(&config, &traffic);
     set_places();
-    GIVES(0, sedge_spacecraft_open(&config, &spacecraft));
+    GIVES(0, sedge_spacecraft_open(&spacecraft, &config));
     send_telemetry(&spacecraft, 100);
     for (k = 1; k < config.ready_slots; k++) arrives_long(&spacecraft, an_open_map(), true);
     for (map = 0; map < 64; map++)
@@ -328,7 +328,7 @@ static bool is_served(size_t less) {
     places_of_spacecraft(&config, &traffic);
     for (at = 0; at < rows_count; at++) rows[at].count -= (rows[at].count * less + 99) / 100 * (rows[at].count > 1);
     set_places();
-    opened = sedge_spacecraft_open(&config, &spacecraft);
+    opened = sedge_spacecraft_open(&spacecraft, &config);
     if (less > 0 && opened == SEDGE_NODE_MEMORY) return false;
     gives(0, opened, "sedge_spacecraft_open");
     GIVES(0, sedge_tm_builder_open(&builder, 1, 0, config.frame_length));

@@ -108,9 +108,9 @@ static void session(void) {
     struct sedge_clcw word = {0};
     size_t count = 0;
     uint8_t queued, accepted = 77;
-    while (again(sedge_ground_open(&config, &ground)))
+    while (again(sedge_ground_open(&ground, &config)))
         ;
-    while (again(sedge_spacecraft_open(&config, &spacecraft)))
+    while (again(sedge_spacecraft_open(&spacecraft, &config)))
         ;
     WANT(sedge_ground_submit(&ground, 4, packet, sizeof packet) == SEDGE_NODE_NOT_OPEN);
     WANT(sedge_ground_init_without_check(&ground) == 0 && sedge_ground_init_without_check(&ground) == 8);
@@ -180,9 +180,9 @@ static void past_the_sequence_control(void) {
     struct sedge_ground_reading read = {0};
     struct sedge_spacecraft_reading board = {0};
     whole.part = 1016;
-    while (again(sedge_ground_open(&whole, &ground)))
+    while (again(sedge_ground_open(&ground, &whole)))
         ;
-    while (again(sedge_spacecraft_open(&whole, &spacecraft)))
+    while (again(sedge_spacecraft_open(&spacecraft, &whole)))
         ;
     while (again(sedge_ground_bypass(&ground, 5, packet, sizeof packet)))
         ;
@@ -313,9 +313,9 @@ static void after_an_alert(void) {
     struct sedge_ground ground = {0};
     struct sedge_spacecraft spacecraft = {0};
     two.part = 4, two.limit = 1, two.timer = 1;
-    while (again(sedge_ground_open(&two, &ground)))
+    while (again(sedge_ground_open(&ground, &two)))
         ;
-    while (again(sedge_spacecraft_open(&two, &spacecraft)))
+    while (again(sedge_spacecraft_open(&spacecraft, &two)))
         ;
     is_not_known(&ground, 0), does_not_resume(&ground, 0); /* no session has begun */
     WANT(sedge_ground_init_without_check(&ground) == 0);
@@ -368,9 +368,9 @@ static void a_restart_on_purpose(void) {
     struct sedge_spacecraft spacecraft = {0};
     struct sedge_spacecraft_reading kept = {0}, read = {0};
     whole.part = 1016;
-    while (again(sedge_ground_open(&whole, &ground)))
+    while (again(sedge_ground_open(&ground, &whole)))
         ;
-    while (again(sedge_spacecraft_open(&whole, &spacecraft)))
+    while (again(sedge_spacecraft_open(&spacecraft, &whole)))
         ;
     WANT(sedge_ground_init_without_check(&ground) == 0);
     while (again(sedge_ground_submit(&ground, 5, packet, sizeof packet)))
@@ -385,11 +385,11 @@ static void a_restart_on_purpose(void) {
     sedge_spacecraft_close(&spacecraft);
     wrong = whole;
     wrong.width = 253;
-    WANT(sedge_spacecraft_open_kept(&wrong, &kept, &spacecraft) == SEDGE_NODE_OUT_OF_RANGE && spacecraft.node == NULL);
+    WANT(sedge_spacecraft_open_kept(&spacecraft, &wrong, &kept) == SEDGE_NODE_OUT_OF_RANGE && spacecraft.node == NULL);
     kept.farm_b = 4;
-    WANT(sedge_spacecraft_open_kept(&whole, &kept, &spacecraft) == SEDGE_NODE_OUT_OF_RANGE && spacecraft.node == NULL);
+    WANT(sedge_spacecraft_open_kept(&spacecraft, &whole, &kept) == SEDGE_NODE_OUT_OF_RANGE && spacecraft.node == NULL);
     kept.farm_b = 1;
-    while (again(sedge_spacecraft_open_kept(&whole, &kept, &spacecraft)))
+    while (again(sedge_spacecraft_open_kept(&spacecraft, &whole, &kept)))
         ;
     WANT(sedge_spacecraft_read(&spacecraft, &read) == 0 && read.value == 1 && read.farm_b == 1 && read.flags == 0);
     WANT(read.mc_count == 1 && read.vc_count == 1 && read.state == SEDGE_FARM_OPEN);
@@ -410,12 +410,12 @@ static void a_ground_that_fails_over(void) {
     struct sedge_config whole = config, wrong;
     struct sedge_ground ground = {0};
     struct sedge_spacecraft spacecraft = {0};
-    struct sedge_ground_kept kept = {0}, read = {0};
+    struct sedge_kept_ground kept = {0}, read = {0};
     whole.part = 1016;
     WANT(sizeof kept == 144 && sedge_ground_kept(&ground, &kept) == SEDGE_NODE_NONE && kept.whole == 0);
-    while (again(sedge_ground_open(&whole, &ground)))
+    while (again(sedge_ground_open(&ground, &whole)))
         ;
-    while (again(sedge_spacecraft_open(&whole, &spacecraft)))
+    while (again(sedge_spacecraft_open(&spacecraft, &whole)))
         ;
     WANT(sedge_ground_init_without_check(&ground) == 0);
     while (again(sedge_ground_submit(&ground, 5, packet, sizeof packet)))
@@ -429,13 +429,13 @@ static void a_ground_that_fails_over(void) {
     sedge_ground_close(&ground);
     wrong = whole;
     wrong.limit = 0;
-    WANT(sedge_ground_open_kept(&wrong, &kept, &ground) == SEDGE_NODE_OUT_OF_RANGE && ground.node == NULL);
+    WANT(sedge_ground_open_kept(&ground, &wrong, &kept) == SEDGE_NODE_OUT_OF_RANGE && ground.node == NULL);
     kept.known = 2;
-    WANT(sedge_ground_open_kept(&whole, &kept, &ground) == SEDGE_NODE_OUT_OF_RANGE && ground.node == NULL);
+    WANT(sedge_ground_open_kept(&ground, &whole, &kept) == SEDGE_NODE_OUT_OF_RANGE && ground.node == NULL);
     kept.known = 1, kept.whole = 3;
-    WANT(sedge_ground_open_kept(&whole, &kept, &ground) == SEDGE_NODE_OUT_OF_RANGE && ground.node == NULL);
+    WANT(sedge_ground_open_kept(&ground, &whole, &kept) == SEDGE_NODE_OUT_OF_RANGE && ground.node == NULL);
     kept.whole = 2, kept.zeros[0] = 7; /* which is not looked at */
-    while (again(sedge_ground_open_kept(&whole, &kept, &ground)))
+    while (again(sedge_ground_open_kept(&ground, &whole, &kept)))
         ;
     kept.zeros[0] = 0;
     WANT(sedge_ground_kept(&ground, &read) == 0 && memcmp(&read, &kept, sizeof kept) == 0);
@@ -460,9 +460,9 @@ static void on_a_closed_map(void) {
     whole.part = 1016;
     board = whole;
     board.maps = 1 << 4;
-    while (again(sedge_ground_open(&whole, &ground)))
+    while (again(sedge_ground_open(&ground, &whole)))
         ;
-    while (again(sedge_spacecraft_open(&board, &spacecraft)))
+    while (again(sedge_spacecraft_open(&spacecraft, &board)))
         ;
     WANT(sedge_ground_init_without_check(&ground) == 0);
     while (again(sedge_ground_submit(&ground, 5, packet, sizeof packet)))
@@ -504,8 +504,8 @@ static void handles_that_hold_none(void) {
     WANT(sedge_config_fault(&wrong) == 15);
     wrong.width = 253;
     WANT(sedge_config_fault(&wrong) == 4);
-    WANT(sedge_ground_open(&wrong, &ground) == SEDGE_NODE_OUT_OF_RANGE && ground.node == NULL);
-    WANT(sedge_spacecraft_open(&wrong, &spacecraft) == SEDGE_NODE_OUT_OF_RANGE && spacecraft.node == NULL);
+    WANT(sedge_ground_open(&ground, &wrong) == SEDGE_NODE_OUT_OF_RANGE && ground.node == NULL);
+    WANT(sedge_spacecraft_open(&spacecraft, &wrong) == SEDGE_NODE_OUT_OF_RANGE && spacecraft.node == NULL);
     WANT(sedge_ground_init_unlock(&ground) == SEDGE_NODE_NONE && sedge_ground_tick(&ground) == SEDGE_NODE_NONE);
     WANT(sedge_ground_submit(&ground, 0, packet, 7) == 255 && sedge_ground_bypass(&ground, 0, packet, 7) == 255);
     WANT(sedge_ground_next(&ground, &count) == 255 && sedge_ground_pull(&ground, up, 1024, &count) == 255);
@@ -601,7 +601,7 @@ static void link(void) {
     size_t count = 0;
     static const uint8_t field[] = {0xc4, 0x10, 0x05, 0xc0, 0x00, 0x00, 0x00, 0xaa}; /* the segment header first */
     whole.part = 1016;
-    while (again(sedge_sim_open(&whole, &sim)))
+    while (again(sedge_sim_open(&sim, &whole)))
         ;
     HAPPENS(sedge_sim_submit(&sim, 4, packet, sizeof packet, &reply), SEDGE_REPLY_REFUSED);
     WANT(reply.by == SEDGE_BY_NODE && reply.fault == SEDGE_NODE_NOT_OPEN);
@@ -693,9 +693,9 @@ static void events_by_number(void) {
     struct sedge_sim sim = {0};
     struct sedge_reply reply = {0};
     struct sedge_event event = {SEDGE_EVENT_DIRECTIVE, 0, SEDGE_SET_VS, 256, packet, 0};
-    while (again(sedge_ground_open(&config, &ground)))
+    while (again(sedge_ground_open(&ground, &config)))
         ;
-    while (again(sedge_sim_open(&config, &sim)))
+    while (again(sedge_sim_open(&sim, &config)))
         ;
     reply.kind = 77;
     WANT(sedge_sim_step(&sim, &event, &reply) == SEDGE_NODE_NONE);
@@ -734,7 +734,7 @@ static void links_that_are_none(void) {
     uint8_t map = 77;
     wrong.blocking = 2;
     reply.kind = 77;
-    WANT(sedge_sim_open(&wrong, &sim) == SEDGE_NODE_OUT_OF_RANGE && sim.link == NULL);
+    WANT(sedge_sim_open(&sim, &wrong) == SEDGE_NODE_OUT_OF_RANGE && sim.link == NULL);
     WANT(sedge_sim_send(&sim, &reply) == 255 && sedge_sim_submit(&sim, 4, packet, 7, &reply) == 255);
     WANT(reply.kind == 77);
     WANT(sedge_sim_octets(&sim, out, 1, &count) == 255 && sedge_sim_read(&sim, &read) == 255);
@@ -776,7 +776,7 @@ static void joined_to_no_packet(void) {
     size_t count = 0;
     uint8_t number;
     sedge_config_default(&own);
-    while (again(sedge_spacecraft_open(&own, &spacecraft)))
+    while (again(sedge_spacecraft_open(&spacecraft, &own)))
         ;
     frame.scid = (uint16_t)own.scid;
     frame.vcid = (uint8_t)own.vcid;

@@ -238,11 +238,11 @@ static size_t nodes(const uint8_t *packet, size_t count) {
     event.map = 4;
     event.octets = packet;
     event.count = count;
-    if (sedge_ground_open(&config, &ground) == SEDGE_NODE_OK && sedge_spacecraft_open(&config, &spacecraft) == SEDGE_NODE_OK &&
+    if (sedge_ground_open(&ground, &config) == SEDGE_NODE_OK && sedge_spacecraft_open(&spacecraft, &config) == SEDGE_NODE_OK &&
         sedge_ground_init_without_check(&ground) == SEDGE_NODE_OK &&
         sedge_ground_submit(&ground, 4, packet, count) == SEDGE_NODE_OK)
         sum += up(&ground, &spacecraft) + down(&ground, &spacecraft) + readings(&ground, &spacecraft, 1);
-    if (sedge_sim_open(&config, &sim) == SEDGE_NODE_OK) sum += linked(&sim, &event) + records(&sim);
+    if (sedge_sim_open(&sim, &config) == SEDGE_NODE_OK) sum += linked(&sim, &event) + records(&sim);
     sedge_sim_close(&sim);
     sedge_spacecraft_close(&spacecraft);
     sedge_ground_close(&ground);

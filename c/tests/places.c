@@ -62,7 +62,7 @@ static void is_last(struct sedge_spacecraft *spacecraft, uint8_t n) {
 static void fill(void) {
     struct sedge_spacecraft spacecraft = {0};
     size_t k;
-    gives(0, sedge_spacecraft_open(&config, &spacecraft));
+    gives(0, sedge_spacecraft_open(&spacecraft, &config));
     gives(0, sedge_spacecraft_telemetry(&spacecraft, packet, LONG));
     gives(1, arrives(&spacecraft, 0, SEDGE_SEGMENT_ALONE, 0, packet, LONG));
     gives(0, arrives(&spacecraft, 1, SEDGE_SEGMENT_FIRST, 0, packet, LONG / 2));
@@ -76,7 +76,7 @@ static void fill(void) {
 static void fill(void) {
     struct sedge_ground ground = {0};
     size_t k, count;
-    gives(0, sedge_ground_open(&config, &ground));
+    gives(0, sedge_ground_open(&ground, &config));
     gives(0, sedge_ground_init_without_check(&ground));
     for (k = 0; k < QUEUE / 2; k++) gives(0, sedge_ground_submit(&ground, 0, packet, LONG));
     gives(SEDGE_NODE_QUEUE_FULL, sedge_ground_submit(&ground, 0, packet, LONG));
@@ -98,16 +98,16 @@ static void set(void) {
 static void lose_one(void) {
 #if defined(BOARD) || defined(BLOCKED)
     struct sedge_spacecraft lost = {0};
-    gives(0, sedge_spacecraft_open(&config, &lost));
+    gives(0, sedge_spacecraft_open(&lost, &config));
 #else
     struct sedge_ground lost = {0};
-    gives(0, sedge_ground_open(&config, &lost));
+    gives(0, sedge_ground_open(&lost, &config));
 #endif
     sedge_static_reset();
 }
 
 int main(void) {
-    struct sedge_static_size size;
+    struct sedge_static_places size;
     size_t k;
     set();
     fill();

@@ -48,7 +48,7 @@ static void is_packet(int type, size_t k, size_t length, size_t count) {
 }
 
 static void open_nodes(void) {
-    WANT(sedge_ground_open(&config, &ground) == 0 && sedge_spacecraft_open(&config, &spacecraft) == 0);
+    WANT(sedge_ground_open(&ground, &config) == 0 && sedge_spacecraft_open(&spacecraft, &config) == 0);
 }
 
 static void close_nodes(void) {
@@ -156,7 +156,7 @@ static void dropped(void) {
     long held;
     open_nodes();
     config.maps = 1 << 4, config.max_packet = 20;
-    WANT(sedge_spacecraft_open(&config, &spacecraft) == 0 && sedge_ground_init_without_check(&ground) == 0);
+    WANT(sedge_spacecraft_open(&spacecraft, &config) == 0 && sedge_ground_init_without_check(&ground) == 0);
     config.maps = ~(uint64_t)0, config.max_packet = 65542;
     for (k = 0; k < MANY; k++) {
         held = live;
@@ -183,7 +183,7 @@ static void records(void) {
     struct sedge_reply reply;
     size_t k, count;
     uint8_t map;
-    WANT(sedge_sim_open(&config, &sim) == 0 && sedge_sim_init_without_check(&sim, &reply) == 0);
+    WANT(sedge_sim_open(&sim, &config) == 0 && sedge_sim_init_without_check(&sim, &reply) == 0);
     for (k = 0; k < RECORDS; k++) {
         WANT(sedge_sim_submit(&sim, 4, wanted, make(wanted, 1, k, length_of(k)), &reply) == 0);
         WANT(sedge_sim_send(&sim, &reply) == 0 && sedge_sim_up_deliver(&sim, &reply) == 0);

@@ -223,15 +223,15 @@ static uint8_t opens_spacecraft(void) {
     struct sedge_spacecraft_reading kept = {.value = (uint8_t)below(256), .vc_count = (uint8_t)below(256)};
     uint8_t answer;
     kept.farm_b = (uint8_t)below(5);
-    if (below(2)) return CALL(SEDGE_NODE_MEMORY, sedge_spacecraft_open(&config, &spacecraft));
-    answer = CALL(SEDGE_NODE_MEMORY, sedge_spacecraft_open_kept(&config, &kept, &spacecraft));
+    if (below(2)) return CALL(SEDGE_NODE_MEMORY, sedge_spacecraft_open(&spacecraft, &config));
+    answer = CALL(SEDGE_NODE_MEMORY, sedge_spacecraft_open_kept(&spacecraft, &config, &kept));
     if (kept.farm_b > 3) WANT(answer == SEDGE_NODE_OUT_OF_RANGE);
     return answer;
 }
 
 /* Opens a ground, and a spacecraft whose MAPs, longest packet and blocking may be others. */
 static void opens_nodes(void) {
-    uint8_t answer = CALL(SEDGE_NODE_MEMORY, sedge_ground_open(&config, &ground));
+    uint8_t answer = CALL(SEDGE_NODE_MEMORY, sedge_ground_open(&ground, &config));
     WANT(is_answer(answer, SEDGE_NODE_OUT_OF_RANGE, &config));
     if (answer == SEDGE_NODE_OK) ground_part = config.part, fates_begin(false);
     if (below(4) == 0) config.maps = any_maps();
@@ -256,7 +256,7 @@ static void opens(void) {
     if (below(2)) {
         opens_nodes();
     } else {
-        uint8_t answer = CALL(SEDGE_NODE_MEMORY, sedge_sim_open(&config, &sim));
+        uint8_t answer = CALL(SEDGE_NODE_MEMORY, sedge_sim_open(&sim, &config));
         WANT(answer == (sedge_config_fault(&config) ? SEDGE_NODE_OUT_OF_RANGE : 0) || answer == SEDGE_NODE_MEMORY);
         if (answer == SEDGE_NODE_OK) submitted = 0;
     }

@@ -52,7 +52,7 @@ class _SimReading(ctypes.Structure):
                 ("vr", c_uint8), ("clean", c_bool), ("idle", c_bool), ("confirmed", c_bool)]
 
 
-_sim_open = _call("sim_open", c_uint8, POINTER(Config), POINTER(_Raw))
+_sim_open = _call("sim_open", c_uint8, POINTER(_Raw), POINTER(Config))
 _sim_close = _call("sim_close", None, POINTER(_Raw))
 
 

@@ -141,7 +141,7 @@ class Handle(Single):
         super().__setattr__(name, value)
 
     def _open(self, config: Config) -> int:
-        return type(self)._opens(config, self._handle)
+        return type(self)._opens(self._handle, config)
 
     def close(self) -> None:
         """Closes the node and releases its memory. A second call does nothing."""
@@ -314,14 +314,14 @@ class _GroundReading(ctypes.Structure):
                 ("count", c_uint8)]
 
 
-class _GroundKept(ctypes.Structure):
+class _KeptGround(ctypes.Structure):
     _fields_ = [("acknowledged", c_uint64), ("vs", c_uint8), ("nn", c_uint8), ("known", c_uint8), ("whole", c_uint8),
                 ("_segments", c_uint8 * 127), ("_zeros", c_uint8 * 5)]
 
 
-_ground_kept = _call("ground_kept", c_uint8, POINTER(_Raw), POINTER(_GroundKept))
-_ground_open_kept = _call("ground_open_kept", c_uint8, POINTER(Config), POINTER(_GroundKept), POINTER(_Raw))
-_ground_open = _call("ground_open", c_uint8, POINTER(Config), POINTER(_Raw))
+_ground_kept = _call("ground_kept", c_uint8, POINTER(_Raw), POINTER(_KeptGround))
+_ground_open_kept = _call("ground_open_kept", c_uint8, POINTER(_Raw), POINTER(Config), POINTER(_KeptGround))
+_ground_open = _call("ground_open", c_uint8, POINTER(_Raw), POINTER(Config))
 _ground_close = _call("ground_close", None, POINTER(_Raw))
 
 
@@ -341,11 +341,11 @@ class KeptGround:
     known: bool = False
     segments: Tuple[int, ...] = ()
 
-    def _record(self) -> _GroundKept:
+    def _record(self) -> _KeptGround:
         numbers = {"acknowledged": c_uint64, "vs": c_uint8, "nn": c_uint8, "known": c_uint8}
         for name, kind in numbers.items():
             _within(name, kind, getattr(self, name))
-        record = _GroundKept(self.acknowledged, self.vs, self.nn, self.known, min(len(self.segments), 128))
+        record = _KeptGround(self.acknowledged, self.vs, self.nn, self.known, min(len(self.segments), 128))
         for place, count in enumerate(self.segments[:127]):
             _within("segments", c_uint8, count)
             record._segments[place] = count
@@ -375,7 +375,7 @@ class Ground(Directives, Handle):
     def _open(self, config: Config) -> int:
         if self._kept is None:
             return super()._open(config)
-        answer = int(_ground_open_kept(config, self._kept, self._handle))
+        answer = int(_ground_open_kept(self._handle, config, self._kept))
         if answer == _OUT_OF_RANGE and not _config_fault(config):
             raise OverflowError("kept: no ground of this configuration gives this record")
         return answer
@@ -385,7 +385,7 @@ class Ground(Directives, Handle):
         """The record of this ground, of fixed size. A program stores it after each call, and after a pull before the
         frame goes out. If the ground is lost, `Ground(config, kept=..)` opens another one at it. The record has nothing
         of submissions that were not sent whole, of bypass packets, of telemetry, or of what directives set."""
-        it = _GroundKept()
+        it = _KeptGround()
         self._asked(_ground_kept(self._handle, it))
         return KeptGround(it.acknowledged, it.vs, it.nn, it.known == 1, tuple(it._segments[:it.whole]))
 
@@ -619,9 +619,9 @@ class _SpacecraftReading(ctypes.Structure):
                 ("mc_count", c_uint8), ("vc_count", c_uint8)]
 
 
-_spacecraft_open = _call("spacecraft_open", c_uint8, POINTER(Config), POINTER(_Raw))
-_spacecraft_open_kept = _call("spacecraft_open_kept", c_uint8, POINTER(Config), POINTER(_SpacecraftReading),
-                              POINTER(_Raw))
+_spacecraft_open = _call("spacecraft_open", c_uint8, POINTER(_Raw), POINTER(Config))
+_spacecraft_open_kept = _call("spacecraft_open_kept", c_uint8, POINTER(_Raw), POINTER(Config),
+                              POINTER(_SpacecraftReading))
 _spacecraft_close = _call("spacecraft_close", None, POINTER(_Raw))
 
 
@@ -674,7 +674,7 @@ class Spacecraft(Handle):
     def _open(self, config: Config) -> int:
         if self._kept is None:
             return super()._open(config)
-        answer = int(_spacecraft_open_kept(config, self._kept, self._handle))
+        answer = int(_spacecraft_open_kept(self._handle, config, self._kept))
         if answer == _OUT_OF_RANGE and not _config_fault(config):
             raise OverflowError(f"farm_b: {self._kept.farm_b} is not in 0 to 3")
         return answer

@@ -98,7 +98,7 @@ static uint8_t happens(const char *word, const char *one, const char *two, struc
 static void plays(const char *word, const char *one, const char *two) {
     struct sedge_reply reply;
     uint8_t answer;
-    if (sim.link == NULL && sedge_sim_open(&config, &sim) != 0) give_up("the link is not opened");
+    if (sim.link == NULL && sedge_sim_open(&sim, &config) != 0) give_up("the link is not opened");
     if (strcmp(word, "show") == 0) {
         shows();
         return;

@@ -169,7 +169,7 @@ static void plays(const char *word, const char *one, const char *two) {
     uint8_t map = (uint8_t)strtoul(one, NULL, 10);
     if (strcmp(word, "show") == 0) return;
     if (ground.node == NULL &&
-        (sedge_ground_open(&config, &ground) != 0 || sedge_spacecraft_open(&config, &spacecraft) != 0)) {
+        (sedge_ground_open(&ground, &config) != 0 || sedge_spacecraft_open(&spacecraft, &config) != 0)) {
         give_up("the nodes are not opened");
     }
     if (strcmp(word, "submit") == 0) {

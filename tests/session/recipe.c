@@ -63,7 +63,7 @@ static size_t taken[2];
 /* Whether the ground is lost at times; what is kept of it, which in some runs is stored seldom; and whether the ground
  * was opened at such a record. */
 static int fails, is_late, is_old;
-static struct sedge_ground_kept stored;
+static struct sedge_kept_ground stored;
 
 static uint32_t draw(uint32_t below) {
     state = state * 1664525 + 1013904223;
@@ -151,9 +151,9 @@ static void begin_run(void) {
     memset(&board, 0, sizeof board);
     memset(&heard_of, 0, sizeof heard_of);
     submitted = done = taken[0] = taken[1] = 0;
-    expect(sedge_ground_open(&config, &ground) == 0, "sedge_ground_open");
+    expect(sedge_ground_open(&ground, &config) == 0, "sedge_ground_open");
     expect(sedge_ground_kept(&ground, &stored) == 0, "sedge_ground_kept");
-    expect(sedge_spacecraft_open(&config, &spacecraft) == 0, "sedge_spacecraft_open");
+    expect(sedge_spacecraft_open(&spacecraft, &config) == 0, "sedge_spacecraft_open");
 }
 
 /* The packet of this number among those on a MAP, or none. */
@@ -189,7 +189,7 @@ static void restart(void) {
     struct sedge_received received;
     uint8_t octets[16];
     size_t count;
-    expect(sedge_spacecraft_open(&config, &spacecraft) == 0, "sedge_spacecraft_open");
+    expect(sedge_spacecraft_open(&spacecraft, &config) == 0, "sedge_spacecraft_open");
     expect(sedge_tc_encode(&own, &octet, 1, true, octets, sizeof octets, &count) == 0, "sedge_tc_encode");
     expect(sedge_spacecraft_receive(&spacecraft, octets, count, &received) == 0, "sedge_spacecraft_receive");
     expect(received.verdict == SEDGE_OUTSIDE, "it begins in Lockout");
@@ -204,7 +204,7 @@ static void store(void) {
 /* The ground is lost, and another goes on; a round trip has to go by from now on. */
 static void fail_over(long now) {
     sedge_ground_close(&ground);
-    expect(sedge_ground_open_kept(&config, &stored, &ground) == 0, "sedge_ground_open_kept");
+    expect(sedge_ground_open_kept(&ground, &config, &stored) == 0, "sedge_ground_open_kept");
     is_old = is_late;
     quiet = now;
 }

@@ -24,8 +24,8 @@ static bool start(const struct sedge_spacecraft_reading *kept) {
     boots++;
     sedge_static_reset();
     memset(&node, 0, sizeof node);
-    if (kept) return sedge_spacecraft_open_kept(&config, kept, &node) == SEDGE_NODE_OK;
-    return sedge_spacecraft_open(&config, &node) == SEDGE_NODE_OK &&
+    if (kept) return sedge_spacecraft_open_kept(&node, &config, kept) == SEDGE_NODE_OK;
+    return sedge_spacecraft_open(&node, &config) == SEDGE_NODE_OK &&
            sedge_tc_encode(&own, &data, 1, true, octets, sizeof octets, &count) == SEDGE_OK &&
            sedge_spacecraft_receive(&node, octets, count, &received) == SEDGE_NODE_OK &&
            received.verdict == SEDGE_OUTSIDE;

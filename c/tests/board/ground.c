@@ -239,7 +239,7 @@ int main(int argc, char **argv) {
     agreed(&config);
     slots = fopen("slots", "wb");
     frames = fopen("frames", "rb");
-    if (!slots || !frames || sedge_ground_open(&config, &ground) != SEDGE_NODE_OK) return 2;
+    if (!slots || !frames || sedge_ground_open(&ground, &config) != SEDGE_NODE_OK) return 2;
     session(strtoul(argv[2], NULL, 10));
     fclose(slots);
     judge();

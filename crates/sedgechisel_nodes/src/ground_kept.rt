@@ -13,7 +13,7 @@ use std::alloc::Global;
 
 /// What is kept of a ground: V(S) and NN(R) (CCSDS 232.1-B-2, 5.1), and the account of the submissions that were sent
 /// whole. It has no padding, so its octets may be stored as they are, and read on the same machine. For C it is
-/// `struct sedge_ground_kept`.
+/// `struct sedge_kept_ground`.
 #[repr(C)]
 #[derive(Clone, Copy)]
 pub struct GroundKept {
@@ -88,9 +88,9 @@ pub extern "C" fn sedge_ground_kept(
 #[must_use]
 pub extern "C" fn sedge_ground_open_kept(
     alloc: Global,
+    ground: &mut GroundHandle,
     config: &Config,
     kept: &GroundKept,
-    ground: &mut GroundHandle,
 ) -> u8
     ensures { IsOpenedAs (IsRecord config.now kept.now) (opened_at config.now (record_read kept.now))
         ground.old.value ground.new.value result }

@@ -72,7 +72,7 @@ impl Holds for GroundHandle {
 /// `SEDGE_NODE_OUT_OF_RANGE` or `SEDGE_NODE_MEMORY`.
 #[unsafe(no_mangle)]
 #[must_use]
-pub extern "C" fn sedge_ground_open(alloc: Global, config: &Config, ground: &mut GroundHandle) -> u8
+pub extern "C" fn sedge_ground_open(alloc: Global, ground: &mut GroundHandle, config: &Config) -> u8
     ensures { IsOpened config.now new_ground ground.old.value ground.new.value result }
 {
     opened!(alloc, ground, config, Ground::of)
@@ -124,8 +124,8 @@ impl Holds for SpacecraftHandle {
 #[must_use]
 pub extern "C" fn sedge_spacecraft_open(
     alloc: Global,
-    config: &Config,
     spacecraft: &mut SpacecraftHandle,
+    config: &Config,
 ) -> u8
     ensures { IsOpened config.now new_spacecraft spacecraft.old.value spacecraft.new.value result }
 {
@@ -140,9 +140,9 @@ pub extern "C" fn sedge_spacecraft_open(
 #[must_use]
 pub extern "C" fn sedge_spacecraft_open_kept(
     alloc: Global,
+    spacecraft: &mut SpacecraftHandle,
     config: &Config,
     kept: &BoardReading,
-    spacecraft: &mut SpacecraftHandle,
 ) -> u8
     ensures { IsOpenedAs (IsRestart config.now kept.now)
         (restarted_spacecraft config.now (numbers_read kept.now))
@@ -216,7 +216,7 @@ impl Holds for SimHandle {
 /// `SEDGE_NODE_OUT_OF_RANGE` or `SEDGE_NODE_MEMORY`.
 #[unsafe(no_mangle)]
 #[must_use]
-pub extern "C" fn sedge_sim_open(alloc: Global, config: &Config, sim: &mut SimHandle) -> u8
+pub extern "C" fn sedge_sim_open(alloc: Global, sim: &mut SimHandle, config: &Config) -> u8
     ensures { IsOpened config.now new_link sim.old.value sim.new.value result }
 {
     if config.fault().is_some() {

@@ -101,7 +101,7 @@ pub struct GroundReading {
 
 #[repr(C)]
 #[derive(Clone, Copy, Debug)]
-pub struct GroundKept {
+pub struct KeptGround {
     pub acknowledged: u64,
     pub vs: u8,
     pub nn: u8,
@@ -349,7 +349,7 @@ unsafe extern "C" {
     pub safe fn sedge_parameter_name(number: u8) -> Text;
     pub safe fn sedge_link_fault_name(number: u8) -> Text;
 
-    pub safe fn sedge_ground_open(config: &Config, ground: &mut Ground) -> u8;
+    pub safe fn sedge_ground_open(ground: &mut Ground, config: &Config) -> u8;
     pub safe fn sedge_ground_close(ground: &mut Ground);
     pub safe fn sedge_ground_directive(ground: &mut Ground, directive: u8, value: u16) -> u8;
     fn sedge_ground_submit(ground: &mut Ground, map: u8, octets: *const u8, count: usize) -> u8;
@@ -369,10 +369,10 @@ unsafe extern "C" {
     pub safe fn sedge_ground_accepted_beyond(ground: &mut Ground, value: u8, accepted: &mut u8) -> u8;
     pub safe fn sedge_ground_known_on_board(ground: &mut Ground, value: u8, whole: &mut u64) -> u8;
     pub safe fn sedge_ground_resume(ground: &mut Ground, value: u8, whole: &mut u64) -> u8;
-    pub safe fn sedge_ground_kept(ground: &mut Ground, kept: &mut GroundKept) -> u8;
-    pub safe fn sedge_ground_open_kept(config: &Config, kept: &GroundKept, ground: &mut Ground) -> u8;
+    pub safe fn sedge_ground_kept(ground: &mut Ground, kept: &mut KeptGround) -> u8;
+    pub safe fn sedge_ground_open_kept(ground: &mut Ground, config: &Config, kept: &KeptGround) -> u8;
 
-    pub safe fn sedge_spacecraft_open(config: &Config, spacecraft: &mut Spacecraft) -> u8;
+    pub safe fn sedge_spacecraft_open(spacecraft: &mut Spacecraft, config: &Config) -> u8;
     pub safe fn sedge_spacecraft_close(spacecraft: &mut Spacecraft);
     fn sedge_spacecraft_receive(
         spacecraft: &mut Spacecraft, octets: *const u8, count: usize, received: &mut Received,
@@ -393,10 +393,10 @@ unsafe extern "C" {
     ) -> u8;
     pub safe fn sedge_spacecraft_read(spacecraft: &mut Spacecraft, read: &mut SpacecraftReading) -> u8;
     pub safe fn sedge_spacecraft_open_kept(
-        config: &Config, kept: &SpacecraftReading, spacecraft: &mut Spacecraft,
+        spacecraft: &mut Spacecraft, config: &Config, kept: &SpacecraftReading,
     ) -> u8;
 
-    pub safe fn sedge_sim_open(config: &Config, sim: &mut Sim) -> u8;
+    pub safe fn sedge_sim_open(sim: &mut Sim, config: &Config) -> u8;
     pub safe fn sedge_sim_close(sim: &mut Sim);
     pub safe fn sedge_sim_fault_name(number: u8) -> Text;
     fn sedge_sim_step(sim: &mut Sim, event: &Event, reply: &mut Reply) -> u8;

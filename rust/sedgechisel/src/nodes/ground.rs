@@ -155,7 +155,7 @@ impl Ground {
     /// Refused with the first parameter that is out of its range, or for want of memory.
     pub fn new(config: &Config) -> Result<Self, OpenFault> {
         let mut ground = Self(raw::Own::default());
-        config.judge(raw::sedge_ground_open(&config.raw(), ground.0.get()))?;
+        config.judge(raw::sedge_ground_open(ground.0.get(), &config.raw()))?;
         Ok(ground)
     }
 
@@ -184,7 +184,7 @@ impl Ground {
     /// ```
     pub fn open_at(config: &Config, kept: &KeptGround) -> Result<Self, OpenFault> {
         let mut ground = Self(raw::Own::default());
-        let record = raw::GroundKept {
+        let record = raw::KeptGround {
             acknowledged: kept.acknowledged,
             vs: kept.vs,
             nn: kept.nn,
@@ -193,7 +193,7 @@ impl Ground {
             segments: kept.segments,
             zeros: [0; 5],
         };
-        match raw::sedge_ground_open_kept(&config.raw(), &record, ground.0.get()) {
+        match raw::sedge_ground_open_kept(ground.0.get(), &config.raw(), &record) {
             raw::SEDGE_NODE_OUT_OF_RANGE if config.fault().is_none() => Err(OpenFault::Kept),
             answer => config.judge(answer).map(|()| ground),
         }
@@ -205,7 +205,7 @@ impl Ground {
     /// set.
     #[must_use]
     pub fn kept(&self) -> KeptGround {
-        let mut kept = raw::GroundKept {
+        let mut kept = raw::KeptGround {
             acknowledged: 0,
             vs: 0,
             nn: 0,

@@ -122,7 +122,7 @@ impl Link {
     /// Refused with the first parameter that is out of its range, or for want of memory.
     pub fn new(config: &Config) -> Result<Self, OpenFault> {
         let mut link = Self(raw::Own::default());
-        config.judge(raw::sedge_sim_open(&config.raw(), link.0.get()))?;
+        config.judge(raw::sedge_sim_open(link.0.get(), &config.raw()))?;
         Ok(link)
     }
 

@@ -111,7 +111,7 @@ impl Spacecraft {
     /// Refused with the first parameter that is out of its range, or for want of memory.
     pub fn new(config: &Config) -> Result<Self, OpenFault> {
         let mut spacecraft = Self(raw::Own::default());
-        config.judge(raw::sedge_spacecraft_open(&config.raw(), spacecraft.0.get()))?;
+        config.judge(raw::sedge_spacecraft_open(spacecraft.0.get(), &config.raw()))?;
         Ok(spacecraft)
     }
 
@@ -142,7 +142,7 @@ impl Spacecraft {
             vc_count: kept.vc_count,
             ..raw::SpacecraftReading::default()
         };
-        match raw::sedge_spacecraft_open_kept(&config.raw(), &read, spacecraft.0.get()) {
+        match raw::sedge_spacecraft_open_kept(spacecraft.0.get(), &config.raw(), &read) {
             raw::SEDGE_NODE_OUT_OF_RANGE if config.fault().is_none() => Err(OpenFault::FarmB),
             answer => config.judge(answer).map(|()| spacecraft),
         }
