@@ -24,7 +24,8 @@ from fop import Ground  # noqa: E402
 from frames import Fault  # noqa: E402
 from link import AFTER, Link, Whole  # noqa: E402
 
-PIECE, EVENTS_A_RUN, CELL_PLAYS, PATIENCE = 8192, 1000, 2, 60
+PIECE, EVENTS_A_RUN, CELL_PLAYS = 8192, 1000, 2
+PATIENCE = 60  # the seconds that a program may take for each answer
 
 
 class Program:
@@ -33,21 +34,29 @@ class Program:
     def __init__(self, command):
         self.process = subprocess.Popen(command, stdin=subprocess.PIPE, stdout=subprocess.PIPE)
 
-    def answers(self, lines, count):
-        """Its answers to lines, so many; fewer where it ends, or does not answer within a minute."""
+    def soon(self, call, *given):
+        """Returns what a call of its pipes returns. Kills the program if that takes longer than PATIENCE."""
         timer = threading.Timer(PATIENCE, self.process.kill)
         timer.start()
         try:
-            self.process.stdin.write("".join(f"{it}\n" for it in lines).encode("latin-1"))
-            self.process.stdin.flush()
-            got = []
-            while len(got) < count and (line := self.process.stdout.readline()):
-                got.append(line.decode("latin-1").rstrip("\n"))
-            return got
-        except BrokenPipeError:
-            return []
+            return call(*given)
         finally:
             timer.cancel()
+
+    def give(self, lines):
+        self.process.stdin.write("".join(f"{it}\n" for it in lines).encode("latin-1"))
+        self.process.stdin.flush()
+
+    def answers(self, lines, count):
+        """Its answers to lines, so many; fewer if it ends, or if one answer takes longer than PATIENCE."""
+        got = []
+        try:
+            self.soon(self.give, lines)
+            while len(got) < count and (line := self.soon(self.process.stdout.readline)):
+                got.append(line.decode("latin-1").rstrip("\n"))
+        except BrokenPipeError:
+            pass
+        return got
 
     def close(self):
         """How it ends once there are no more lines: what else it writes, and its status."""
@@ -55,14 +64,9 @@ class Program:
             self.process.stdin.close()
         except BrokenPipeError:
             pass
-        timer = threading.Timer(PATIENCE, self.process.kill)
-        timer.start()
-        try:
-            more = self.process.stdout.read().decode("latin-1")
-            return f"{more!r} and status {self.process.wait()}"
-        finally:
-            timer.cancel()
-            self.process.stdout.close()
+        with self.process.stdout:
+            more = self.soon(self.process.stdout.read).decode("latin-1")
+        return f"{more!r} and status {self.soon(self.process.wait)}"
 
 
 def ending(node):

@@ -73,7 +73,9 @@ def is_valid(frame):
 
 
 farm = Farm1()
-for line in sys.stdin:
+for line in map(str.strip, sys.stdin):
+    if not line or line.startswith("#"):
+        continue
     word, *words = line.split()
     if word == "config":
         managed[words[0]] = int(words[1])

@@ -2,12 +2,17 @@
 """A sender with FOP-1 that knows the book alone (CCSDS 232.1-B-2, 5), for driver.py --link to be tried against. It was
 written apart from the crates and from the model, of what docs/PROFILE.md and tables/fop.csv say that the book has. The
 lower procedures are ready for a frame only when the line `send` asks for it."""
+import re
 import sys
 from binascii import crc_hqx
 
 # what it has built in, unless a line `config NAME N` says otherwise
 managed = {"scid": 1, "vcid": 2, "window": 127, "limit": 3, "timer": 10}
 S1, S2, S3, S4, S5, S6 = range(1, 7)
+# the lines that it knows (docs/BENCH.md, "A FARM-1 or a FOP-1 alone")
+X = r"(?:\d|[1-9]\d|1\d\d|2[0-4]\d|25[0-5])"
+KNOWN = re.compile(rf"submit {X} (?:[0-9A-Fa-f]{{2}})+|init (?:none|check|unlock|set {X})|vs {X}|(?:config \w+|window|limit|timer) \d+"
+                   r"|clcw [0-9A-Fa-f]{8}|terminate|tick|send", re.ASCII)
 
 
 class Fop1:
@@ -179,9 +184,13 @@ class Fop1:
 
 
 fop = Fop1()
-for line in sys.stdin:
+for line in map(str.strip, sys.stdin):
+    if not line or line.startswith("#"):
+        continue
     word, *words = line.split()
-    if word in ("config", "window", "limit", "timer"):
+    if not KNOWN.fullmatch(line):
+        answer = "unreadable"
+    elif word in ("config", "window", "limit", "timer"):
         managed[words[0] if word == "config" else word] = int(words[-1])
         if word == "config":
             continue
