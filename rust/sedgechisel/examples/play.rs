@@ -93,47 +93,8 @@ fn number<T: std::str::FromStr>(word: &str) -> T {
     word.parse().unwrap_or_else(|_| panic!("{word} is not a number"))
 }
 
-fn received_text(received: Received) -> String {
-    match received {
-        Received::Invalid(fault) => format!("invalid {} {}", fault.number(), fault.name()),
-        Received::Foreign => "foreign".into(),
-        Received::Sequence { n, verdict, ready, dropped } => {
-            let ready = match ready {
-                0 => String::new(),
-                1 => " ready".into(),
-                many => format!(" ready {many}"),
-            };
-            let dropped = dropped.map_or(String::new(), |it| format!(" dropped {}", it.name()));
-            format!("AD {n} {verdict}{ready}{dropped}")
-        }
-        Received::Bypass { kept: true } => "BD kept".into(),
-        Received::Bypass { kept: false } => "BD dropped".into(),
-        Received::Control(Command::Unlock) => "BC unlock".into(),
-        Received::Control(Command::SetVr(vr)) => format!("BC set {vr}"),
-        other => panic!("{other:?} has no line"),
-    }
-}
-
-fn heard_text(heard: Heard) -> String {
-    match heard {
-        Heard::Invalid(fault) => format!("invalid {} {}", fault.number(), fault.name()),
-        Heard::Foreign => "foreign".into(),
-        Heard::Frame { gap, packets, alert, .. } => {
-            let gap = gap.map_or("-".into(), |it| it.to_string());
-            let alert = alert.map_or(String::new(), |it| format!(" alert {}", it.name()));
-            format!("gap={gap} packets={packets}{alert}")
-        }
-        other => panic!("{other:?} has no line"),
-    }
-}
-
-fn clcw_text(heard: HeardClcw) -> String {
-    match heard.report {
-        HeardReport::Used => heard.alert.map_or("ok".into(), |it| format!("alert {}", it.name())),
-        HeardReport::Refused(fault) => format!("invalid {} {}", fault.number(), fault.name()),
-        HeardReport::OtherChannel => "foreign".into(),
-        other => panic!("{other:?} has no line"),
-    }
+fn text(event: impl Display) -> String {
+    event.to_string()
 }
 
 fn packet_text(taken: Option<(u8, Vec<u8>)>) -> String {
@@ -181,7 +142,7 @@ impl Ends for Nodes {
         let Some(octets) = arrived else {
             return Ok("lost".into());
         };
-        self.spacecraft.receive(&octets).map(received_text).map_err(refused)
+        self.spacecraft.receive(&octets).map(text).map_err(refused)
     }
 
     fn down(&mut self, how: &[&str]) -> Answer {
@@ -193,9 +154,9 @@ impl Ends for Nodes {
         if how[0] == "clcw" {
             let at = length - 6;
             let word = [octets[at], octets[at + 1], octets[at + 2], octets[at + 3]];
-            return Ok(clcw_text(self.ground.clcw(&word)));
+            return Ok(text(self.ground.clcw(&word)));
         }
-        self.ground.telemetry(&octets).map(heard_text).map_err(refused)
+        self.ground.telemetry(&octets).map(text).map_err(refused)
     }
 
     fn show(&self) -> Answer {
@@ -220,19 +181,19 @@ impl Ends for Link {
 
     fn up(&mut self, how: &[&str]) -> Answer {
         match *how {
-            ["deliver"] => self.up_deliver().map(received_text),
+            ["deliver"] => self.up_deliver().map(text),
             ["lose"] => self.up_lose().map(|()| "lost".into()),
-            _ => self.up_damage(&octets_of(how[1])).map(received_text),
+            _ => self.up_damage(&octets_of(how[1])).map(text),
         }
         .map_err(refused)
     }
 
     fn down(&mut self, how: &[&str]) -> Answer {
         match *how {
-            ["deliver"] => self.down_deliver().map(heard_text),
+            ["deliver"] => self.down_deliver().map(text),
             ["lose"] => self.down_lose().map(|()| "lost".into()),
-            ["clcw"] => self.down_clcw().map(clcw_text),
-            _ => self.down_damage(&octets_of(how[1])).map(heard_text),
+            ["clcw"] => self.down_clcw().map(text),
+            _ => self.down_damage(&octets_of(how[1])).map(text),
         }
         .map_err(refused)
     }
@@ -245,7 +206,7 @@ impl Ends for Link {
         };
         let over_maps = |of: fn(u8) -> Record| (0..64).map(|map| self.record(of(map)).len()).sum::<usize>();
         Ok(format!(
-            "clean={clean} state={:?} submitted={} delivered={} sent={} accepted={} acknowledged={} outstanding={}",
+            "clean={clean} state={} submitted={} delivered={} sent={} accepted={} acknowledged={} outstanding={}",
             self.state(),
             over_maps(Record::Submitted),
             over_maps(Record::Delivered),

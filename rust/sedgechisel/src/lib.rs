@@ -55,6 +55,7 @@ mod memory;
 #[cfg(feature = "nodes")]
 mod nodes;
 mod packet;
+mod shown;
 mod tc;
 mod tm;
 mod tm_packets;

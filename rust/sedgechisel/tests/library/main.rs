@@ -11,5 +11,6 @@ mod machines;
 mod memory;
 #[cfg(feature = "nodes")]
 mod nodes;
+mod shown;
 mod telemetry;
 mod tool;
