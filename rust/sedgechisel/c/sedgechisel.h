@@ -1,0 +1,898 @@
+/* Sedgechisel for programs in C: the FECF of frames, telecommand frames, space packets, control words, telemetry
+ * frames, the receiver FARM-1, the sender FOP-1, packets in segments, and packets in telemetry frames. For C99 and
+ * later, and for C++.
+ *
+ * Nothing here allocates, keeps a state of its own, or calls a function of another library but memcpy, memmove and
+ * memset; so each may be called anywhere, from two threads at once too, where they do not share what they write. Each
+ * does what its crate's contract says, for every value of its arguments and of the structs behind its pointers: in the
+ * proved archive by proof, in portable C as tested. The books are CCSDS 133.0-B-2 (space packets), 132.0-B-3 (telemetry), 232.0-B-4 (telecommand) and 232.1-B-2
+ * (COP-1).
+ *
+ * What a caller has to ensure, since nothing can check it:
+ * - No pointer is null, and each is aligned for its type; this holds of a pointer to no octets too.
+ * - At a pointer to octets, as many octets as the count after it says may be read, and written where the pointer is not
+ *   to const; at a pointer to a struct or a number, that struct or number. Octets and structs that are read have been
+ *   written before; what is only written need not have been.
+ * - What is written overlaps nothing else that the call is given.
+ * - A bool is false or true, as it is wherever C or C++ makes it of another value.
+ *
+ * What is returned:
+ * - A uint8_t is a number of the one enumeration that the call's comment names, or of sedge_status, which all calls
+ *   share. It is SEDGE_OK or the first fault that applies, and a call that returns a fault has written nothing. Five
+ *   calls return what is no fault: a verdict (sedge_farm_ad), a state (sedge_farm_state), what goes on the link next
+ *   (sedge_fop_next), and an alert (sedge_fop_clcw, sedge_fop_tick). Those of them that write have written unless it is
+ *   SEDGE_ABSENT or SEDGE_DAMAGED.
+ * - A bool says whether something holds (sedge_check_holds), or whether the call has written (sedge_check_append,
+ *   sedge_tm_packet, sedge_map_packet). Where it is false nothing is written.
+ * - A uint16_t is the check of octets (sedge_check), and a struct sedge_text a word.
+ *
+ * SEDGE_CHECK marks each call whose answer says more than that a struct is damaged: a compiler warns where a program
+ * does not use it. In C each number of an enumeration is a constant of an unsigned type too, at the end of this file,
+ * so that it is compared with an answer or a field without a conversion (docs/REVIEW.md, "MISRA C"). */
+#ifndef SEDGECHISEL_H
+#define SEDGECHISEL_H
+
+#include <stddef.h>
+#include <stdint.h>
+#ifndef __cplusplus
+#include <stdbool.h>
+#endif
+
+#ifdef __cplusplus
+extern "C" {
+#endif
+
+/* Before a call whose answer is not to be left unused: gcc and clang warn of it. A program may define it itself. */
+#ifndef SEDGE_CHECK
+#ifdef __GNUC__
+#define SEDGE_CHECK __attribute__((warn_unused_result))
+#else
+#define SEDGE_CHECK
+#endif
+#endif
+
+/* The version of this header; sedge_version() gives that of the library, as "0.3.0". */
+#define SEDGE_VERSION_MAJOR 0
+#define SEDGE_VERSION_MINOR 3
+#define SEDGE_VERSION_PATCH 0
+
+/* The most octets: of a space packet (133.0-B-2, 4.1), of a telecommand frame (232.0-B-4, 4.1.2.7), of the data
+ * of a segment in one with its FECF, and of a telemetry frame (132.0-B-3, 4.1). */
+#define SEDGE_PACKET_LONGEST 65542U
+#define SEDGE_TC_LONGEST 1024U
+#define SEDGE_SEGMENT_LONGEST 1016U
+#define SEDGE_TM_LONGEST 2048U
+
+/* A word of at most 19 characters, with zeros after it. To print one, keep it in a variable of your own first:
+ *     struct sedge_text name = sedge_verdict_name(verdict);
+ *     puts(name.text); */
+struct sedge_text {
+    char text[20];
+};
+
+/* A sentence of at most 159 characters, with zeros after it; printed as a word is. */
+struct sedge_advice {
+    char text[160];
+};
+
+/* The version of the library. */
+struct sedge_text sedge_version(void);
+
+/* The numbers that all kinds of calls share. */
+enum sedge_status {
+    SEDGE_OK = 0,
+    SEDGE_ABSENT = 253,      /* there are not that many segments, or a report says nothing of the units */
+    SEDGE_WRONG_COUNT = 254, /* not the number of octets that the call needs */
+    SEDGE_DAMAGED = 255      /* a struct has a value that no sender, receiver or MAP has, or one out of its enum */
+};
+
+/* Where data are in the octets that were read: count octets, the first at octets + from. */
+struct sedge_part {
+    size_t from;
+    size_t count;
+};
+
+/* ---- The check: generator x^16 + x^12 + x^5 + 1, register preset to ones, no inversion at the end (232.0-B-4,
+ * 4.1.4.2; 132.0-B-3, 4.1.6.2). ---- */
+
+/* The check of the octets. */
+uint16_t sedge_check(const uint8_t *octets, size_t count);
+
+/* Sets the last two octets to the check of those before them, and returns true; for fewer than two octets it returns
+ * false and writes nothing. */
+SEDGE_CHECK bool sedge_check_append(uint8_t *octets, size_t count);
+
+/* Whether the last two octets are the check of those before them; false for fewer than two octets (232.0-B-4,
+ * 4.1.4.3). */
+SEDGE_CHECK bool sedge_check_holds(const uint8_t *octets, size_t count);
+
+/* ---- The communications link control word, of four octets (232.0-B-4, 4.2). ---- */
+
+enum sedge_clcw_fault {
+    SEDGE_CLCW_KIND = 1,    /* the control word type is not 0 (4.2.1.2) */
+    SEDGE_CLCW_VERSION = 2, /* the version number is not 00 (4.2.1.3) */
+    SEDGE_CLCW_COP = 3,     /* the COP in effect is not 01, COP-1 (4.2.1.5) */
+    SEDGE_CLCW_SPARE = 4,   /* a spare bit is not 0 */
+    SEDGE_CLCW_RANGE = 5    /* a field is too large for its bits, or a flag bit has no name */
+};
+
+/* The flags of a control word, as bits of sedge_clcw.flags (4.2.1.8). */
+enum sedge_clcw_flags {
+    SEDGE_CLCW_RETRANSMIT = 0x08,  /* frames have to be sent again, from the report value on */
+    SEDGE_CLCW_WAIT = 0x10,        /* there is no room for a further frame */
+    SEDGE_CLCW_LOCKOUT = 0x20,     /* the receiver is in its state Lockout */
+    SEDGE_CLCW_NO_BIT_LOCK = 0x40, /* the receiver has no bit lock */
+    SEDGE_CLCW_NO_RF = 0x80        /* the radio frequency channel is not available */
+};
+
+/* A control word. Its flags are of sedge_clcw_flags. */
+struct sedge_clcw {
+    uint8_t status; /* the status field, 3 bits, which is carried and not interpreted */
+    uint8_t vcid;   /* the virtual channel that is reported on, 6 bits */
+    uint8_t flags;  /* the flags */
+    uint8_t farm_b; /* the FARM-B counter, 2 bits */
+    uint8_t value;  /* the report value, V(R) of the receiver */
+};
+
+/* Reads four octets as a control word, of whichever virtual channel: compare vcid with your own before you use its
+ * value or its flags (sedge_fop_clcw does so itself). Returns 0, or the first of 1 to 4 of sedge_clcw_fault, or
+ * SEDGE_WRONG_COUNT if the octets are not four. */
+SEDGE_CHECK uint8_t sedge_clcw_decode(const uint8_t *octets, size_t count, struct sedge_clcw *word);
+
+/* Writes a control word as four octets. Returns 0, or SEDGE_CLCW_RANGE, or SEDGE_WRONG_COUNT if the room is not four
+ * octets. */
+SEDGE_CHECK uint8_t sedge_clcw_encode(const struct sedge_clcw *word, uint8_t *out, size_t room);
+
+/* ---- The receiver FARM-1 of one virtual channel (232.1-B-2, section 6). Give it the frames of its own spacecraft and
+ * channel alone: compare scid and vcid of each frame with your own first, since no call here sees them. ---- */
+
+/* Why a call of the receiver or of the sender is refused. */
+enum sedge_cop_fault {
+    SEDGE_COP_WIDTH = 1,      /* the window width is not an even number from 2 to 254 */
+    SEDGE_COP_WINDOW = 2,     /* the sender's window K is not from 1 to half the width */
+    SEDGE_COP_LIMIT = 3,      /* the transmission limit is 0 */
+    SEDGE_COP_TIMER = 4,      /* the timer's value is 0 */
+    SEDGE_COP_NOT_OPEN = 6,   /* the sender is in its state S6 */
+    SEDGE_COP_BUSY = 7,       /* a unit waits already */
+    SEDGE_COP_WRONG_STATE = 8 /* the directive is not allowed in the sender's state */
+};
+
+/* What the receiver does with a Type-AD frame. */
+enum sedge_verdict {
+    SEDGE_ACCEPTED = 0, /* the expected frame: its data is handed on, V(R) steps */
+    SEDGE_AHEAD = 1,    /* in the positive window, ahead of V(R): discarded, a retransmission is asked for */
+    SEDGE_NO_BUFFER = 2, /* the expected frame, and no room for it: discarded, a retransmission is asked for */
+    SEDGE_BEHIND = 3,   /* in the negative window: a repetition, discarded */
+    SEDGE_OUTSIDE = 4,  /* outside both windows: discarded, the receiver is locked */
+    SEDGE_DISCARDED = 5 /* discarded because of the state */
+};
+
+/* The receiver's state (6.1.2). */
+enum sedge_farm_mode {
+    SEDGE_FARM_OPEN = 0,   /* S1: frames are accepted */
+    SEDGE_FARM_WAIT = 1,   /* S2: no room for a frame was left; a release opens again */
+    SEDGE_FARM_LOCKOUT = 2 /* S3: a number outside the window came; Unlock alone opens again */
+};
+
+/* A receiver, which the caller keeps. Begin it with sedge_farm_open; its fields may be read at any time. Each call
+ * checks that the fields are those of a receiver: the width even, 2 to 254; the flags 0 or 1; the retransmit flag 1 if
+ * the wait flag is; FARM-B 0 to 3. If they are not, it returns SEDGE_DAMAGED and changes nothing. */
+struct sedge_farm {
+    uint8_t width;      /* of both windows together; each is half of it */
+    uint8_t vr;         /* V(R), the number of the next frame to be accepted */
+    uint8_t lockout;    /* the flags, 0 or 1 */
+    uint8_t wait;
+    uint8_t retransmit;
+    uint8_t farm_b;     /* FARM-B, the count of Type-B frames modulo 4 */
+};
+
+/* Begins a receiver in its state Open, with all flags 0 and FARM-B 0, which expects the number vr. Returns 0, or
+ * SEDGE_COP_WIDTH. */
+SEDGE_CHECK uint8_t sedge_farm_open(struct sedge_farm *farm, uint8_t width, uint8_t vr);
+
+/* A Type-AD frame with the number n has arrived; buffer_free says whether there is room for its data. Returns its
+ * verdict, of sedge_verdict: if it is SEDGE_ACCEPTED, hand the data on. Or returns SEDGE_DAMAGED. */
+SEDGE_CHECK uint8_t sedge_farm_ad(struct sedge_farm *farm, uint8_t n, bool buffer_free);
+
+/* A Type-BD frame has arrived; hand its data on in every state. Returns 0, or SEDGE_DAMAGED. */
+uint8_t sedge_farm_bd(struct sedge_farm *farm);
+
+/* The control command Unlock has arrived. Returns 0, or SEDGE_DAMAGED. */
+uint8_t sedge_farm_unlock(struct sedge_farm *farm);
+
+/* The control command Set V(R) has arrived; in Lockout it is counted, and V(R) stays. Returns 0, or SEDGE_DAMAGED. */
+uint8_t sedge_farm_set_vr(struct sedge_farm *farm, uint8_t vr);
+
+/* There is room on board again. Returns 0, or SEDGE_DAMAGED. */
+uint8_t sedge_farm_released(struct sedge_farm *farm);
+
+/* Makes the control word (232.0-B-4, 4.2) that reports on the receiver as it is, for the virtual channel vcid; the
+ * flags for the radio channel and bit lock are 0. Returns 0, or SEDGE_DAMAGED, or SEDGE_CLCW_RANGE if vcid is not below
+ * 64. */
+SEDGE_CHECK uint8_t sedge_farm_control_word(const struct sedge_farm *farm, uint8_t vcid, struct sedge_clcw *word);
+
+/* Returns the state, of sedge_farm_mode, or SEDGE_DAMAGED. */
+SEDGE_CHECK uint8_t sedge_farm_state(const struct sedge_farm *farm);
+
+/* ---- The sender FOP-1 of one virtual channel (232.1-B-2, section 5, in the profile of docs/PROFILE.md). ----
+ *
+ * The sender keeps numbers; its caller keeps the units, which are the data of frames. One unit waits to be sent for the
+ * first time, and those that are sent and not acknowledged have the numbers from NN(R) to V(S) - 1, modulo 256, at most
+ * 127 of them. So 256 places, one for each number, always serve:
+ *
+ *     static struct unit waiting, sent[256];
+ *     ...
+ *     if (sedge_fop_submit(&fop) == SEDGE_OK) waiting = unit;
+ *     ...
+ *     uint8_t number;
+ *     switch (sedge_fop_next(&fop, &number)) {
+ *     case SEDGE_NEXT_UNLOCK: send_unlock(); break;
+ *     case SEDGE_NEXT_SET_VR: send_set_vr(number); break;
+ *     case SEDGE_NEXT_FIRST: sent[number] = waiting; send_ad(number, &sent[number]); break;
+ *     case SEDGE_NEXT_AGAIN: send_ad(number, &sent[number]); break;
+ *     }
+ *     ...
+ *     uint8_t released;
+ *     uint8_t alert = sedge_fop_clcw(&fop, CHANNEL, &word, &released);
+ *
+ * A report acknowledges the oldest units sent, as many as it writes to released; their places may be used again. An
+ * alert (of a report, of a tick, or by sedge_fop_terminate) discards all units, the one that waits too; nothing else
+ * does. After an alert, sedge_fop_accepted_beyond says by a later report which of them were accepted on board. ---- */
+
+/* The sender's state (5.1.2). */
+enum sedge_fop_state {
+    SEDGE_FOP_S1 = 1, /* active */
+    SEDGE_FOP_S2 = 2, /* retransmit without wait */
+    SEDGE_FOP_S3 = 3, /* retransmit with wait */
+    SEDGE_FOP_S4 = 4, /* initialising without a control command */
+    SEDGE_FOP_S5 = 5, /* initialising with a control command */
+    SEDGE_FOP_S6 = 6  /* initial */
+};
+
+/* The control command of S5, and whether it has to be sent. */
+enum sedge_control {
+    SEDGE_CONTROL_IDLE = 0, /* none, as in all other states */
+    SEDGE_CONTROL_UNLOCK_DUE = 1,
+    SEDGE_CONTROL_UNLOCK_SENT = 2,
+    SEDGE_CONTROL_SET_VR_DUE = 3,
+    SEDGE_CONTROL_SET_VR_SENT = 4
+};
+
+/* Why the sender has given up (5.2.5). */
+enum sedge_alert {
+    SEDGE_NO_ALERT = 0,
+    SEDGE_ALERT_LOCKOUT = 1,   /* a report has the lockout flag */
+    SEDGE_ALERT_NNR = 2,       /* a report's value is not from NN(R) to V(S) */
+    SEDGE_ALERT_CLCW = 3,      /* a report has the wait flag without the retransmit flag */
+    SEDGE_ALERT_SYNCH = 4,     /* a report asks to repeat what was not sent, or stops asking before it got any of it */
+    SEDGE_ALERT_LIMIT = 5,     /* a report asks for units again, and the transmission limit is 1 */
+    SEDGE_ALERT_TIMER = 6,     /* the timer has ended, and units may not be sent again */
+    SEDGE_ALERT_TERMINATED = 7 /* sedge_fop_terminate */
+};
+
+/* What goes on the link next. */
+enum sedge_next {
+    SEDGE_NEXT_NOTHING = 0,
+    SEDGE_NEXT_UNLOCK = 1, /* the control command Unlock, in a Type-BC frame */
+    SEDGE_NEXT_SET_VR = 2, /* the control command Set V(R) with the number, in a Type-BC frame */
+    SEDGE_NEXT_FIRST = 3,  /* the unit that waits, in a Type-AD frame with the number; keep it under that number */
+    SEDGE_NEXT_AGAIN = 4   /* the unit kept under the number, in a Type-AD frame with it */
+};
+
+/* A sender, which the caller keeps. Begin it with sedge_fop_open; its fields may be read at any time. Each call checks
+ * that the fields are those that a sender comes to. If they are not, it returns SEDGE_DAMAGED and changes nothing:
+ * - the ranges below; V(S) - NN(R), modulo 256, is at most room, and in S1 to S5 it is the number of units sent;
+ * - units are sent in S1 to S3 alone, in S2 and S3 at least one; in S6 none waits;
+ * - the timer runs in S1 to S3 just while units are sent, in S4, and in S5 once the command is sent; in S6 it is off;
+ * - only S5 has a control command, and always one; the number of Set V(R) is V(S).
+ * The count may be any from 1. So a sender of such fields goes on: while it awaits a report the timer runs, or a
+ * command is due. */
+struct sedge_fop {
+    uint16_t timer;  /* the timer's value in ticks, at least 1 */
+    uint16_t ticks;  /* the ticks that are left while the timer runs, and 0 while it is off */
+    uint8_t room;    /* half the receiver's window width, 1 to 127: the most units sent and not acknowledged */
+    uint8_t state;   /* of sedge_fop_state */
+    uint8_t vs;      /* V(S), the number of the next unit to be sent for the first time */
+    uint8_t nn;      /* NN(R), the number that the receiver was last known to expect */
+    uint8_t waiting; /* whether a unit waits to be sent for the first time, 0 or 1 */
+    uint8_t sent;    /* the number of units sent and not acknowledged, at most room */
+    uint8_t due;     /* the number of these, the last ones, that are due to be sent again */
+    uint8_t window;  /* the window K, 1 to room */
+    uint8_t limit;   /* the transmission limit, at least 1 */
+    uint8_t count;   /* the transmission count, at least 1 */
+    uint8_t control; /* of sedge_control */
+    uint8_t vr;      /* the number of the control command Set V(R), and 0 if there is no such command */
+};
+
+/* Begins a sender in its state S6 with V(S) and NN(R) 0, to a receiver of this window width, with the window K, the
+ * transmission limit and the timer's value in ticks. Returns 0, or the first of SEDGE_COP_WIDTH (not even, 2 to 254),
+ * SEDGE_COP_WINDOW (not 1 to half the width), SEDGE_COP_LIMIT (0) and SEDGE_COP_TIMER (0). */
+SEDGE_CHECK uint8_t sedge_fop_open(struct sedge_fop *fop, uint8_t width, uint8_t window, uint8_t limit, uint16_t timer);
+
+/* The directives (5.2.4): what each does, and when it is refused, with its sedge_cop_fault. The calls by name are made
+ * of these and their notes, in each language. */
+enum sedge_directive {
+    SEDGE_INIT_WITHOUT_CHECK = 1, /* initiate without CLCW check: S6 to S1; or 8 unless in S6 */
+    SEDGE_INIT_WITH_CHECK = 2,    /* initiate with CLCW check: S6 to S4, until a report agrees; or 8 unless in S6 */
+    SEDGE_INIT_UNLOCK = 3,        /* initiate with Unlock: S6 to S5, and Unlock is sent; or 8 unless in S6 */
+    SEDGE_INIT_SET_VR = 4,        /* initiate with Set V(R): S6 to S5, V(S) and NN(R) to value, and Set V(R) is sent;
+                                   * or 8 unless in S6 */
+    SEDGE_TERMINATE = 5,          /* terminate: to S6 with the alert Terminated, which lets go of all units; or 8 in
+                                   * S6 */
+    SEDGE_SET_VS = 6,             /* set V(S), and NN(R) too, to value; or 8 unless in S6 */
+    SEDGE_SET_WINDOW = 7,         /* set the window K to value; or 2 unless it is 1 to half the receiver's window
+                                   * width */
+    SEDGE_SET_LIMIT = 8,          /* set the transmission limit to value; or 3 if it is 0 */
+    SEDGE_SET_TIMER = 9           /* set the timer to value, in ticks; or 4 if it is 0 */
+};
+
+/* Gives the sender a directive, of sedge_directive, with its value; one that has none ignores it. Returns 0; or
+ * SEDGE_COP_WRONG_STATE; or for a value out of its range SEDGE_COP_WINDOW, SEDGE_COP_LIMIT or SEDGE_COP_TIMER; or
+ * SEDGE_DAMAGED, also for a directive that is none, and for a number V(R) or V(S) above 255. */
+SEDGE_CHECK uint8_t sedge_fop_directive(struct sedge_fop *fop, uint8_t directive, uint16_t value);
+
+/* Each directive by its name. Up to 0.2 these were calls of the library; they are sedge_fop_directive now. */
+static inline SEDGE_CHECK uint8_t sedge_fop_init_without_check(struct sedge_fop *fop) {
+    return sedge_fop_directive(fop, SEDGE_INIT_WITHOUT_CHECK, 0);
+}
+static inline SEDGE_CHECK uint8_t sedge_fop_init_with_check(struct sedge_fop *fop) {
+    return sedge_fop_directive(fop, SEDGE_INIT_WITH_CHECK, 0);
+}
+static inline SEDGE_CHECK uint8_t sedge_fop_init_unlock(struct sedge_fop *fop) {
+    return sedge_fop_directive(fop, SEDGE_INIT_UNLOCK, 0);
+}
+static inline SEDGE_CHECK uint8_t sedge_fop_init_set_vr(struct sedge_fop *fop, uint8_t vr) {
+    return sedge_fop_directive(fop, SEDGE_INIT_SET_VR, vr);
+}
+static inline SEDGE_CHECK uint8_t sedge_fop_terminate(struct sedge_fop *fop) {
+    return sedge_fop_directive(fop, SEDGE_TERMINATE, 0);
+}
+static inline SEDGE_CHECK uint8_t sedge_fop_set_vs(struct sedge_fop *fop, uint8_t vs) {
+    return sedge_fop_directive(fop, SEDGE_SET_VS, vs);
+}
+static inline SEDGE_CHECK uint8_t sedge_fop_set_window(struct sedge_fop *fop, uint8_t window) {
+    return sedge_fop_directive(fop, SEDGE_SET_WINDOW, window);
+}
+static inline SEDGE_CHECK uint8_t sedge_fop_set_limit(struct sedge_fop *fop, uint8_t limit) {
+    return sedge_fop_directive(fop, SEDGE_SET_LIMIT, limit);
+}
+static inline SEDGE_CHECK uint8_t sedge_fop_set_timer(struct sedge_fop *fop, uint16_t timer) {
+    return sedge_fop_directive(fop, SEDGE_SET_TIMER, timer);
+}
+
+/* Submits a unit, to be sent under sequence control: it waits, and the caller keeps it. Returns 0, or SEDGE_DAMAGED, or
+ * SEDGE_COP_NOT_OPEN in S6, or SEDGE_COP_BUSY while another one waits. */
+SEDGE_CHECK uint8_t sedge_fop_submit(struct sedge_fop *fop);
+
+/* Takes what goes on the link next. Returns one of sedge_next, and writes its number, or 0 if it has none; or returns
+ * SEDGE_DAMAGED, with nothing written. */
+SEDGE_CHECK uint8_t sedge_fop_next(struct sedge_fop *fop, uint8_t *number);
+
+/* A control word has arrived, and the sender is that of the virtual channel vcid. The call compares this with the
+ * vcid of the word; the caller has compared the scid of the telemetry frame that carried it. Returns the alert, of
+ * sedge_alert, and writes the number of units that are acknowledged, the oldest of those sent; or with nothing
+ * written and nothing changed it returns the first of SEDGE_ABSENT, if the word reports on another channel, and
+ * SEDGE_DAMAGED. */
+SEDGE_CHECK uint8_t sedge_fop_clcw(struct sedge_fop *fop, uint8_t vcid, const struct sedge_clcw *word,
+                                   uint8_t *released);
+
+/* A tick of the clock has passed. Returns the alert, of sedge_alert, or SEDGE_DAMAGED. */
+SEDGE_CHECK uint8_t sedge_fop_tick(struct sedge_fop *fop);
+
+/* Writes how many of the units that were sent and not acknowledged were accepted on board when a report of this value
+ * was made: the oldest ones, those with the numbers from NN(R) to value - 1 (5.1). It does so after an alert too, until
+ * V(S) is set or an initiation begins, and goes by the numbers alone: after an alert that shows a broken condition
+ * nothing of them is known, whatever it writes. If V(S) is NN(R) there are no such units, and it writes 0 whatever the
+ * value. Returns 0, or SEDGE_DAMAGED, or SEDGE_ABSENT if there are such units and the value does not lie from NN(R) to
+ * V(S), so that nothing is known of them; nothing is written then. */
+SEDGE_CHECK uint8_t sedge_fop_accepted_beyond(const struct sedge_fop *fop, uint8_t value, uint8_t *accepted);
+
+/* The same of a sender with these numbers for NN(R) and V(S). Returns 0, or SEDGE_ABSENT if nothing is known. */
+SEDGE_CHECK uint8_t sedge_accepted_beyond(uint8_t nn, uint8_t vs, uint8_t value, uint8_t *accepted);
+
+/* ---- Telecommand transfer frames of at most 1,024 octets (232.0-B-4, 4.1), with or without their FECF. ---- */
+
+enum sedge_tc_fault {
+    SEDGE_TC_SHORT = 1,         /* fewer than the 5 octets of the header */
+    SEDGE_TC_VERSION = 2,       /* the version number is not 00 (4.1.2.2) */
+    SEDGE_TC_RESERVED_TYPE = 3, /* the control command flag without the bypass flag (4.1.2.3) */
+    SEDGE_TC_SPARE = 4,         /* the spare bits are not 00 (4.1.2.4) */
+    SEDGE_TC_LENGTH = 5,        /* the declared total is not the number of octets, or too small (4.1.2.7) */
+    SEDGE_TC_CHECK = 6,         /* the last two octets are not the check of those before them (4.1.4) */
+    SEDGE_TC_BYPASS_NUMBER = 7, /* a frame with the bypass flag has a number other than 0 (4.1.2.8) */
+    SEDGE_TC_EMPTY_DATA = 8,    /* no octet in the data field, or a segment header alone */
+    SEDGE_TC_COMMAND = 9,       /* the data of a control frame are neither Unlock nor Set V(R) (4.1.3.3) */
+    SEDGE_TC_ROOM = 10,         /* there is too little room for the frame */
+    SEDGE_TC_FIELD_RANGE = 11   /* a field out of its range, no data, or more than 1,024 octets */
+};
+
+/* The frame type (4.1.2.3). */
+enum sedge_tc_kind {
+    SEDGE_TC_AD = 0, /* sequence-controlled data */
+    SEDGE_TC_BD = 1, /* data that bypass the sequence control */
+    SEDGE_TC_BC = 2  /* a control command, which bypasses it too */
+};
+
+/* Where a segment stands in what it is a part of (4.1.3.2.2.2). */
+enum sedge_segment_flags {
+    SEDGE_SEGMENT_CONTINUING = 0,
+    SEDGE_SEGMENT_FIRST = 1,
+    SEDGE_SEGMENT_LAST = 2,
+    SEDGE_SEGMENT_ALONE = 3
+};
+
+/* The control commands (4.1.3.3). */
+enum sedge_command {
+    SEDGE_UNLOCK = 0, /* end a lockout: the octet 00 */
+    SEDGE_SET_VR = 1  /* expect this number next: the octets 82 00 and the number */
+};
+
+/* A frame without its data. Reading a frame sets the fields that its kind does not have to 0; writing one ignores
+ * them. */
+struct sedge_tc_frame {
+    uint16_t scid;   /* the spacecraft identifier, below 1,024 */
+    uint8_t vcid;    /* the virtual channel identifier, below 64 */
+    uint8_t kind;    /* of sedge_tc_kind */
+    uint8_t n;       /* Type-AD: the sequence number N(S) */
+    uint8_t flags;   /* Type-AD and Type-BD: of sedge_segment_flags */
+    uint8_t map;     /* Type-AD and Type-BD: the MAP identifier, below 64 */
+    uint8_t command; /* Type-BC: of sedge_command */
+    uint8_t vr;      /* Type-BC, Set V(R): the number */
+};
+
+/* Reads all of the octets as one frame, which ends with its FECF if checked is true, and writes where the data after
+ * the segment header are; a control frame has none, and the part is {0, 0}. The frame may be of any spacecraft and
+ * virtual channel: compare scid and vcid with your own before a receiver is given it. Returns 0, or the first of 1 to 9
+ * of sedge_tc_fault. */
+SEDGE_CHECK uint8_t sedge_tc_decode(const uint8_t *octets, size_t count, bool checked, struct sedge_tc_frame *frame,
+                                    struct sedge_part *data);
+
+/* Writes the frame with these data (ignored for a control frame) to the beginning of out, with its FECF if checked is
+ * true, and its length in octets, 6 to 1,024, to total. Returns 0, or the first of SEDGE_DAMAGED (the kind, the segment
+ * flags or the command is out of its enum), SEDGE_TC_FIELD_RANGE and SEDGE_TC_ROOM. */
+SEDGE_CHECK uint8_t sedge_tc_encode(const struct sedge_tc_frame *frame, const uint8_t *data, size_t data_count,
+                                    bool checked, uint8_t *out, size_t room, size_t *total);
+
+/* Writes the length of the frame that begins with these octets, by its first 5 octets alone; for cutting a stream
+ * (4.1.2.7). Returns 0, or SEDGE_TC_SHORT for fewer than 5 octets, or SEDGE_TC_LENGTH if it declares fewer than 5, or
+ * with the FECF fewer than 7. */
+SEDGE_CHECK uint8_t sedge_tc_declared(const uint8_t *octets, size_t count, bool checked, size_t *total);
+
+/* Reads the frames that stand one after another in the octets, each as long as it declares (4.1.2.7), and writes a
+ * record of 12 octets of each to out, in order: the number of its octets, what sedge_tc_decode returns for it, and the
+ * scid, vcid, kind, n, flags, map, command and vr that it writes, or 0 for each where it refuses the frame. The number
+ * and the scid have two octets, the lower one first. The data of a Type-AD or a Type-BD frame begin 6 octets after its
+ * first. Stops where out has no room for a record, or where no whole frame follows: sedge_tc_declared says of the
+ * octets there whether their length is refused. Writes the number of octets of all these frames to total. Returns the
+ * number of frames. */
+size_t sedge_tc_frames(const uint8_t *octets, size_t count, bool checked, uint8_t *out, size_t room, size_t *total);
+
+/* ---- Space packets of 7 to 65,542 octets (133.0-B-2, 4.1). ---- */
+
+enum sedge_packet_fault {
+    SEDGE_PACKET_TRUNCATED = 1,           /* fewer than the 6 octets of the header, or fewer than it declares */
+    SEDGE_PACKET_VERSION = 2,             /* the version number is not 000 (4.1.3.2) */
+    SEDGE_PACKET_IDLE_WITH_SECONDARY = 3, /* an idle packet with a secondary header (4.1.3.3.3) */
+    SEDGE_PACKET_ROOM = 4,                /* there is too little room for the packet */
+    SEDGE_PACKET_FIELD_RANGE = 5 /* a field out of its range, no data or more than 65,536 octets of them, or an idle
+                                  * packet with a secondary header */
+};
+
+/* The packet type (4.1.3.3.2). */
+enum sedge_packet_kind {
+    SEDGE_PACKET_TELEMETRY = 0,
+    SEDGE_PACKET_TELECOMMAND = 1
+};
+
+/* Where a packet's data stand in what the user sends (4.1.3.4.2). */
+enum sedge_sequence_flags {
+    SEDGE_SEQUENCE_CONTINUATION = 0,
+    SEDGE_SEQUENCE_FIRST = 1,
+    SEDGE_SEQUENCE_LAST = 2,
+    SEDGE_SEQUENCE_UNSEGMENTED = 3
+};
+
+/* A packet without its data field. */
+struct sedge_packet {
+    uint16_t apid;     /* the application process identifier, below 2,048; 2,047 is that of idle packets (4.1.3.3.4) */
+    uint16_t count;    /* the sequence count or the packet's name, below 16,384 (4.1.3.4.3) */
+    uint8_t kind;      /* of sedge_packet_kind */
+    uint8_t secondary; /* whether the data field begins with a secondary header, 0 or 1 (4.1.3.3.3) */
+    uint8_t flags;     /* the sequence flags, of sedge_sequence_flags (4.1.3.4.2) */
+};
+
+/* Reads the packet at the beginning of the octets, and writes where its data field is; the packet ends where that ends,
+ * and octets after it are ignored. Returns 0, or the first of 1 to 3 of sedge_packet_fault (SEDGE_PACKET_TRUNCATED for
+ * fewer octets than declared comes last). */
+SEDGE_CHECK uint8_t sedge_packet_decode(const uint8_t *octets, size_t count, struct sedge_packet *packet,
+                                        struct sedge_part *data);
+
+/* Writes the packet with this data field to the beginning of out, and its length in octets, 6 more than its data, to
+ * total. Returns 0, or the first of SEDGE_DAMAGED (the kind is out of its enum, or the secondary header flag above 1),
+ * SEDGE_PACKET_FIELD_RANGE and SEDGE_PACKET_ROOM. */
+SEDGE_CHECK uint8_t sedge_packet_encode(const struct sedge_packet *packet, const uint8_t *data, size_t data_count,
+                                        uint8_t *out, size_t room, size_t *total);
+
+/* Writes the length of the packet that begins with these octets, by its first 6 octets alone; for cutting a stream
+ * (4.1.3.5). Returns 0, or SEDGE_PACKET_TRUNCATED for fewer than 6 octets, or SEDGE_PACKET_VERSION, or
+ * SEDGE_PACKET_IDLE_WITH_SECONDARY. */
+SEDGE_CHECK uint8_t sedge_packet_declared(const uint8_t *octets, size_t count, size_t *total);
+
+/* A check of the sequence counts of all application processes: it shows packets that are missing (133.0-B-2,
+ * 4.1.3.4.3). Begin it with sedge_gap_check_open; its field may be read at any time. */
+struct sedge_gap_check {
+    uint16_t last[2048]; /* by APID; above 16,383 where no packet of it was seen */
+};
+
+/* Begins a check of sequence counts, which has seen no packet. */
+void sedge_gap_check_open(struct sedge_gap_check *check);
+
+/* Sees a packet of this APID with this count, as sedge_packet_decode gives them, and writes how many are missing before
+ * it to missing: (count - last - 1) modulo 16,384. Returns 0, or SEDGE_ABSENT for the first packet of the APID, which
+ * is seen; or SEDGE_PACKET_FIELD_RANGE if apid is not below 2,048 or count not below 16,384. */
+SEDGE_CHECK uint8_t sedge_gap_check_see(struct sedge_gap_check *check, uint16_t apid, uint16_t count,
+                                        uint16_t *missing);
+
+/* ---- Telemetry transfer frames of 16 to 2,048 octets, with an operational control field and an FECF (132.0-B-3,
+ * 4.1). ---- */
+
+enum sedge_tm_fault {
+    SEDGE_TM_LENGTH = 1,      /* not length octets, or a length outside 16 to 2,048 */
+    SEDGE_TM_VERSION = 2,     /* the version number is not 00 (4.1.2.2) */
+    SEDGE_TM_CHECK = 3,       /* the last two octets are not the check of those before them (4.1.6) */
+    SEDGE_TM_STATUS = 4,      /* a flag of the data field status is 1, or its identifier is not 11 (4.1.2.7) */
+    SEDGE_TM_POINTER = 5,     /* a first header pointer at or after the data field's end (4.1.2.7.6) */
+    SEDGE_TM_NO_OCF = 6,      /* the frame declares no operational control field (4.1.2.4) */
+    SEDGE_TM_MEMORY = 7,      /* the caller's memory is too short for what would be kept in it */
+    SEDGE_TM_NOT_A_PACKET = 8, /* not exactly one packet, or an idle packet */
+    SEDGE_TM_ROOM = 9,        /* there is too little room for the frame */
+    SEDGE_TM_FIELD_RANGE = 10 /* a field out of its range, a pointer after the data, not 4 to 2,036 octets of data, or
+                               * a length outside 16 to 2,048 */
+};
+
+/* The first header pointers that are no place (4.1.2.7.6). */
+enum sedge_pointer {
+    SEDGE_POINTER_ONLY_IDLE = 2046, /* there are only idle data in the data field */
+    SEDGE_POINTER_NO_START = 2047   /* no packet starts in the data field */
+};
+
+/* A frame without its data. */
+struct sedge_tm_frame {
+    uint16_t scid;    /* the spacecraft identifier, below 1,024 */
+    uint16_t pointer; /* the place in the data, from 0, where the first packet starts, or one of sedge_pointer */
+    uint8_t vcid;     /* the virtual channel identifier, below 8 */
+    uint8_t mc_count; /* the master channel frame count */
+    uint8_t vc_count; /* the virtual channel frame count */
+    uint8_t ocf[4];   /* the operational control field, as sedge_clcw_encode writes it (4.1.5) */
+};
+
+/* Reads all of the octets as one frame of this length, and writes where its data are. The frame may be of any
+ * spacecraft and virtual channel: compare scid and vcid with your own before an extractor is given it, and scid before
+ * its control word is used. Returns 0, or the first of 1 to 6 of sedge_tm_fault. */
+SEDGE_CHECK uint8_t sedge_tm_decode(const uint8_t *octets, size_t count, size_t length, struct sedge_tm_frame *frame,
+                                    struct sedge_part *data);
+
+/* Writes the frame with these data and its FECF to the beginning of out, and its length in octets, 12 more than its
+ * data, to total. Returns 0, or the first of SEDGE_TM_FIELD_RANGE and SEDGE_TM_ROOM. */
+SEDGE_CHECK uint8_t sedge_tm_encode(const struct sedge_tm_frame *frame, const uint8_t *data, size_t data_count,
+                                    uint8_t *out, size_t room, size_t *total);
+
+/* ---- Packets in telemetry frames, for one virtual channel (132.0-B-3, 4.2 and 4.3): built into frames and extracted
+ * from them. The caller keeps a struct and its memory, which no other struct uses. ---- */
+
+/* A builder of the frames of one virtual channel, all of one length. Begin it with sedge_tm_builder_open; its fields
+ * may be read at any time. The memory holds the octets that are to be sent: the rest of the packet that was begun, and
+ * then the packets that are queued. Each call checks that the fields are those of a builder and that these octets are
+ * in the memory, and sedge_tm_builder_build that they are whole packets as far as the frame takes them; if not, it
+ * returns SEDGE_DAMAGED and changes nothing. No call looks at the packets that wait after those. */
+struct sedge_tm_builder {
+    size_t from;        /* where the octets that are to be sent are in the memory */
+    size_t count;       /* the number of octets that are to be sent */
+    size_t begun;       /* the number of these that are left of the packet that was begun, the first ones */
+    uint16_t scid;      /* the spacecraft identifier, below 1,024 */
+    uint16_t length;    /* the octets of a frame, 16 to 2,048 */
+    uint8_t vcid;       /* the virtual channel identifier, below 8 */
+    uint8_t next_count; /* the frame count of the next frame, on the master and on the virtual channel */
+    uint8_t idle_left;  /* the octets left of an idle packet, at most 6, which are sent first */
+};
+
+/* Begins a builder whose frame counts begin at 0, with nothing to be sent. Returns 0, or SEDGE_TM_FIELD_RANGE if scid
+ * is not below 1,024, vcid not below 8, or length not from 16 to 2,048. */
+SEDGE_CHECK uint8_t sedge_tm_builder_open(struct sedge_tm_builder *builder, uint16_t scid, uint8_t vcid, size_t length);
+
+/* Queues a packet, all of its octets, after those that are to be sent, at which it does not look. Returns 0, or the
+ * first of SEDGE_DAMAGED (the numbers of the struct are no builder's, or its octets are not in the memory),
+ * SEDGE_TM_NOT_A_PACKET (not exactly one packet, or an idle one) and SEDGE_TM_MEMORY (the octets to be sent and the
+ * packet are more than the memory has). */
+SEDGE_CHECK uint8_t sedge_tm_builder_queue(struct sedge_tm_builder *builder, const uint8_t *packet, size_t count,
+                                           uint8_t *memory, size_t room);
+
+/* Writes the next frame to the beginning of out, with this operational control field, of four octets as
+ * sedge_clcw_encode writes them, and its length, that of all the builder's frames, to total. Where packets run out
+ * within the frame, an idle packet fills it; where nothing is to be sent, the frame has only idle data. Returns 0, or
+ * the first of SEDGE_DAMAGED (as for sedge_tm_builder_queue, or the octets that this frame takes are not of whole
+ * packets), SEDGE_WRONG_COUNT (the field is not four octets) and SEDGE_TM_ROOM. */
+SEDGE_CHECK uint8_t sedge_tm_builder_build(struct sedge_tm_builder *builder, const uint8_t *ocf, size_t ocf_count,
+                                           const uint8_t *memory, size_t memory_count, uint8_t *out, size_t room,
+                                           size_t *total);
+
+/* An extractor of the packets of one virtual channel. Begin it as {0, 0, 0, 0}; its fields may be read at any time.
+ * The memory holds the part of a packet whose end is to come, and after a frame also the packet that it ended. As many
+ * octets as the longest packet, idle ones included, and the data of a frame have together are enough; 67,578 are enough
+ * for all packets. SEDGE_DAMAGED is returned for a seen above 1, a part that is not in the memory, and a part where no
+ * frame was seen. */
+struct sedge_tm_extractor {
+    size_t from;  /* where the part is in the memory */
+    size_t count; /* the octets of the part, and 0 if there is none */
+    uint8_t last; /* the virtual channel frame count of the last frame, if one was seen */
+    uint8_t seen; /* whether a frame was seen, 0 or 1 */
+};
+
+/* What came of a frame: the packets whose last octets it has, but for idle ones. First comes the packet that began in
+ * earlier frames, if there is one: the first octets of the memory. Those after it are in the frame's data. */
+struct sedge_tm_extracted {
+    size_t joined;             /* the octets of the packet at the beginning of the memory, and 0 if there is none */
+    struct sedge_part packets; /* where sedge_tm_packet begins in the frame's data */
+    uint8_t first;             /* whether this is the first frame, 0 or 1 */
+    uint8_t lost;              /* the number of frames missing before it, modulo 256, and 0 for the first (4.1.2.6) */
+};
+
+/* Takes the next frame of the spacecraft and the virtual channel that came, its fields and its data as sedge_tm_decode
+ * gives them. Hand its packets on before the next call:
+ *
+ *     if (extracted.joined > 0) hand_on(memory, extracted.joined);
+ *     struct sedge_part packet = extracted.packets;
+ *     while (sedge_tm_packet(data, data_count, &packet)) hand_on(data + packet.from, packet.count);
+ *
+ * Where frames are missing, the part before them is dropped. Returns 0, or the first of SEDGE_DAMAGED,
+ * SEDGE_TM_FIELD_RANGE (the pointer is after the data) and SEDGE_TM_MEMORY (the packet that the frame ends and the part
+ * that it leaves are more than the memory has). The frame after a refused one shows that one as missing. */
+SEDGE_CHECK uint8_t sedge_tm_extractor_frame(struct sedge_tm_extractor *extractor, const struct sedge_tm_frame *frame,
+                                             const uint8_t *data, size_t data_count, uint8_t *memory, size_t room,
+                                             struct sedge_tm_extracted *extracted);
+
+/* Goes on to the packet after this part of a frame's data that is not idle. Returns true, and the part is that packet;
+ * or false, with nothing written, if there is none. */
+SEDGE_CHECK bool sedge_tm_packet(const uint8_t *data, size_t data_count, struct sedge_part *packet);
+
+/* Takes the frames of this length that stand one after another in the octets, each as sedge_tm_decode and then
+ * sedge_tm_extractor_frame take it, and writes a record of 19 octets of each to out, in order: the number of octets of
+ * its packets, of four octets, the lowest one first; the first fault of these two calls, or 0; then first and lost, and
+ * dropped, which is 1 if a packet that was begun is dropped and is not idle, or 0; then the scid and the pointer, of
+ * two octets, the lower one first, the vcid, mc_count, vc_count and ocf, or 0 for each where it is no frame. The
+ * packets of all these frames go to packets one after another: sedge_map_packet finds where each begins. Stops where
+ * out has no room for a record, or packets for as many octets as the memory and a frame have, or where no whole frame
+ * follows; a length of 0 is that of no frame. Writes the number of octets of all these packets to total. Returns the
+ * number of frames. */
+size_t sedge_tm_extractor_frames(struct sedge_tm_extractor *extractor, const uint8_t *octets, size_t count,
+                                 size_t frame_length, uint8_t *memory, size_t memory_room, uint8_t *out,
+                                 size_t out_room, uint8_t *packets, size_t packets_room, size_t *total);
+
+/* ---- Packets in segments, for one MAP (232.0-B-4, 4.1.3.2.2), with blocking or without it. ---- */
+
+/* Why octets of a MAP are dropped: by sedge_map_take from 2 on, by a node (sedgechisel_nodes.h) from 1 on. */
+enum sedge_dropped {
+    SEDGE_NOT_DROPPED = 0,
+    SEDGE_DROPPED_CLOSED_MAP = 1,   /* the segment: its MAP is not open */
+    SEDGE_DROPPED_INTERRUPTED = 2,  /* the part that was open: a first or an alone segment came before its last */
+    SEDGE_DROPPED_NO_BEGINNING = 3, /* the segment: it continues or ends a packet, and no part is open */
+    SEDGE_DROPPED_NOT_A_PACKET = 4, /* what was joined is not exactly one packet, or what stood alone is not one, or
+                                     * with blocking not one or more whole packets */
+    SEDGE_DROPPED_TOO_LONG = 5      /* what was joined or stood alone, or with blocking one of the packets that stood
+                                     * alone, has more octets than the memory */
+};
+
+/* Where the packets are that are whole now. */
+enum sedge_where {
+    SEDGE_NO_PACKET = 0,
+    SEDGE_IN_MEMORY = 1, /* one packet, the first octets of the memory */
+    SEDGE_IN_DATA = 2    /* the segment's data: one packet, or with blocking one or more, one after another, of which
+                          * there are at most 145 (1,016 / 7), whatever the sender's limits are */
+};
+
+/* A MAP on board, which the caller keeps with its memory: as many octets as the longest packet may have. Begin it as
+ * {0, 0, 0}, or with blocking, where an alone segment may hold several whole packets, as {0, 0, 1}. The first octets of
+ * the memory are the open part, the beginning of a packet that is not whole yet. SEDGE_DAMAGED is returned for a flag
+ * above 1, a count above the memory's, and a count above 0 with no part open. */
+struct sedge_map {
+    size_t count;     /* the octets of the open part, and 0 if none is open */
+    uint8_t open;     /* whether a part is open, 0 or 1 */
+    uint8_t blocking; /* whether a segment may hold several whole packets, 0 or 1 */
+};
+
+/* What came of a segment. If a part was interrupted, there may be packets too. */
+struct sedge_taken {
+    size_t count;    /* the octets of all the packets together, and 0 if there are none */
+    uint8_t where;   /* of sedge_where */
+    uint8_t dropped; /* of sedge_dropped, the later of two */
+};
+
+/* Takes the next segment of the MAP, its flags of sedge_segment_flags and its data. Hand the packets that are whole now
+ * on before the next call. Returns 0, or SEDGE_DAMAGED, also for flags above 3. */
+SEDGE_CHECK uint8_t sedge_map_take(struct sedge_map *map, uint8_t flags, const uint8_t *data, size_t data_count,
+                                   uint8_t *memory, size_t room, struct sedge_taken *taken);
+
+/* Goes on to the packet after this part of the octets; begin with {0, 0}. Returns true, and the part is that packet; or
+ * false, with nothing written, if there is none. */
+SEDGE_CHECK bool sedge_map_packet(const uint8_t *octets, size_t count, struct sedge_part *packet);
+
+/* Why octets are not cut into segments. */
+enum sedge_map_fault {
+    SEDGE_MAP_NOT_A_PACKET = 1, /* they are not exactly one packet, or with blocking not one or more whole packets */
+    SEDGE_MAP_TOO_LONG = 2      /* a packet has more octets than max_packet */
+};
+
+/* How a sender cuts packets. SEDGE_DAMAGED is returned for a part of 0 and for a blocking above 1. */
+struct sedge_limits {
+    uint32_t part;       /* the most octets of data in a segment, at least 1 */
+    uint32_t max_packet; /* the most octets of a packet */
+    uint8_t blocking;    /* whether packets that have at most part octets together go into one segment, 0 or 1 */
+};
+
+/* Writes the number of segments that a packet is cut into, or with blocking one or more packets, one after another.
+ * Returns 0, or SEDGE_DAMAGED, or the first of sedge_map_fault. */
+SEDGE_CHECK uint8_t sedge_map_count(const uint8_t *octets, size_t count, const struct sedge_limits *limits,
+                                    size_t *segments);
+
+/* Writes segment k of these, counted from 0: its flags of sedge_segment_flags, and where its data are in the octets.
+ * Each call goes through the packets from the first, so with blocking all segments of n packets take time in proportion
+ * to n * n. Returns what sedge_map_count does, or SEDGE_ABSENT if there are not that many. */
+SEDGE_CHECK uint8_t sedge_map_segment(const uint8_t *octets, size_t count, const struct sedge_limits *limits,
+                                      size_t k, uint8_t *flags, struct sedge_part *data);
+
+/* ---- Names, as tctool writes them; "?" for a number out of the enum. ---- */
+
+struct sedge_text sedge_clcw_fault_name(uint8_t fault);   /* the name of a sedge_clcw_fault */
+struct sedge_text sedge_cop_fault_name(uint8_t fault);    /* the name of a sedge_cop_fault */
+struct sedge_text sedge_verdict_name(uint8_t verdict);    /* the name of a sedge_verdict */
+struct sedge_text sedge_alert_name(uint8_t alert);        /* the name of a sedge_alert */
+struct sedge_text sedge_tc_fault_name(uint8_t fault);     /* the name of a sedge_tc_fault */
+struct sedge_text sedge_packet_fault_name(uint8_t fault); /* the name of a sedge_packet_fault */
+struct sedge_text sedge_tm_fault_name(uint8_t fault);     /* the name of a sedge_tm_fault */
+struct sedge_text sedge_map_fault_name(uint8_t fault);    /* the name of a sedge_map_fault */
+struct sedge_text sedge_dropped_name(uint8_t cause);      /* the name of a sedge_dropped */
+
+/* ---- What an alert says. ---- */
+
+/* Whether a sedge_alert says that a condition of the link is broken: true for SEDGE_ALERT_LOCKOUT, SEDGE_ALERT_NNR,
+ * SEDGE_ALERT_CLCW and SEDGE_ALERT_SYNCH. In a confirmed session that was begun by check, Unlock or Set V(R) none of
+ * these comes while the conditions hold: there was a restart on board, a link that reorders or repeats frames, or a
+ * second station. Nothing is known of what is on board then: begin anew, as after a reset. False for the others, after
+ * which the next session begins where this one got to, and for a number that is no alert. */
+bool sedge_alert_shows_broken_condition(uint8_t alert);
+
+/* What to look for after a sedge_alert, and the way on, in words for an operator; "?" for a number that is none. */
+struct sedge_advice sedge_alert_advice(uint8_t alert);
+
+/* ---- The numbers of the enumerations, as constants of an unsigned type. ---- */
+
+#ifndef __cplusplus
+#define SEDGE_OK ((uint8_t)0)
+#define SEDGE_ABSENT ((uint8_t)253)
+#define SEDGE_WRONG_COUNT ((uint8_t)254)
+#define SEDGE_DAMAGED ((uint8_t)255)
+#define SEDGE_CLCW_KIND ((uint8_t)1)
+#define SEDGE_CLCW_VERSION ((uint8_t)2)
+#define SEDGE_CLCW_COP ((uint8_t)3)
+#define SEDGE_CLCW_SPARE ((uint8_t)4)
+#define SEDGE_CLCW_RANGE ((uint8_t)5)
+#define SEDGE_CLCW_RETRANSMIT ((uint8_t)0x08)
+#define SEDGE_CLCW_WAIT ((uint8_t)0x10)
+#define SEDGE_CLCW_LOCKOUT ((uint8_t)0x20)
+#define SEDGE_CLCW_NO_BIT_LOCK ((uint8_t)0x40)
+#define SEDGE_CLCW_NO_RF ((uint8_t)0x80)
+#define SEDGE_COP_WIDTH ((uint8_t)1)
+#define SEDGE_COP_WINDOW ((uint8_t)2)
+#define SEDGE_COP_LIMIT ((uint8_t)3)
+#define SEDGE_COP_TIMER ((uint8_t)4)
+#define SEDGE_COP_NOT_OPEN ((uint8_t)6)
+#define SEDGE_COP_BUSY ((uint8_t)7)
+#define SEDGE_COP_WRONG_STATE ((uint8_t)8)
+#define SEDGE_ACCEPTED ((uint8_t)0)
+#define SEDGE_AHEAD ((uint8_t)1)
+#define SEDGE_NO_BUFFER ((uint8_t)2)
+#define SEDGE_BEHIND ((uint8_t)3)
+#define SEDGE_OUTSIDE ((uint8_t)4)
+#define SEDGE_DISCARDED ((uint8_t)5)
+#define SEDGE_FARM_OPEN ((uint8_t)0)
+#define SEDGE_FARM_WAIT ((uint8_t)1)
+#define SEDGE_FARM_LOCKOUT ((uint8_t)2)
+#define SEDGE_FOP_S1 ((uint8_t)1)
+#define SEDGE_FOP_S2 ((uint8_t)2)
+#define SEDGE_FOP_S3 ((uint8_t)3)
+#define SEDGE_FOP_S4 ((uint8_t)4)
+#define SEDGE_FOP_S5 ((uint8_t)5)
+#define SEDGE_FOP_S6 ((uint8_t)6)
+#define SEDGE_CONTROL_IDLE ((uint8_t)0)
+#define SEDGE_CONTROL_UNLOCK_DUE ((uint8_t)1)
+#define SEDGE_CONTROL_UNLOCK_SENT ((uint8_t)2)
+#define SEDGE_CONTROL_SET_VR_DUE ((uint8_t)3)
+#define SEDGE_CONTROL_SET_VR_SENT ((uint8_t)4)
+#define SEDGE_NO_ALERT ((uint8_t)0)
+#define SEDGE_ALERT_LOCKOUT ((uint8_t)1)
+#define SEDGE_ALERT_NNR ((uint8_t)2)
+#define SEDGE_ALERT_CLCW ((uint8_t)3)
+#define SEDGE_ALERT_SYNCH ((uint8_t)4)
+#define SEDGE_ALERT_LIMIT ((uint8_t)5)
+#define SEDGE_ALERT_TIMER ((uint8_t)6)
+#define SEDGE_ALERT_TERMINATED ((uint8_t)7)
+#define SEDGE_NEXT_NOTHING ((uint8_t)0)
+#define SEDGE_NEXT_UNLOCK ((uint8_t)1)
+#define SEDGE_NEXT_SET_VR ((uint8_t)2)
+#define SEDGE_NEXT_FIRST ((uint8_t)3)
+#define SEDGE_NEXT_AGAIN ((uint8_t)4)
+#define SEDGE_INIT_WITHOUT_CHECK ((uint8_t)1)
+#define SEDGE_INIT_WITH_CHECK ((uint8_t)2)
+#define SEDGE_INIT_UNLOCK ((uint8_t)3)
+#define SEDGE_INIT_SET_VR ((uint8_t)4)
+#define SEDGE_TERMINATE ((uint8_t)5)
+#define SEDGE_SET_VS ((uint8_t)6)
+#define SEDGE_SET_WINDOW ((uint8_t)7)
+#define SEDGE_SET_LIMIT ((uint8_t)8)
+#define SEDGE_SET_TIMER ((uint8_t)9)
+#define SEDGE_TC_SHORT ((uint8_t)1)
+#define SEDGE_TC_VERSION ((uint8_t)2)
+#define SEDGE_TC_RESERVED_TYPE ((uint8_t)3)
+#define SEDGE_TC_SPARE ((uint8_t)4)
+#define SEDGE_TC_LENGTH ((uint8_t)5)
+#define SEDGE_TC_CHECK ((uint8_t)6)
+#define SEDGE_TC_BYPASS_NUMBER ((uint8_t)7)
+#define SEDGE_TC_EMPTY_DATA ((uint8_t)8)
+#define SEDGE_TC_COMMAND ((uint8_t)9)
+#define SEDGE_TC_ROOM ((uint8_t)10)
+#define SEDGE_TC_FIELD_RANGE ((uint8_t)11)
+#define SEDGE_TC_AD ((uint8_t)0)
+#define SEDGE_TC_BD ((uint8_t)1)
+#define SEDGE_TC_BC ((uint8_t)2)
+#define SEDGE_SEGMENT_CONTINUING ((uint8_t)0)
+#define SEDGE_SEGMENT_FIRST ((uint8_t)1)
+#define SEDGE_SEGMENT_LAST ((uint8_t)2)
+#define SEDGE_SEGMENT_ALONE ((uint8_t)3)
+#define SEDGE_UNLOCK ((uint8_t)0)
+#define SEDGE_SET_VR ((uint8_t)1)
+#define SEDGE_PACKET_TRUNCATED ((uint8_t)1)
+#define SEDGE_PACKET_VERSION ((uint8_t)2)
+#define SEDGE_PACKET_IDLE_WITH_SECONDARY ((uint8_t)3)
+#define SEDGE_PACKET_ROOM ((uint8_t)4)
+#define SEDGE_PACKET_FIELD_RANGE ((uint8_t)5)
+#define SEDGE_PACKET_TELEMETRY ((uint8_t)0)
+#define SEDGE_PACKET_TELECOMMAND ((uint8_t)1)
+#define SEDGE_SEQUENCE_CONTINUATION ((uint8_t)0)
+#define SEDGE_SEQUENCE_FIRST ((uint8_t)1)
+#define SEDGE_SEQUENCE_LAST ((uint8_t)2)
+#define SEDGE_SEQUENCE_UNSEGMENTED ((uint8_t)3)
+#define SEDGE_TM_LENGTH ((uint8_t)1)
+#define SEDGE_TM_VERSION ((uint8_t)2)
+#define SEDGE_TM_CHECK ((uint8_t)3)
+#define SEDGE_TM_STATUS ((uint8_t)4)
+#define SEDGE_TM_POINTER ((uint8_t)5)
+#define SEDGE_TM_NO_OCF ((uint8_t)6)
+#define SEDGE_TM_MEMORY ((uint8_t)7)
+#define SEDGE_TM_NOT_A_PACKET ((uint8_t)8)
+#define SEDGE_TM_ROOM ((uint8_t)9)
+#define SEDGE_TM_FIELD_RANGE ((uint8_t)10)
+#define SEDGE_POINTER_ONLY_IDLE ((uint16_t)2046)
+#define SEDGE_POINTER_NO_START ((uint16_t)2047)
+#define SEDGE_NOT_DROPPED ((uint8_t)0)
+#define SEDGE_DROPPED_CLOSED_MAP ((uint8_t)1)
+#define SEDGE_DROPPED_INTERRUPTED ((uint8_t)2)
+#define SEDGE_DROPPED_NO_BEGINNING ((uint8_t)3)
+#define SEDGE_DROPPED_NOT_A_PACKET ((uint8_t)4)
+#define SEDGE_DROPPED_TOO_LONG ((uint8_t)5)
+#define SEDGE_NO_PACKET ((uint8_t)0)
+#define SEDGE_IN_MEMORY ((uint8_t)1)
+#define SEDGE_IN_DATA ((uint8_t)2)
+#define SEDGE_MAP_NOT_A_PACKET ((uint8_t)1)
+#define SEDGE_MAP_TOO_LONG ((uint8_t)2)
+#endif
+
+/* ---- Names that go after 0.3: each call has another name now. ---- */
+
+#define sedge_farm_report sedge_farm_control_word
+#define sedge_fop_report sedge_fop_clcw
+
+#ifdef __cplusplus
+}
+#endif
+
+#endif
