@@ -39,7 +39,7 @@ void rattle_dealloc(void *at);
 
 /* The places of one size: the octets of each, how many there are, and the most that were used at once since the
  * start. */
-struct sedge_static_size {
+struct sedge_static_places {
     size_t octets;
     size_t count;
     size_t most;
@@ -47,7 +47,7 @@ struct sedge_static_size {
 
 /* Writes size k, counted from 0, the smallest first. Returns true; or false, with nothing written, if there are not
  * that many sizes. */
-bool sedge_static_size(size_t k, struct sedge_static_size *size);
+bool sedge_static_size(size_t k, struct sedge_static_places *size);
 
 /* All places are free again, as at the start; the most that were used stay. No handle is needed for that, as where one
  * was overwritten: whatever the handles hold is gone, so each is set to {0} before it is used again, and none is

@@ -14405,12 +14405,12 @@ static void get_sedge_ground_reading(uint64_t at, struct sedge_ground_reading *i
     it->count = (uint8_t)get8(at + 69);
 }
 
-typedef char sedge_ground_kept_is_laid_out_so[COPIES_COUNTS || (IS(sedge_ground_kept, 144, 8) && AT(sedge_ground_kept,
-    acknowledged, 0) && AT(sedge_ground_kept, vs, 8) && AT(sedge_ground_kept, nn, 9) && AT(sedge_ground_kept, known,
-    10) && AT(sedge_ground_kept, whole, 11) && AT(sedge_ground_kept, segments, 12) && AT(sedge_ground_kept, zeros,
+typedef char sedge_kept_ground_is_laid_out_so[COPIES_COUNTS || (IS(sedge_kept_ground, 144, 8) && AT(sedge_kept_ground,
+    acknowledged, 0) && AT(sedge_kept_ground, vs, 8) && AT(sedge_kept_ground, nn, 9) && AT(sedge_kept_ground, known,
+    10) && AT(sedge_kept_ground, whole, 11) && AT(sedge_kept_ground, segments, 12) && AT(sedge_kept_ground, zeros,
     139)) ? 1 : -1];
 
-static void put_sedge_ground_kept(uint64_t at, const struct sedge_ground_kept *it)
+static void put_sedge_kept_ground(uint64_t at, const struct sedge_kept_ground *it)
 {
     put64(at, it->acknowledged);
     put8(at + 8, it->vs);
@@ -14421,7 +14421,7 @@ static void put_sedge_ground_kept(uint64_t at, const struct sedge_ground_kept *i
     copy(at + 139, address(it->zeros), 5);
 }
 
-static void get_sedge_ground_kept(uint64_t at, struct sedge_ground_kept *it)
+static void get_sedge_kept_ground(uint64_t at, struct sedge_kept_ground *it)
 {
     it->acknowledged = get64(at);
     it->vs = (uint8_t)get8(at + 8);
@@ -14621,7 +14621,7 @@ struct sedge_text sedge_link_fault_name(uint8_t number)
     return result;
 }
 
-APART uint8_t sedge_ground_open(const struct sedge_config *config, struct sedge_ground *ground)
+APART uint8_t sedge_ground_open(struct sedge_ground *ground, const struct sedge_config *config)
 {
     unsigned char config_octets[COPIES_COUNTS ? 72 + 15 : 1];
     const uint64_t config_at = COPIES_COUNTS ? aligned(config_octets) : address(config);
@@ -14875,7 +14875,7 @@ APART uint8_t sedge_ground_resume(struct sedge_ground *ground, uint8_t value, ui
     return answer;
 }
 
-APART uint8_t sedge_ground_kept(struct sedge_ground *ground, struct sedge_ground_kept *kept)
+APART uint8_t sedge_ground_kept(struct sedge_ground *ground, struct sedge_kept_ground *kept)
 {
     unsigned char ground_octets[8 + 15];
     const uint64_t ground_at = aligned(ground_octets);
@@ -14885,12 +14885,12 @@ APART uint8_t sedge_ground_kept(struct sedge_ground *ground, struct sedge_ground
     put_sedge_ground(ground_at, ground);
     answer = (uint8_t)sedge_ground_kept_at(ground_at, kept_at);
     get_sedge_ground(ground_at, ground);
-    if (COPIES_COUNTS && answer == 0) get_sedge_ground_kept(kept_at, kept);
+    if (COPIES_COUNTS && answer == 0) get_sedge_kept_ground(kept_at, kept);
     return answer;
 }
 
-APART uint8_t sedge_ground_open_kept(const struct sedge_config *config, const struct sedge_ground_kept *kept, struct
-    sedge_ground *ground)
+APART uint8_t sedge_ground_open_kept(struct sedge_ground *ground, const struct sedge_config *config, const struct
+    sedge_kept_ground *kept)
 {
     unsigned char config_octets[COPIES_COUNTS ? 72 + 15 : 1];
     const uint64_t config_at = COPIES_COUNTS ? aligned(config_octets) : address(config);
@@ -14900,14 +14900,14 @@ APART uint8_t sedge_ground_open_kept(const struct sedge_config *config, const st
     const uint64_t ground_at = aligned(ground_octets);
     uint8_t answer;
     if (COPIES_COUNTS) put_sedge_config(config_at, config);
-    if (COPIES_COUNTS) put_sedge_ground_kept(kept_at, kept);
+    if (COPIES_COUNTS) put_sedge_kept_ground(kept_at, kept);
     put_sedge_ground(ground_at, ground);
     answer = (uint8_t)sedge_ground_open_kept_at(config_at, kept_at, ground_at);
     get_sedge_ground(ground_at, ground);
     return answer;
 }
 
-APART uint8_t sedge_spacecraft_open(const struct sedge_config *config, struct sedge_spacecraft *spacecraft)
+APART uint8_t sedge_spacecraft_open(struct sedge_spacecraft *spacecraft, const struct sedge_config *config)
 {
     unsigned char config_octets[COPIES_COUNTS ? 72 + 15 : 1];
     const uint64_t config_at = COPIES_COUNTS ? aligned(config_octets) : address(config);
@@ -15043,8 +15043,8 @@ APART uint8_t sedge_spacecraft_read(struct sedge_spacecraft *spacecraft, struct 
     return answer;
 }
 
-APART uint8_t sedge_spacecraft_open_kept(const struct sedge_config *config, const struct sedge_spacecraft_reading
-    *kept, struct sedge_spacecraft *spacecraft)
+APART uint8_t sedge_spacecraft_open_kept(struct sedge_spacecraft *spacecraft, const struct sedge_config *config, const struct
+    sedge_spacecraft_reading *kept)
 {
     unsigned char config_octets[COPIES_COUNTS ? 72 + 15 : 1];
     const uint64_t config_at = COPIES_COUNTS ? aligned(config_octets) : address(config);
@@ -15061,7 +15061,7 @@ APART uint8_t sedge_spacecraft_open_kept(const struct sedge_config *config, cons
     return answer;
 }
 
-APART uint8_t sedge_sim_open(const struct sedge_config *config, struct sedge_sim *sim)
+APART uint8_t sedge_sim_open(struct sedge_sim *sim, const struct sedge_config *config)
 {
     unsigned char config_octets[COPIES_COUNTS ? 72 + 15 : 1];
     const uint64_t config_at = COPIES_COUNTS ? aligned(config_octets) : address(config);

@@ -143,7 +143,7 @@ struct sedge_ground {
 /* Opens a ground, in place of one that the handle holds. This one is let go of once the new one is made: a refusal
  * leaves it, and until then both have memory. Where there is memory for one alone, close the handle first. Returns 0,
  * SEDGE_NODE_OUT_OF_RANGE or SEDGE_NODE_MEMORY. */
-SEDGE_CHECK uint8_t sedge_ground_open(const struct sedge_config *config, struct sedge_ground *ground);
+SEDGE_CHECK uint8_t sedge_ground_open(struct sedge_ground *ground, const struct sedge_config *config);
 
 /* Closes the ground, where there is one; the handle holds none then. */
 void sedge_ground_close(struct sedge_ground *ground);
@@ -316,7 +316,7 @@ SEDGE_CHECK uint8_t sedge_ground_resume(struct sedge_ground *ground, uint8_t val
 
 /* What is kept of a ground: V(S) and NN(R) (232.1-B-2, 5.1), and the account of the submissions that were sent whole.
  * It has no padding, so its octets may be stored as they are, and read on the same machine. */
-struct sedge_ground_kept {
+struct sedge_kept_ground {
     uint64_t acknowledged; /* how many submissions are acknowledged whole, modulo 2^64 */
     uint8_t vs;            /* V(S), the number of the next segment that is sent for the first time */
     uint8_t nn;            /* NN(R), the number that the spacecraft was last known to expect */
@@ -332,15 +332,15 @@ struct sedge_ground_kept {
  * record after each call, and after a pull before the frame goes out; where the ground is lost, sedge_ground_open_kept
  * opens another at it. Of submissions that were not sent whole nothing is kept, nor of bypass packets, of telemetry,
  * and of what directives set. Returns 0. */
-uint8_t sedge_ground_kept(struct sedge_ground *ground, struct sedge_ground_kept *kept);
+uint8_t sedge_ground_kept(struct sedge_ground *ground, struct sedge_kept_ground *kept);
 
 /* Opens a ground that goes on where another was lost, in S6, at the record that sedge_ground_kept wrote: with its V(S),
  * its NN(R) and its account of submissions. It is the other after Terminate, without what waited, and with the window,
  * the limit and the timer of the configuration; so sedge_ground_resume begins the next session, as after an alert. It
  * is opened as sedge_ground_open does. Returns 0, SEDGE_NODE_OUT_OF_RANGE (also for a record that no ground of this
  * configuration writes) or SEDGE_NODE_MEMORY. */
-SEDGE_CHECK uint8_t sedge_ground_open_kept(const struct sedge_config *config, const struct sedge_ground_kept *kept,
-                                           struct sedge_ground *ground);
+SEDGE_CHECK uint8_t sedge_ground_open_kept(struct sedge_ground *ground, const struct sedge_config *config,
+                                           const struct sedge_kept_ground *kept);
 
 /* ---- The spacecraft. ---- */
 
@@ -350,7 +350,7 @@ struct sedge_spacecraft {
 
 /* Opens a spacecraft, in place of one that the handle holds, as sedge_ground_open does. Returns 0,
  * SEDGE_NODE_OUT_OF_RANGE or SEDGE_NODE_MEMORY. */
-SEDGE_CHECK uint8_t sedge_spacecraft_open(const struct sedge_config *config, struct sedge_spacecraft *spacecraft);
+SEDGE_CHECK uint8_t sedge_spacecraft_open(struct sedge_spacecraft *spacecraft, const struct sedge_config *config);
 
 /* Closes the spacecraft, where there is one; the handle holds none then. */
 void sedge_spacecraft_close(struct sedge_spacecraft *spacecraft);
@@ -432,9 +432,8 @@ uint8_t sedge_spacecraft_read(struct sedge_spacecraft *spacecraft, struct sedge_
  * value there, farm_b, and the counts of telemetry frames. Its receiver is Open with no flag, and no packet is on
  * board; the other fields are not looked at. It is opened as sedge_spacecraft_open does. Returns 0,
  * SEDGE_NODE_OUT_OF_RANGE (also if farm_b is not below 4) or SEDGE_NODE_MEMORY. */
-SEDGE_CHECK uint8_t sedge_spacecraft_open_kept(const struct sedge_config *config,
-                                               const struct sedge_spacecraft_reading *kept,
-                                               struct sedge_spacecraft *spacecraft);
+SEDGE_CHECK uint8_t sedge_spacecraft_open_kept(struct sedge_spacecraft *spacecraft, const struct sedge_config *config,
+                                               const struct sedge_spacecraft_reading *kept);
 
 /* ---- A simulated link between two nodes, for tests: it keeps its order in each direction, and loses or damages
  * frames only so that the receiver sees it. ---- */
@@ -445,7 +444,7 @@ struct sedge_sim {
 
 /* Opens a link with two new nodes, in place of one that the handle holds, as sedge_ground_open does. Returns 0,
  * SEDGE_NODE_OUT_OF_RANGE or SEDGE_NODE_MEMORY. */
-SEDGE_CHECK uint8_t sedge_sim_open(const struct sedge_config *config, struct sedge_sim *sim);
+SEDGE_CHECK uint8_t sedge_sim_open(struct sedge_sim *sim, const struct sedge_config *config);
 
 /* Closes the link, where there is one; the handle holds none then. */
 void sedge_sim_close(struct sedge_sim *sim);
