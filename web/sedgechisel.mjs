@@ -7,31 +7,54 @@ import { calls, numbers, structs, texts } from './calls.mjs';
 export { numbers };
 
 const PAGE = 65536;
+const NONE = new Uint8Array(0);
 const SIZES = { bool: 1, uint8_t: 1, uint16_t: 2, uint32_t: 4, size_t: 4, pointer: 4, uint64_t: 8 };
 
-// The most that a number may be.
-const MOST = { uint8_t: 0xff, uint16_t: 0xffff, uint32_t: 0xffffffff, size_t: 0xffffffff, pointer: 0xffffffff };
+// The largest number of each kind.
+const MOST = { uint8_t: 0xff, uint16_t: 0xffff, uint32_t: 0xffffffff, size_t: 0xffffffff, pointer: 0xffffffff,
+    uint64_t: 0xffff_ffff_ffff_ffffn };
 
-// A number as the module takes it. What its kind does not hold is a RangeError, and what is no number a TypeError: a
-// compiler of C says so to its program, and an octet of 260 would be one of 4.
+function shown(value) {
+    return typeof value === 'object' && value !== null ? 'an object' : String(value);
+}
+
+// Returns a number as the module takes it. Throws a RangeError if the number is not in the range of its C type, and a
+// TypeError if the value is not a whole number: a C compiler reports these, and an octet of 260 would become 4.
 function numberOf(name, kind, value) {
-    const said = `${name}: ${String(value)}`;
+    const said = `${name}: ${shown(value)}`;
     if (kind === 'bool') {
         if (value === true || value === false || value === 0 || value === 1) return Number(value);
         throw new TypeError(`${said} is not true or false`);
     }
-    if (kind === 'uint64_t') {
-        if (typeof value !== 'bigint' && !Number.isSafeInteger(value)) throw new TypeError(`${said} is not a whole number`);
-        if (value < 0 || value > 0xffff_ffff_ffff_ffffn) throw new RangeError(`${said} is not in 0 to 2^64 - 1`);
-        return BigInt(value);
-    }
-    if (!Number.isInteger(value)) throw new TypeError(`${said} is not a whole number`);
+    const isWide = kind === 'uint64_t';
+    const isWhole = Number.isInteger(value) || (isWide && typeof value === 'bigint');
+    if (!isWhole) throw new TypeError(`${said} is not a whole number`);
     if (value < 0 || value > MOST[kind]) throw new RangeError(`${said} is not in 0 to ${MOST[kind]}`);
-    return value;
+    const isExact = typeof value === 'bigint' || Number.isSafeInteger(value);
+    if (!isExact) throw new RangeError(`${said} is not exact: use a bigint`);
+    return isWide ? BigInt(value) : value;
 }
 
 function octetsOf(name, value) {
-    if (!(value instanceof Uint8Array)) throw new TypeError(`${name}: ${String(value)} is not a Uint8Array`);
+    if (!(value instanceof Uint8Array)) throw new TypeError(`${name}: ${shown(value)} is not a Uint8Array`);
+    return value;
+}
+
+function isList(value) {
+    return Array.isArray(value) || ArrayBuffer.isView(value);
+}
+
+// Returns an object that has the fields of a struct, or takes what a call writes.
+function objectOf(name, value, isWritten) {
+    const isObject = typeof value === 'object' && value !== null && !isList(value);
+    if (!isObject) throw new TypeError(`${name}: ${shown(value)} is not an object`);
+    if (isWritten && !Object.isExtensible(value)) throw new TypeError(`${name}: this object cannot be written`);
+    return value;
+}
+
+function listOf(name, count, value) {
+    if (!isList(value)) throw new TypeError(`${name}: ${shown(value)} is not an array`);
+    if (value.length !== count) throw new RangeError(`${name}: an array of ${value.length} elements instead of ${count}`);
     return value;
 }
 
@@ -102,12 +125,14 @@ class Given {
         this.of = of;
         this.at = this.room = of.places.take(count);
         if (this.room === 0) throw new RangeError('the module has no memory for what the call is given');
+        this.end = this.room + count;
         this.view = new DataView(of.memory.buffer);
     }
 
     place(size) {
         const at = this.at;
         this.at += (size + 15) & ~15;
+        if (this.at > this.end) throw new RangeError('octets have become longer while they were read');
         return at;
     }
 
@@ -117,21 +142,27 @@ class Given {
         return at;
     }
 
+    // Writes the fields of a struct; one that is missing counts as 0.
+    struct(kind, at, value) {
+        for (const [field, own, from, many] of structs[kind].fields) {
+            if (field in value) this.write(own, at + from, own === 'octets' ? at + many : many, value[field], field);
+            else if (own === 'octets') this.write(own, at + from, at + many, NONE, field);
+            else new Uint8Array(this.of.memory.buffer, at + from, sizeOf(own) * Math.max(many, 1)).fill(0);
+        }
+    }
+
     write(kind, at, count, value, name) {
         if (kind === 'octets') {
-            const octets = octetsOf(name, value ?? new Uint8Array());
-            this.view.setUint32(at, this.octets(octets), true);
-            this.view.setUint32(count, octets.length, true);
+            this.view.setUint32(at, this.octets(octetsOf(name, value)), true);
+            this.view.setUint32(count, value.length, true);
         } else if (count > 0) {
-            for (let k = 0; k < count; k++) this.write(kind, at + k * SIZES[kind], 0, value?.[k], name);
+            listOf(name, count, value).forEach((it, k) => this.write(kind, at + k * sizeOf(kind), 0, it, name));
         } else if (structs[kind]) {
-            for (const [field, own, from, many] of structs[kind].fields) {
-                this.write(own, at + from, own === 'octets' ? at + many : many, value?.[field], field);
-            }
+            this.struct(kind, at, objectOf(name, value, false));
         } else if (kind === 'uint64_t') {
-            this.view.setBigUint64(at, numberOf(name, kind, value ?? 0), true);
+            this.view.setBigUint64(at, numberOf(name, kind, value), true);
         } else {
-            this.view[`setUint${8 * SIZES[kind]}`](at, numberOf(name, kind, value ?? 0), true);
+            this.view[`setUint${8 * SIZES[kind]}`](at, numberOf(name, kind, value), true);
         }
     }
 }
@@ -139,7 +170,7 @@ class Given {
 // Reads a value of some kind, a struct into an object.
 function read(memory, kind, at, count, into) {
     const view = new DataView(memory.buffer);
-    if (count > 0) return Array.from({ length: count }, (_, k) => read(memory, kind, at + k * SIZES[kind], 0));
+    if (count > 0) return Array.from({ length: count }, (_, k) => read(memory, kind, at + k * sizeOf(kind), 0));
     if (structs[kind]) {
         const it = into ?? {};
         for (const [field, own, from, many] of structs[kind].fields) it[field] = read(memory, own, at + from, many);
@@ -150,49 +181,54 @@ function read(memory, kind, at, count, into) {
     return kind === 'bool' ? number !== 0 : number;
 }
 
-// The octets that a value takes in the room of a call, or fewer.
-function sizeOf(way, kind, value) {
-    if (way === 'octets' || way === 'room') return value.length + 16;
-    const more = kind === 'sedge_event' ? (value.octets?.length ?? 0) + 16 : 0;
-    return (structs[kind]?.size ?? 8) + 16 + more;
+// The octets of a struct or a number.
+function sizeOf(kind) {
+    return structs[kind]?.size ?? SIZES[kind];
 }
 
-// A call: what it is given is put into a room, and what it wrote is read from there.
+// The octets that an argument takes in the room of a call, or fewer.
+function roomOf(way, kind, value) {
+    if (way === 'value') return 0;
+    if (way === 'octets' || way === 'room') return value.length + 16;
+    const octets = (structs[kind]?.fields ?? []).filter(([, own]) => own === 'octets');
+    return octets.reduce((sum, [field]) => sum + (value[field]?.length ?? 0) + 16, sizeOf(kind) + 16);
+}
+
+// An argument as it has to be; a number as the module takes it.
+function argumentOf([name, way, kind], value) {
+    if (way === 'value') return numberOf(name, kind, value);
+    return way === 'octets' || way === 'room' ? octetsOf(name, value) : objectOf(name, value, way === 'written');
+}
+
+// Puts an argument into the room of a call. Returns the words that the module takes for it, and what copies back that
+// which the call writes.
+function put(of, given, [name, way, kind], value) {
+    if (way === 'value') return [[value]];
+    if (way === 'octets' || way === 'room') {
+        const at = given.octets(value), back = () => value.set(new Uint8Array(of.memory.buffer, at, value.length));
+        return [[at, value.length], way === 'room' ? back : undefined];
+    }
+    const at = given.place(sizeOf(kind)), isStruct = kind in structs;
+    if (isStruct) given.write(kind, at, 0, value, name);
+    const back = isStruct ? () => read(of.memory, kind, at, 0, value) : () => { value.value = read(of.memory, kind, at, 0); };
+    return [[at], way === 'written' ? back : undefined];
+}
+
+// A call: its arguments are put into a room, and what it wrote is read from there.
 function callOf(of, name, result, parameters) {
     return (...values) => {
+        const most = parameters.length;
+        if (values.length > most) throw new TypeError(`${name}: ${values.length} arguments instead of ${most}`);
         const characters = texts[result] ?? 0; // of a text that it returns
-        let size = 32 + characters;
-        const plain = parameters.map(([own, way, kind], k) => {
-            if (way === 'octets' || way === 'room') octetsOf(own, values[k]);
-            size += sizeOf(way, kind, values[k]);
-            return way === 'value' ? numberOf(own, kind, values[k]) : 0;
-        });
-        const given = new Given(of, size), words = [], after = [];
+        const checked = parameters.map((it, k) => argumentOf(it, values[k]));
+        const count = parameters.reduce((sum, [, way, kind], k) => sum + roomOf(way, kind, checked[k]), 32 + characters);
+        const given = new Given(of, count);
         try {
-            const text = characters > 0 ? given.place(characters) : 0;
-            if (characters > 0) words.push(text);
-            parameters.forEach(([own, way, kind], k) => {
-                const value = values[k];
-                if (way === 'octets' || way === 'room') {
-                    const at = given.octets(value);
-                    words.push(at, value.length);
-                    if (way === 'room') after.push(() => value.set(new Uint8Array(of.memory.buffer, at, value.length)));
-                } else if (way === 'value') {
-                    words.push(plain[k]);
-                } else {
-                    const at = given.place(structs[kind]?.size ?? 8), isStruct = kind in structs;
-                    given.write(kind, at, 0, isStruct ? value : value.value, own);
-                    words.push(at);
-                    if (way === 'written') after.push(() => {
-                        const it = read(of.memory, kind, at, 0, isStruct ? value : undefined);
-                        if (!isStruct) value.value = it;
-                    });
-                }
-            });
-            const answer = of.exports[name](...words);
-            for (const act of after) act();
-            const shown = characters > 0 ? textAt(of.memory, text, characters) : result === 'bool' ? answer !== 0 : answer;
-            return shown;
+            const text = characters > 0 ? [given.place(characters)] : [];
+            const placed = parameters.map((it, k) => put(of, given, it, checked[k]));
+            const answer = of.exports[name](...text, ...placed.flatMap(([words]) => words));
+            for (const [, back] of placed) back?.();
+            return characters > 0 ? textAt(of.memory, text[0], characters) : result === 'bool' ? answer !== 0 : answer;
         } finally {
             of.places.give(given.room);
         }
