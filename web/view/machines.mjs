@@ -63,6 +63,12 @@ export class Machines {
         return { fop: { ...fop, outstanding, bypass, pending, alert }, farm: { ...farm, ready, state } };
     }
 
+    // Is as it was when it was like this.
+    restore({ fop, farm }) {
+        const { ready, bypass, outstanding, alert } = { ...farm, ...fop };
+        Object.assign(this, { fop: { ...fop }, farm: { ...farm }, ready, bypass, outstanding, alert });
+    }
+
     // An event has happened: `sent` is the frame that it sent, `word` the control word of the frame that came down.
     // Hands out the rows that were taken, of the sender (fop) and of the receiver (farm).
     step(event, reply, sent, word, outstanding) {

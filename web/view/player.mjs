@@ -1,15 +1,17 @@
 // A script that is played line by line. Each line that was played is kept as a step: its answer, both machines before
-// and after it, and what was on its way. A link has no undo: to go back, a new one plays up to the line.
+// and after it, the records, and what was in transit. So a step back plays nothing; and where the script changes, the
+// steps before the change stay. A link has no undo: to go on from before its place, a new one plays up to there.
 import { numbers as n } from '../sedgechisel.mjs';
-import { Link, scriptOf } from '../link.mjs';
 import { Machines } from './machines.mjs';
+import { CountedLink, NO_RECORDS } from './records.mjs';
+import { readScript } from './script.mjs';
 
 const UP = [n.SEDGE_EVENT_UP_DELIVER, n.SEDGE_EVENT_UP_LOSE, n.SEDGE_EVENT_UP_DAMAGE];
 const DOWN = [n.SEDGE_EVENT_DOWN_DELIVER, n.SEDGE_EVENT_DOWN_CLCW, n.SEDGE_EVENT_DOWN_LOSE, n.SEDGE_EVENT_DOWN_DAMAGE];
+const NOTHING = [0, 0];
 
-// The places, from 0, of the lines that are played: those that are neither skipped nor of the configuration.
-function playedLines(text) {
-    return text.split('\n').flatMap((line, k) => (line === '' || /^(#|config )/.test(line) ? [] : [k]));
+function isSameConfig(one, other) {
+    return Object.keys(one).every((name) => one[name] === other[name]);
 }
 
 export class Player {
@@ -19,59 +21,114 @@ export class Player {
 
     // Takes a script; an Error says what is wrong with it, and then the one before stays.
     load(text) {
-        const { config, events } = scriptOf(text), link = new Link(this.calls, config);
-        const machines = new Machines(this.calls, config), begin = { after: machines.now(), up: [], down: [] };
+        const script = readScript(text, this.script), { config, events } = script;
+        const isKept = this.script !== undefined && isSameConfig(config, this.config), steps = isKept ? this.steps : [];
+        const most = Math.min(steps.length, events.length);
+        let kept = 0;
+        while (kept < most && steps[kept].line === events[kept].line) kept++;
+        if (!isKept) this.restart(config);
+        Object.assign(this, script, { text, script, at: Math.min(this.at, kept) });
+        this.drop(kept);
+    }
+
+    // A new link, on which nothing is played.
+    restart(config) {
+        const link = new CountedLink(this.calls, config), machines = new Machines(this.calls, config);
         this.link?.close();
-        const lines = playedLines(text);
-        Object.assign(this, { text, config, events, link, machines, begin, lines, steps: [], at: 0 });
+        const begin = { after: machines.now(), up: NOTHING, down: NOTHING, records: NO_RECORDS, read: this.read(link) };
+        Object.assign(this, { link, machines, begin, steps: [], at: 0, played: 0, ways: { up: [], down: [] } });
         this.compare(begin.after, n.SEDGE_FOP_S6);
     }
 
-    // The step of the line that was played last.
+    read({ sim }) {
+        const it = {};
+        this.calls.sedge_sim_read(sim, it);
+        return it;
+    }
+
+    // Keeps so many steps; the frames that are gone in others are in transit again.
+    drop(kept) {
+        for (const { gone } of this.steps.splice(kept)) if (gone) gone.left = undefined;
+        for (const way of ['up', 'down']) this.ways[way].length = this.final[way][1];
+    }
+
+    // The step of the line that was played last, and the last of all steps.
     get last() {
         return this.at === 0 ? this.begin : this.steps[this.at - 1];
+    }
+
+    get final() {
+        return this.steps.at(-1) ?? this.begin;
     }
 
     // Plays forwards or back, so that this number of lines is played.
     goTo(count) {
         const wanted = Math.max(0, Math.min(count, this.events.length));
-        if (wanted < this.at) {
+        if (wanted > this.steps.length) this.catchUp();
+        while (this.steps.length < wanted) {
+            this.steps.push(this.step(this.events[this.steps.length]));
+            this.played++;
+        }
+        this.at = wanted;
+    }
+
+    // Brings the link to the place after the last step.
+    catchUp() {
+        if (this.played === this.steps.length) return;
+        if (this.played > this.steps.length) {
             this.link.close();
-            this.link = new Link(this.calls, this.config);
-            this.at = 0;
+            this.link = new CountedLink(this.calls, this.config);
+            this.played = 0;
         }
-        for (; this.at < wanted; this.at++) {
-            const { event } = this.events[this.at];
-            if (this.at === this.steps.length) this.steps.push(this.step(this.events[this.at]));
-            else if (event.kind !== 0) this.calls.sedge_sim_step(this.link.sim, event, {});
+        for (; this.played < this.steps.length; this.played++) {
+            const { event } = this.events[this.played];
+            if (event.kind !== 0) this.calls.sedge_sim_step(this.link.sim, event, {});
         }
+        this.machines.restore(this.final.after);
+        this.link.records = this.final.records;
     }
 
     step({ line, event }) {
-        const { link, machines, last: { after: before, up, down } } = this, answer = link.answer(event), read = {};
+        const { link, machines, final } = this, { after: before } = final, answer = link.answer(event);
         const isNone = answer.startsWith('refused') && link.reply.kind !== n.SEDGE_REPLY_REFUSED;
-        const reply = isNone ? {} : link.reply, took = this.transit(event, reply, up, down);
-        this.calls.sedge_sim_read(link.sim, read);
+        const reply = isNone ? {} : link.reply, took = this.transit(event, reply, final);
+        const records = link.note({ event, reply, gone: took.gone }), read = this.read(link);
         const rows = machines.step(event, reply, took.sent?.frame, took.gone?.word, read.outstanding);
         const after = machines.now();
         this.compare(after, read.state);
-        return { at: this.lines[this.at], line, event, answer, reply, before, after, rows, ...took };
+        return { line, event, answer, reply, before, after, rows, records, read, ...took };
     }
 
-    // What is on its way after an event, the frame that it sent, and the one that is gone; `from` is the step of it.
-    transit(event, reply, up, down) {
-        const from = this.at, { kind, report: word } = reply, isGone = kind !== undefined;
+    // What is in transit after an event, as the places in its way of the first frame and of the one after the last; the
+    // frame that it sent; and the one that is gone. `from` is the step of a frame, and `left` that of its end.
+    transit(event, reply, { up, down }) {
+        const from = this.steps.length, { kind, report: word } = reply, isGone = kind !== undefined;
         if (kind === n.SEDGE_REPLY_SENT) {
             const octets = this.link.octets(), frame = {}, place = {};
             this.calls.sedge_tc_decode(octets, true, frame, place);
-            const sent = { from, frame, data: octets.subarray(place.from, place.from + place.count) };
-            return { sent, up: [...up, sent], down };
+            const sent = { from, frame, octets, data: octets.subarray(place.from, place.from + place.count) };
+            this.ways.up.push(sent);
+            return { sent, up: [up[0], up[1] + 1], down };
         }
-        const sent = { from, word };
-        if (kind === n.SEDGE_REPLY_REPORTED) return { sent, up, down: [...down, sent] };
-        if (isGone && UP.includes(event.kind)) return { gone: up[0], up: up.slice(1), down };
-        if (isGone && DOWN.includes(event.kind)) return { gone: down[0], up, down: down.slice(1) };
+        if (kind === n.SEDGE_REPLY_REPORTED) {
+            const sent = { from, word };
+            this.ways.down.push(sent);
+            return { sent, up, down: [down[0], down[1] + 1] };
+        }
+        if (isGone && UP.includes(event.kind)) return { gone: this.leave('up', up), up: [up[0] + 1, up[1]], down };
+        if (isGone && DOWN.includes(event.kind)) return { gone: this.leave('down', down), up, down: [down[0] + 1, down[1]] };
         return { up, down };
+    }
+
+    leave(way, [first]) {
+        const gone = this.ways[way][first];
+        gone.left = this.steps.length;
+        return gone;
+    }
+
+    // The frames in transit after a step, the next to arrive first.
+    inTransit({ up, down }) {
+        return { up: this.ways.up.slice(...up), down: this.ways.down.slice(...down) };
     }
 
     // What the link says of its nodes, as far as the module has the calls: the machines are as it says.

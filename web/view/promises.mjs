@@ -1,34 +1,14 @@
-// What is promised of the session (docs/PROMISES.md), and what is seen of it in the link's records, octet by octet.
+// What is promised of the session (docs/PROMISES.md), and what is seen of it in the records of a step (records.mjs).
 import { numbers as n } from '../sedgechisel.mjs';
 import { plural } from './words.mjs';
 
 const BEGUN = ['', 'without CLCW check', 'with CLCW check', 'by Unlock', 'by Set V(R)'];
 
-// Entry k of a record.
-function entry({ calls, sim }, record, map, k) {
-    const count = {};
-    calls.sedge_sim_entry_length(sim, record, map, k, count);
-    const out = new Uint8Array(count.value);
-    calls.sedge_sim_entry(sim, record, map, k, out, count);
-    return out;
-}
-
-// Whether the first entries of two records are the same, as many as this.
-function agree(link, one, other, map, count) {
-    for (let k = 0; k < count; k++) {
-        const [a, b] = [one, other].map((record) => entry(link, record, map, k));
-        if (a.length !== b.length || a.some((octet, at) => octet !== b[at])) return false;
-    }
-    return true;
-}
-
 // The MAPs on which packets were submitted or delivered, with how many, and whether these are a prefix of those.
-function mapsOf(link) {
-    return Array.from({ length: 64 }, (_, map) => {
-        const submitted = link.count(n.SEDGE_SUBMITTED, map), delivered = link.count(n.SEDGE_DELIVERED, map);
-        const isPrefix = delivered <= submitted && agree(link, n.SEDGE_SUBMITTED, n.SEDGE_DELIVERED, map, delivered);
-        return { map, submitted, delivered, isPrefix };
-    }).filter((it) => it.submitted + it.delivered > 0);
+function mapsOf({ maps }) {
+    return Object.entries(maps).map(([map, { submitted, delivered, agreed }]) => (
+        { map, submitted, delivered, isPrefix: delivered <= submitted && agreed >= delivered }))
+        .filter((it) => it.submitted + it.delivered > 0);
 }
 
 // Each promise: its name, what it says, whether it is so (undefined where it says nothing yet), and what is seen.
@@ -38,12 +18,11 @@ function inOrder(maps) {
     return ['Delivery in order', promise, maps.every((it) => it.isPrefix), seen];
 }
 
-function accepted(link, read) {
-    const { sent, accepted: many, acknowledged } = read, isOrdered = acknowledged <= many && many <= sent;
+function accepted({ sent, accepted: many, agreed }, { acknowledged }) {
+    const isOrdered = acknowledged <= many && many <= sent;
     const promise = 'The first frames sent, as many as are acknowledged, are the first ones accepted.';
-    const isSo = isOrdered && agree(link, n.SEDGE_SENT, n.SEDGE_RECEIVED, 0, acknowledged);
     const seen = `${sent} sent, ${many} accepted, ${acknowledged} acknowledged`;
-    return ['Acknowledged means accepted', promise, isSo, [seen]];
+    return ['Acknowledged means accepted', promise, isOrdered && agreed >= acknowledged, [seen]];
 }
 
 function whole(maps, { state, outstanding }) {
@@ -53,7 +32,7 @@ function whole(maps, { state, outstanding }) {
     return ['All is delivered', promise, isSo, [`S${state}, ${plural(outstanding, 'segment')} outstanding`]];
 }
 
-function noFalseAlarm({ calls }, { begun, confirmed }, { farm, fop: { alert } }) {
+function noFalseAlarm(calls, { begun, confirmed }, { farm, fop: { alert } }) {
     const isLocked = farm.state === n.SEDGE_FARM_LOCKOUT, isChecking = begun > n.SEDGE_BEGUN_WITHOUT_CHECK;
     const isTrue = [0, n.SEDGE_ALERT_LIMIT, n.SEDGE_ALERT_TIMER, n.SEDGE_ALERT_TERMINATED].includes(alert)
         || (begun === n.SEDGE_BEGUN_WITH_CHECK && !confirmed);
@@ -65,14 +44,14 @@ function noFalseAlarm({ calls }, { begun, confirmed }, { farm, fop: { alert } })
     return ['No false alarm', promise, isSo, [seen], isChecking];
 }
 
-// The session as it is, and its promises; null before one has begun.
-export function promisesOf(link, machines) {
-    const read = link.read(), { begun, clean, idle, confirmed } = read, maps = mapsOf(link);
+// The session as it is after a step, and its promises; null before one has begun.
+export function promisesOf(calls, { read, records, after }) {
+    const { begun, clean, idle, confirmed } = read, maps = mapsOf(records);
     if (begun === n.SEDGE_BEGUN_NOT) return null;
     const how = BEGUN[begun] + (begun === n.SEDGE_BEGUN_SET_VR ? ` to ${read.vr}` : '');
     const facts = [`begun ${how}`, clean ? 'clean' : 'not clean', idle ? 'idle start' : 'no idle start'];
     if (begun !== n.SEDGE_BEGUN_WITHOUT_CHECK) facts.push(confirmed ? 'confirmed' : 'not confirmed');
-    const promises = [inOrder(maps), accepted(link, read), whole(maps, read), noFalseAlarm(link, read, machines)];
+    const promises = [inOrder(maps), accepted(records, read), whole(maps, read), noFalseAlarm(calls, read, after)];
     return { facts, isIdle: idle, promises: promises.map(([name, promise, isSo, seen, isAsked = true]) => (
         { name, promise, isSo, seen, isPromised: idle && isAsked })) };
 }

@@ -4,7 +4,7 @@
 import assert from 'node:assert/strict';
 import { readFileSync } from 'node:fs';
 import { load, numbers as n } from '../sedgechisel.mjs';
-import { octetsOf } from '../link.mjs';
+import { Link, octetsOf } from '../link.mjs';
 import { Player } from './player.mjs';
 import { promisesOf } from './promises.mjs';
 import { KINDS } from './words.mjs';
@@ -80,11 +80,13 @@ function checkRows({ line, event, reply, rows, before, after }) {
 }
 
 // What is on its way after a step is what was, with the frame that was sent, and without the first one that is gone.
-function checkTransit({ line, reply, sent, gone, up, down }, was) {
-    const wanted = { up: [...was.up], down: [...was.down] }, way = (it) => (it.word ? wanted.down : wanted.up);
+function checkTransit(player, step, was) {
+    const { line, reply, sent, gone } = step, wanted = player.inTransit(was);
+    const way = (it) => (it.word ? wanted.down : wanted.up);
     if (sent) way(sent).push(sent);
     if (gone) assert.equal(way(gone).shift(), gone);
-    assert.deepEqual({ up, down }, wanted, line);
+    assert.deepEqual(player.inTransit(step), wanted, line);
+    if (gone) assert.equal(player.steps[gone.left], step);
     assert.equal(sent !== undefined, [n.SEDGE_REPLY_SENT, n.SEDGE_REPLY_REPORTED].includes(reply.kind));
     const goes = [n.SEDGE_REPLY_LOST, n.SEDGE_REPLY_UP, n.SEDGE_REPLY_DOWN, n.SEDGE_REPLY_DOWN_CLCW];
     assert.equal(gone !== undefined, goes.includes(reply.kind));
@@ -93,9 +95,45 @@ function checkTransit({ line, reply, sent, gone, up, down }, was) {
 
 // What is promised is so.
 function checkPromises(player) {
-    const found = promisesOf(player.link, player.last.after);
+    const found = promisesOf(calls, player.last);
     for (const { name, isPromised, isSo } of found?.promises ?? []) assert.ok(!isPromised || isSo !== false, name);
     return JSON.stringify(found);
+}
+
+// The records that a step has are those of the link.
+function checkRecords({ link, final }) {
+    const count = (record, map) => Link.prototype.count.call(link, record, map);
+    assert.equal(final.records.sent, count(n.SEDGE_SENT, 0));
+    assert.equal(final.records.accepted, count(n.SEDGE_RECEIVED, 0));
+    for (let map = 0; map < 64; map++) {
+        const { submitted, delivered } = final.records.maps[map] ?? { submitted: 0, delivered: 0 };
+        assert.deepEqual([submitted, delivered], [count(n.SEDGE_SUBMITTED, map), count(n.SEDGE_DELIVERED, map)]);
+    }
+}
+
+// A script that changes in one line keeps the steps before it; those after it are as of a script that is read whole.
+function keepsSteps(text) {
+    const player = new Player(calls), rows = text.replace(/\n$/, '').split('\n'), whole = new Player(calls);
+    player.load(text);
+    player.goTo(Infinity);
+    for (const k of [1, 0.75, 0.5, 0.25].map((it) => Math.floor(it * rows.length))) {
+        const before = [...player.steps], changed = [...rows.slice(0, k), '# more', 'tick', ...rows.slice(k)].join('\n');
+        player.load(changed);
+        const kept = player.lines.filter((it) => it < k).length;
+        assert.ok(player.steps.length >= kept && player.steps.every((step, j) => step === before[j]), `line ${k}`);
+        player.goTo(Infinity);
+        checkRecords(player);
+        whole.script = undefined;
+        whole.load(changed);
+        whole.goTo(Infinity);
+        assert.deepEqual([player.lines, player.events], [whole.lines, whole.events]);
+        assert.deepEqual(player.steps, whole.steps);
+    }
+    assert.throws(() => player.load(`${text}\nfly`), /unreadable: fly/);
+    assert.throws(() => player.load(`${text}\nconfig window 3`), /unreadable: config/);
+    player.load(`config scid 77\n${text}`);
+    assert.deepEqual([player.config.scid, player.steps.length], [77, 0]);
+    for (const { link } of [player, whole]) link.close();
 }
 
 function plays(file) {
@@ -104,14 +142,15 @@ function plays(file) {
     for (let k = 0; k <= player.events.length; k += 997) {
         player.goTo(k);
         seen.push(checkPromises(player));
+        checkRecords(player);
     }
     player.goTo(Infinity);
     assert.equal(player.at, player.events.length);
     player.steps.forEach(checkRows);
     player.steps.forEach(checkFop);
-    player.steps.forEach((step, k) => checkTransit(step, player.steps[k - 1] ?? player.begin));
+    player.steps.forEach((step, k) => checkTransit(player, step, player.steps[k - 1] ?? player.begin));
     const steps = [...player.steps], lines = player.text.split('\n');
-    steps.forEach((step) => assert.equal(lines[step.at], step.line));
+    steps.forEach((step, k) => assert.equal(lines[player.lines[k]], step.line));
     for (let k = seen.length - 1; k >= 0; k--) {
         player.goTo(997 * k);
         assert.equal(checkPromises(player), seen[k], `${file}: back to line ${997 * k}`);
@@ -131,11 +170,11 @@ function uncleanSession() {
     const again = ['terminate', 'init set 0', 'send', 'up lose', 'down deliver'];
     player.load([...begin, ...again, ...submissions, ...sent, 'report', 'down deliver'].join('\n'));
     player.goTo(player.events.length - 2);
-    const middle = promisesOf(player.link, player.last.after).promises;
+    const middle = promisesOf(calls, player.last).promises;
     assert.deepEqual(middle.map((it) => it.isSo), [false, false, undefined, true]);
     assert.deepEqual(middle[1].seen, ['3 sent, 2 accepted, 2 acknowledged']);
     player.goTo(Infinity);
-    const { facts, isIdle, promises } = promisesOf(player.link, player.last.after);
+    const { facts, isIdle, promises } = promisesOf(calls, player.last);
     assert.deepEqual(promises.map((it) => it.isSo), [false, false, false, true]);
     assert.ok(promises.every((it) => !it.isPromised));
     assert.deepEqual(promises[0].seen, ['MAP 4: 1 delivered of 2 submitted', 'MAP 5: 1 delivered of 1 submitted']);
@@ -169,4 +208,6 @@ function reads() {
 reads();
 uncleanSession();
 for (const file of files) plays(file);
+keepsSteps(readFileSync('examples/lost_frame.script', 'latin1'));
+keepsSteps(readFileSync(files.at(-1), 'latin1').split('\n').slice(0, 1500).join('\n'));
 console.log('all as wanted');
