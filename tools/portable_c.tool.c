@@ -208,3 +208,8 @@ static uint64_t lseek_at(uint32_t file, uint64_t offset, uint32_t whence)
     (void)whence;
     return (uint64_t)tctool_end((int)file);
 }
+
+static uint32_t isatty_at(uint32_t file)
+{
+    return (uint32_t)tctool_is_terminal((int)file);
+}

@@ -59,6 +59,13 @@ int64_t tctool_end(int file)
     return octets >= 0 ? (int64_t)octets : said(-1);
 }
 
+/* What is said goes to the page, or to a program. */
+int32_t tctool_is_terminal(int file)
+{
+    (void)file;
+    return 0;
+}
+
 /* Memory is in blocks of 2^order octets, of which the first 16 say the order; free blocks of an order are in a list. */
 enum { HEAD = 16, LEAST = 5, GREATEST = 30, PAGE = 65536 };
 extern unsigned char __heap_base;

@@ -119,6 +119,11 @@ int64_t tctool_end(int file)
     return end >= 0 ? end : failed(errno);
 }
 
+int32_t tctool_is_terminal(int file)
+{
+    return _isatty(file) != 0;
+}
+
 /* The words in UTF-8. What is no Unicode is the replacement character there, which is in no name of a file. */
 static char **in_utf8(wchar_t **wide, int count)
 {
@@ -168,6 +173,11 @@ int64_t tctool_end(int file)
 {
     const off_t end = lseek(file, 0, SEEK_END);
     return end >= 0 ? end : failed(errno);
+}
+
+int32_t tctool_is_terminal(int file)
+{
+    return isatty(file) != 0;
 }
 
 int main(int count, char **given)

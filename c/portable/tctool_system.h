@@ -29,6 +29,9 @@ int64_t tctool_write(int file, const unsigned char *from, uint64_t count);
 /* Goes to the end of a file, and returns the number of octets before it, or -1. */
 int64_t tctool_end(int file);
 
+/* Whether a file is a terminal: 1 or 0. */
+int32_t tctool_is_terminal(int file);
+
 /* The program; returns its status. */
 int tctool_program(void);
 

@@ -19,7 +19,7 @@ use given::GivenWords;
 use noting::{Noting, reason};
 use std::fs::File;
 use std::io;
-use std::io::{Read, Seek, SeekFrom};
+use std::io::{IsTerminal, Read, Seek, SeekFrom};
 use std::process::ExitCode;
 use stream_commands::{Note, ending};
 use streams::{Reader, StreamFault, Writer};
@@ -72,8 +72,12 @@ fn cannot_open(rt: &HostRuntime, file: &str, cause: &str) -> u8 {
     3
 }
 
-// Writes the second line of a failure, with the file and the cause.
+// Writes a second line with the file and the cause, but only to a terminal: a program that reads standard error
+// gets one line.
 fn explain(rt: &HostRuntime, file: &str, cause: &str) {
+    if !rt.stderr().is_terminal() {
+        return;
+    }
     let name = if file == "-" { "standard input" } else { file };
     let _ = eprintln!(rt; "tctool: {name}: {cause}");
 }
