@@ -28,7 +28,9 @@ use Rattle.nodes.proofs.Resuming.{resumed_or, known_off}
 use Rattle.tc_link.proofs.Resumed.{known_now}
 use Rattle.simulated_link.specs.Replies.{heard_alert}
 use Rattle.tc_link.specs.Repeated.{ground_run}
+use Rattle.nodes.specs.KeptGround.{opened_at}
 use Rattle.tc_link.specs.Resumable.{known_past, known_after, known_by, MayBeReported, EachKnowsExactly}
+use Rattle.tc_link.specs.Resumable.{KnowsAfterCalls}
 use Rattle.tc_link.proofs.Fates.{refilled_fates, with_fates}
 use Rattle.tc_link.proofs.Invariant.{can_off}
 
@@ -173,12 +175,18 @@ module _ (s : GroundState) (value : ℕ) where
     at_end off none = cond_both (is_closed s.fop.state) (known_on_board s value) None
         (λ (o : Option ℕ). o ≡ None → known_on_board s value ≡ None) (λ t is. is) (λ on is. absurd (cc (on, off))) none
 
-pub each_knows_exactly : EachKnowsExactly
-each_knows_exactly c calls value =
-    let s : GroundState = ground_run (new_ground c) calls in
+knows_after_calls : (first : GroundState) → KnowsAfterCalls first first.fates.kept
+knows_after_calls first calls value =
+    let s : GroundState = ground_run first calls in
     let resuming = resumes_so s value (known_at_end s value) refl in
     record {
-      says = says_so s value (known_by false (new_ground c) calls) (run_known calls (new_ground c));
+      says = says_so s value (known_by first.fates.kept first calls) (run_known calls first);
       resumes = resuming.0;
       refuses = resuming.1;
     }
+
+pub each_knows_exactly : EachKnowsExactly
+each_knows_exactly = record {
+  fresh = λ c. knows_after_calls (new_ground c);
+  opened = λ c kept. knows_after_calls (opened_at c kept);
+}

@@ -11,6 +11,8 @@ use Rattle.nodes.specs.declared.fault.LinkFault.TheVariants.{NotKnown}
 use Rattle.nodes.specs.Fates.{shows_one}
 use Rattle.nodes.specs.Ground.{GroundState, GroundEvent, GroundAnswer, Direct, Resume, ground_step}
 use Rattle.nodes.specs.Ground.{new_ground, is_closed, known_on_board}
+use Rattle.nodes.specs.KeptGround.{opened_at}
+use Rattle.nodes.specs.declared.ground_node.kept.KeptGround.{KeptGround}
 use Rattle.tc_link.specs.Repeated.{ground_run}
 use Rattle.tc_link.specs.Silent.{alert_of}
 
@@ -49,8 +51,14 @@ pub record KnowsExactly (s : GroundState) (known : Bool) (value : ℕ) : Type 0 
   pub refuses : IfErr (ground_step s (Resume value)).answer
       (λ fault. (fault ≡ NotKnown) × ((ground_step s (Resume value)).after ≡ s))
 
--- So does each ground, after any calls. In a new one no session is known.
-abbrev pub EachKnowsExactly : Type 0
-EachKnowsExactly =
-    (c : Config) (calls : List GroundEvent) (value : ℕ)
-    → KnowsExactly (ground_run (new_ground c) calls) (known_by false (new_ground c) calls) value
+-- so it does after any calls, where a session is known at first or not
+abbrev pub KnowsAfterCalls : GroundState → Bool → Type 0
+KnowsAfterCalls s known =
+    (calls : List GroundEvent) (value : ℕ)
+    → KnowsExactly (ground_run s calls) (known_by known s calls) value
+
+-- So does each ground. In a new one no session is known, and in one that is opened at kept numbers
+-- one is known exactly where the record says so.
+pub record EachKnowsExactly : Type 0 where
+  pub fresh : (c : Config) → KnowsAfterCalls (new_ground c) false
+  pub opened : (c : Config) (kept : KeptGround) → KnowsAfterCalls (opened_at c kept) kept.known

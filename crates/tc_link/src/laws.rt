@@ -186,7 +186,8 @@ pub fn law_of_submissions()
 /// where a session is known by what the calls were answered, and the value lies from NN(R) to V(S) or these
 /// are equal; `resume` is accepted exactly where it says one in S6, and else refuses by 10 NotKnown and
 /// changes nothing. In a new ground, once V(S) is set, and after an alert that shows a broken condition, no
-/// session is known until one begins (`exactly`).
+/// session is known until one begins; in a ground that is opened at kept numbers one is known where the
+/// record says so (`exactly`).
 pub fn law_of_resuming()
     ensures in_order { ResumesInOrder }
     ensures ground { ResumesSo }
