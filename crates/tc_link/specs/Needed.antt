@@ -1,6 +1,6 @@
 -- Runs that show that each condition of a link is needed: what goes wrong where one is not kept.
 -- Their link lets more happen than `AnyPast` does within a session.
-use Rattle.std.specs.Prelude.{◌≡◌, ℕ, zero, suc, List, [], ◌∷◌, ◌++◌, take, drop, Bool, true}
+use Rattle.std.specs.Prelude.{◌≡◌, ◌≢◌, ℕ, zero, suc, List, [], ◌∷◌, ◌++◌, take, drop, Bool, true}
 use Rattle.std.specs.Prelude.{Some, map, option_map}
 use Rattle.std.specs.Borrow.{Bor}
 use Rattle.tc_frame.specs.declared.frame.Check.TheVariants.{On}
@@ -87,6 +87,12 @@ pub record IsFalseAlarm (w : World) : Type 0 where
   pub directive : directive_of w ≡ Some InitUnlock
   pub locked : w.spacecraft.farm.lockout ≡ true
 
+-- a run never submits these octets
+abbrev pub IsNeverSubmitted : List ℕ → List LooseStep → Type 0
+IsNeverSubmitted octets [] = Unit {0}
+IsNeverSubmitted octets (Submits other ∷ more) = (other ≢ octets) × IsNeverSubmitted octets more
+IsNeverSubmitted octets (step ∷ more) = IsNeverSubmitted octets more
+
 -- ---- the configuration, the packets
 
 -- the least window, and a timer that ends at the first tick
@@ -96,6 +102,10 @@ small = record default_config { width = 2; window = 1; timer = 1; frame_length =
 -- a sender's window of one more than half the width
 abbrev pub wide : Config
 wide = record small { window = 2 }
+
+-- a ground that puts seven octets into a segment
+abbrev pub parted : Config
+parted = record small { part = 7 }
 
 -- a spacecraft on which no MAP is open
 abbrev pub closed : Config
@@ -110,6 +120,13 @@ command = 0x10 ∷ 0x05 ∷ 0xc0 ∷ 0 ∷ 0 ∷ 0 ∷ 0xaa ∷ []
 
 abbrev pub another : List ℕ
 another = 0x10 ∷ 0x05 ∷ 0xc0 ∷ 0x01 ∷ 0 ∷ 0 ∷ 0xbb ∷ []
+
+-- two commands, each of which has two segments there
+abbrev pub long : List ℕ
+long = 0x10 ∷ 0x05 ∷ 0xc0 ∷ 0 ∷ 0 ∷ 1 ∷ 0x01 ∷ 0xa1 ∷ []
+
+abbrev pub long_later : List ℕ
+long_later = 0x10 ∷ 0x05 ∷ 0xc0 ∷ 1 ∷ 0 ∷ 1 ∷ 0x02 ∷ 0xb2 ∷ []
 
 -- two packets of telemetry, each of which fills two frames
 abbrev pub queued : List ℕ
@@ -158,6 +175,18 @@ frame_left =
     begins InitWithoutCheck ∷ Submits another ∷ Happens events.Send ∷ begins Terminate
     ∷ begins (SetVs 0) ∷ begins InitWithoutCheck ∷ Submits command ∷ up
     ++ Happens events.UpDeliver ∷ down
+
+-- No idle start: a frame with the first part of a command is on its way up, and this command is no
+-- longer wanted. The second part of the next one is joined to it.
+abbrev pub part_left : List LooseStep
+part_left =
+    begins InitWithoutCheck ∷ Submits long ∷ Happens events.Send ∷ begins Terminate
+    ∷ begins (SetVs 0) ∷ begins InitWithoutCheck ∷ Submits long_later ∷ up
+    ++ Happens events.UpDeliver ∷ down ++ up ++ down
+
+-- the first segment of one command, and the second of the other
+abbrev pub mixed : List ℕ
+mixed = take 7 long ++ drop 7 long_later
 
 -- No idle start: a report of the session before is on its way down.
 abbrev pub report_left : List LooseStep
