@@ -5,30 +5,52 @@ import { defaults as DEFAULTS, lines, numbers as n } from './calls.mjs';
 export { DEFAULTS };
 const NONE = new Uint8Array(0);
 
+/** @typedef {import('./sedgechisel.mjs').Calls} Calls */
+/** @typedef {import('./sedgechisel.mjs').sedge_config} sedge_config */
+/** @typedef {Partial<import('./sedgechisel.mjs').sedge_event>} Event */
+/** @typedef {import('./sedgechisel.mjs').sedge_reply} Reply */
+
+/**
+ * @param {Uint8Array} octets
+ * @returns {string}
+ */
 export function digitsOf(octets) {
     return Array.from(octets, (it) => it.toString(16).padStart(2, '0')).join('').toUpperCase();
 }
 
-// The octets of hexadecimal digits, or of '-', which are none; null for anything else.
+/**
+ * The octets of hexadecimal digits, or of '-', which are none; null for anything else.
+ * @param {string} digits
+ * @returns {Uint8Array | null}
+ */
 export function octetsOf(digits) {
     if (digits === '-') return NONE;
     if (!/^([0-9a-fA-F]{2})+$/.test(digits)) return null;
-    return Uint8Array.from(digits.match(/../g), (it) => parseInt(it, 16));
+    return Uint8Array.from((digits.match(/../g) ?? []).map((it) => parseInt(it, 16)));
 }
 
-// A number as digits without leading zeros, up to the most; null for anything else.
+/**
+ * A number as digits without leading zeros, up to the most; null for anything else.
+ * @param {string | undefined} digits
+ * @param {any} most
+ * @returns {number | null}
+ */
 function numberOf(digits, most) {
-    if (!/^(0|[1-9]\d{0,19})$/.test(digits ?? '') || BigInt(digits) > BigInt(most)) return null;
+    if (digits === undefined || !/^(0|[1-9]\d{0,19})$/.test(digits) || BigInt(digits) > BigInt(most)) return null;
     return Number(digits);
 }
 
-// The event of a line; null where it is unreadable.
+/**
+ * The event of a line; null if it is unreadable.
+ * @param {string} line
+ * @returns {Event | null}
+ */
 export function eventOf(line) {
     if (line === 'show') return { kind: 0, octets: NONE };
-    for (const [words, kind, directive, form, most] of lines) {
+    for (const [words, kind, directive, form, most] of /** @type {any[]} */ (lines)) {
         if (form === '' && line === words) return { kind, directive, octets: NONE };
         if (form === '' || !line.startsWith(`${words} `)) continue;
-        const rest = line.slice(words.length + 1).split(' '), last = rest.pop();
+        const rest = line.slice(words.length + 1).split(' '), last = rest.pop() ?? '';
         const map = form === 'Submission' ? numberOf(rest.shift(), 255) : 0;
         const value = form === 'Number' ? numberOf(last, most) : 0, octets = form === 'Number' ? NONE : octetsOf(last);
         const isReadable = rest.length === 0 && map !== null && value !== null && octets !== null;
@@ -37,9 +59,15 @@ export function eventOf(line) {
     return null;
 }
 
-// A script: its managed parameters, and its lines with their events. An Error says which line is unreadable.
+/**
+ * A script: its managed parameters, and its lines with their events. An Error names a line that is unreadable.
+ * @param {string} text
+ * @returns {{ config: sedge_config, events: { line: string, event: Event }[] }}
+ */
 export function scriptOf(text) {
-    const config = { ...DEFAULTS }, events = [];
+    const config = /** @type {sedge_config & Record<string, any>} */ ({ ...DEFAULTS });
+    /** @type {{ line: string, event: Event }[]} */
+    const events = [];
     text.split('\n').forEach((line, k) => {
         if (line === '' || line.startsWith('#')) return;
         const [word, name, value, ...more] = line.split(' '), most = name === 'maps' ? DEFAULTS.maps : 65542;
@@ -55,10 +83,18 @@ export function scriptOf(text) {
     return { config, events };
 }
 
+/** A simulated link that answers in the words of `tctool sim`. */
 export class Link {
+    /**
+     * @param {Calls} calls
+     * @param {sedge_config} config
+     * @throws {RangeError} if a parameter is out of range
+     */
     constructor(calls, config) {
         this.calls = calls;
         this.sim = {};
+        /** @type {any} */
+        this.reply = {};
         const number = calls.sedge_config_fault(config);
         if (number !== 0) throw new RangeError(`${calls.sedge_parameter_name(number)} is out of its range`);
         if (calls.sedge_sim_open(this.sim, config) !== n.SEDGE_NODE_OK) throw new RangeError('no memory');
@@ -68,7 +104,11 @@ export class Link {
         this.calls.sedge_sim_close(this.sim);
     }
 
-    // An event happens; its line. What it answered stays in `reply`.
+    /**
+     * An event happens. Returns its line; what it answered stays in `reply`.
+     * @param {Event} event
+     * @returns {string}
+     */
     answer(event) {
         this.reply = {};
         if (event.kind === 0) return this.show();
@@ -76,16 +116,20 @@ export class Link {
         return fault !== 0 ? `refused ${fault} ${this.calls.sedge_sim_fault_name(fault)}` : this.lineOf(this.reply);
     }
 
-    // The octets of the frame or the packet that the last event had.
+    /** The octets of the frame or the packet that the last event had. */
     octets() {
         const out = new Uint8Array(this.reply.count), count = {};
         this.calls.sedge_sim_octets(this.sim, out, count);
         return out;
     }
 
+    /**
+     * @param {Reply} it
+     * @returns {string}
+     */
     lineOf(it) {
         const calls = this.calls, word = new Uint8Array(4);
-        const names = [null, calls.sedge_link_fault_name, calls.sedge_cop_fault_name, calls.sedge_tm_fault_name];
+        const names = [() => '', calls.sedge_link_fault_name, calls.sedge_cop_fault_name, calls.sedge_tm_fault_name];
         switch (it.kind) {
         case n.SEDGE_REPLY_DONE: return 'ok';
         case n.SEDGE_REPLY_NOTHING: return 'nothing';
@@ -104,7 +148,10 @@ export class Link {
         }
     }
 
-    // What became of a report that came by itself.
+    /**
+     * What became of a CLCW by itself.
+     * @param {import('./sedgechisel.mjs').sedge_heard} it
+     */
     wordLine(it) {
         const calls = this.calls;
         if (it.report === 1) return `invalid ${it.word_fault} ${calls.sedge_clcw_fault_name(it.word_fault)}`;
@@ -112,6 +159,7 @@ export class Link {
         return it.alert === 0 ? 'ok' : `alert ${calls.sedge_alert_name(it.alert)}`;
     }
 
+    /** @param {import('./sedgechisel.mjs').sedge_received} it */
     receivedLine(it) {
         const calls = this.calls;
         if (it.kind === n.SEDGE_RECEIVED_INVALID) return `invalid ${it.fault} ${calls.sedge_tc_fault_name(it.fault)}`;
@@ -124,6 +172,7 @@ export class Link {
         return it.kind === n.SEDGE_RECEIVED_FOREIGN ? 'foreign' : it.command === n.SEDGE_SET_VR ? `BC set ${it.vr}` : 'BC unlock';
     }
 
+    /** @param {import('./sedgechisel.mjs').sedge_heard} it */
     heardLine(it) {
         if (it.kind === n.SEDGE_HEARD_INVALID) return `invalid ${it.fault} ${this.calls.sedge_tm_fault_name(it.fault)}`;
         if (it.kind === n.SEDGE_HEARD_FOREIGN) return 'foreign';
@@ -131,17 +180,25 @@ export class Link {
         return `gap=${it.first !== 0 ? '-' : it.missing} packets=${it.packets}${alert}`;
     }
 
-    // How many entries a record has on a MAP.
+    /**
+     * How many entries a record has on a MAP.
+     * @param {number} record
+     * @param {number} map
+     * @returns {number}
+     */
     count(record, map) {
-        const entries = {};
+        const entries = { value: 0 };
         this.calls.sedge_sim_count(this.sim, record, map, entries);
         return entries.value;
     }
 
-    // What the link is like: the fields of sedge_sim_reading, and how many packets were submitted and delivered, and
-    // how many frames were sent and accepted.
+    /** What the link is like: the fields of sedge_sim_reading, and how many packets were submitted and delivered, and how
+     * many frames were sent and accepted. */
     read() {
-        const it = { submitted: 0, delivered: 0, sent: this.count(n.SEDGE_SENT, 0), accepted: this.count(n.SEDGE_RECEIVED, 0) };
+        /** @type {import('./sedgechisel.mjs').sedge_sim_reading & Record<string, number>} */
+        const it = /** @type {any} */ ({ submitted: 0, delivered: 0 });
+        it.sent = this.count(n.SEDGE_SENT, 0);
+        it.accepted = this.count(n.SEDGE_RECEIVED, 0);
         this.calls.sedge_sim_read(this.sim, it);
         for (let map = 0; map < 64; map++) {
             it.submitted += this.count(n.SEDGE_SUBMITTED, map);

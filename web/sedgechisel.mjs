@@ -2,6 +2,7 @@
 // their names there, of the module that web/build makes. Octets are a Uint8Array, which a call copies in, and out where
 // it writes there; its length is the number that stands after it in C. A struct is an object with its fields; a pointer
 // to a number is an object with a value. A call writes into those that it is given.
+import { listOf, numberOf, objectOf, octetsOf } from './arguments.mjs';
 import { calls, numbers, structs, texts } from './calls.mjs';
 
 export { numbers };
@@ -9,54 +10,6 @@ export { numbers };
 const PAGE = 65536;
 const NONE = new Uint8Array(0);
 const SIZES = { bool: 1, uint8_t: 1, uint16_t: 2, uint32_t: 4, size_t: 4, pointer: 4, uint64_t: 8 };
-
-// The largest number of each kind.
-const MOST = { uint8_t: 0xff, uint16_t: 0xffff, uint32_t: 0xffffffff, size_t: 0xffffffff, pointer: 0xffffffff,
-    uint64_t: 0xffff_ffff_ffff_ffffn };
-
-function shown(value) {
-    return typeof value === 'object' && value !== null ? 'an object' : String(value);
-}
-
-// Returns a number as the module takes it. Throws a RangeError if the number is not in the range of its C type, and a
-// TypeError if the value is not a whole number: a C compiler reports these, and an octet of 260 would become 4.
-function numberOf(name, kind, value) {
-    const said = `${name}: ${shown(value)}`;
-    if (kind === 'bool') {
-        if (value === true || value === false || value === 0 || value === 1) return Number(value);
-        throw new TypeError(`${said} is not true or false`);
-    }
-    const isWide = kind === 'uint64_t';
-    const isWhole = Number.isInteger(value) || (isWide && typeof value === 'bigint');
-    if (!isWhole) throw new TypeError(`${said} is not a whole number`);
-    if (value < 0 || value > MOST[kind]) throw new RangeError(`${said} is not in 0 to ${MOST[kind]}`);
-    const isExact = typeof value === 'bigint' || Number.isSafeInteger(value);
-    if (!isExact) throw new RangeError(`${said} is not exact: use a bigint`);
-    return isWide ? BigInt(value) : value;
-}
-
-function octetsOf(name, value) {
-    if (!(value instanceof Uint8Array)) throw new TypeError(`${name}: ${shown(value)} is not a Uint8Array`);
-    return value;
-}
-
-function isList(value) {
-    return Array.isArray(value) || ArrayBuffer.isView(value);
-}
-
-// Returns an object that has the fields of a struct, or takes what a call writes.
-function objectOf(name, value, isWritten) {
-    const isObject = typeof value === 'object' && value !== null && !isList(value);
-    if (!isObject) throw new TypeError(`${name}: ${shown(value)} is not an object`);
-    if (isWritten && !Object.isExtensible(value)) throw new TypeError(`${name}: this object cannot be written`);
-    return value;
-}
-
-function listOf(name, count, value) {
-    if (!isList(value)) throw new TypeError(`${name}: ${shown(value)} is not an array`);
-    if (value.length !== count) throw new RangeError(`${name}: an array of ${value.length} elements instead of ${count}`);
-    return value;
-}
 
 // The memory of nodes, and of what calls are given: places of 16, 32, 64 .. octets after the module's own memory, with
 // lists of those that are free.
@@ -210,7 +163,10 @@ function put(of, given, [name, way, kind], value) {
     }
     const at = given.place(sizeOf(kind)), isStruct = kind in structs;
     if (isStruct) given.write(kind, at, 0, value, name);
-    const back = isStruct ? () => read(of.memory, kind, at, 0, value) : () => { value.value = read(of.memory, kind, at, 0); };
+    const back = () => {
+        if (isStruct) read(of.memory, kind, at, 0, value);
+        else value.value = read(of.memory, kind, at, 0);
+    };
     return [[at], way === 'written' ? back : undefined];
 }
 

@@ -1,28 +1,51 @@
-// Runs the command tctool by the module that web/build_tctool makes, run(module, ['farm', 'capture.bin'], system), and
-// returns its status. Words are texts or octets. The system opens, reads and writes as POSIX has it: `open(name)`
-// returns a number from 3 on, `read(file, room)` and `write(file, octets)` a number of octets, and each, where it fails,
-// less the error as Linux numbers it, or -1. `end(file)`, where there is one, returns how many octets a file has, or -1 where
-// that is not known.
-// Files 0, 1 and 2 are open. What the system throws ends the command.
+// The command tctool as a module that web/build_tctool makes.
+
+/**
+ * What the command requires of its system. It opens, reads and writes as POSIX does: `open` returns a number from 3 on, `read`
+ * and `write` return how many octets they read or wrote, and each returns minus the error as Linux numbers it, or -1, if it
+ * fails. `end`, if there is one, returns how many octets a file has, or -1 if that is not known. Files 0, 1 and 2 are open.
+ * @typedef {{
+ *     open(name: Uint8Array): number,
+ *     read(file: number, room: Uint8Array): number,
+ *     write(file: number, octets: Uint8Array): number,
+ *     end?(file: number): number,
+ * }} System
+ */
+
+/**
+ * Runs the command, `run(module, ['farm', 'capture.bin'], system)`. What the system throws ends it.
+ * @param {WebAssembly.Module} module
+ * @param {(string | Uint8Array)[]} words its arguments, as texts or octets
+ * @param {System} system
+ * @returns {number} its status
+ */
 export function run(module, words, system) {
     const text = new TextEncoder();
     const given = ['tctool', ...words].map((it) => (typeof it === 'string' ? text.encode(it) : it));
-    const octets = (at, count) => new Uint8Array(instance.exports.memory.buffer, at, count);
+    /** @type {any} */
+    let made;
+    /** @type {(at: number, count?: number) => Uint8Array} */
+    const octets = (at, count) => new Uint8Array(made.memory.buffer, at, count);
     const host = {
+        /** @type {(place: number, to: number, room: number) => number} */
         word(place, to, room) {
             if (place >= given.length) return -1;
             if (given[place].length > room) return -2;
             octets(to).set(given[place]);
             return given[place].length;
         },
+        /** @param {number} name */
         open(name) {
             const all = octets(name);
             return system.open(all.slice(0, all.indexOf(0)));
         },
+        /** @type {(file: number, to: number, count: number) => number} */
         read: (file, to, count) => system.read(file, octets(to, count)),
+        /** @type {(file: number, from: number, count: number) => number} */
         write: (file, from, count) => system.write(file, octets(from, count)),
+        /** @type {(file: number) => number} */
         end: (file) => system.end?.(file) ?? -1,
     };
-    const instance = new WebAssembly.Instance(module, { host });
-    return instance.exports.tctool_program();
+    made = new WebAssembly.Instance(module, { host }).exports;
+    return made.tctool_program();
 }

@@ -1,0 +1,64 @@
+// Made by web/bindings of c/include/sedgechisel.h and c/include/sedgechisel_nodes.h.
+
+/** The managed parameters of a node (docs/PROFILE.md). */
+export interface Config {
+    /** The spacecraft identifier, 0 to 1,023; default 1. */
+    scid: number;
+    /** The virtual channel of telecommand frames, 0 to 63; default 2. */
+    vcid: number;
+    /** The virtual channel of telemetry frames, 0 to 7; default 0. */
+    tmVcid: number;
+    /** The width of the receiver's window, even, 2 to 254; default 254. */
+    width: number;
+    /** The sender's window K, 1 to width/2; default 127. */
+    window: number;
+    /** The transmission limit, 1 to 255; default 3. */
+    limit: number;
+    /** The timer's value in ticks, 1 to 65,535; default 10. */
+    timer: number;
+    /** The most octets of data in a segment, 1 to 1,016; default 1,016. */
+    part: number;
+    /** The most octets of a packet, 7 to 65,542; default 65,542. */
+    maxPacket: number;
+    /** Bit m, which counts 2 to the power of m, says that MAP m is open, any 64 bits; default all ones. */
+    maps: number | bigint;
+    /** The number of packets waiting to be taken at which the buffer on board is full, 1 to 64; default 64. */
+    readySlots: number;
+    /** The most packets of bypass frames that wait to be taken, 1 to 64; default 4. */
+    bypassSlots: number;
+    /** The most units that wait to be sent for the first time, 1 to 65,535; default 1,000. */
+    queueSlots: number;
+    /** The octets of a telemetry frame, 16 to 2,048; default 64. */
+    frameLength: number;
+    /** 1 where a segment may hold several packets, 0 to 1; default 0. */
+    blocking: number;
+}
+
+export type State = 'S1' | 'S2' | 'S3' | 'S4' | 'S5' | 'S6';
+export type Mode = 'OPEN' | 'WAIT' | 'LOCKOUT';
+export type Verdict = 'ACCEPTED' | 'AHEAD' | 'NO_BUFFER' | 'BEHIND' | 'OUTSIDE' | 'DISCARDED';
+export type ReceivedKind = 'INVALID' | 'FOREIGN' | 'AD' | 'BD' | 'BC';
+export type HeardKind = 'INVALID' | 'FOREIGN' | 'FRAME' | 'CLCW';
+export type Report = 'USED' | 'REFUSED' | 'OTHER_CHANNEL';
+export type Command = 'UNLOCK' | 'SET_VR';
+export type Begun = 'NOT' | 'WITHOUT_CHECK' | 'WITH_CHECK' | 'UNLOCK' | 'SET_VR';
+
+declare global {
+    // Of the library of TypeScript where it has `using`; empty where it does not.
+    interface Disposable {}
+}
+/** What `using` closes. */
+export interface Closing extends Disposable {}
+
+export const meanings: Record<string, Record<number, string>>;
+export const members: {
+    fop_state: Record<number, State>;
+    farm_mode: Record<number, Mode>;
+    verdict: Record<number, Verdict>;
+    received_kind: Record<number, ReceivedKind>;
+    heard_kind: Record<number, HeardKind>;
+    heard_report: Record<number, Report>;
+    command: Record<number, Command>;
+    begun: Record<number, Begun>;
+};
+export const ranges: Record<string, string>;

@@ -1,0 +1,440 @@
+// Made by web/types of web/nodes.mjs.
+/**
+ * Loads the module, once, before the first node. Without a source it is sedgechisel.wasm next to this file.
+ * @param {BufferSource | WebAssembly.Module} [source]
+ * @returns {Promise<import('./sedgechisel.mjs').Calls>} the calls of the headers, which the classes use
+ */
+export function load(source?: BufferSource | WebAssembly.Module | undefined): Promise<import('./sedgechisel.mjs').Calls>;
+declare const Handle_base: new () => import("./meanings.mjs").Closing;
+/** What the nodes share. A node is closed by `close`, at the end of a `using` block, or after nothing refers to it any
+ * more; each later call throws an Error. */
+export class Handle extends Handle_base {
+    /**
+     * @param {Partial<Config>} given
+     * @param {(config: sedge_config, raw: object) => number} opens
+     * @param {(raw: any) => void} closes
+     */
+    constructor(given: Partial<Config>, opens: (config: sedge_config, raw: object) => number, closes: (raw: any) => void);
+    /** The managed parameters. */
+    get config(): import("./meanings.mjs").Config;
+    /** Closes the node and releases its memory. A second call does nothing. */
+    close(): void;
+    /** Whether the node is closed. */
+    get closed(): boolean;
+    /**
+     * The answer of a call to the node, if it is not refused.
+     * @protected
+     * @param {(raw: any) => number} call
+     * @param {new (number: number) => Fault} [fault]
+     * @returns {number}
+     */
+    protected asked(call: (raw: any) => number, fault?: (new (number: number) => Fault) | undefined): number;
+    /**
+     * What a call writes into an object.
+     * @protected
+     * @template T
+     * @param {(raw: any, into: T) => number} call
+     * @returns {T}
+     */
+    protected read<T>(call: (raw: any, into: T) => number): T;
+    /**
+     * The octets that a call takes, of which another one says the number; null where there are none.
+     * @protected
+     * @param {(raw: any, count: { value?: number }) => number} next
+     * @param {(raw: any, out: Uint8Array, count: { value?: number }) => number} take
+     * @returns {Uint8Array | null}
+     */
+    protected octets(next: (raw: any, count: {
+        value?: number | undefined;
+    }) => number, take: (raw: any, out: Uint8Array, count: {
+        value?: number | undefined;
+    }) => number): Uint8Array | null;
+    #private;
+}
+/** A node with a sender, which takes the directives of FOP-1 (232.1-B-2, 5.2.4). */
+export class Directing extends Handle {
+    /**
+     * Gives the sender a directive.
+     * @abstract
+     * @protected
+     * @param {number} directive
+     * @param {number} [value]
+     */
+    protected direct(directive: number, value?: number | undefined): void;
+    /** Directive: initiate without CLCW check: S6 to S1. Throws CopFault 8 (WrongState) unless in S6. */
+    initWithoutCheck(): void;
+    /**
+     * Directive: initiate with CLCW check: S6 to S4, until a report agrees. Throws CopFault 8 (WrongState) unless in
+     * S6.
+     */
+    initWithCheck(): void;
+    /** Directive: initiate with Unlock: S6 to S5, and Unlock is sent. Throws CopFault 8 (WrongState) unless in S6. */
+    initUnlock(): void;
+    /**
+     * Directive: initiate with Set V(R): S6 to S5, V(S) and NN(R) to `vr`, and Set V(R) is sent. Throws CopFault 8
+     * (WrongState) unless in S6.
+     * @param {number} vr
+     */
+    initSetVr(vr: number): void;
+    /**
+     * Directive: terminate: to S6 with the alert Terminated, which lets go of all units. Throws CopFault 8 (WrongState)
+     * in S6.
+     */
+    terminate(): void;
+    /**
+     * Directive: set V(S), and NN(R) too, to `vs`. Throws CopFault 8 (WrongState) unless in S6.
+     * @param {number} vs
+     */
+    setVs(vs: number): void;
+    /**
+     * Directive: set the window K to `window`. Throws CopFault 2 (Window) unless it is 1 to half the receiver's window
+     * width.
+     * @param {number} window
+     */
+    setWindow(window: number): void;
+    /**
+     * Directive: set the transmission limit to `limit`. Throws CopFault 3 (Limit) if it is 0.
+     * @param {number} limit
+     */
+    setLimit(limit: number): void;
+    /**
+     * Directive: set the timer to `timer`, in ticks. Throws CopFault 4 (Timer) if it is 0.
+     * @param {number} timer
+     */
+    setTimer(timer: number): void;
+}
+/** The ground node: it sends packets until they are accepted, and takes telemetry. */
+export class Ground extends Directing {
+    /**
+     * Opens a ground with these managed parameters; the others have their defaults. With `kept`, the `kept` of a ground that
+     * was lost, it continues from there in S6: `resume` begins the next session, as after an alert.
+     * @param {Partial<Config>} [config]
+     * @param {Partial<KeptGround>} [kept]
+     * @throws {ConfigFault} if a parameter is out of range
+     * @throws {RangeError} for a record that no ground of this configuration gives
+     * @throws {LinkFault} 6 (Memory)
+     */
+    constructor(config?: Partial<import("./meanings.mjs").Config> | undefined, kept?: Partial<KeptGround> | undefined);
+    /**
+     * Returns what is kept of the ground, in one record of fixed size, and the ground stays as it was. A program stores
+     * the record after each call, and after a pull before the frame goes out; where the ground is lost, `new
+     * Ground(config, kept)` opens another at it. Of submissions that were not sent whole nothing is kept, nor of bypass
+     * packets, of telemetry, and of what directives set.
+     * @returns {KeptGround}
+     */
+    get kept(): KeptGround;
+    /**
+     * Submits packets on a MAP, to be sent under sequence control: one, or several where blocking is on. Throws the
+     * first of LinkFault 1 to 5 that applies, or LinkFault 6 (Memory). sedge_map_count says in how many segments they
+     * go. That `resume` counts a submission right is promised of one packet, and of packets that go in one segment
+     * together.
+     * @param {number} map
+     * @param {Uint8Array} packets
+     * @returns {number} the number of this submission in its session, from 0
+     */
+    submit(map: number, packets: Uint8Array): number;
+    /**
+     * Submits one packet on a MAP past the sequence control. Throws the first of LinkFault 2 to 5 that applies, or
+     * LinkFault 6 (Memory).
+     * @param {number} map
+     * @param {Uint8Array} packet
+     */
+    bypass(map: number, packet: Uint8Array): void;
+    /**
+     * Takes the frame that goes on the link next, with its FECF (232.0-B-4, 4.1): returns it; or null where nothing is
+     * to be sent.
+     * @returns {Uint8Array | null}
+     */
+    pull(): Uint8Array | null;
+    /**
+     * Pulls frames until nothing is to be sent. A frame counts as sent when it is yielded; frames that are not requested
+     * stay in the ground.
+     * @returns {Generator<Uint8Array, void, undefined>}
+     */
+    frames(): Generator<Uint8Array, void, undefined>;
+    /**
+     * Returns the frame that goes on the link next as `pull` does; the ground stays as it was. With `advance` the frame
+     * counts as sent once a radio that may refuse it has taken it.
+     * @returns {Uint8Array | null}
+     */
+    peek(): Uint8Array | null;
+    /**
+     * Counts the frame that goes on the link next as sent, as `pull` does; nothing changes where nothing is to be sent.
+     */
+    advance(): void;
+    /**
+     * Takes octets that came from the spacecraft, and returns what they are. Throws LinkFault 6 (Memory) where they
+     * finish a packet.
+     * @param {Uint8Array} octets
+     * @returns {Heard}
+     */
+    telemetry(octets: Uint8Array): Heard;
+    /**
+     * Takes received octets that are consecutive telemetry frames of `length` octets. Yields for each what `telemetry`
+     * returns, when it is requested. Octets left at the end are yielded as an invalid frame.
+     * @param {Uint8Array} octets
+     * @param {number} length 16 to 2,048
+     * @returns {Generator<Heard, void, undefined>}
+     */
+    telemetryAll(octets: Uint8Array, length: number): Generator<Heard, void, undefined>;
+    /**
+     * Takes a report that came by itself, a CLCW as a front end hands it on (232.0-B-4, 4.2), and returns what becomes
+     * of it, as `telemetry` does of the report in a telemetry frame; telemetry is not touched. The last one may be
+     * handed on again before the next, which changes nothing; an older one may not come again as if it were new.
+     * @param {Uint8Array} word
+     * @returns {Heard}
+     * @throws {RangeError} unless the octets are four
+     */
+    clcw(word: Uint8Array): Heard;
+    /**
+     * Begins to take packets out of telemetry anew, as after a restart of the spacecraft, whose counts go on elsewhere:
+     * a packet that is not finished is dropped, and the next frame is the first (132.0-B-3, 4.3.2). Packets that wait
+     * to be taken stay.
+     */
+    forgetTelemetry(): void;
+    /**
+     * Returns the report that a telemetry frame carries, of whichever spacecraft and virtual channel (232.0-B-4, 4.2);
+     * the ground stays as it was. Returns null if the octets are no frame or the frame carries no report.
+     * @param {Uint8Array} octets
+     * @returns {Clcw | null}
+     */
+    clcwIn(octets: Uint8Array): Clcw | null;
+    /**
+     * Takes the oldest packet of telemetry (132.0-B-3, 4.3.2): returns it; or null where none waits.
+     * @returns {Uint8Array | null}
+     */
+    takeTelemetry(): Uint8Array | null;
+    /**
+     * Takes the packets of telemetry, oldest first, until none is left. Packets that are not requested stay in the ground.
+     * @returns {Generator<Uint8Array, void, undefined>}
+     */
+    packets(): Generator<Uint8Array, void, undefined>;
+    /**
+     * A tick of the clock has passed. Returns the alert, or null for none.
+     * @returns {Alert | null}
+     */
+    tick(): Alert | null;
+    /**
+     * Returns how many of the segments that were sent and not acknowledged were accepted on board when a report of this
+     * value was made: the oldest ones (232.1-B-2, 5.1). It does so after an alert too, until V(S) is set or an
+     * initiation begins, and goes by the numbers alone: after an alert that shows a broken condition nothing of them is
+     * known, whatever it returns. If V(S) is NN(R) there are no such segments, and it returns 0 whatever the value.
+     * Returns null if there are and the value does not lie from NN(R) to V(S), so that nothing is known of them.
+     * @param {number} value
+     * @returns {number | null}
+     */
+    acceptedBeyond(value: number): number | null;
+    /**
+     * Returns how many first submissions of the session are known to be on board whole by a report of this value: those
+     * that are acknowledged, and those all of whose segments it says were accepted (232.1-B-2, 5.1). It does so after
+     * an alert too. Returns null where nothing is known: no session has begun, V(S) was set since, an alert came since
+     * that shows a broken condition, or V(S) is not NN(R) and the value does not lie from NN(R) to V(S).
+     * @param {number} value
+     * @returns {number | null}
+     */
+    knownOnBoard(value: number): number | null;
+    /**
+     * Begins the next session after an alert, where the last one has got to: sets V(S) to the value of a report that
+     * was made when nothing was on its way up, begins by Unlock (232.1-B-2, 5.2.4), and returns how many first
+     * submissions of the session of the session that ended are on board whole, counted within that session; those after
+     * them are to be submitted again. A submission of more octets than a segment takes (part) that holds several
+     * packets is whole only with its last one, so that some of its packets may be on board before, and come again.
+     * Throws LinkFault 10 (NotKnown), and nothing has changed: the sender is not in S6, no session has begun, V(S) was
+     * set since, an alert came since that shows a broken condition, or V(S) is not NN(R) and the value does not lie
+     * from NN(R) to V(S).
+     * @param {number} value
+     * @returns {number}
+     */
+    resume(value: number): number;
+    /**
+     * The number of submissions of the session; they count from 0. This and the two below: modulo 2^64, after an alert
+     * too, and 0 once V(S) is set.
+     * @returns {number}
+     */
+    get submitted(): number;
+    /**
+     * How many first submissions of the session were sent whole, each to its last segment.
+     * @returns {number}
+     */
+    get sentWhole(): number;
+    /**
+     * How many first submissions of the session are acknowledged whole, so that they are on board.
+     * @returns {number}
+     */
+    get acknowledgedWhole(): number;
+    /**
+     * Of the sender, of sedge_fop_state (232.1-B-2, 5.1).
+     * @returns {State}
+     */
+    get state(): import("./meanings.mjs").State;
+    /**
+     * V(S), the number of the next segment that is sent for the first time.
+     * @returns {number}
+     */
+    get vs(): number;
+    /**
+     * NN(R), the number that the spacecraft was last known to expect.
+     * @returns {number}
+     */
+    get nn(): number;
+    /**
+     * The number of segments that were submitted and are not acknowledged.
+     * @returns {number}
+     */
+    get outstanding(): number;
+    /**
+     * How many of the outstanding segments wait to be sent for the first time.
+     * @returns {number}
+     */
+    get unsent(): number;
+    /**
+     * How many of the outstanding segments are to be sent again.
+     * @returns {number}
+     */
+    get due(): number;
+    /**
+     * How many bypass packets wait to be sent.
+     * @returns {number}
+     */
+    get bypassed(): number;
+    /**
+     * The ticks that are left of the timer, or 0 where it does not run.
+     * @returns {number}
+     */
+    get ticks(): number;
+    /**
+     * The transmission count, at least 1.
+     * @returns {number}
+     */
+    get count(): number;
+    /**
+     * Of telemetry, in octets.
+     * @returns {number}
+     */
+    get frameLength(): number;
+    #private;
+}
+/** The spacecraft node: it receives packets, reports in CLCWs, and sends telemetry. */
+export class Spacecraft extends Handle {
+    /**
+     * Opens a spacecraft with these managed parameters; the others have their defaults. With `kept` it continues with the
+     * `keptNumbers` of before a restart on purpose; its receiver is OPEN with no flag, and no packet is on board.
+     * @param {Partial<Config>} [config]
+     * @param {Partial<KeptNumbers>} [kept]
+     * @throws {ConfigFault} if a parameter is out of range
+     * @throws {RangeError} for a number that a spacecraft cannot have
+     * @throws {LinkFault} 6 (Memory)
+     */
+    constructor(config?: Partial<import("./meanings.mjs").Config> | undefined, kept?: Partial<KeptNumbers> | undefined);
+    /**
+     * Takes octets that came from the ground, and returns what they are. Throws LinkFault 6 (Memory) where a frame's
+     * data are handed on.
+     * @param {Uint8Array} octets
+     * @returns {Received}
+     */
+    receive(octets: Uint8Array): Received;
+    /**
+     * Takes the oldest packet of sequence-controlled frames (232.0-B-4, 4.4): returns its MAP and the packet; or null
+     * where none waits.
+     * @returns {OnMap | null}
+     */
+    take(): OnMap | null;
+    /**
+     * Takes the oldest packet that came past the sequence control (232.0-B-4, 4.4), as `take` does.
+     * @returns {OnMap | null}
+     */
+    takeBypass(): OnMap | null;
+    /**
+     * Takes the packets of sequence-controlled frames, oldest first, each with its MAP, until none is left. Packets that are
+     * not requested stay on board.
+     * @returns {Generator<OnMap, void, undefined>}
+     */
+    packets(): Generator<OnMap, void, undefined>;
+    /**
+     * Takes the packets that arrived by bypass, oldest first, each with its MAP, until none is left. Packets that are not
+     * requested stay on board.
+     * @returns {Generator<OnMap, void, undefined>}
+     */
+    bypassPackets(): Generator<OnMap, void, undefined>;
+    /**
+     * Queues a packet to be sent as telemetry (132.0-B-3, 4.2.2). Throws the first of TelemetryFault 8 (NotAPacket)
+     * (the octets are not exactly one packet, or an idle one) and TelemetryFault 7 (Memory).
+     * @param {Uint8Array} packet
+     */
+    telemetry(packet: Uint8Array): void;
+    /**
+     * Returns the next telemetry frame (132.0-B-3, 4.1), which reports on the receiver: `frameLength` octets.
+     * @returns {Uint8Array}
+     */
+    telemetryFrame(): Uint8Array;
+    /**
+     * The numbers with which a restarted spacecraft continues: `new Spacecraft(config, keptNumbers)`.
+     * @returns {KeptNumbers}
+     */
+    get keptNumbers(): KeptNumbers;
+    /**
+     * The CLCW that the next telemetry frame carries.
+     * @returns {Clcw}
+     */
+    get controlWord(): Clcw;
+    /**
+     * Of the receiver, of sedge_farm_mode.
+     * @returns {Mode}
+     */
+    get mode(): import("./meanings.mjs").Mode;
+    /**
+     * How many packets of sequence-controlled frames wait to be taken.
+     * @returns {number}
+     */
+    get ready(): number;
+    /**
+     * How many packets that came past the sequence control wait to be taken.
+     * @returns {number}
+     */
+    get bypassed(): number;
+    /**
+     * Of telemetry, in octets.
+     * @returns {number}
+     */
+    get frameLength(): number;
+    #private;
+}
+export type Config = import('./meanings.mjs').Config;
+export type State = import('./meanings.mjs').State;
+export type Mode = import('./meanings.mjs').Mode;
+export type Alert = import('./values.mjs').Alert;
+export type Heard = import('./values.mjs').Heard;
+export type Received = import('./values.mjs').Received;
+export type Fault = import('./values.mjs').Fault;
+export type sedge_config = import('./sedgechisel.mjs').sedge_config;
+/**
+ * A packet and its MAP.
+ */
+export type OnMap = {
+    map: number;
+    packet: Uint8Array;
+};
+/**
+ * What is kept of a ground, from which another one continues: how many submissions are `acknowledged` whole, V(S), NN(R),
+ * whether these are `known` to be a session's, and of each further submission that was sent whole, how many of its
+ * `segments` are not acknowledged.
+ */
+export type KeptGround = {
+    acknowledged: number;
+    vs: number;
+    nn: number;
+    known: boolean;
+    segments: number[];
+};
+/**
+ * The numbers with which a spacecraft that is restarted on purpose continues: V(R), FARM-B, and the next telemetry frame's
+ * counts on the master and on the virtual channel.
+ */
+export type KeptNumbers = {
+    vr: number;
+    farmB: number;
+    mcCount: number;
+    vcCount: number;
+};
+import { Clcw } from "./values.mjs";
+export {};

@@ -1,0 +1,149 @@
+"""The comments of the headers as JSDoc, for web/bindings: those of calls and fields as they stand, and those of methods,
+getters, directives and events in the words of the classes of web/nodes.mjs and web/simulated.mjs."""
+import re
+import textwrap
+
+from by_name import directives
+from exports import camel, exports_of, structs
+from items import text_of
+from meanings import meanings
+
+WIDE = 120
+LIBRARIES = ("sedgechisel", "sedgechisel_nodes")
+HEADERS = ("c/include/sedgechisel.h", "c/include/sedgechisel_nodes.h")
+# Of each class the beginning of its calls, its structs that are read, and what begins its events.
+CLASSES = {
+    "Ground": ("ground", ("ground_reading",)),
+    "Spacecraft": ("spacecraft", ("spacecraft_reading",)),
+    "Link": ("sim", ("ground_reading", "spacecraft_reading", "sim_reading")),
+}
+FAULTS = {"NODE": "LinkFault", "TM": "TelemetryFault", "SIM": "SimFault", "COP": "CopFault"}
+# A method or a getter that has another name than its call or its field.
+RENAMED = {"mode": "state"}
+# What C says, and what a class says: octets and numbers are returned, a fault is thrown, and null is nothing.
+SAID = (
+    (r"(\w+), (the \w+), and the number of its octets", r"\1 and \2"),
+    (r", and the number of its octets, which is frame_length", ": `frameLength` octets"),
+    (r"(?:, and the number of its octets)?; or 0 octets(?: alone)? where", "; or null where"),
+    (r", of sedge_alert, SEDGE_NO_ALERT for none", ", or null for none"),
+    (r"\b(W|w)rites\b", lambda it: {"W": "Returns", "w": "returns"}[it[1]]),
+    (r" or SEDGE_NODE_ROOM(?=\.)", ""),
+    (r"Returns 0, or SEDGE_NODE_NOT_KNOWN \(10\), and", "Throws LinkFault 10 (NotKnown), and"),
+    (r"Returns 0, or (?=[^.]*(?:SEDGE_(?:NODE_MEMORY|TM_)|of sedge_node_status))", "Throws "),
+    (r"(\d to \d) of sedge_node_status", r"LinkFault \1"),
+    (r" ?Returns 0\.", ""),
+    (r"\bfirst ones of (?:them|the (?:session's )?submissions)", "first submissions of the session"),
+    (r"\bfirst ones\b", "first submissions of the session"),
+    (r"\bof them (?=wait|are to be)", "of the outstanding segments "),
+)
+ABSENT = r"Returns 0, or SEDGE_NODE_ABSENT(?= if| where)"
+
+
+def call_notes():
+    """The comment of each call, as one text."""
+    return {f"sedge_{name}": " ".join(it.docs) for crate in LIBRARIES for name, it in exports_of(crate).items()}
+
+
+def field_notes():
+    """The note of each field of each struct."""
+    return {(f"sedge_{one.own}", it.name): it.note for one in structs() for it in one.fields() if it.note}
+
+
+def js(name):
+    """A name of C as JavaScript has it."""
+    return camel(name)[:1].lower() + camel(name)[1:]
+
+
+def numbered(known):
+    """What replaces a constant of a fault: its class, number and name."""
+    def put(it):
+        number = known.get(it[0])
+        return f"{FAULTS[it[1]]} {number} ({camel(it[2].lower())})" if number is not None else it[0]
+
+    return put
+
+
+def translated(text, known, is_nullable):
+    """A comment in the words of a class; it says null of what may be absent, and nothing where a method throws then."""
+    text = text.replace("`", "")
+    for words, other in SAID:
+        text = re.sub(words, other, text)
+    text = re.sub(ABSENT, "Returns null", text) if is_nullable else re.sub(rf" ?{ABSENT}[^.]*\.", "", text)
+    text = re.sub(r"SEDGE_(NODE|TM|SIM|COP)_(\w+)", numbered(known), text)
+    text = re.sub(r"sedge_(ground|spacecraft)_open_kept\b", lambda it: f"`new {it[1].capitalize()}(config, kept)`", text)
+    text = re.sub(r"sedge_(?:ground|spacecraft|sim)_(\w+)", lambda it: f"`{js(it[1])}`", text)
+    return " ".join(text.split())
+
+
+def event_note(note, name):
+    """What happens by an event, as a sentence."""
+    note = re.sub(r": (?:map|octets|directive|value).*", "", note)
+    frame = f"the first frame on its way {name.split('_')[0].lower()}"
+    note = re.sub(r"^it is lost", f"{frame} is lost", note)
+    note = re.sub(r"^these arrive in its place, which are no frame", f"these octets, which are no frame, arrive in place of {frame}", note)
+    return sentence(note)
+
+
+def sentence(note):
+    return f"{note[:1].upper()}{note[1:].rstrip('.')}."
+
+
+class Notes:
+    """The texts of the classes, by class and member."""
+
+    def __init__(self, known):
+        self.known, self.calls, self.fields = known, call_notes(), field_notes()
+        headers = "".join(text_of(it) for it in HEADERS)
+        events = meanings(headers)["event_kind"]
+        self.events = {name.removeprefix("SEDGE_EVENT_"): events[number] for name, number in known.items()
+                       if name.startswith("SEDGE_EVENT_")}
+        self.directives = {js(it.name): f"Directive: {it.does}. Throws CopFault {it.refused.replace('NAME', f'({it.fault})')}."
+                           for it in directives(headers)}
+
+    def of(self, owner, member, is_getter, is_nullable):
+        """The text of a member; nothing where it has its own."""
+        if owner == "Directing":
+            return self.directives.get(member)
+        beginning, readings = CLASSES.get(owner, ("", ()))
+        name = re.sub(r"[A-Z]", lambda it: f"_{it[0].lower()}", RENAMED.get(member, member))
+        if is_getter:
+            found = [self.fields[key] for it in readings if (key := (f"sedge_{it}", name)) in self.fields]
+            if found:
+                return sentence(translated(re.sub(r"^[Oo]f the ([^,]*), of sedge_\w+", r"the state of the \1", found[-1]),
+                                           self.known, False))
+        elif owner == "Link" and name.upper() in self.events:
+            return event_note(self.events[name.upper()], name)
+        call = self.calls.get(f"sedge_{beginning}_{name}")
+        return call and translated(call, self.known, is_nullable)
+
+
+def block(indent, lines):
+    return f"{indent}/**\n" + "".join(f"{indent} * {it}".rstrip() + "\n" for it in lines) + f"{indent} */\n"
+
+
+def jsdoc(indent, text):
+    """A comment of this text, in one line where it fits."""
+    if len(indent) + len(text) + 7 <= WIDE:
+        return f"{indent}/** {text} */\n"
+    return block(indent, textwrap.wrap(text, WIDE - len(indent) - 3, break_on_hyphens=False))
+
+
+def with_notes(text, notes):
+    """A module with the comments of its members anew."""
+    owner = ""
+
+    def anew(it):
+        nonlocal owner
+        if it["owner"]:
+            owner = it["owner"]
+            return it[0]
+        tags = re.findall(r"@.*(?:\n +\* (?!@|/).*)*", it["doc"])
+        said = notes.of(owner, it["name"], bool(it["get"]), any("null" in tag for tag in tags))
+        if not said:
+            return it[0]
+        tags = [re.sub(r"\s*\*?\s*$", "", line.strip().removeprefix("* ")) for tag in tags for line in tag.split("\n")]
+        made = block(" " * 4, [*textwrap.wrap(said, WIDE - 7, break_on_hyphens=False), *tags]) if tags else jsdoc(" " * 4, said)
+        return f"{made}    {it['get'] or ''}{it['name']}("
+
+    member = r"    /\*\*(?P<doc>(?:(?!\*/)[\s\S])*)\*/\n    (?P<get>get )?(?P<name>[a-z]\w*)\("
+    return re.sub(rf"^(?:export class (?P<owner>\w+) |{member})", anew, text, flags=re.M)
