@@ -154,7 +154,7 @@ export class Handle extends Closing {
      */
     asked(call, fault = LinkFault) {
         const answer = call(this.#raw);
-        if (answer === n.SEDGE_NODE_NONE) throw new Error(`the ${this.constructor.name.toLowerCase()} is closed`);
+        if (answer === n.SEDGE_NODE_NONE) throw new Error('the node is closed');
         if (answer !== 0 && answer !== n.SEDGE_NODE_ABSENT) throw new fault(answer);
         return answer;
     }
