@@ -1,5 +1,5 @@
-"""Archives whose octets depend on their files and one time alone: a tarball, a package for Debian, and what says of a
-tarball that it is a source package there. For tools/release. A file is its name, its octets and its mode."""
+"""Archives whose octets depend on their files and one time alone: a tarball, and what says of it that it is a source
+package for Debian. For tools/release. A file is its name, its octets and its mode."""
 import gzip
 import hashlib
 import io
@@ -31,21 +31,6 @@ def tarball(files, when, top):
             entry.size, entry.mode, entry.mtime = len(octets), mode, when
             out.addfile(entry, io.BytesIO(octets))
     return gzip.compress(packed.getvalue(), mtime=0)
-
-
-def debian(control, files, when):
-    """A package for Debian: an ar archive with the format's version, what is said of the package, and its files."""
-    told = "".join(f"{name}: {what}\n" for name, what in control.items()).encode()
-    members = {
-        "debian-binary": b"2.0\n",
-        "control.tar.gz": tarball([("control", told, 0o644)], when, "."),
-        "data.tar.gz": tarball(files, when, "."),
-    }
-    packed = b"!<arch>\n"
-    for name, octets in members.items():
-        packed += f"{name:<16}{when:<12}{0:<6}{0:<6}{100644:<8}{len(octets):<10}`\n".encode() + octets
-        packed += b"\n" * (len(octets) % 2)
-    return packed
 
 
 def debian_source(control, version, name, octets):

@@ -124,7 +124,8 @@ class Debian(Room):
 # ---- A Debian of its own. ----
 
 # What each program here stands on, and what the packages are tried with besides.
-SUITE, NEEDED, BESIDES = "trixie", ("gcc", "libc6-dev", "python3"), ("make", "python3-venv", "cargo", "debhelper")
+SUITE, NEEDED = "trixie", ("gcc", "libc6-dev", "python3")
+BESIDES = ("make", "cmake", "pkgconf", "python3-venv", "cargo", "debhelper")
 SECONDS = 400
 KEPT = f"{TOP}/out/debian.tar{'.zst' * bool(shutil.which('zstd'))}"
 MAKE = f"""\
