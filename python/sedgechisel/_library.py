@@ -72,18 +72,27 @@ def room_of(name: str, count: Any) -> Any:
     return ctypes.create_string_buffer(count)
 
 
-def written(look_at: Callable[[int], Any], call: Callable[..., int], most: int, *values: Any) -> bytes:
-    """Returns the octets that a call writes (it writes their number too), given a buffer for the maximum. Buffers are
-    kept, because creating one takes longer than most calls; only one call at a time uses each."""
-    count = c_size_t()
+def lent(most: int = LONGEST) -> Any:
+    """Returns a buffer for this many octets. Buffers are kept, because creating one takes longer than most calls; only
+    one call at a time uses each."""
     try:
-        room = _rooms.pop() if most <= LONGEST else room_of("most", most)
+        return _rooms.pop() if most <= LONGEST else room_of("most", most)
     except IndexError:
-        room = room_of("most", LONGEST)
+        return room_of("most", LONGEST)
+
+
+def give_back(room: Any) -> None:
+    """Keeps a buffer for the next call."""
+    if len(room) == LONGEST:
+        _rooms.append(room)
+
+
+def written(look_at: Callable[[int], Any], call: Callable[..., int], most: int, *values: Any) -> bytes:
+    """Returns the octets that a call writes (it writes their number too), given a buffer for the maximum."""
+    count, room = c_size_t(), lent(most)
     look_at(call(*values, room, most, count))
     octets: bytes = room[:count.value]
-    if most <= LONGEST:
-        _rooms.append(room)
+    give_back(room)
     return octets
 
 
@@ -121,6 +130,7 @@ def call_of(library: ctypes.PyDLL, name: str, answer: Any, *kinds: Any) -> Calla
             within(own, kind, values[place])
         return call(*values)
 
+    setattr(checked, "__wrapped__", call)
     made: Callable[..., Any] = checked if numbers else call
     return made
 

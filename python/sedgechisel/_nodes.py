@@ -3,17 +3,20 @@ from __future__ import annotations
 
 import ctypes
 from ctypes import POINTER, c_bool, c_char_p, c_size_t, c_uint8, c_uint16, c_uint32, c_uint64, c_void_p
+from collections import defaultdict
 from dataclasses import dataclass, field
 from enum import EnumMeta
+from functools import partial
 from threading import RLock
 from types import TracebackType
-from typing import Any, Callable, Dict, Iterator, NamedTuple, Optional, Tuple, Type, TypeVar
+from typing import Any, Callable, DefaultDict, Dict, Iterator, List, NamedTuple, Optional, Tuple, Type, TypeVar
 
 from ._calls import Alert, Clcw, Command, Directives, Mode, State, Verdict, _directive, _dropped_word, _Struct
 from ._faults import ClcwFault, CopFault, Fault, LinkFault, TcFault, TelemetryFault, TmFault, word_of as _word_of
 from ._library import (
-    LONGEST, NODES, Numbers, Single, call_of, frame_length_of as _frame_length_of, octets_of as _octets_of, renamed,
-    struct_of as _struct_of, warn_of as _warn_of, within as _within, written as _written)
+    LONGEST, NODES, Numbers, Single, call_of, frame_length_of as _frame_length_of, give_back as _give_back,
+    lent as _lent, octets_of as _octets_of, renamed, struct_of as _struct_of, warn_of as _warn_of, within as _within,
+    written as _written)
 
 _ABSENT, _OUT_OF_RANGE, _NONE = 253, 254, 255
 _Own = TypeVar("_Own", bound="Handle")
@@ -129,6 +132,7 @@ class Handle(Single):
         config = Config(**fields) if config is None else config
         if not hasattr(self, "_handle"):
             self._handle, self._lock = _Raw(), RLock()
+            self._left: DefaultDict[str, List[Tuple[int, bytes]]] = defaultdict(list)
         answer = self._open(config)
         if answer == _OUT_OF_RANGE:
             raise ConfigFault(_config_fault(config))
@@ -147,6 +151,7 @@ class Handle(Single):
         """Closes the node and releases its memory. A second call does nothing."""
         with self._lock:
             type(self)._closes(self._handle)
+            self._left.clear()
 
     @property
     def closed(self) -> bool:
@@ -192,6 +197,33 @@ class Handle(Single):
     def _given(self, call: Callable[..., int], most: int, *values: Any) -> bytes:
         """Returns what a call writes, given a buffer for the maximum that it may write."""
         return _written(self._asked, call, most, self._handle, *values)
+
+    def _take_out(self, call: Callable[..., int], most: int, made: Callable[[int, bytes], Any], *map: c_uint8) -> Any:
+        """Returns what a call takes out of the node, made of its MAP and its octets, or None. If a signal handler raises
+        after the call, what it took is left here, and the next such call returns it: the interpreter runs a handler
+        after a call or a loop's turn, so not between a statement without a call and the `return` after it."""
+        left = self._left[call.__name__]
+        while left:
+            entry = left[0]
+            taken = made(*entry)
+            if left and left[0] is entry:
+                del left[0]
+                return taken
+        count, room, octets = c_size_t(), _lent(), b""
+        try:
+            self._asked(call(self._handle, *map, room, most, count))
+            octets = room[:count.value]
+            _give_back(room)
+            taken = made(map[0].value if map else 0, octets) if octets else None
+            return taken
+        except BaseException:
+            if count.value:
+                left.append((map[0].value if map else 0, octets or room[:count.value]))
+            raise
+
+
+def _octets_alone(_: int, octets: bytes) -> bytes:
+    return octets
 
 
 # ---- Received octets ----
@@ -391,17 +423,32 @@ class Ground(Directives, Handle):
 
     def _direct(self, name: str, own: str = "", value: int = 0, kind: Any = c_uint8) -> None:
         self._asked(_ground_directive(self._handle, *_directive(name, own, value, kind)), CopFault)
+        if name.startswith(("init", "set_vs")):
+            self._left.pop("sedge_ground_pull", None)
 
     def submit(self, map: int, packets: bytes) -> int:
         """Queues one packet, or with blocking several consecutive packets, for transmission on a MAP under sequence
         control. Returns the number of this submission in its session, from 0. `resume` counts submissions: if the
         packets do not fit into one segment of `part` octets together, some of them may be on board although the
         submission is not counted. Raises the first of LinkFault 1 to 6 that applies; nothing has changed then."""
-        packets = _octets_of("packets", packets)
-        with self._lock:
-            number = self.submitted
-            self._asked(_ground_submit(self._handle, map, packets, len(packets)))
+        answer, number = self._submitted(map, _octets_of("packets", packets))
+        self._asked(answer)
         return number
+
+    def try_submit(self, map: int, packets: bytes) -> Optional[int]:
+        """Queues packets as `submit` does, and returns the number of the submission; or None if the queue has no room
+        for them now (LinkFault 5, QueueFull), which is flow control and no error. Nothing has changed then."""
+        answer, number = self._submitted(map, _octets_of("packets", packets))
+        return None if answer == LinkFault.Number.QUEUE_FULL or self._asked(answer) else number
+
+    def _submitted(self, map: int, packets: bytes) -> Tuple[int, int]:
+        """Submits, and returns the answer and the number that a submission has if the answer is 0. One step makes both
+        calls, so that no submission by a signal handler comes between them."""
+        _within("map", c_uint8, map)
+        submit, read = getattr(_ground_submit, "__wrapped__"), _GroundReading()
+        submit = partial(submit, self._handle, map, packets, len(packets))
+        answer, _ = _each_called((submit, partial(_ground_read, self._handle, read)))
+        return answer, read.submitted - 1
 
     def bypass(self, map: int, packet: bytes) -> None:
         """Queues one packet for transmission on a MAP by bypass, in any state. Raises the first of LinkFault 2 to 6
@@ -412,7 +459,8 @@ class Ground(Directives, Handle):
     def pull(self) -> Optional[bytes]:
         """Takes the telecommand frame that goes on the link next. Returns it with its FECF, at most 1,024 octets, or
         None if nothing is to be sent now."""
-        return self._given(_ground_pull, 1024) or None
+        taken: Optional[bytes] = self._take_out(_ground_pull, 1024, _octets_alone)
+        return taken
 
     def frames(self) -> Iterator[bytes]:
         """Pulls frames until nothing is to be sent. A frame counts as sent when it is yielded; frames that are not
@@ -469,7 +517,8 @@ class Ground(Directives, Handle):
 
     def take_telemetry(self) -> Optional[bytes]:
         """Takes the oldest packet that telemetry frames carried. Returns it, or None."""
-        return self._given(_ground_take_telemetry, LONGEST) or None
+        taken: Optional[bytes] = self._take_out(_ground_take_telemetry, LONGEST, _octets_alone)
+        return taken
 
     def packets(self) -> Iterator[bytes]:
         """Takes the packets that telemetry frames carried, oldest first, until none is left. Packets that are not
@@ -513,6 +562,7 @@ class Ground(Directives, Handle):
         then."""
         whole = c_uint64()
         self._asked(_ground_resume(self._handle, value, whole))
+        self._left.pop("sedge_ground_pull", None)
         return whole.value
 
     @property
@@ -610,6 +660,8 @@ _ground_resume = _call("ground_resume", c_uint8, POINTER(_Raw), ("value", c_uint
 _ground_accepted_beyond = _call("ground_accepted_beyond", c_uint8, POINTER(_Raw), ("value", c_uint8), POINTER(c_uint8))
 _ground_read = _call("ground_read", c_uint8, POINTER(_Raw), POINTER(_GroundReading))
 
+_each_called: Any = partial(map, partial.__call__)  # the calls are made where its answers are unpacked, in one step
+
 # ---- The spacecraft ----
 
 
@@ -686,19 +738,16 @@ class Spacecraft(Handle):
         self._asked(_spacecraft_receive(self._handle, octets, len(octets), received))
         return received.value()
 
-    def _taken(self, call: Callable[..., int]) -> Optional[OnMap]:
-        map = c_uint8()
-        packet = self._given(call, LONGEST, map)
-        return OnMap(map.value, packet) if packet else None
-
     def take(self) -> Optional[OnMap]:
         """Takes the oldest packet of sequence-controlled frames. Returns an OnMap, its `map` and the `packet`, or
         None."""
-        return self._taken(_spacecraft_take)
+        taken: Optional[OnMap] = self._take_out(_spacecraft_take, LONGEST, OnMap, c_uint8())
+        return taken
 
     def take_bypass(self) -> Optional[OnMap]:
         """Takes the oldest packet that arrived by bypass. Returns an OnMap, its `map` and the `packet`, or None."""
-        return self._taken(_spacecraft_take_bypass)
+        taken: Optional[OnMap] = self._take_out(_spacecraft_take_bypass, LONGEST, OnMap, c_uint8())
+        return taken
 
     def packets(self) -> Iterator[OnMap]:
         """Takes the packets of sequence-controlled frames, oldest first, each with its MAP, until none is left. Packets
@@ -718,7 +767,8 @@ class Spacecraft(Handle):
 
     def telemetry_frame(self) -> bytes:
         """Takes the next telemetry frame, which carries the CLCW. Returns its octets, `frame_length` of them."""
-        return self._given(_spacecraft_telemetry_frame, 2048)
+        taken: bytes = self._take_out(_spacecraft_telemetry_frame, 2048, _octets_alone)
+        return taken
 
     report = renamed("report", telemetry_frame)
 

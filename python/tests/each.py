@@ -358,7 +358,7 @@ def longest_nodes(it):
         assert ground.clcw_in(down) == board.control_word
         assert ground.telemetry(down) == it.Heard(it.Arrived.TM, report=it.Report.USED, word=board.control_word)
         reports_alone(it, ground, down, board.control_word.encode())
-        assert ground.submit(63, command) == 0
+        assert ground.try_submit(63, command) == 0
         assert (ground.state, ground.vs, ground.nn, ground.outstanding) == (it.State.S1, 255, 255, 65)
         assert (ground.unsent, ground.due, ground.ticks, ground.count) == (65, 0, 0, 1)
         frames = [ground.pull(), *ground.frames()]
@@ -394,6 +394,7 @@ def longest_nodes(it):
         assert [one.gap for one in heard] == [255] + [0] * 32 and [one.packets for one in heard] == [0] * 32 + [1]
         assert (ground.nn, ground.outstanding) == (64, 0) and ground.take_telemetry() == packet
         assert [*ground.packets()] == [] and ground.tick() == it.Alert.NONE and not ground.closed
+        assert ground.submit(63, command) == 1
         ground.terminate()
         assert (ground.acknowledged_whole, ground.resume(64), ground.state) == (1, 1, it.State.S5)
         ground.close()
@@ -523,9 +524,10 @@ def threads_that_share(it):
     with it.Ground() as ground:
         ground.init_without_check()
         numbers = []
-        numbers.append(between(it._nodes, "_ground_submit", lambda: numbers.append(ground.submit(4, COMMAND)),
-                               lambda: ground.submit(4, COMMAND), is_after=False))
-        assert numbers == [1, 0]
+        for is_after in (True, False):
+            numbers.append(between(it._nodes, "_each_called", lambda: numbers.append(ground.submit(4, COMMAND)),
+                                   lambda: ground.submit(4, COMMAND), is_after))
+        assert sorted(numbers) == [0, 1, 2, 3]
     extractor, packet = it.TmExtractor(16), bytes.fromhex("0005c0000004") + b"abcde"
     halves = [(it.TmFrame(pointer=0), packet[:6]), (it.TmFrame(pointer=it.NO_START, vc_count=1), packet[6:])]
     extractor.take(*halves[0])

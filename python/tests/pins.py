@@ -131,7 +131,7 @@ OTHERS = {
     "Alert.word": "alert_word", "Alert.shows_a_broken_condition": "alert_shows_broken_condition",
     "Alert.advice": "alert_advice", "Verdict.word": "verdict_word", "Map.take": "map_take dropped_word",
     "_Received.value": "dropped_word", "Handle.__init__": "config_fault",
-    "Ground._read": "ground_read", "Ground._direct": "ground_directive", "Fop._direct": "fop_directive",
+    "Ground._submitted": "ground_submit ground_read", "Ground._read": "ground_read", "Ground._direct": "ground_directive", "Fop._direct": "fop_directive",
     "Spacecraft._read": "spacecraft_read", "Link._read": "sim_read", "Link._event": "sim_step",
     "Link._read_ground": "sim_ground_read", "Link._read_spacecraft": "sim_spacecraft_read",
     "Link._direct": "sim_directive",
@@ -164,7 +164,7 @@ BY = {
 NONE = {"TmFrame.__init__", "TmFrame.ocf", "TmBuilder.waiting", "TmExtractor.__init__", "TmExtractor.dropped",
         "TmExtractor._begun", "TmExtractor.take", "TcFrame.decode_all", "Ground.telemetry_all", "Map.__init__",
         "Clcw.__init__", "TcFrame.__init__", "Packet.__init__", "Config.__init__", "Ground.__init__",
-        "Spacecraft.__init__", "Spacecraft._taken", "Link._taken", "Directives._direct"}
+        "Spacecraft.__init__", "Ground.submit", "Ground.try_submit", "Link._taken", "Directives._direct"}
 # Methods that read a struct, of which another one gives a field.
 READS = ("_read", "_read_ground", "_read_spacecraft")
 # What a method keeps for itself, wherever it does.
