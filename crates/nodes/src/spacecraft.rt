@@ -302,7 +302,10 @@ impl Spacecraft {
             (take result out.new) }
         ensures own { IsOwnFrame self.old.config (spacecraft_step self.old Report).answer }
     {
-        self.report_in(out)
+        let Ok(ocf) = encode(&self.control_word()) else {
+            unreachable!()
+        };
+        self.builder.build(ocf, out)
     }
 
     /// The same, where `out` has as many octets at least as a telemetry frame.
