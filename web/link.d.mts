@@ -32,7 +32,11 @@ export function scriptOf(text: string): {
         event: Event;
     }[];
 };
-export { DEFAULTS };
+/**
+ * The defaults of the managed parameters.
+ * @type {import('./sedgechisel.mjs').sedge_config}
+ */
+export const DEFAULTS: import('./sedgechisel.mjs').sedge_config;
 /** A simulated link that answers in the words of `tctool sim`. */
 export class Link {
     /**
@@ -84,4 +88,3 @@ export type Calls = import('./sedgechisel.mjs').Calls;
 export type sedge_config = import('./sedgechisel.mjs').sedge_config;
 export type Event = Partial<import('./sedgechisel.mjs').sedge_event>;
 export type Reply = import('./sedgechisel.mjs').sedge_reply;
-import { defaults as DEFAULTS } from "./calls.mjs";

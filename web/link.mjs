@@ -1,8 +1,12 @@
 // The simulated link by the lines of scripts (docs/TCTOOL.md, "Scripts of the simulated link"): lines are read here and
 // answered in the words of `tctool sim`. What happens is the library's.
-import { defaults as DEFAULTS, lines, numbers as n } from './calls.mjs';
+import { defaults, lines, numbers as n } from './calls.mjs';
 
-export { DEFAULTS };
+/**
+ * The defaults of the managed parameters.
+ * @type {import('./sedgechisel.mjs').sedge_config}
+ */
+export const DEFAULTS = defaults;
 const NONE = new Uint8Array(0);
 
 /** @typedef {import('./sedgechisel.mjs').Calls} Calls */

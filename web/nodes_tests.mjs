@@ -3,6 +3,9 @@
 // for Python is there. It ends with 0 where all is as wanted, and with an Error that says what is not.
 import assert from 'node:assert/strict';
 import { readFileSync } from 'node:fs';
+import { setTimeout } from 'node:timers/promises';
+import { setFlagsFromString } from 'node:v8';
+import { runInNewContext } from 'node:vm';
 import {
     Clcw, ClcwFault, ConfigFault, CopFault, Ground, Link, LinkFault, SimFault, Spacecraft, TelemetryFault, load,
 } from './index.mjs';
@@ -10,7 +13,7 @@ import { digitsOf, octetsOf } from './link.mjs';
 
 const PACKET = octetsOf('1005C0000000AA'), OTHER = octetsOf('1005C0010000BB'), TELEMETRY = octetsOf('0805C0000000CC');
 assert.throws(() => new Ground(), /load\(\)/);
-await load(readFileSync(process.argv[2]));
+const calls = await load(readFileSync(process.argv[2]));
 
 function refused(call, kind, number, name, meaning) {
     assert.throws(call, (it) => it instanceof kind && it.number === number && it.name === name
@@ -174,6 +177,22 @@ function closed() {
     assert.equal(it.closed, Boolean(Symbol.dispose));
 }
 
+// Nodes that nothing refers to are closed, and one that was closed is not closed again.
+async function forgotten() {
+    const close = calls.sedge_ground_close;
+    let count = 0;
+    calls.sedge_ground_close = (it) => { count++; close(it); };
+    setFlagsFromString('--expose-gc');
+    for (let k = 0; k < 20; k++) new Ground();
+    new Ground().close();
+    for (let k = 0; k < 50 && count < 21; k++) {
+        runInNewContext('gc')();
+        await setTimeout(10);
+    }
+    calls.sedge_ground_close = close;
+    assert.ok(count > 1 && count <= 21, count);
+}
+
 const OWN = new Set(['constructor', 'asked', 'read', 'octets', 'direct', 'close']);
 const GOOD = { map: 4, packet: PACKET, packets: PACKET, octets: PACKET, word: new Uint8Array(4), length: 64 };
 const WRONG = [undefined, null, 0.5, NaN, Infinity, '4', '', true, {}, [4], () => 4, -1, 2 ** 32, 2 ** 53, 4n];
@@ -225,4 +244,5 @@ function names() {
 }
 
 for (const test of [session, telemetry, directives, alerts, configs, words, linked, closed, wrongArguments, names]) test();
+await forgotten();
 console.log('all as wanted');

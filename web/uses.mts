@@ -1,0 +1,41 @@
+// What TypeScript has to accept of the package, and what it has to refuse; web/package_check compiles it, and does not run it.
+import { Alert, Clcw, ConfigFault, Fault, Ground, Link, LinkFault, Spacecraft, load, numbers } from 'sedgechisel';
+import { load as loadCalls } from 'sedgechisel/calls';
+import { eventOf, scriptOf } from 'sedgechisel/script';
+import { run, type System } from 'sedgechisel/tctool';
+
+declare global {
+    // What TypeScript 5.2 has for `using`.
+    interface SymbolConstructor { readonly dispose: unique symbol }
+    interface Disposable { [Symbol.dispose](): void }
+}
+
+export async function uses(octets: Uint8Array, system: System): Promise<number> {
+    const calls = await load(octets), others: typeof calls = await loadCalls(octets);
+    const accepted: 0 = numbers.SEDGE_ACCEPTED, config = { scid: 1, window: 4 };
+    const fault: number = others.sedge_config_fault(config), map: { value?: number } = {};
+    const ground = new Ground({ timer: 3, maps: 2n ** 63n }), spacecraft = new Spacecraft(ground.config);
+    const kept: number[] = ground.kept.segments, state: 'S1' | 'S2' | 'S3' | 'S4' | 'S5' | 'S6' = ground.state;
+    const frames: Uint8Array[] = [...ground.frames()], alert: Alert | null = ground.tick(), word: Clcw = spacecraft.controlWord;
+    const { kind, verdict, dropped } = spacecraft.receive(frames[0]);
+    const name: string | undefined = kind === 'AD' && verdict === 'ACCEPTED' ? dropped ?? undefined : alert?.advice;
+    const faults: Fault[] = [new LinkFault(5), new ConfigFault(1)], link = new Link(), packet = link.take()?.packet;
+    ground[Symbol.dispose]();
+    const status: number = run(new WebAssembly.Module(octets), ['farm', octets], system);
+    return [kept, state, word, name, faults, packet, map, scriptOf(''), eventOf('send')].length + accepted + fault + status;
+}
+
+export function misuses(ground: Ground): void {
+    // @ts-expect-error: there is no such parameter
+    new Ground({ windw: 4 });
+    // @ts-expect-error: a MAP is a number
+    ground.submit('4', new Uint8Array(7));
+    // @ts-expect-error: a packet is octets
+    ground.submit(4, [1, 2]);
+    // @ts-expect-error: a state is S1 to S6
+    if (ground.state === 'S7') return;
+    // @ts-expect-error: there may be no frame
+    ground.pull().length;
+    // @ts-expect-error: it is not for programs
+    ground.asked(() => 0);
+}
