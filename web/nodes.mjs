@@ -342,6 +342,21 @@ export class Ground extends Directing {
     }
 
     /**
+     * Submits packets as `submit` does, but a full queue is flow control and no fault. Nothing has changed then.
+     * @param {number} map
+     * @param {Uint8Array} packets
+     * @returns {number | null} the number of this submission, or null if the queue has no room for them now
+     */
+    trySubmit(map, packets) {
+        try {
+            return this.submit(map, packets);
+        } catch (fault) {
+            if (fault instanceof LinkFault && fault.number === n.SEDGE_NODE_QUEUE_FULL) return null;
+            throw fault;
+        }
+    }
+
+    /**
      * Submits one packet on a MAP past the sequence control. Throws the first of LinkFault 2 to 5 that applies, or
      * LinkFault 6 (Memory).
      * @param {number} map

@@ -105,6 +105,14 @@ function alerts() {
     assert.throws(() => new Spacecraft({}, { farm_b: 1 }), TypeError);
 }
 
+function fullQueue() {
+    const ground = new Ground({ queueSlots: 1 });
+    refused(() => ground.trySubmit(4, PACKET), LinkFault, 1, 'NotOpen', 'S6');
+    ground.initWithoutCheck();
+    assert.deepEqual([ground.trySubmit(4, PACKET), ground.trySubmit(4, OTHER), ground.submitted], [0, null, 1]);
+    refused(() => ground.submit(4, OTHER), LinkFault, 5, 'QueueFull', 'waiting');
+}
+
 function configs() {
     refused(() => new Ground({ width: 7 }), ConfigFault, 4, 'width', 'even, 2 to 254');
     refused(() => new Link({ maxPacket: 6 }), ConfigFault, 9, 'maxPacket', '7 to 65,542');
@@ -243,6 +251,6 @@ function names() {
     }
 }
 
-for (const test of [session, telemetry, directives, alerts, configs, words, linked, closed, wrongArguments, names]) test();
+for (const test of [session, telemetry, directives, alerts, fullQueue, configs, words, linked, closed, wrongArguments, names]) test();
 await forgotten();
 console.log('all as wanted');
