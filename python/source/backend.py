@@ -1,16 +1,24 @@
 """Builds the package for Python of its source distribution, or of a clone of the repository (PEP 517): the two shared
-libraries of the portable C, by the compiler CC, or cc, and the wheel by python/wheel. It needs nothing else, and no
-network. What goes wrong ends the build with a message, which pip shows."""
+libraries of the portable C, by the compiler CC, or cc, the wheel by python/wheel, and the source distribution. It needs
+nothing else, and no network. What goes wrong ends the build with a message, which pip shows."""
+import glob
+import gzip
+import io
 import os
 import re
 import shlex
 import subprocess
 import sys
+import tarfile
 import tempfile
 
 TOP = os.path.dirname(os.path.dirname(os.path.dirname(os.path.abspath(__file__))))
 SOURCES = {"sedgechisel": [], "sedgechisel_nodes": ["c/memory/malloc.c"]}
 NEEDED = "Install one, as by apt install gcc, or name it by CC, or install a wheel (docs/PYTHON.md)."
+# The files of a source distribution. (tools/release adds ACCOUNT.)
+PACKED = ("c/include/*.h", "c/portable/sedgechisel*.c", "c/memory/*.c", "python/sedgechisel/*.py",
+          "python/sedgechisel/py.typed", "python/examples/*", "python/source/*.py", "python/wheel", "pyproject.toml",
+          "docs/PYTHON.md", "ACCOUNT")
 
 
 def compiled(name, room):
@@ -27,24 +35,22 @@ def compiled(name, room):
     return to
 
 
+def by_wheel(*words):
+    """Returns what python/wheel writes, for libraries of portable C."""
+    command = [sys.executable, f"{TOP}/python/wheel", "--portable", *words]
+    return subprocess.run(command, stdout=subprocess.PIPE, encoding="utf-8", check=True).stdout
+
+
 def prepare_metadata_for_build_wheel(metadata_directory, config_settings=None):
     """What the wheel says of itself, without a compiler: so pip refuses another version of Python by its number."""
-    command = [sys.executable, f"{TOP}/python/wheel", "--metadata"]
-    about = subprocess.run(command, stdout=subprocess.PIPE, encoding="utf-8", check=True).stdout
-    name = f"sedgechisel-{re.search('^Version: (.*)$', about, re.M)[1]}.dist-info"
-    os.mkdir(f"{metadata_directory}/{name}")
-    with open(f"{metadata_directory}/{name}/METADATA", "w", encoding="utf-8") as it:
-        it.write(about)
-    return name
+    return os.path.basename(os.path.dirname(by_wheel("--about", metadata_directory)))
 
 
 def build_wheel(wheel_directory, config_settings=None, metadata_directory=None):
     """Makes a wheel in a folder, and returns its name."""
     folder = os.path.abspath(wheel_directory)
     with tempfile.TemporaryDirectory() as room:
-        command = [sys.executable, f"{TOP}/python/wheel", folder, *(compiled(it, room) for it in SOURCES)]
-        made = subprocess.run(command, stdout=subprocess.PIPE, text=True, check=True).stdout
-    return os.path.basename(made.strip())
+        return os.path.basename(by_wheel(folder, *(compiled(it, room) for it in SOURCES)).strip())
 
 
 def build_editable(wheel_directory, config_settings=None, metadata_directory=None):
@@ -54,5 +60,21 @@ def build_editable(wheel_directory, config_settings=None, metadata_directory=Non
 
 
 def build_sdist(sdist_directory, config_settings=None):
-    """The source distribution is made by tools/release of the repository."""
-    sys.exit("sedgechisel: the source distribution is made by tools/release of the repository")
+    """Makes a source distribution in a folder, and returns its name. Its octets depend on the files alone."""
+    about = by_wheel("--metadata")
+    name = f"sedgechisel-{re.search('^Version: (.*)$', about, re.M)[1]}"
+    names = sorted({os.path.relpath(it, TOP) for one in PACKED for it in glob.glob(f"{glob.escape(TOP)}/{one}")})
+    with open(f"{sdist_directory}/{name}.tar.gz", "wb") as file, gzip.GzipFile("", "wb", mtime=0, fileobj=file) as packed:
+        with tarfile.open(mode="w", fileobj=packed) as out:
+            for it in names:
+                with open(f"{TOP}/{it}", "rb") as source:
+                    put(out, f"{name}/{it}", source.read(), os.access(f"{TOP}/{it}", os.X_OK))
+            put(out, f"{name}/PKG-INFO", about.encode())
+    return f"{name}.tar.gz"
+
+
+def put(out, name, octets, is_program=False):
+    """Adds a file to an archive."""
+    entry = tarfile.TarInfo(name)
+    entry.size, entry.mode = len(octets), 0o755 if is_program else 0o644
+    out.addfile(entry, io.BytesIO(octets))
