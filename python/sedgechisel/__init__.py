@@ -12,11 +12,12 @@
   `Fop.report` (now `clcw`), `Ground.report_in` (now `clcw_in`), `Spacecraft.report` (now `telemetry_frame`),
   `Report.NONE` and `Report.OTHER` (now `REFUSED` and `OTHER_CHANNEL`).
 
-Octets are `bytes`. What the library refuses raises a `Fault` of the class for its kind, with the number and the name
-that the C headers give it, and its meaning. The number is a member of an enumeration: `fault.number is
-TcFault.Number.CHECK`. `take` and `take_all` return named tuples. The fields of structs are those of the C headers; a
-number that does not fit its field raises an OverflowError. The standards are CCSDS 133.0-B-2 (space packets), 132.0-B-3
-(telemetry), 232.0-B-4 (telecommand) and 232.1-B-2 (COP-1)."""
+Octets that a call takes are `bytes`, `bytearray` or `memoryview` (`Octets`), and those that it returns are `bytes`.
+What the library refuses raises a `Fault` of the class for its kind, with the number and the name that the C headers
+give it, and its meaning. The number is a member of an enumeration: `fault.number is TcFault.Number.CHECK`. `take` and
+`take_all` return named tuples. The fields of structs are those of the C headers; a number that does not fit its field
+raises an OverflowError. The standards are CCSDS 133.0-B-2 (space packets), 132.0-B-3 (telemetry), 232.0-B-4
+(telecommand) and 232.1-B-2 (COP-1)."""
 from ._calls import (
     NO_START, ONLY_IDLE, Alert, Assembled, Clcw, Command, Control, Extracted, Farm, Flags, Fop, GapCheck, Kind, Map, Mode,
     Next, Packet, PacketKind, Segment, SequenceFlags, State, TakenFrame, TcFrame, TmBuilder, TmExtractor, TmFrame, Verdict,
@@ -24,6 +25,7 @@ from ._calls import (
 from ._faults import (
     CheckFault, ClcwFault, CopFault, Fault, LinkFault, MapFault, PacketFault, SimFault, TcFault, TelemetryFault, TmFault)
 from ._files import read_frames
+from ._library import Octets
 from ._link import Begun, Link
 from ._nodes import (
     Arrived, Config, ConfigFault, Ground, Heard, KeptGround, KeptNumbers, OnMap, Received, Report, Spacecraft)
@@ -32,7 +34,7 @@ __version__ = version
 __all__ = [
     "NO_START", "ONLY_IDLE", "Alert", "Arrived", "Assembled", "Begun", "CheckFault", "Clcw", "ClcwFault", "Command",
     "Config", "ConfigFault", "Control", "CopFault", "Extracted", "Farm", "Fault", "Flags", "Fop", "GapCheck", "Ground",
-    "Heard", "KeptGround", "KeptNumbers", "Kind", "Link", "LinkFault", "Map", "MapFault", "Mode", "Next", "OnMap",
-    "Packet", "PacketFault", "PacketKind", "Received", "Report", "Segment", "SequenceFlags", "SimFault", "Spacecraft",
+    "Heard", "KeptGround", "KeptNumbers", "Kind", "Link", "LinkFault", "Map", "MapFault", "Mode", "Next", "Octets",
+    "OnMap", "Packet", "PacketFault", "PacketKind", "Received", "Report", "Segment", "SequenceFlags", "SimFault", "Spacecraft",
     "State", "TakenFrame", "TcFault", "TcFrame", "TelemetryFault", "TmBuilder", "TmExtractor", "TmFault", "TmFrame",
     "Verdict", "accepted_beyond", "check", "check_append", "check_holds", "read_frames", "segments", "version"]

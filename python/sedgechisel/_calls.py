@@ -15,7 +15,7 @@ from typing import (
 from ._faults import (
     CheckFault, ClcwFault, CopFault, Fault, MapFault, PacketFault, TcFault, Text, TmFault, word_of as _word_of)
 from ._library import (
-    FIRST, Bits as _Bits, Numbers as _Numbers, Single, call_of, frame_length_of as _frame_length_of,
+    FIRST, Bits as _Bits, Numbers as _Numbers, Octets, Single, call_of, frame_length_of as _frame_length_of,
     number_of as _number_of, octets_of as _octets_of, renamed, room_of as _room_of, struct_of as _struct_of,
     within as _within, written as _written)
 
@@ -97,13 +97,13 @@ _check_append = _call("check_append", c_bool, c_char_p, c_size_t)
 _check_holds = _call("check_holds", c_bool, c_char_p, c_size_t)
 
 
-def check(octets: bytes) -> int:
+def check(octets: Octets) -> int:
     """Returns the check (FECF) of the octets (232.0-B-4, 4.1.4.2)."""
     octets = _octets_of("octets", octets)
     return int(_check(octets, len(octets)))
 
 
-def check_append(octets: bytes) -> bytes:
+def check_append(octets: Octets) -> bytes:
     """Returns the octets, with the last two set to the check of those before them. Raises CheckFault for fewer than
     two."""
     octets = _octets_of("octets", octets)
@@ -113,7 +113,7 @@ def check_append(octets: bytes) -> bytes:
     return out.raw
 
 
-def check_holds(octets: bytes) -> bool:
+def check_holds(octets: Octets) -> bool:
     """Returns whether the last two octets are the check of those before them; False for fewer than two."""
     octets = _octets_of("octets", octets)
     return bool(_check_holds(octets, len(octets)))
@@ -160,7 +160,7 @@ class Clcw(_Struct):
         super().__init__(status, vcid, flags, farm_b, value)
 
     @classmethod
-    def decode(cls, octets: bytes) -> Clcw:
+    def decode(cls, octets: Octets) -> Clcw:
         """Reads four octets. Raises ClcwFault if they are not a control word, or not four."""
         octets, word = _octets_of("octets", octets), cls.__new__(cls)
         ClcwFault._look_at(_clcw_decode(octets, len(octets), word))
@@ -527,7 +527,7 @@ class TcFrame(_Struct):
         super().__init__(scid, vcid, kind, n, flags, map, command, vr)
 
     @classmethod
-    def decode(cls, octets: bytes, checked: bool = True) -> Tuple[TcFrame, bytes]:
+    def decode(cls, octets: Octets, checked: bool = True) -> Tuple[TcFrame, bytes]:
         """Reads all of the octets as one frame, which ends with its FECF unless `checked` is False. Returns the frame,
         and the data after the segment header (a control frame has neither). Raises TcFault 1 to 9 if the octets are not
         a frame."""
@@ -536,7 +536,7 @@ class TcFrame(_Struct):
         return frame, part.of(octets)
 
     @classmethod
-    def decode_all(cls, octets: bytes, checked: bool = True, *, scid: Optional[int] = None,
+    def decode_all(cls, octets: Octets, checked: bool = True, *, scid: Optional[int] = None,
                    vcid: Optional[int] = None) -> Iterator[Tuple[Union[TcFrame, TcFault], bytes]]:
         """Reads consecutive frames in the octets, each as long as it declares. Yields for each the frame and its data,
         as `decode` returns them, or its TcFault and its octets instead. With `scid` or `vcid`, yields only frames whose
@@ -546,14 +546,14 @@ class TcFrame(_Struct):
         return chain.from_iterable(_frames_in(cls, _octets_of("octets", octets), checked, [
             *_wanted("scid", scid, 0x3FF, ((0, 255, 0), (1, 3, 8))), *_wanted("vcid", vcid, 0x3F, ((2, 63, 0),))]))
 
-    def encode(self, data: bytes = b"", checked: bool = True) -> bytes:
+    def encode(self, data: Octets = b"", checked: bool = True) -> bytes:
         """Returns the octets of the frame with these data: at most 1,024, with its FECF, which it lacks if `checked` is
         False. Raises TcFault if a field is out of range."""
         data = _octets_of("data", data)
         return _written(TcFault._look_at, _tc_encode, 1024, self, data, len(data), checked)
 
     @staticmethod
-    def declared(octets: bytes, checked: bool = True) -> int:
+    def declared(octets: Octets, checked: bool = True) -> int:
         """Returns the length of the frame that these octets begin, with its FECF unless `checked` is False. Raises
         TcFault 1 for fewer than 5 octets, or 5."""
         octets = _octets_of("octets", octets)
@@ -687,20 +687,20 @@ class Packet(_Struct):
         super().__init__(apid, count, kind, secondary, flags)
 
     @classmethod
-    def decode(cls, octets: bytes) -> Tuple[Packet, bytes]:
+    def decode(cls, octets: Octets) -> Tuple[Packet, bytes]:
         """Reads the packet at the beginning of the octets. Returns it and its data field. Raises PacketFault if there
         is none."""
         octets, packet, part = _octets_of("octets", octets), cls.__new__(cls), _Part()
         PacketFault._look_at(_packet_decode(octets, len(octets), packet, part))
         return packet, part.of(octets)
 
-    def encode(self, data: bytes) -> bytes:
+    def encode(self, data: Octets) -> bytes:
         """Returns the octets of the packet with this data field. Raises PacketFault if a field is out of range."""
         data = _octets_of("data", data)
         return _written(PacketFault._look_at, _packet_encode, len(data) + 6, self, data, len(data))
 
     @staticmethod
-    def declared(octets: bytes) -> int:
+    def declared(octets: Octets) -> int:
         """Returns the length of the packet that these octets begin. Raises PacketFault if they do not begin one."""
         octets = _octets_of("octets", octets)
         return _count_of(_packet_declared, PacketFault, octets, len(octets))
@@ -760,7 +760,7 @@ class TmFrame(_Struct):
     vc_count: int
 
     def __init__(self, scid: int = 0, pointer: int = 0, vcid: int = 0, mc_count: int = 0, vc_count: int = 0,
-                 ocf: bytes = bytes(4)) -> None:
+                 ocf: Octets = bytes(4)) -> None:
         super().__init__(scid, pointer, vcid, mc_count, vc_count)
         self.ocf = ocf
 
@@ -770,14 +770,14 @@ class TmFrame(_Struct):
         return bytes(self._ocf)
 
     @ocf.setter
-    def ocf(self, octets: bytes) -> None:
+    def ocf(self, octets: Octets) -> None:
         octets = _octets_of("ocf", octets)
         if len(octets) != 4:
             raise ValueError(f"ocf: {len(octets)} octets are not four")
         self._ocf = (c_uint8 * 4)(*octets)
 
     @classmethod
-    def decode(cls, octets: bytes, length: Optional[int] = None) -> Tuple[TmFrame, bytes]:
+    def decode(cls, octets: Octets, length: Optional[int] = None) -> Tuple[TmFrame, bytes]:
         """Reads all of the octets as one frame, of the channel's `length`, or of their own length. Returns the frame
         and its data. Raises TmFault 1 to 6 if the octets are not a frame."""
         octets, frame, part = _octets_of("octets", octets), cls.__new__(cls), _Part()
@@ -785,7 +785,7 @@ class TmFrame(_Struct):
         TmFault._look_at(_tm_decode(octets, len(octets), length, frame, part))
         return frame, part.of(octets)
 
-    def encode(self, data: bytes) -> bytes:
+    def encode(self, data: Octets) -> bytes:
         """Returns the octets of the frame with these data. Raises TmFault if a field is out of range."""
         data = _octets_of("data", data)
         return _written(TmFault._look_at, _tm_encode, 2048, self, data, len(data))
@@ -824,13 +824,13 @@ class TmBuilder(Single):
         """The number of octets that wait to be sent."""
         return int(self._builder.count)
 
-    def queue(self, packet: bytes) -> None:
+    def queue(self, packet: Octets) -> None:
         """Queues a packet, with all of its octets. Raises TmFault 8 (NotAPacket) if the octets are not exactly one
         packet, or are an idle packet, and 7 (Memory) if more octets would wait than there is room for."""
         packet = _octets_of("packet", packet)
         TmFault._look_at(_tm_builder_queue(self._builder, packet, len(packet), self._memory, len(self._memory)))
 
-    def build(self, ocf: bytes) -> bytes:
+    def build(self, ocf: Octets) -> bytes:
         """Returns the octets of the next frame, with this operational control field, the four octets of a Clcw. If
         packets run out, the frame has an idle packet; if there are none, it has only idle data. Raises TmFault 254
         (WrongCount) unless the octets are four."""
@@ -878,7 +878,7 @@ class TmExtractor(Single):
         the sequence counts."""
         return self._dropped
 
-    def take(self, frame: TmFrame, data: bytes) -> Extracted:
+    def take(self, frame: TmFrame, data: Octets) -> Extracted:
         """Takes the next received frame, a TmFrame and its data. Returns an Extracted: the `packets` whose last octets
         the frame has, except idle packets, and the number of frames missing before it (`lost`), modulo 256, or None for
         the first. Raises TmFault 10 (FieldRange) for a pointer after the data, and 7 (Memory) if the packets need more
@@ -888,7 +888,7 @@ class TmExtractor(Single):
         TmFault._look_at(fault)
         return Extracted(packets, None if extracted.first else extracted.lost)
 
-    def take_all(self, octets: bytes, length: int, *, scid: Optional[int] = None,
+    def take_all(self, octets: Octets, length: int, *, scid: Optional[int] = None,
                  vcid: Optional[int] = None) -> List[TakenFrame]:
         """Takes consecutive frames of `length` octets. Returns for each a TakenFrame: the `frame`, as `TmFrame.decode`
         returns it, and `packets` and `lost`, as `take` returns them; or the frame's TmFault instead, with no packets.
@@ -1033,7 +1033,7 @@ class Map(Single):
         self._map, self._memory = _Map(blocking=bool(blocking)), _room_of("longest", longest)
         self._lock = RLock()
 
-    def take(self, flags: int, data: bytes) -> Assembled:
+    def take(self, flags: int, data: Octets) -> Assembled:
         """Takes the next segment, its Segment flags and its data. Returns an Assembled: the `packets` that are whole
         now, and why octets were `dropped`, in the word that tctool prints, or None. Raises MapFault 255 (Damaged) for
         flags that are not valid."""
@@ -1045,7 +1045,7 @@ class Map(Single):
         return Assembled(packets, _dropped_word(taken.dropped) if taken.dropped else None)
 
 
-def segments(octets: bytes, part: int, longest: int = 65542, blocking: bool = False) -> List[Tuple[Segment, bytes]]:
+def segments(octets: Octets, part: int, longest: int = 65542, blocking: bool = False) -> List[Tuple[Segment, bytes]]:
     """Cuts a packet, or with blocking consecutive packets, into segments of at most `part` octets. Returns for each
     segment its Segment flags and its data. Raises MapFault if the octets are not a packet, or one has more than
     `longest`."""

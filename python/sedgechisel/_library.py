@@ -7,7 +7,7 @@ from ctypes import c_size_t, c_uint8, c_uint16, c_uint32, c_uint64
 from enum import IntEnum, IntFlag
 from functools import wraps
 from os import path
-from typing import Any, Callable, Dict, List, Tuple, TypeVar, cast
+from typing import Any, Callable, Dict, List, Tuple, TypeVar, Union, cast
 
 _LOST = """{file} cannot be loaded: {why}
 The package sedgechisel needs it beside its modules. In the repository of Sedgechisel run one of these:
@@ -15,6 +15,7 @@ The package sedgechisel needs it beside its modules. In the repository of Sedgec
     ./install --prefix DIR     and then  export PYTHONPATH=DIR/lib/python"""
 _Own = TypeVar("_Own", bound="Single")
 _Call = TypeVar("_Call", bound=Callable[..., Any])
+Octets = Union[bytes, bytearray, memoryview]
 _MOST: Dict[Any, int] = {c_uint8: 0xFF, c_uint16: 0xFFFF, c_uint32: 0xFFFFFFFF, c_uint64: 0xFFFF_FFFF_FFFF_FFFF}
 LONGEST = 65542
 _rooms: List[Any] = []  # buffers of LONGEST octets each, which no call is using

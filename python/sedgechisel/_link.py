@@ -7,7 +7,7 @@ from typing import Any, List, Optional, Tuple
 
 from ._calls import Alert, Clcw, Directives, Mode, State, _directive
 from ._faults import CopFault, LinkFault, SimFault, TelemetryFault
-from ._library import Numbers, octets_of, within
+from ._library import Numbers, Octets, octets_of, within
 from ._nodes import (Config, Handle, Heard, Received, _call, _GroundReading, _Heard, _Raw, _Received,
                      _SpacecraftReading, OnMap)
 
@@ -81,11 +81,11 @@ class Link(Directives, Handle):
     def _direct(self, name: str, own: str = "", value: int = 0, kind: Any = c_uint8) -> None:
         self._event("directive", directive=_directive(name, own, value, kind))
 
-    def submit(self, map: int, packets: bytes) -> None:
+    def submit(self, map: int, packets: Octets) -> None:
         """Queues packets on the ground for a MAP under sequence control, as `Ground.submit` does."""
         self._event("submit", map, octets_of("packets", packets))
 
-    def bypass(self, map: int, packet: bytes) -> None:
+    def bypass(self, map: int, packet: Octets) -> None:
         """Queues one packet on the ground for a MAP by bypass, as `Ground.bypass` does."""
         self._event("bypass", map, octets_of("packet", packet))
 
@@ -103,7 +103,7 @@ class Link(Directives, Handle):
         """Loses the first frame in transit on the uplink. Raises SimFault 7 (NothingInTransit) if there is none."""
         self._event("up_lose")
 
-    def up_damage(self, octets: bytes) -> Received:
+    def up_damage(self, octets: Octets) -> Received:
         """Delivers these octets, which must not form a valid frame, instead of the first frame in transit on the
         uplink. Raises SimFault 7 (NothingInTransit) if there is none, and 8 (NotDetectable) if the octets are a valid
         frame."""
@@ -123,7 +123,7 @@ class Link(Directives, Handle):
         """Loses the first frame in transit on the downlink. Raises SimFault 7 (NothingInTransit) if there is none."""
         self._event("down_lose")
 
-    def down_damage(self, octets: bytes) -> Heard:
+    def down_damage(self, octets: Octets) -> Heard:
         """Delivers these octets, which must not form a valid frame, instead of the first frame in transit on the
         downlink. Raises SimFault 7 (NothingInTransit) if there is none, and 8 (NotDetectable) if the octets are a valid
         frame."""
@@ -160,7 +160,7 @@ class Link(Directives, Handle):
         """Takes a packet that arrived by bypass on board. Returns an OnMap, its `map` and the `packet`, or None."""
         return self._taken("take_bypass")
 
-    def telemetry(self, packet: bytes) -> None:
+    def telemetry(self, packet: Octets) -> None:
         """Queues a packet on board to be sent as telemetry, as `Spacecraft.telemetry` does."""
         self._event("telemetry", 0, octets_of("packet", packet))
 

@@ -14,7 +14,7 @@ from typing import Any, Callable, DefaultDict, Dict, Iterator, List, NamedTuple,
 from ._calls import Alert, Clcw, Command, Directives, Mode, State, Verdict, _directive, _dropped_word, _Struct
 from ._faults import ClcwFault, CopFault, Fault, LinkFault, TcFault, TelemetryFault, TmFault, word_of as _word_of
 from ._library import (
-    LONGEST, NODES, Numbers, Single, call_of, frame_length_of as _frame_length_of, give_back as _give_back,
+    LONGEST, NODES, Numbers, Octets, Single, call_of, frame_length_of as _frame_length_of, give_back as _give_back,
     lent as _lent, octets_of as _octets_of, renamed, struct_of as _struct_of, warn_of as _warn_of, within as _within,
     written as _written)
 
@@ -137,6 +137,7 @@ class Handle(Single):
         if answer == _OUT_OF_RANGE:
             raise ConfigFault(_config_fault(config))
         LinkFault._look_at(answer)
+        self._config = config._values()
 
     def __setattr__(self, name: str, value: Any) -> None:
         """Refuses to set a field of a node by name: `set_timer` and the like are the directives."""
@@ -152,6 +153,11 @@ class Handle(Single):
         with self._lock:
             type(self)._closes(self._handle)
             self._left.clear()
+
+    @property
+    def config(self) -> Config:
+        """The managed parameters with which the node was opened, as a Config of its own."""
+        return Config(**self._config)
 
     @property
     def closed(self) -> bool:
@@ -323,7 +329,7 @@ class _Heard(ctypes.Structure):
     _fields_ = [("packets", c_size_t), ("kind", c_uint8), ("fault", c_uint8), ("first", c_uint8), ("missing", c_uint8),
                 ("report", c_uint8), ("word_fault", c_uint8), ("alert", c_uint8)]
 
-    def value(self, ocf: bytes = b"") -> Heard:
+    def value(self, ocf: Octets = b"") -> Heard:
         """Returns what arrived, with these four octets for its word."""
         if self.kind == 1:
             return Heard(Arrived.INVALID, fault=TmFault(self.fault))
@@ -426,7 +432,7 @@ class Ground(Directives, Handle):
         if name.startswith(("init", "set_vs")):
             self._left.pop("sedge_ground_pull", None)
 
-    def submit(self, map: int, packets: bytes) -> int:
+    def submit(self, map: int, packets: Octets) -> int:
         """Queues one packet, or with blocking several consecutive packets, for transmission on a MAP under sequence
         control. Returns the number of this submission in its session, from 0. `resume` counts submissions: if the
         packets do not fit into one segment of `part` octets together, some of them may be on board although the
@@ -435,7 +441,7 @@ class Ground(Directives, Handle):
         self._asked(answer)
         return number
 
-    def try_submit(self, map: int, packets: bytes) -> Optional[int]:
+    def try_submit(self, map: int, packets: Octets) -> Optional[int]:
         """Queues packets as `submit` does, and returns the number of the submission; or None if the queue has no room
         for them now (LinkFault 5, QueueFull), which is flow control and no error. Nothing has changed then."""
         answer, number = self._submitted(map, _octets_of("packets", packets))
@@ -450,7 +456,7 @@ class Ground(Directives, Handle):
         answer, _ = _each_called((submit, partial(_ground_read, self._handle, read)))
         return answer, read.submitted - 1
 
-    def bypass(self, map: int, packet: bytes) -> None:
+    def bypass(self, map: int, packet: Octets) -> None:
         """Queues one packet for transmission on a MAP by bypass, in any state. Raises the first of LinkFault 2 to 6
         that applies."""
         packet = _octets_of("packet", packet)
@@ -477,14 +483,14 @@ class Ground(Directives, Handle):
         """Counts the frame that goes on the link next as sent, as `pull` does."""
         self._asked(_ground_advance(self._handle))
 
-    def telemetry(self, octets: bytes) -> Heard:
+    def telemetry(self, octets: Octets) -> Heard:
         """Takes octets received from the spacecraft, normally one telemetry frame. Returns a Heard. Raises LinkFault 6
         (Memory)."""
         octets, heard = _octets_of("octets", octets), _Heard()
         self._asked(_ground_telemetry(self._handle, octets, len(octets), heard))
         return heard.value(octets[-6:-2])
 
-    def telemetry_all(self, octets: bytes, length: int) -> Iterator[Heard]:
+    def telemetry_all(self, octets: Octets, length: int) -> Iterator[Heard]:
         """Takes received octets that are consecutive telemetry frames of `length` octets. Yields for each what
         `telemetry` returns, when it is requested, and takes the same time. Take the `packets` after each frame, or
         those of all at the end. Octets left at the end are yielded as an invalid frame. Raises ValueError unless the
@@ -492,7 +498,7 @@ class Ground(Directives, Handle):
         octets, length = _octets_of("octets", octets), _frame_length_of(length)
         return (self.telemetry(octets[start:start + length]) for start in range(0, len(octets), length))
 
-    def clcw(self, word: bytes) -> Heard:
+    def clcw(self, word: Octets) -> Heard:
         """Takes a CLCW of four octets by itself, as a front end passes it on. Gives it to the sender, as if it had come
         in a telemetry frame; telemetry is unchanged. The last CLCW may be given again before the next one, which
         changes nothing; an older one must not be given again as if it were new. Raises ValueError unless the octets are
@@ -507,7 +513,7 @@ class Ground(Directives, Handle):
         that is not finished. Packets that wait to be taken stay."""
         self._asked(_ground_forget_telemetry(self._handle))
 
-    def clcw_in(self, octets: bytes) -> Optional[Clcw]:
+    def clcw_in(self, octets: Octets) -> Optional[Clcw]:
         """Returns the CLCW that a telemetry frame of any spacecraft and virtual channel carries, or None if the octets
         are not a frame or the frame carries no CLCW. Changes nothing."""
         octets, word = _octets_of("octets", octets), Clcw.__new__(Clcw)
@@ -731,7 +737,7 @@ class Spacecraft(Handle):
             raise OverflowError(f"farm_b: {self._kept.farm_b} is not in 0 to 3")
         return answer
 
-    def receive(self, octets: bytes) -> Received:
+    def receive(self, octets: Octets) -> Received:
         """Takes octets received from the ground, normally one telecommand frame with its FECF. Returns a Received.
         Raises LinkFault 6 (Memory)."""
         octets, received = _octets_of("octets", octets), _Received()
@@ -759,7 +765,7 @@ class Spacecraft(Handle):
         are not requested stay on board."""
         return iter(self.take_bypass, None)
 
-    def telemetry(self, packet: bytes) -> None:
+    def telemetry(self, packet: Octets) -> None:
         """Queues a packet to be sent as telemetry. Raises TelemetryFault 8 (NotAPacket) if the octets are not exactly
         one packet, or are an idle packet, or TelemetryFault 7 (Memory)."""
         packet = _octets_of("packet", packet)

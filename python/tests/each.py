@@ -348,6 +348,7 @@ def longest_nodes(it):
     packet, command = packets(it)
     assert largest(it).fault() is None and it.Config(scid=2**32 - 1).fault() == "scid"
     with it.Ground(largest(it)) as ground, it.Spacecraft(largest(it)) as board:
+        assert ground.config == board.config == largest(it) and ground.config is not ground.config
         directs(ground)
         octets = ground.pull()
         assert it.TcFrame.decode(octets)[0] == it.TcFrame(scid=1023, vcid=63, kind=it.Kind.BC, command=1, vr=255)
@@ -456,10 +457,10 @@ def callables(it):
 
 def each_wrong_argument(it):
     """A value of a wrong type is a TypeError, and a number that does not fit an OverflowError; both name it."""
-    right = {"int": 1, "Optional[int]": 1, "bytes": bytes(4), "bool": False, "Clcw": it.Clcw(), "TmFrame": it.TmFrame(),
+    right = {"int": 1, "Optional[int]": 1, "Octets": bytes(4), "bool": False, "Clcw": it.Clcw(), "TmFrame": it.TmFrame(),
              "Optional[Config]": None, "Optional[KeptGround]": None, "Optional[KeptNumbers]": None,
              "Readable": io.BytesIO()}
-    wrong = {"int": ("1", 1.0, None, b"1"), "bytes": ("1", 1, None), "Clcw": ("1", 1, None, it.TmFrame()),
+    wrong = {"int": ("1", 1.0, None, b"1"), "Octets": ("1", 1, None, it.Clcw()), "Clcw": ("1", 1, None, it.TmFrame()),
              "TmFrame": ("1", 1, None, it.Clcw()), "Optional[Config]": ("1", 1, it.Clcw()), "Optional[int]": ("1", 1.0),
              "Optional[KeptGround]": ("1", 1, it.KeptNumbers()), "Optional[KeptNumbers]": ("1", 1, it.Clcw()),
              "Readable": ("1", 1, None)}

@@ -58,7 +58,9 @@ def types(it):
         for words in ((f"{TOP}/python/sedgechisel",), programs):
             ran = subprocess.run([*mypy, *words], capture_output=True, text=True, env=env)
             assert ran.returncode == 0, ran.stdout + ran.stderr
-        for call in ("Ground(windw=4)", "Spacecraft(timer='3')", "Link(config=3)"):
+        right = "import sedgechisel as sc\ndef both(one: sc.Octets) -> int:\n    return sc.check(one) + sc.check(memoryview(one))\n"
+        subprocess.run([*mypy, "-c", f"{right}both(bytearray(2))"], capture_output=True, env=env, check=True)
+        for call in ("Ground(windw=4)", "Spacecraft(timer='3')", "Link(config=3)", "check('1')"):
             ran = subprocess.run([*mypy, "-c", f"import sedgechisel as sc\nsc.{call}"], capture_output=True, text=True, env=env)
             assert ran.returncode == 1 and "1 error" in ran.stdout.replace("Found ", ""), call + ran.stdout + ran.stderr
 
