@@ -1,0 +1,12 @@
+pub mod Division
+pub mod Numbers
+pub mod Steps
+pub mod Linked
+pub mod Between
+pub mod Pair
+pub mod Good
+pub mod Unknown
+pub mod Rest
+pub mod ReadBack
+pub mod Exact
+pub mod Torn

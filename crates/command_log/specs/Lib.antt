@@ -1,0 +1,14 @@
+pub mod Check
+pub mod Faults
+pub mod Record
+pub mod Layout
+pub mod Packets
+pub mod Exact
+pub mod Status
+pub mod Tearing
+pub mod Executor
+pub mod Board
+pub mod CarriedOut
+pub mod NeverLost
+pub mod KnowsMost
+pub mod Progress

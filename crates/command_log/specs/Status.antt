@@ -1,0 +1,40 @@
+-- What telemetry says, in octets: 1 of the kind, the fields of a record, 1 of how many commands wait,
+-- and 4 of the check.
+use Rattle.std.specs.Prelude.{ℕ, ◌<◌, ◌^◌, List, [], ◌∷◌, ◌++◌, ⊤, if◌then◌else◌, ◌==◌}
+use Rattle.command_log.specs.Check.{sealed}
+use Rattle.command_log.specs.Record.{no_commands}
+use Rattle.command_log.specs.Layout.{front_octets, IsInRange}
+use Rattle.command_log.specs.declared.record.Record.{Record}
+use Rattle.command_log.specs.declared.status.Status.{Status}
+use Rattle.command_log.specs.declared.status.Status.TheVariants.{Says, Changes, Starts, Lost}
+
+abbrev pub kind_of : Status → ℕ
+kind_of (Says kept) = 0
+kind_of Changes = 1
+kind_of Starts = 2
+kind_of (Lost mark) = 3
+
+-- the record of a status; the mark of a loss stands in place of the boot count, and all else is 0
+abbrev pub record_of : Status → Record
+record_of (Says kept) = kept
+record_of Changes = no_commands 0 0
+record_of Starts = no_commands 0 0
+record_of (Lost mark) = no_commands mark 0
+
+abbrev pub status_front : Status → ℕ → List ℕ
+status_front status waiting = kind_of status ∷ (front_octets (record_of status) ++ waiting ∷ [])
+
+abbrev pub status_octets : Status → ℕ → List ℕ
+status_octets status waiting = sealed (status_front status waiting)
+
+-- the status of this kind with these fields, those that it does not have left out
+abbrev pub status_with : ℕ → Record → Status
+status_with kind kept =
+    if kind == 0 then Says kept else if kind == 1 then Changes
+    else if kind == 2 then Starts else Lost kept.boot
+
+abbrev pub IsStatusInRange : Status → Type 0
+IsStatusInRange (Says kept) = IsInRange kept
+IsStatusInRange Changes = ⊤
+IsStatusInRange Starts = ⊤
+IsStatusInRange (Lost mark) = mark < 2 ^ 32

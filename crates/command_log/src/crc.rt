@@ -1,0 +1,63 @@
+// The check of records, status, orders and command packets.
+
+ghost use Rattle.std.specs.Prelude.{◌≡◌, ◌≤◌, ◌<◌, ◌-◌, ◌^◌, length, take, bit_xor};
+ghost use Rattle.command_log.specs.Check.{check_of, sealed, holds_check};
+ghost use Rattle.command_log.specs.Check.{register_step, register_after};
+
+use byteorder::{BigEndian, ByteOrder};
+
+/// The check of the octets: CRC-32 (ISO/IEC 3309, IEEE 802.3), as `crc32` of zlib.
+/// Cost: n.
+pub fn check(octets: &[u8]) -> u32
+    ensures { result ≡ check_of octets.now }
+{
+    let mut register = u32::MAX;
+    for octet in octets {
+        register = after_octet(register, *octet);
+    }
+    u32::MAX - register
+}
+
+fn after_octet(register: u32, octet: u8) -> u32
+    ensures after { result ≡ register_after 8 (bit_xor register octet) }
+    ensures octet { octet < 2 ^ 8 }
+{
+    let mut after = register ^ u32::from(octet);
+    for _bit in 0..8u8 {
+        after = after_bit(after);
+    }
+    after
+}
+
+fn after_bit(register: u32) -> u32
+    ensures { result ≡ register_step register }
+{
+    if register % 2 == 1 {
+        (register / 2) ^ 0xEDB8_8320
+    } else {
+        register / 2
+    }
+}
+
+/// Sets the last four octets to the check of those before them.
+/// Cost: n.
+pub(crate) fn append_check(octets: &mut [u8])
+    requires { 4 ≤ length octets.old }
+    ensures { octets.new ≡ sealed (take (length octets.old - 4) octets.old) }
+{
+    let len = octets.len() - 4;
+    let value = check(&octets[..len]);
+    BigEndian::write_u32(&mut octets[len..], value);
+}
+
+/// Whether the last four octets are the check of those before them; false for fewer than four.
+/// Cost: n.
+pub(crate) fn check_holds(octets: &[u8]) -> bool
+    ensures { result ≡ holds_check octets.now }
+{
+    if octets.len() < 4 {
+        return false;
+    }
+    let (front, tail) = octets.split_at(octets.len() - 4);
+    BigEndian::read_u32(tail) == check(front)
+}

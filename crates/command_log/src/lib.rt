@@ -1,0 +1,21 @@
+//! Commands that are executed once and in order on board, over restarts at any moment: what is kept of them,
+//! what is to be done next, and the octets of all of it. It does no input or output, and takes no memory.
+#![tactic(auto)]
+
+mod crc;
+mod executor;
+mod fault;
+mod laws;
+mod packets;
+mod record;
+mod status;
+pub use crc::check;
+pub use executor::{Action, Executor, Place};
+pub use fault::LogFault;
+pub use laws::{
+    law_of_carrying_out, law_of_commands, law_of_erasing, law_of_execution, law_of_keeping,
+    law_of_knowing, law_of_orders, law_of_rest, law_of_tearing,
+};
+pub use packets::{Command, Order, decode_command, decode_order, encode_command, encode_order};
+pub use record::{Record, decode_record, encode_record};
+pub use status::{Status, decode_status, encode_status};

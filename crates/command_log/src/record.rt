@@ -1,0 +1,119 @@
+// The record, and its octets.
+
+ghost use Rattle.std.specs.Prelude.{◌≡◌, ◌≤◌, ◌<◌, ◌+◌, ◌++◌, drop, length, Ok, Err, IfOk, OnErr, replicate};
+ghost use Rattle.command_log.specs.Layout.{front_octets, spelling, place_octets, fields_of, IsInRange};
+ghost use Rattle.command_log.specs.Record.{no_commands};
+ghost use Rattle.command_log.specs.declared.fault.LogFault.TheVariants as faults;
+
+use crate::crc::append_check;
+use crate::fault::LogFault;
+use byteorder::{BigEndian, ByteOrder};
+
+/// What a board keeps at two places of a memory that stays over restarts.
+#[derive(Clone, Copy, Debug, PartialEq, Eq)]
+pub struct Record {
+    /// How often the board has started.
+    pub boot: u32,
+    /// The number of the last command that was executed or passed over. Numbers begin at 1.
+    pub last: u32,
+    /// Whether the next command is begun.
+    pub begun: bool,
+    /// A bit for each of the 64 numbers up to the last, the lowest for the last: whether it is known that
+    /// the command was executed, whole.
+    pub known: u64,
+}
+
+impl Record {
+    /// The record of a new board, which stands at both places before it starts for the first time.
+    pub fn new_board() -> Record
+        ensures { result ≡ no_commands 0 0 }
+    {
+        Record {
+            boot: 0,
+            last: 0,
+            begun: false,
+            known: 0,
+        }
+    }
+}
+
+/// What stands at a place: the octets that spell the record, their check among them, twice.
+pub fn encode_record(kept: &Record) -> [u8; 42]
+    ensures { result ≡ place_octets kept.now }
+{
+    let one = spelled(kept);
+    let mut octets = [0; 42];
+    octets[..21].copy_from_slice(&one);
+    octets[21..].copy_from_slice(&one);
+    octets
+}
+
+fn spelled(kept: &Record) -> [u8; 21]
+    ensures { result ≡ spelling kept.now }
+{
+    let mut octets = [0; 21];
+    octets[..17].copy_from_slice(&front(kept));
+    append_check(&mut octets);
+    octets
+}
+
+pub(crate) fn front(kept: &Record) -> [u8; 17]
+    ensures { result ≡ front_octets kept.now }
+{
+    let boot = kept.boot.to_be_bytes();
+    let last = kept.last.to_be_bytes();
+    let known = kept.known.to_be_bytes();
+    [
+        boot[0],
+        boot[1],
+        boot[2],
+        boot[3],
+        last[0],
+        last[1],
+        last[2],
+        last[3],
+        known[0],
+        known[1],
+        known[2],
+        known[3],
+        known[4],
+        known[5],
+        known[6],
+        known[7],
+        kept.begun as u8,
+    ]
+}
+
+/// The record that stands at a place. Refuses by 1 `Layout` octets that are not 42, and then by 2 `Check`
+/// octets that spell none, as after a write that was cut off, or where a copy was spoiled.
+/// Faults: 1 Layout, then 2 Check.
+pub fn decode_record(octets: &[u8]) -> Result<Record, LogFault>
+    ensures found { IfOk result (λ kept. octets.now ≡ place_octets kept) }
+    ensures only { (kept : Record) → IsInRange kept → octets.now ≡ place_octets kept → result ≡ Ok kept }
+    ensures layout { (length octets.now ≡ 42 → ⊥) → result ≡ Err faults.Layout }
+    ensures check { length octets.now ≡ 42 → OnErr result (result ≡ Err faults.Check) }
+{
+    if octets.len() != 42 {
+        return Err(LogFault::Layout);
+    }
+    let kept = fields_at(octets);
+    if &encode_record(&kept)[..] != octets {
+        return Err(LogFault::Check);
+    }
+    Ok(kept)
+}
+
+pub(crate) fn fields_at(octets: &[u8]) -> Record
+    requires { 17 ≤ length octets.now }
+    ensures { result ≡ fields_of octets.now }
+{
+    let (boot, rest) = octets.split_at(4);
+    let (last, rest) = rest.split_at(4);
+    let (known, rest) = rest.split_at(8);
+    Record {
+        boot: BigEndian::read_u32(boot),
+        last: BigEndian::read_u32(last),
+        begun: rest[0] == 1,
+        known: BigEndian::read_u64(known),
+    }
+}

@@ -1,0 +1,115 @@
+// What telemetry says, and its octets.
+
+ghost use Rattle.std.specs.Prelude.{◌≡◌, ◌≤◌, ◌<◌, ◌^◌, ℕ, length, drop, min, slice_index, Ok, Err, IfOk, OnErr};
+ghost use Rattle.command_log.specs.Layout.{front_octets, fields_of};
+ghost use Rattle.command_log.specs.Status.{kind_of, record_of, status_front, status_octets, status_with, IsStatusInRange};
+ghost use Rattle.command_log.specs.declared.fault.LogFault.TheVariants as faults;
+
+use crate::crc::append_check;
+use crate::fault::LogFault;
+use crate::record::{Record, fields_at, front};
+
+/// What a status says.
+#[derive(Clone, Copy, Debug, PartialEq, Eq)]
+pub enum Status {
+    /// The record, as it is at both places.
+    Says(Record),
+    /// It is being written: the status before holds.
+    Changes,
+    /// The board has just started: the status before holds.
+    Starts,
+    /// The board has no record; the mark of this loss.
+    Lost(u32),
+}
+
+/// The octets of a status, with how many commands wait on board to be executed, at most 255.
+pub fn encode_status(status: &Status, waiting: usize) -> [u8; 23]
+    ensures { result ≡ status_octets status.now (min waiting 255) }
+{
+    spelled(status, waiting.min(255) as u8)
+}
+
+fn spelled(status: &Status, waiting: u8) -> [u8; 23]
+    ensures { result ≡ status_octets status.now waiting }
+{
+    let mut octets = [0; 23];
+    octets[..19].copy_from_slice(&status_front(status, waiting));
+    append_check(&mut octets);
+    octets
+}
+
+fn status_front(status: &Status, waiting: u8) -> [u8; 19]
+    ensures { result ≡ status_front status.now waiting }
+{
+    let mut octets = [0; 19];
+    octets[0] = kind_of(status);
+    octets[1..18].copy_from_slice(&front(&record_of(status)));
+    octets[18] = waiting;
+    octets
+}
+
+fn kind_of(status: &Status) -> u8
+    ensures { result ≡ kind_of status.now }
+{
+    match status {
+        Status::Says(_) => 0,
+        Status::Changes => 1,
+        Status::Starts => 2,
+        Status::Lost(_) => 3,
+    }
+}
+
+fn record_of(status: &Status) -> Record
+    ensures { result ≡ record_of status.now }
+{
+    match status {
+        Status::Says(kept) => *kept,
+        Status::Changes | Status::Starts => Record::new_board(),
+        Status::Lost(mark) => Record {
+            boot: *mark,
+            last: 0,
+            begun: false,
+            known: 0,
+        },
+    }
+}
+
+/// The status that the octets spell, and how many commands wait. Refuses by 1 `Layout` octets that are not 23,
+/// and then by 2 `Check` octets that spell none.
+/// Faults: 1 Layout, then 2 Check.
+pub fn decode_status(octets: &[u8]) -> Result<(Status, u8), LogFault>
+    ensures found { IfOk result (λ r. octets.now ≡ status_octets r.0 r.1) }
+    ensures only { (status : Status) (waiting : ℕ) → IsStatusInRange status → waiting < 2 ^ 8
+        → octets.now ≡ status_octets status waiting → result ≡ Ok (status, waiting) }
+    ensures layout { (length octets.now ≡ 23 → ⊥) → result ≡ Err faults.Layout }
+    ensures check { length octets.now ≡ 23 → OnErr result (result ≡ Err faults.Check) }
+{
+    if octets.len() != 23 {
+        return Err(LogFault::Layout);
+    }
+    let status = status_at(octets);
+    let waiting = octets[18];
+    if &spelled(&status, waiting)[..] != octets {
+        return Err(LogFault::Check);
+    }
+    Ok((status, waiting))
+}
+
+fn status_at(octets: &[u8]) -> Status
+    requires { 18 ≤ length octets.now }
+    ensures { result ≡ status_with (slice_index octets.now 0) (fields_of (drop 1 octets.now)) }
+{
+    let (_, fields) = octets.split_at(1);
+    status_with(octets[0], fields_at(fields))
+}
+
+fn status_with(kind: u8, kept: Record) -> Status
+    ensures { result ≡ status_with kind kept }
+{
+    match kind {
+        0 => Status::Says(kept),
+        1 => Status::Changes,
+        2 => Status::Starts,
+        _ => Status::Lost(kept.boot),
+    }
+}

@@ -1,5 +1,0 @@
-use Rattle.execution.proofs.Pair.{each_carries_out}
-use Rattle.execution.proofs.laws.law_of_carrying_out.Goals as goal
-
-pub returns : goal.returns
-returns c = each_carries_out

@@ -1,5 +1,0 @@
-use Rattle.execution.proofs.Steps.{each_is_carried_out}
-use Rattle.execution.proofs.laws.law_of_execution.Goals as goal
-
-pub returns : goal.returns
-returns c = each_is_carried_out

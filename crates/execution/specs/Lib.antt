@@ -1,9 +1,0 @@
-pub mod Record
-pub mod Layout
-pub mod Tearing
-pub mod Executor
-pub mod Board
-pub mod CarriedOut
-pub mod NeverLost
-pub mod KnowsMost
-pub mod Progress
