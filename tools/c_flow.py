@@ -47,6 +47,17 @@ def height(items):
     return max((1 + max(map(height, it.parts), default=0) for it in items if isinstance(it, Node)), default=0)
 
 
+def texts(items):
+    """The texts of the statements, and of the tests of those that hold others."""
+    for it in items:
+        if isinstance(it, str):
+            yield it
+            continue
+        yield from filter(None, it.test or ())
+        for part in it.parts:
+            yield from texts(part)
+
+
 def size(items):
     return sum(1 + sum(map(size, it.parts)) if isinstance(it, Node) else 1 for it in items)
 
@@ -230,39 +241,6 @@ def both(a, b):
 
 def simplified(items):
     return Flow().simplified(items)
-
-
-def with_numbers(items, known=None):
-    """The statements with the number in the place of a variable that is returned, where it is known what the variable was
-    set to last; and what is known at their end, each variable with its number as text. Nothing is known after a label."""
-    known, found = dict(known or {}), []
-    for it in items:
-        if isinstance(it, str):
-            found.append(with_number(it, known))
-        elif it.kind == "if":
-            halves = [with_numbers(part, known) for part in it.parts]
-            found.append(it.with_parts([part for part, _ in halves]))
-            ends = [end for part, end in halves if not leaves(part)] or [{}]
-            known = {name: number for name, number in ends[0].items() if all(end.get(name) == number for end in ends)}
-        else:
-            before = known if it.kind in ("switch", "block") else {}
-            found.append(it.with_parts([with_numbers(part, before)[0] for part in it.parts]))
-            known = {}
-    return found, known
-
-
-def with_number(text, known):
-    """A statement, after which `known` is what is known then."""
-    to = re.match(r"(\w+) = (.*);$", text, re.S)
-    if to:
-        known.pop(to[1], None)
-        if re.fullmatch(r"(0x[0-9a-f]+|\d+)U?", to[2]):
-            known[to[1]] = to[2]
-    of = re.fullmatch(r"return (\w+)( & 255)?;", text)
-    if not of or of[1] not in known:
-        return text
-    number = known[of[1]]
-    return f"return {int(number.rstrip('U'), 0) & 255 if of[2] else number};"
 
 
 class Text:

@@ -72,6 +72,21 @@ def answers_of(headers, calls):
     return {it.name: numbers(it) for it in calls if it.answer == "u8"}
 
 
+def answer_names(headers, calls):
+    """Of each such call its numbers, with the name of each in the enumeration that its comment names, or in the one that
+    all kinds of calls share."""
+    known, by_name, found = enumerations(headers), {it.name: it for it in calls}, {}
+    own_of = {name: own for own, numbers in known.items() for name in numbers}
+    for name, numbers in answers_of(headers, calls).items():
+        words = returned_words(by_name[name])
+        words += [it for other in words if other[6:] in by_name for it in returned_words(by_name[other[6:]])]
+        own = {own_of.get(it, it[6:]) for it in words if it in own_of or it[6:] in known} - {"status"}
+        its = {int(number, 0): name for it in [*sorted(own)[:1], "status"] for name, number in reversed(known[it].items())}
+        its |= {int(number, 0): name for it in sorted(own)[:1] for name, number in known[it].items()}
+        found[name] = {number: its[number] for number in sorted(numbers) if number in its}
+    return found
+
+
 def checks_astray(headers, calls):
     """The calls that lack `#[must_use]`: their number says more than that a struct is damaged or that a handle holds
     none, which is one number."""
@@ -83,13 +98,20 @@ def checks_astray(headers, calls):
 
 def fields_of_enumerations(headers, structs):
     """Of each struct the fields that hold a number of an enumeration, with its numbers, and 0 where there is none."""
+    for (struct, field), names in field_names(headers, structs).items():
+        yield struct, field, set(names) | (set() if field in ("kind", "state") else {0})
+
+
+def field_names(headers, structs):
+    """Of each such field the names of its numbers, by the struct and the field."""
     known = enumerations(headers)
+    found = {}
     for struct in structs:
         for field in struct.fields():
             it = re.search(r"(?:^|[:,] )[Oo]f `sedge_(\w+)`", field.note)
             if it and it[1] in known:
-                none = set() if field.name in ("kind", "state") else {0}
-                yield struct.own, field.name, none | {int(number, 0) for number in known[it[1]].values()}
+                found[struct.own, field.name] = {int(number, 0): name for name, number in known[it[1]].items()}
+    return found
 
 
 def meanings(headers):

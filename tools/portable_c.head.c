@@ -148,6 +148,32 @@ static void put64_at(uintptr_t at, uint64_t value)
 }
 #define put64(at, value) put64_at((uintptr_t)(at), value)
 
+/* A number of a type that has such numbers alone: it is in memory as the machine itself has it. */
+static uint32_t own16_at(uintptr_t at)
+{
+    return *(const uint16_t *)(const void *)OCTETS(at);
+}
+#define own16(at) own16_at((uintptr_t)(at))
+
+static uint32_t own32_at(uintptr_t at)
+{
+    return *(const uint32_t *)(const void *)OCTETS(at);
+}
+#define own32(at) own32_at((uintptr_t)(at))
+
+/* The lowest 16 bits. */
+static void put_own16_at(uintptr_t at, uint32_t value)
+{
+    *(uint16_t *)(void *)OCTETS(at) = (uint16_t)(value & 0xffff);
+}
+#define put_own16(at, value) put_own16_at((uintptr_t)(at), value)
+
+static void put_own32_at(uintptr_t at, uint32_t value)
+{
+    *(uint32_t *)(void *)OCTETS(at) = value;
+}
+#define put_own32(at, value) put_own32_at((uintptr_t)(at), value)
+
 /* Moves octets, which may overlap. */
 static void copy_at(uintptr_t to, uintptr_t from, size_t count)
 {

@@ -18,7 +18,8 @@ import re
 import struct
 import textwrap
 
-from c_flow import Node, shown, simplified, with_numbers
+from c_flow import Node, shown, simplified, texts
+from c_variables import with_own_variables
 from wasm_object import Reader, Refused
 
 I32, I64, F64 = 0x7F, 0x7E, 0x7C
@@ -67,7 +68,7 @@ class Value:
         self.text, self.kind, self.number, self.contrary = text, kind, number, contrary
         self.derived = frozenset(it for it in derived if isinstance(it, str))
         self.origin = derived
-        self.is_bottom, self.entry, self.between = False, None, None
+        self.is_bottom, self.entry, self.between, self.above = False, None, None, None
         self.is_tight = tight or number is not None
         self.names = frozenset().union({name} if name else (), *(it.names for it in of))
         self.reads = reads or any(it.reads for it in of)
@@ -315,9 +316,10 @@ class Translation:
         r, (value,) = self.reader, self.pop(1)
         targets, last = r.several(r.unsigned), r.unsigned()
         places = [it for it in dict.fromkeys(targets) if it != last]
-        keys = [[k for k, it in enumerate(targets) if it == place] for place in places]
+        text, first = (value.plain(), 0) if value.above is None else value.above
+        keys = [[k + first for k, it in enumerate(targets) if it == place] for place in places]
         parts = [self.branch(it) for it in [*places, last]]
-        self.items.append(Node("switch", parts, test=(value.plain(), None), keys=keys))
+        self.items.append(Node("switch", parts, test=(text, None), keys=keys))
 
     # ---- Instructions. ----
 
@@ -419,6 +421,8 @@ class Translation:
             self.program.learn((callee.name, self.program.parameters(callee)[k]), it.origin)
             if callee.end == 0:
                 self.program.read |= it.given()
+                for own in it.given():
+                    self.program.use(own, None)
         text = f"{self.program.name_of(callee)}({', '.join(it.plain() for it in given)})"
         if not callee.results:
             self.items.append(f"{text};")
@@ -552,11 +556,19 @@ class Translation:
         self.push(f"address({self.constant_named(segment)}[{text}])", I64, base, tight=True, derived=derived)
         return True
 
+    def whole(self, base, bits):
+        """How the functions are named that read and write so many bits here: in the machine's own order where what the
+        address is derived from is one parameter, of a type that has numbers of so many bits alone."""
+        given = base.given()
+        for it in given:
+            self.program.use(it, bits if given == {it} and not base.derived else None)
+        return "own" if self.program.header and given and all(map(self.program.is_own, given)) else ""
+
     def read(self, kind, bits, has_sign):
         (base,) = self.pop(1)
         if bits == 64 and self.read_address(base):
             return
-        text = f"get{bits}({self.place(base)})"
+        text = f"{self.whole(base, bits) or 'get'}{bits}({self.place(base)})"
         if has_sign:
             text = f"extend{BITS[kind]}({text}, {1 << (bits - 1):#x})"
         elif kind == I64 and bits < 64:
@@ -568,12 +580,15 @@ class Translation:
         if CONSTANT in value.derived:
             raise Refused("an address of a constant that is aligned is put into memory")
         self.program.read |= value.given()
+        for it in value.given():
+            self.program.use(it, None)
         place = self.place(base, True)
         self.settle_reads()
         text = value.plain() if value.number is None else number_of(value.number & (2**bits - 1), value.kind).plain()
         if value.kind == I64 and bits < 64 and value.number is None:
             text = f"(uint32_t){value.operand()}"
-        self.items.append(f"put{bits}({place}, {text});")
+        own = self.whole(base, bits)
+        self.items.append(f"put{own and '_' + own}{bits}({place}, {text});")
 
     def move_octets(self):
         how = self.reader.unsigned()
@@ -585,6 +600,10 @@ class Translation:
         if given[0].derived & {CONSTANT, TEXT, ROOM}:
             raise Refused("a constant is written")
         self.program.read |= given[1].given()
+        for it in given[0].given() | given[1].given():
+            # (octets that are all the same are a number in any order)
+            if how == 10:
+                self.program.use(it, None)
         self.unseen.discard(tuple(it.text for it in given))
         self.settle_reads()
         self.items.append(f"{'copy' if how == 10 else 'fill'}({', '.join(it.plain() for it in given)});")
@@ -673,7 +692,12 @@ class Translation:
             text = f"some({a.text})"
             return self.push(text, kind, a, tight=True, derived=derived | given)
         if sign == "+" and b.number is not None and b.number > 2**bits - 2**16:
-            text = f"{left_of(a)} - {spelled(2**bits - b.number)}"
+            less = 2**bits - b.number
+            text = f"{left_of(a)} - {spelled(less)}"
+            self.shorten(Value(text, kind, a, b, derived=derived | given))
+            if self.program.header and self.stack[-1].text == text:
+                self.stack[-1].above = a.plain(), less
+            return None
         elif sign in "+-":
             text = f"{x if a.number is not None else left_of(a)} {sign} {y}"
         elif sign == "^" and b.number == 2**bits - 1:
@@ -711,27 +735,47 @@ class Translation:
         names = ", ".join(f"{C_TYPES[kind]} {name}" for name, kind in self.locals[: len(self.function.params)])
         return f"static {result} {self.program.name_of(self.function)}({names or 'void'})"
 
-    def lines(self):
-        items = simplified(self.items)
+    def lines(self, items=None):
+        """The function's lines; those of other statements than its own where these are given."""
+        items = simplified(self.items if items is None else items)
+        params = [name for name, _ in self.locals[: len(self.function.params)]]
+        kinds = {**dict(self.locals), **self.kinds}
         if self.program.header:
-            items, _ = with_numbers(items)
-        body = self.without_unread(without_kept(shown(items, 1)))
-        body = self.program.with_fields(self.function, body) if self.program.header else with_fillings(body)
+            names = {**dict.fromkeys(kinds, "zero"), **dict.fromkeys(self.kinds, ""), **dict.fromkeys(params, "argument")}
+            fields = self.program.fields(self.function)
+            items, found = with_own_variables(items, names, self.program.taken, fields)
+            items, kinds = simplified(items), {name: (kinds[was], is_zero) for name, (was, is_zero) in found.items()}
+        else:
+            kinds = {name: (kind, name not in self.kinds) for name, kind in kinds.items() if name not in params}
+        body = self.finished(shown(items, 1))
         if any(TABLE in it for it in body):
             raise Refused(f"{self.name}: {MISREAD}")
         used = set(re.findall(r"\w+", "\n".join(body)))
-        own = [name for name, _ in self.locals[: len(self.function.params)]]
-        body = [*(f"    (void){it};" for it in own if it not in used), *body]
-        variables = {f"{name}@=@0": kind for name, kind in self.locals[len(self.function.params) :] if name in used}
-        variables |= {name: kind for name, kind in self.kinds.items() if name in used}
+        body = [*(f"    (void){it};" for it in params if it not in used), *body]
         lines = [*wrapped(self.signature()), "{"]
         if any("frame_octets" in it for it in body):
             lines.append(f"    unsigned char frame_octets[{self.frame} + 15];")
         for kind in (I32, I64, F64):
-            names = [name for name, own in variables.items() if own == kind]
-            declared = wrapped(f"    {C_TYPES[kind]} {', '.join(names)};") if names else []
+            its = [f"{name}@=@0" if is_zero else name for name, (own, is_zero) in kinds.items() if own == kind and name in used]
+            declared = wrapped(f"    {C_TYPES[kind]} {', '.join(its)};") if its else []
             lines += [it.replace("@", " ") for it in declared]
         return [*lines, *(line for it in body for line in wrapped(it)), "}"]
+
+    def only_with(self, table, octets):
+        """The lines of the function without what uses a table from so many octets on: conditions by which the source
+        takes several octets at once, where it takes one at a time after them."""
+        items = simplified(self.items)
+        beyond = [it for it in items if isinstance(it, Node) and farthest([it], table) >= octets]
+        left = [it for it in items if it not in beyond]
+        if not beyond or farthest(left, table) >= octets or any(it.kind != "if" or it.parts[1] for it in beyond):
+            raise Refused(f"{self.name}: what uses {table} from {octets} on is no condition of its own")
+        return self.lines(left)
+
+    def finished(self, body):
+        """The lines of a body as they are written."""
+        if self.program.header:
+            return self.program.with_names(self.function, body)
+        return with_fillings(self.without_unread(without_kept(body)))
 
     def without_unread(self, body):
         """A body in which no variable is set to a number, or to where the frame is, that nothing reads."""
@@ -740,6 +784,12 @@ class Translation:
             if not re.search(rf"^ *(?!{name} = )\S.*\b{name}\b|^ *{name} = .*\b{name}\b", text, re.M):
                 text = re.sub(rf"^ *{name} = ({SET_ALONE});\n", "", text, flags=re.M)
         return text.split("\n")
+
+
+def farthest(items, table):
+    """The last place in a table that the statements use."""
+    places = (int(it) for text in texts(items) for it in re.findall(rf"\b{table} \+ (\d+)", text))
+    return max(places, default=0)
 
 
 def without_kept(body):

@@ -1,8 +1,8 @@
 /* The FECF, for every octets of every length of a frame: sedge_check is affine over GF(2) in the octets where its
  * tables are linear (it is made of ^, of shifts and of look-ups by an octet alone), and so is the reference. Two affine
  * functions are equal for all octets where they are for none set and for each single bit set. So this compares, for each
- * length up to LONGEST, the zeros and each one bit; and that each of 16 tables is linear. Ends with 1 where they differ.
- * c/check_equal gives the file of the library as SOURCE, and the name of the constant with the tables as TABLES. */
+ * length up to LONGEST, the zeros and each one bit; and that each table is linear. Ends with 1 where they differ.
+ * c/check_equal gives the file of the library as SOURCE. */
 #include SOURCE
 #include <stdio.h>
 #ifndef LONGEST
@@ -18,13 +18,13 @@ int main(void) {
     static uint8_t o[LONGEST + 1];
     static uint16_t one[LONGEST + 1][8];
     unsigned long compared = 0;
-    for (int t = 0; t < 16; t++)
+    for (size_t t = 0; t < sizeof sedge_fecf_tables / 512; t++)
         for (int a = 0; a < 256; a++)
             for (int b = 0; b < 256; b++) {
-                const unsigned char *T = TABLES + 512 * t;
+                const unsigned char *T = sedge_fecf_tables + 512 * t;
                 for (int k = 0; k < 2; k++)
                     if ((T[2 * a + k] ^ T[2 * b + k]) != T[2 * (a ^ b) + k])
-                        return printf("table %d is not linear\n", t), 1;
+                        return printf("table %zu is not linear\n", t), 1;
             }
     for (size_t n = 0; n <= LONGEST; n++) {
         uint16_t zeros = 0xffff;
