@@ -262,6 +262,32 @@ static void telemetry(void) {
     }
 }
 
+/* Telemetry that is queued when half of what waited has gone down, so that the rest moves to the front: some lengths of
+ * what moves, and the packets that follow. */
+static void moves(void) {
+    static const size_t waits[] = {1000, 4000, 10000, 40000};
+    const size_t each = 200;
+    for (int k = 0; k < 4 * 2; k++) {
+        const size_t wait = waits[k / 2], next = k % 2 ? each : 7;
+        size_t n;
+        open_nodes(1016, (uint32_t)each + 12);
+        put_packet(octets, each);
+        octets[0] = 0;
+        for (size_t j = 0; j < wait / each; j++) {
+            want(sedge_spacecraft_telemetry(&board, octets, each) == SEDGE_NODE_OK);
+        }
+        for (size_t sent = 0; sent < wait / 2; sent += each) {
+            want(sedge_spacecraft_telemetry_frame(&board, frame, sizeof frame, &n) == SEDGE_NODE_OK);
+        }
+        put_packet(octets, next);
+        octets[0] = 0;
+        TIMED("sedge_spacecraft_telemetry", next, 0, wait / 2, 0,
+              want(sedge_spacecraft_telemetry(&board, octets, next) == SEDGE_NODE_OK));
+        TIMED("sedge_spacecraft_telemetry", next, 0, 0, 0,
+              want(sedge_spacecraft_telemetry(&board, octets, next) == SEDGE_NODE_OK));
+    }
+}
+
 static struct sedge_text text;
 
 static void names(void) {
@@ -278,5 +304,6 @@ void measure(void) {
     bypasses();
     others();
     telemetry();
+    moves();
     names();
 }
