@@ -197,7 +197,10 @@ export interface sedge_config {
     limit: number;
     /** The timer's value in ticks, 1 to 65,535; default 10. */
     timer: number;
-    /** The most octets of data in a segment, 1 to 1,016; default 1,016. */
+    /**
+     * The most octets of data in a segment, 1 to 1,016 (without silence before an initiation, segments of two longer
+     * packets can be joined into a command that nobody submitted); default 1,016.
+     */
     part: number;
     /** The most octets of a packet, 7 to 65,542; default 65,542. */
     max_packet: number;

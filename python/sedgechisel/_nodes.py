@@ -39,7 +39,8 @@ class Config(_Struct):
     - `window`: the sender's window K, 1 to width/2; default 127
     - `limit`: the transmission limit, 1 to 255; default 3
     - `timer`: the timer's value in ticks, 1 to 65,535; default 10
-    - `part`: the most octets of data in a segment, 1 to 1,016; default 1,016
+    - `part`: the most octets of data in a segment, 1 to 1,016 (without silence before an initiation, segments of two
+      longer packets can be joined into a command that nobody submitted); default 1,016
     - `max_packet`: the most octets of a packet, 7 to 65,542; default 65,542
     - `maps`: bit m, which counts 2 to the power of m, says that MAP m is open, any 64 bits; default all ones
     - `ready_slots`: the number of packets waiting to be taken at which the buffer on board is full, 1 to 64; default 64

@@ -26,7 +26,8 @@ pub struct Config {
     pub limit: u32,
     /// The timer's value in ticks, 1 to 65,535; default 10.
     pub timer: u32,
-    /// The most octets of data in a segment, 1 to 1,016; default 1,016.
+    /// The most octets of data in a segment, 1 to 1,016 (without silence before an initiation, segments of
+    /// two longer packets can be joined into a command that nobody submitted); default 1,016.
     pub part: u32,
     /// The most octets of a packet, 7 to 65,542; default 65,542.
     pub max_packet: u32,
