@@ -32,10 +32,12 @@ static void advice(void) {
     for (number = 0; number < 256; number++) {
         bool is_broken = number >= SEDGE_ALERT_LOCKOUT && number <= SEDGE_ALERT_SYNCH;
         bool is_alert = number >= SEDGE_ALERT_LOCKOUT && number <= SEDGE_ALERT_TERMINATED;
+        bool gives_up = number == SEDGE_ALERT_LIMIT || number == SEDGE_ALERT_TIMER;
         struct sedge_advice it = sedge_alert_advice((uint8_t)number);
         WANT(sedge_alert_shows_broken_condition((uint8_t)number) == is_broken);
         WANT(strlen(it.text) < sizeof it.text && (strcmp(it.text, "?") == 0) == !is_alert);
         WANT((strstr(it.text, "restart on board") != NULL) == is_broken);
+        WANT((strstr(it.text, "the board has no room") != NULL) == gives_up);
         WANT((strstr(it.text, "resume by a newer CLCW") != NULL) == (is_alert && !is_broken));
     }
 }

@@ -1,5 +1,5 @@
 -- What an alert says of the link, and the way on after it.
-use Rattle.std.specs.Prelude.{List, ℕ, Bool, true, false, codes}
+use Rattle.std.specs.Prelude.{List, ℕ, ◌++◌, Bool, true, false, codes}
 use Rattle.cop1.specs.declared.vocabulary.Alert.{Alert}
 use Rattle.cop1.specs.declared.vocabulary.Alert.TheVariants.{Lockout, NnR, Clcw, Synch, Limit}
 use Rattle.cop1.specs.declared.vocabulary.Alert.TheVariants.{Timer}
@@ -20,15 +20,20 @@ abbrev pub begin_anew : List ℕ
 begin_anew =
     codes "a condition is broken (restart on board, reordering, second station?): begin anew"
 
+-- where the next session goes on from this one
+abbrev pub resume_later : List ℕ
+resume_later = codes ": after a silent round trip, resume by a newer CLCW, if the boot count is the same"
+
+-- where the sender has given up
+abbrev pub give_up : List ℕ
+give_up = codes "frames or CLCWs were lost or late, or the board has no room" ++ resume_later
+
 -- what to look for, and what to do, in ASCII
 abbrev pub advice : Alert → List ℕ
 advice Lockout = begin_anew
 advice NnR = begin_anew
 advice Clcw = begin_anew
 advice Synch = begin_anew
-advice Limit =
-    codes "frames or CLCWs were lost: after a silent round trip, resume by a newer CLCW, if the boot count is the same"
-advice Timer =
-    codes "frames or CLCWs were lost: after a silent round trip, resume by a newer CLCW, if the boot count is the same"
-advice Terminated =
-    codes "the session was terminated: after a silent round trip, resume by a newer CLCW, if the boot count is the same"
+advice Limit = give_up
+advice Timer = give_up
+advice Terminated = codes "the session was terminated" ++ resume_later

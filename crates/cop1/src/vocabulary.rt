@@ -116,8 +116,8 @@ impl Alert {
     /// these can come in a session that was begun by check, Unlock or Set V(R) and is confirmed, while the
     /// conditions hold. So there is a restart on board, a link that reorders or repeats frames, or a second
     /// station; and before a session is confirmed there may be what an earlier one left, as a receiver in
-    /// Lockout. Limit and Timer come of losses alone, and Terminated of its directive (CCSDS 232.1-B-2,
-    /// 5.2.5).
+    /// Lockout. Limit and Timer come of frames or reports that are lost or late, or of a board without room,
+    /// and Terminated of its directive (CCSDS 232.1-B-2, 5.2.5).
     pub fn shows_a_broken_condition(self) -> bool
         ensures { result ≡ shows_broken self }
     {
@@ -136,7 +136,7 @@ impl Alert {
                 "a condition is broken (restart on board, reordering, second station?): begin anew"
             }
             Alert::Limit | Alert::Timer => {
-                "frames or CLCWs were lost: after a silent round trip, resume by a newer CLCW, if the boot count is the same"
+                "frames or CLCWs were lost or late, or the board has no room: after a silent round trip, resume by a newer CLCW, if the boot count is the same"
             }
             Alert::Terminated => {
                 "the session was terminated: after a silent round trip, resume by a newer CLCW, if the boot count is the same"

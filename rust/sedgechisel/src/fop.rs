@@ -306,7 +306,7 @@ impl Alert {
                 "a condition is broken (restart on board, reordering, second station?): begin anew"
             }
             Self::Limit | Self::Timer => {
-                "frames or CLCWs were lost: after a silent round trip, resume by a newer CLCW, if the boot count is the same"
+                "frames or CLCWs were lost or late, or the board has no room: after a silent round trip, resume by a newer CLCW, if the boot count is the same"
             }
             Self::Terminated => {
                 "the session was terminated: after a silent round trip, resume by a newer CLCW, if the boot count is the same"
