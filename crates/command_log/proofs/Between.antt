@@ -288,7 +288,8 @@ said_at high said one two kept new same only_one only_two is =
       said_more high said kept kept (omega arith) is,
       last_below high kept (top_more kept kept.begun refl) is.no_more,
     ) in
-    subst (λ (r : Record). AreBetween high (r ∷ said) one two × IsBetween high (r ∷ said) kept × (r.last ≤ high)) same here
+    subst (λ (r : Record). AreBetween high (r ∷ said) one two × IsBetween high (r ∷ said) kept
+    × (r.last ≤ high)) same here
 
 pub between_said : (high : ℕ) (said : List Record) (ns ws : List ℕ) (one two : Option Record)
     (kept : Record)

@@ -1,5 +1,6 @@
 -- Packets are read as they were written, and no others are read.
-use Rattle.std.proofs.Common.{◌≡◌, ℕ, suc, ◌+◌, ◌-◌, ◌*◌, ◌/◌, ◌%◌, ◌^◌, ◌<◌, ◌≤◌, List, [], ◌∷◌, ◌++◌, length, take, drop}
+use Rattle.std.proofs.Common.{◌≡◌, ℕ, suc, ◌+◌, ◌-◌, ◌*◌, ◌/◌, ◌%◌, ◌^◌, ◌<◌, ◌≤◌, List, [], ◌∷◌, ◌++◌, length, take}
+use Rattle.std.proofs.Common.{drop}
 use Rattle.std.proofs.Common.{Bool, true, false, Result, Ok, Err, refl, sym, ap, ◌∙◌, arith, length-append, length-drop}
 use Rattle.std.proofs.Common.{eq-eqb, eqb-true, lt-ltb, ltb-true}
 use Rattle.std.proofs.lemmas.Bool.{leb-true, le-leb}
@@ -124,11 +125,13 @@ front_again (a ∷ b ∷ c ∷ d ∷ e ∷ f ∷ rest) fits least ten is =
     let cut : length (a ∷ b ∷ c ∷ d ∷ e ∷ f ∷ rest) - 4
     ≡ suc (suc (suc (suc (suc (suc (length (a ∷ b ∷ c ∷ d ∷ e ∷ f ∷ rest) - 10)))))) = omega arith in
     let body : length (take (length (a ∷ b ∷ c ∷ d ∷ e ∷ f ∷ rest) - 10) rest) + 4
-    ≡ length (a ∷ b ∷ c ∷ d ∷ e ∷ f ∷ rest) - 6 = omega (arith, length-take (length (a ∷ b ∷ c ∷ d ∷ e ∷ f ∷ rest) - 10) rest) in
+    ≡ length (a ∷ b ∷ c ∷ d ∷ e ∷ f ∷ rest) - 6 = omega (arith, length-take (length
+    (a ∷ b ∷ c ∷ d ∷ e ∷ f ∷ rest) - 10) rest) in
     let count : e * 256 + f + 7 ≡ length (a ∷ b ∷ c ∷ d ∷ e ∷ f ∷ rest) = omega (arith, is.count) in
     let header : (a ∷ b ∷ c ∷ d ∷ e ∷ f ∷ [])
     ≡ header_octets (a % 8 * 256 + b) (c % 64 * 256 + d) (length (a ∷ b ∷ c ∷ d ∷ e ∷ f ∷ rest) - 6) =
-    header_again a b c d e f (length (a ∷ b ∷ c ∷ d ∷ e ∷ f ∷ rest)) (fits 0) (fits 1) (fits 2) (fits 3) (fits 4) (fits 5)
+    header_again a b c d e f (length (a ∷ b ∷ c ∷ d ∷ e ∷ f ∷ rest)) (fits 0) (fits 1) (fits 2) (fits 3) (fits 4)
+    (fits 5)
     is.first is.third count in
     ap (λ (i : ℕ). take i (a ∷ b ∷ c ∷ d ∷ e ∷ f ∷ rest)) cut
     ∙ ap (λ (h : List ℕ). h ++ take (length (a ∷ b ∷ c ∷ d ∷ e ∷ f ∷ rest) - 10) rest) header
@@ -182,7 +185,8 @@ written_framed : (apid count : ℕ) (body : List ℕ) (least : ℕ) → apid < 2
 written_framed apid count body least low small most long =
     let all : length (packet_octets apid count body) ≡ length body + 10 = written_length apid count body in
     let octets : List ℕ = packet_octets apid count body in
-    are_both (nat_le least (length octets) && nat_eq (slice_index octets 0 / 8) 2 && nat_eq (slice_index octets 2 / 64) 3)
+    are_both (nat_le least (length octets) && nat_eq (slice_index octets 0 / 8) 2 && nat_eq
+    (slice_index octets 2 / 64) 3)
     (nat_eq (big_number 2 (drop 4 octets) + 7) (length octets))
     (are_both (nat_le least (length octets) && nat_eq (slice_index octets 0 / 8) 2)
     (nat_eq (slice_index octets 2 / 64) 3)
@@ -282,7 +286,8 @@ pub each_command_is_read : EachCommandIsRead
 each_command_is_read c fits =
     let some = both (nat_lt c.apid 2048 && nat_lt c.count 16384 && nat_lt 0 c.number && nat_lt c.number (2 ^ 32))
     (nat_le (length c.content) 65528) fits in
-    let few = both (nat_lt c.apid 2048 && nat_lt c.count 16384 && nat_lt 0 c.number) (nat_lt c.number (2 ^ 32)) some.0 in
+    let few = both (nat_lt c.apid 2048 && nat_lt c.count 16384 && nat_lt 0 c.number) (nat_lt c.number
+    (2 ^ 32)) some.0 in
     let three = both (nat_lt c.apid 2048 && nat_lt c.count 16384) (nat_lt 0 c.number) few.0 in
     let two = both (nat_lt c.apid 2048) (nat_lt c.count 16384) three.0 in
     let low : c.apid < 2048 = ltb-true c.apid 2048 two.0 in
@@ -291,14 +296,16 @@ each_command_is_read c fits =
     let most : length c.content ≤ 65528 = leb-true (length c.content) 65528 some.1 in
     let body : List ℕ = big_bytes 4 c.number ++ c.content in
     let octets : List ℕ = command_octets c in
-    let tail : List ℕ = big_bytes 4 (check_of (header_octets c.apid c.count (length (big_bytes 4 c.number ++ c.content) + 4)
+    let tail : List ℕ = big_bytes 4 (check_of (header_octets c.apid c.count (length
+    (big_bytes 4 c.number ++ c.content) + 4)
     ++ (big_bytes 4 c.number ++ c.content))) in
     let all : length (command_octets c) ≡ length (big_bytes 4 c.number ++ c.content) + 10 =
     written_length c.apid c.count (big_bytes 4 c.number ++ c.content) in
     let number : number_in (command_octets c) ≡ c.number = omega arith in
     let cut : length c.content ≡ length (command_octets c) - 14 = omega arith in
     let content : content_in (command_octets c) ≡ c.content =
-    take_at c.content (big_bytes 4 (check_of (header_octets c.apid c.count (length (big_bytes 4 c.number ++ c.content) + 4)
+    take_at c.content (big_bytes 4 (check_of (header_octets c.apid c.count (length
+    (big_bytes 4 c.number ++ c.content) + 4)
     ++ (big_bytes 4 c.number ++ c.content)))) (length (command_octets c) - 14) cut in
     let more : nat_lt 0 (number_in (command_octets c)) ≡ true =
     ap (λ (n : ℕ). nat_lt 0 n) number ∙ three.1 in
@@ -333,7 +340,8 @@ front_with kind boot last mark = kind ∷ (big_bytes 4 boot ++ (big_bytes 4 last
 
 twelve : (xs : List ℕ) → IsOctets xs → 12 ≤ length xs
     → take 12 xs
-    ≡ big_bytes 4 (big_number 4 xs) ++ (big_bytes 4 (big_number 4 (drop 4 xs)) ++ big_bytes 4 (big_number 4 (drop 8 xs)))
+    ≡ big_bytes 4 (big_number 4 xs) ++ (big_bytes 4 (big_number 4 (drop 4 xs)) ++ big_bytes 4 (big_number 4
+    (drop 8 xs)))
 twelve xs fits long =
     let second : take 8 (drop 4 xs) ≡ big_bytes 4 (big_number 4 (drop 4 xs)) ++ take 4 (drop 4 (drop 4 xs)) =
     number_first (drop 4 xs) 8 (drop_fits xs 4 fits) (omega (arith, length-drop 4 xs)) (omega arith) in

@@ -213,7 +213,8 @@ step_good spoiled b (Orders octets) mild is =
     obeyed_good spoiled b.first b.second b.executor (order_at octets) is
 step_good spoiled b Acts mild is = acts_good spoiled b is
 step_good true b (Restarts mark) mild is = started_one b.first b.second is.0 mark
-step_good false b (Restarts mark) mild is = started_good b.first b.second (one_of b.first b.second b.executor.stage is).0 mark
+step_good false b (Restarts mark) mild is = started_good b.first b.second
+    (one_of b.first b.second b.executor.stage is).0 mark
 step_good true b (BreaksOff mark) mild is = absurd cc
 step_good false b (BreaksOff mark) mild is =
     let after = after_break b (action_at b.executor.kept b.executor.stage) in

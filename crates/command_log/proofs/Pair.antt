@@ -116,7 +116,8 @@ suits_offer : (lost : List ℕ) (said : List Record) (begun : List ℕ) (s : Exe
     (order : Order) → Suits lost said begun s.stage order
     → Suits lost said begun (executor_step s (Takes octets)).stage order
 suits_offer lost said begun s octets order is =
-    cond_both (is_taken s octets) (at_stage (record { boot = s.kept.boot; last = s.kept.last; begun = true; known = s.kept.known }) WritesFirst) s
+    cond_both (is_taken s octets) (at_stage (record { boot = s.kept.boot; last = s.kept.last; begun = true; known =
+    s.kept.known }) WritesFirst) s
     (λ (after : ExecutorState). Suits lost said begun after.stage order)
     (λ t. suits_none lost said said begun begun s.stage WritesFirst order (λ mark. refl) is) (λ f. is)
 
@@ -329,7 +330,8 @@ tells p (Says kept) e h =
       suits =
           all_weaker (Suits p.lost p.said p.board.begun p.board.executor.stage)
           (Suits p.lost (kept ∷ p.said) p.board.begun p.board.executor.stage)
-          (λ order is. suits_told p.lost p.said p.board.begun p.board.executor.kept kept p.board.executor.stage order e is)
+          (λ order is. suits_told p.lost p.said p.board.begun p.board.executor.kept kept p.board.executor.stage order e
+          is)
           p.directed h.suits;
     }
 
@@ -403,7 +405,8 @@ pair_step_holds p (Sends packet) is h =
       sent_low = (second_max p.high (number_in packet), low_more p.high (number_in packet) p.sent h.sent_low);
       directed_low = directed_more p.high (number_in packet) p.directed h.directed_low;
       said_low = λ kept among. up_to_max p.high (number_in packet) kept.last (h.said_low kept among);
-      between = between_more p.high (max p.high (number_in packet)) p.said p.board (first_max p.high (number_in packet)) h.between;
+      between = between_more p.high (max p.high (number_in packet)) p.said p.board (first_max p.high
+      (number_in packet)) h.between;
       suits = h.suits;
     }
 pair_step_holds p (Directs order) is h =
@@ -414,9 +417,11 @@ pair_step_holds p (Directs order) is h =
       goes_on = h.goes_on;
       said = h.said;
       sent_low = low_more p.high (last_of order) p.sent h.sent_low;
-      directed_low = (second_max p.high (last_of order), directed_more p.high (last_of order) p.directed h.directed_low);
+      directed_low = (second_max p.high (last_of order), directed_more p.high
+      (last_of order) p.directed h.directed_low);
       said_low = λ kept among. up_to_max p.high (last_of order) kept.last (h.said_low kept among);
-      between = between_more p.high (max p.high (last_of order)) p.said p.board (first_max p.high (last_of order)) h.between;
+      between = between_more p.high (max p.high (last_of order)) p.said p.board (first_max p.high
+      (last_of order)) h.between;
       suits = (suits_new p order is h, h.suits);
     }
 pair_step_holds p LosesGround is h =

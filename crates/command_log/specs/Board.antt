@@ -1,6 +1,7 @@
 -- A board over time. Its program does what the executor answers, hands it what comes, and restarts
 -- at any moment, also in the middle of an action. Nothing is assumed of the link: any octets come.
-use Rattle.std.specs.Prelude.{◌≡◌, ⊤, ℕ, ◌+◌, ◌-◌, ◌<◌, ◌≤◌, ◌⊎◌, List, [], ◌∷◌, true, Result, Ok, Err}
+use Rattle.std.specs.Prelude.{◌≡◌, ⊤, ℕ, ◌+◌, ◌-◌, ◌<◌, ◌≤◌, ◌⊎◌, List, [], ◌∷◌, true, Result, Ok}
+use Rattle.std.specs.Prelude.{Err}
 use Rattle.std.specs.Prelude.{if◌then◌else◌, Option, Some, None}
 use Rattle.std.specs.Int.{bit_at}
 use Rattle.command_log.specs.declared.record.Record.{Record}
@@ -15,7 +16,8 @@ use Rattle.command_log.specs.declared.packets.Order.{Order}
 use Rattle.command_log.specs.declared.packets.Order.TheVariants.{Rebuild}
 use Rattle.command_log.specs.declared.packets.Order.TheVariants as orders
 use Rattle.command_log.specs.Packets.{order_at}
-use Rattle.command_log.specs.Executor.{ExecutorState, start, action_of, status_of, is_taken, is_obeyed}
+use Rattle.command_log.specs.Executor.{ExecutorState, start, action_of, status_of, is_taken}
+use Rattle.command_log.specs.Executor.{is_obeyed}
 use Rattle.command_log.specs.Executor.{executor_step}
 use Rattle.command_log.specs.Executor.{Takes, Obeys, Done}
 

@@ -26,4 +26,5 @@ EachOrderIsRead =
 abbrev pub EachReadIsAnOrder : Type 0
 EachReadIsAnOrder =
     (octets : List ℕ) (order : Order) → IsOctets octets → order_at octets ≡ Ok order
-    → (apid : ℕ) × (count : ℕ) × (order_fits apid count ≡ true) × (octets ≡ order_octets apid count order)
+    → (apid : ℕ) × (count : ℕ) × (order_fits apid count ≡ true)
+    × (octets ≡ order_octets apid count order)

@@ -16,8 +16,10 @@ use Rattle.command_log.specs.declared.status.Status.TheVariants as status
 use Rattle.command_log.specs.declared.executor.Stage.{Stage}
 use Rattle.command_log.specs.declared.executor.Stage.TheVariants.{Lost, RepairsFirst, RepairsSecond}
 use Rattle.command_log.specs.declared.executor.Stage.TheVariants.{WritesFirst}
-use Rattle.command_log.specs.declared.executor.Stage.TheVariants.{WritesSecond, Executes, Rests, Ordered}
-use Rattle.command_log.specs.Packets.{is_command, is_sound, number_in, content_in, is_framed, order_at}
+use Rattle.command_log.specs.declared.executor.Stage.TheVariants.{WritesSecond, Executes, Rests}
+use Rattle.command_log.specs.declared.executor.Stage.TheVariants.{Ordered}
+use Rattle.command_log.specs.Packets.{is_command, is_sound, number_in, content_in, is_framed}
+use Rattle.command_log.specs.Packets.{order_at}
 use Rattle.command_log.specs.Record.{no_commands, begun, passed, after_start}
 
 -- the record as it is kept, or is to be, and how far the executor is
@@ -28,7 +30,8 @@ pub record ExecutorState : Type 0 where
 abbrev pub at_stage : Record → Stage → ExecutorState
 at_stage kept stage = record { kept = kept; stage = stage }
 
--- The first copy that is good goes over the other one. Where none is, the mark is that of this loss.
+-- The first copy that is good goes over the other one. Where none is, the mark is that of this
+-- loss.
 abbrev pub start : Option Record → Option Record → ℕ → ExecutorState
 start (Some first) second mark = at_stage first RepairsSecond
 start None (Some second) mark = at_stage second RepairsFirst
@@ -127,7 +130,8 @@ pub data Call : Type 0 where
   Done : Call
 
 abbrev pub executor_step : ExecutorState → Call → ExecutorState
-executor_step s (Takes octets) = if is_taken s octets then at_stage (begun s.kept) WritesFirst else s
+executor_step s (Takes octets) = if is_taken s octets then at_stage
+    (begun s.kept) WritesFirst else s
 executor_step s (Obeys octets) = obey_any s (order_at octets)
 executor_step s Done = after_action s.kept s.stage
 

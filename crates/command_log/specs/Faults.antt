@@ -1,7 +1,8 @@
 -- The refusals of a board's log of commands: a row each.
 use Rattle.std.specs.Prelude.{ℕ, List, codes}
 use Rattle.command_log.specs.declared.fault.LogFault.{LogFault}
-use Rattle.command_log.specs.declared.fault.LogFault.TheVariants.{Layout, Check, Starting, Busy, Lost}
+use Rattle.command_log.specs.declared.fault.LogFault.TheVariants.{Layout, Check, Starting, Busy}
+use Rattle.command_log.specs.declared.fault.LogFault.TheVariants.{Lost}
 use Rattle.command_log.specs.declared.fault.LogFault.TheVariants.{Behind, Ahead, OtherBoot, NotLost}
 use Rattle.command_log.specs.declared.fault.LogFault.TheVariants.{OtherMark, FieldRange, Room}
 

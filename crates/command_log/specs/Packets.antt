@@ -102,7 +102,8 @@ mark_of (Restart boot) = 0
 mark_of (Rebuild mark boot last) = mark
 
 abbrev pub order_front : Order → List ℕ
-order_front order = kind_of order ∷ (big_bytes 4 (boot_of order) ++ (big_bytes 4 (last_of order) ++ big_bytes 4 (mark_of order)))
+order_front order = kind_of order ∷ (big_bytes 4 (boot_of order) ++ (big_bytes 4
+    (last_of order) ++ big_bytes 4 (mark_of order)))
 
 abbrev pub order_octets : (apid count : ℕ) → Order → List ℕ
 order_octets apid count order = packet_octets apid count (order_front order)
@@ -121,5 +122,6 @@ abbrev pub order_at : List ℕ → Result Order LogFault
 order_at octets =
     if not (is_framed 23 octets && (length octets == 23)) then Err faults.Layout
     else if not (holds_check octets) then Err faults.Check
-    else order_with (slice_index octets 6) (big_number 4 (drop 7 octets)) (big_number 4 (drop 11 octets))
+    else order_with (slice_index octets 6) (big_number 4 (drop 7 octets)) (big_number 4
+    (drop 11 octets))
     (big_number 4 (drop 15 octets))

@@ -1,4 +1,5 @@
--- What telemetry says, in octets: 1 of the kind, the fields of a record, 1 of how many commands wait,
+-- What telemetry says, in octets: 1 of the kind, the fields of a record, 1 of how many commands
+-- wait,
 -- and 4 of the check.
 use Rattle.std.specs.Prelude.{ℕ, ◌<◌, ◌^◌, List, [], ◌∷◌, ◌++◌, ⊤, if◌then◌else◌, ◌==◌}
 use Rattle.command_log.specs.Check.{sealed}

@@ -19,4 +19,5 @@ EachTornIsOneOfBoth =
 -- memory that is erased, to zeros or to ones, spells no record
 abbrev pub EachErasedIsNone : Type 0
 EachErasedIsNone =
-    (kept : Record) → (place_octets kept ≡ replicate 42 0 → ⊥) × (place_octets kept ≡ replicate 42 255 → ⊥)
+    (kept : Record) → (place_octets kept ≡ replicate 42 0
+    → ⊥) × (place_octets kept ≡ replicate 42 255 → ⊥)

@@ -15,16 +15,16 @@ pub enum Place {
     Second,
 }
 
-/// What is to be done next. It is done whole, and then handed to `Executor::done`.
+/// What the program does next. It does this whole, and then passes the value to `Executor::done`.
 #[derive(Debug, PartialEq, Eq, Drop)]
 pub enum Action {
-    /// Nothing: a command or an order may come.
+    /// Nothing: a command or an order may be passed in.
     Nothing,
     /// Write the record at the place.
     Write(Place, Record),
-    /// Execute the command that was taken last, which has this number.
+    /// Execute the command that was taken last. This is its number.
     Execute(u32),
-    /// Restart, as was ordered.
+    /// Restart: an order was obeyed.
     Restart,
 }
 
@@ -49,8 +49,9 @@ pub enum Stage {
     Ordered,
 }
 
-/// What is executed next on board: each command once and in order, over restarts at any moment. It is given
-/// what comes, and answers what is to be done, which is to be done whole before it is asked again.
+/// Decides what is executed next on board: each command once and in order, over restarts at any moment. It
+/// does no input or output, and takes no memory. The program does whole what `next` returns, before it calls
+/// it again.
 #[derive(Clone, Copy)]
 pub struct Executor {
     kept: Record,
@@ -75,8 +76,8 @@ impl Executor {
     ghost use Rattle.std.specs.Prelude.{◌<◌};
     ghost use Rattle.command_log.specs.Record.{passed};
 
-    /// The board starts. `first` and `second` are the records at the two places, `None` where there is none. The
-    /// mark is another one at each start, as from a clock or at random: it marks the loss, where both are lost.
+    /// Starts with the records at the two places, `None` if a place has no record. The program gives another
+    /// mark at each start, from a clock or at random; if both records are lost, it is the mark of this loss.
     pub fn start(first: Option<Record>, second: Option<Record>, mark: u32) -> Executor
         ensures { result ≡ start first second mark }
     {
@@ -96,7 +97,7 @@ impl Executor {
         }
     }
 
-    /// What is to be done now.
+    /// Returns what the program does now.
     pub fn next(&self) -> Action
         ensures { result ≡ action_of self.now }
     {
@@ -109,7 +110,7 @@ impl Executor {
         }
     }
 
-    /// The action was done, whole. Where it is not what `next` answers now, nothing changes.
+    /// Takes an action that was done whole, and moves on. Changes nothing if it is not what `next` returns.
     pub fn done(&mut self, action: Action)
         ensures done { action ≡ action_of self.old → self.new ≡ executor_step self.old Done }
         ensures other { (action ≡ action_of self.old → ⊥) → self.new ≡ self.old }
@@ -157,9 +158,10 @@ impl Executor {
         self.kept.known = self.kept.known % (1 << 63) * 2 + bit;
     }
 
-    /// A packet came: the mission's octets, if it is the next command, which is to be executed once `next` says
-    /// so. Else it is dropped, and nothing changes. After the number 4,294,967,295 no command is taken.
-    /// Faults: 1 Layout, then 2 Check, then 3 Starting, 4 Busy or 5 Lost, then 6 Behind or 7 Ahead.
+    /// Takes a packet that arrived if it is the next command, and returns the mission's octets: the command
+    /// is executed once `next` returns `Execute`. Drops any other packet, and changes nothing then. After the
+    /// number 4,294,967,295 no command is taken.
+    /// Faults: 1 Layout, then 2 Check, then 3 Starting, 4 Busy or 5 Lost, then 6 Behind or 7 Ahead. Cost: n.
     pub fn offer<'a>(&mut self, octets: &'a [u8]) -> Result<&'a [u8], LogFault>
         ensures answer { map_ok (λ content. content.now) result ≡ offer_answer self.old octets.now }
         ensures state { self.new ≡ executor_step self.old (Takes octets.now) }
@@ -188,10 +190,11 @@ impl Executor {
         }
     }
 
-    /// A packet of orders came. A restart is due at once, and `next` says so; a record is brought where the board
-    /// has lost its own, if the order says the mark of this loss: of the numbers up to its last nothing is known,
-    /// and none of them is executed. Else the order is dropped, and nothing changes.
-    /// Faults: 1 Layout, then 2 Check, then of a restart 3 Starting, 4 Busy or 5 Lost, then 8 OtherBoot, and of a
+    /// Takes an order that arrived. `next` then returns `Restart`; or the board that has lost its record goes
+    /// on with the record of the order, if the order has the mark of this loss. Nothing is known of the
+    /// numbers up to its last, and none of them is executed. Drops any other packet, and changes nothing
+    /// then.
+    /// Faults: 1 Layout, then 2 Check; of a restart 3 Starting, 4 Busy or 5 Lost, then 8 OtherBoot; of a
     /// record 9 NotLost, then 10 OtherMark.
     pub fn obey(&mut self, octets: &[u8]) -> Result<(), LogFault>
         ensures answer { result ≡ order_answer self.old octets.now }
@@ -230,7 +233,7 @@ impl Executor {
         Ok(())
     }
 
-    /// What telemetry says.
+    /// Returns what telemetry states.
     pub fn status(&self) -> Status
         ensures { result ≡ status_of self.now }
     {

@@ -9,6 +9,7 @@ mod laws;
 mod packets;
 mod record;
 mod status;
+
 pub use crc::check;
 pub use executor::{Action, Executor, Place};
 pub use fault::LogFault;

@@ -120,8 +120,9 @@ fn put_header(apid: u16, count: u16, long: usize, out: &mut [u8])
     BigEndian::write_u16(third, (long - 1) as u16);
 }
 
-/// Reads the octets as a command packet. It borrows the mission's octets from them. Refuses by 1 `Layout` what
-/// is not exactly one such packet, and then by 2 `Check` one whose check does not hold, and the number 0.
+/// Reads the octets as a command packet. It borrows the mission's octets from them. Refuses by 1 `Layout`
+/// what is not exactly one such packet, and then by 2 `Check` one whose check does not hold, and the number
+/// 0.
 /// Faults: 1 Layout, then 2 Check. Cost: n.
 pub fn decode_command(octets: &[u8]) -> Result<Command<'_>, LogFault>
     ensures { map_ok command_view result ≡ command_at octets.now }
@@ -164,8 +165,8 @@ fn is_framed(octets: &[u8], least: usize) -> bool
         && usize::from(BigEndian::read_u16(&octets[4..])) + 7 == octets.len()
 }
 
-/// Writes the order as a packet at the beginning of `out`, and says how many octets it has: 23. Octets past it
-/// stay. Refuses by 11 `FieldRange` an APID above 2,047 and a count above 16,383, and then by 12 `Room` an
+/// Writes the order as a packet at the beginning of `out`, and says how many octets it has: 23. Octets past
+/// it stay. Refuses by 11 `FieldRange` an APID above 2,047 and a count above 16,383, and then by 12 `Room` an
 /// output that is too short.
 /// Faults: 11 FieldRange, then 12 Room.
 pub fn encode_order(apid: u16, count: u16, order: &Order, out: &mut [u8]) -> Result<usize, LogFault>

@@ -74,8 +74,8 @@ fn record_of(status: &Status) -> Record
     }
 }
 
-/// The status that the octets spell, and how many commands wait. Refuses by 1 `Layout` octets that are not 23,
-/// and then by 2 `Check` octets that spell none.
+/// The status that the octets spell, and how many commands wait. Refuses by 1 `Layout` octets that are not
+/// 23, and then by 2 `Check` octets that spell none.
 /// Faults: 1 Layout, then 2 Check.
 pub fn decode_status(octets: &[u8]) -> Result<(Status, u8), LogFault>
     ensures found { IfOk result (λ r. octets.now ≡ status_octets r.0 r.1) }

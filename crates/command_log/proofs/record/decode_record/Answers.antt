@@ -12,6 +12,7 @@ returns-then-ne-clause-only c kept is e =
     let same : c.encode_record.result ≡ c.args.octets.now = c.encode_record.ensures ∙ ap place_octets read ∙ sym e in
     let alike_too : pointwise eqb c.encode_record.result c.args.octets.now ≡ true =
     subst (λ (xs : List ℕ). pointwise eqb xs c.args.octets.now ≡ true) (sym same) (alike c.args.octets.now) in
-    let differs : true ≡ not (pointwise eqb c.encode_record.result c.args.octets.now) = sym c.if-ne.true ∙ c.ne.ensures in
+    let differs : true ≡ not (pointwise eqb c.encode_record.result c.args.octets.now) = sym c.if-ne.true
+    ∙ c.ne.ensures in
     let none : true ≡ false = differs ∙ ap not alike_too in
     absurd cc
