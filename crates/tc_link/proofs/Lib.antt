@@ -9,6 +9,7 @@ pub mod Upward
 pub mod IdleStart
 pub mod Beside
 pub mod Bypass
+pub mod TypeB
 pub mod Readable
 pub mod Configured
 pub mod InOrder

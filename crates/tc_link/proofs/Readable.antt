@@ -16,6 +16,11 @@ use Rattle.tc_link.proofs.Common.{world_after_pull, IsEvent, ◌<◌, map, cond_
 use Rattle.tc_link.proofs.Common.{report_in, IsActive, is_kept, SpacecraftState, frame_outcome, body_outcome}
 use Rattle.tc_link.proofs.Common.{is_own_frame, number_in, in_frame, world_after_directive, BeginsNoSession, accepted}
 use Rattle.tc_link.proofs.Common.{oldest_marked}
+use Rattle.tc_link.proofs.Common.{append-nil, length-append, length-map, map-append, drop-append-le, verdict_of, is_free}
+use Rattle.tc_link.proofs.Common.{SpacecraftOutcome, WorldOutcome, KeepsSession, world_run}
+use Rattle.std.proofs.lemmas.List.{nil_from_length}
+use Rattle.nodes.specs.Spacecraft.{is_accepted}
+use Rattle.nodes.specs.declared.received.Received.{Received}
 use Rattle.std.proofs.lemmas.Bool.{lt-ltb, le-leb}
 use Rattle.std.specs.Prelude.{flat_map}
 use Rattle.tc_frame.specs.Layout.{body_fits, FrameView}
@@ -29,7 +34,7 @@ use Rattle.nodes.specs.Ground.{can_resume}
 use Rattle.nodes.specs.declared.event.Event.TheVariants as events
 use Rattle.simulated_link.specs.World.{directed, resumed}
 use Rattle.simulated_link.proofs.Counted.{reported}
-use Rattle.simulated_link.proofs.Unchanged.{ground_after, not_restarted, stepped, up_after}
+use Rattle.simulated_link.proofs.Unchanged.{ground_after, not_restarted, pulled, stepped, up_after}
 use Rattle.tc_link.specs.Readable.{IsCommandOf, IsTelemetryOf}
 use Rattle.tc_link.specs.Accepted.{AcceptsNoMore}
 use Rattle.tc_link.specs.InTransit.{numbers_up}
@@ -356,9 +361,9 @@ all_readable c w k g t = record {
       (down_readable c w.down t.reports t.reporting);
 }
 
--- In S6, with no Type-AD frame on its way up, no more segments are accepted until a session begins.
+-- In S6, until a session begins, at most as many more segments are accepted as Type-AD frames are on their way up.
 
--- ---- no Type-AD frame on its way
+-- ---- the Type-AD frames on their way
 
 abbrev numbers_in : Result FrameView TcFault → List ℕ
 numbers_in r = in_frame number_in r
@@ -366,16 +371,29 @@ numbers_in r = in_frame number_in r
 abbrev numbers : List (List ℕ) → List ℕ
 numbers bs = flat_map (λ octets. in_frame number_in (reading.frame_at On octets)) bs
 
-both_none : (xs ys : List ℕ) → xs ++ ys ≡ [] → (xs ≡ []) × (ys ≡ [])
-both_none [] ys e = (refl, e)
-both_none (x ∷ xs) ys e = absurd cc
+push_same : (bs : List (List ℕ)) (b : List ℕ) → numbers_in (reading.frame_at On b) ≡ [] → numbers (bs ++ b ∷ []) ≡ numbers bs
+push_same [] b new = ap (λ (ns : List ℕ). ns ++ []) new
+push_same (x ∷ xs) b new = ap (λ (ns : List ℕ). numbers_in (reading.frame_at On x) ++ ns) (push_same xs b new)
 
-push_none : (bs : List (List ℕ)) (b : List ℕ) → numbers bs ≡ [] → numbers_in (reading.frame_at On b) ≡ []
-    → numbers (bs ++ b ∷ []) ≡ []
-push_none [] b none new = ap (λ (ns : List ℕ). ns ++ []) new
-push_none (x ∷ xs) b none new =
-    let both = both_none (numbers_in (reading.frame_at On x)) (numbers xs) none in
-    ap (λ (ns : List ℕ). ns ++ numbers (xs ++ b ∷ [])) both.0 ∙ push_none xs b both.1 new
+-- ---- from one world to another: what was accepted, and what may still be
+
+pub record Fewer (old new : World) : Type 0 where
+  pub more : List (List ℕ)
+  pub after : accepted new ≡ accepted old ++ more
+  pub most : length more + length (numbers_up new) ≤ length (numbers_up old)
+
+pub still : (old new : World) → accepted new ≡ accepted old → length (numbers_up new) ≤ length (numbers_up old)
+    → Fewer old new
+still old new same fewer =
+    record { more = []; after = same ∙ sym (append-nil (accepted old)); most = omega (arith, fewer) }
+
+pub then_fewer : (a b c : World) → Fewer a b → Fewer b c → Fewer a c
+then_fewer a b c one two = record {
+  more = one.more ++ two.more;
+  after = two.after ∙ ap (λ (xs : List (List ℕ)). xs ++ two.more) one.after
+      ∙ append_assoc (accepted a) one.more two.more;
+  most = omega (arith, length-append one.more two.more, one.most, two.most);
+}
 
 -- ---- one event
 
@@ -387,27 +405,38 @@ heard_in : (f : FopState SegmentView) (r : Clcw) (m : FopMode) → m ≡ S6 → 
     → (report_in f r m).after.state ≡ S6
 heard_in f r m is off = rw is off
 
--- on board a frame that is not of Type-AD adds no segment to those accepted
+-- on board a frame adds a segment to those accepted only if it is of Type-AD, and then one at most
 module _ (s : SpacecraftState) where
-  body_same : (f : BodyView) → number_in f ≡ [] → (body_outcome s f).after.accepted ≡ s.accepted
-  body_same (Ad n u) none = absurd cc
-  body_same (Bd u) none = bypass_same s u (is_kept s.config u)
-  body_same (Bc command) none = refl
+  abbrev Adds : List ℕ → List SegmentView → Type 0
+  Adds ns accepted = (us : List SegmentView) × (accepted ≡ s.accepted ++ us) × (length us ≤ length ns)
 
-  arrived_same : (r : Result FrameView TcFault) → numbers_in r ≡ [] → (frame_outcome s r).after.accepted ≡ s.accepted
-  arrived_same (Err fault) none = refl
-  arrived_same (Ok frame) none =
-      cond_both (is_own_frame s.config frame) (body_outcome s frame.body) _ (λ o. o.after.accepted ≡ s.accepted)
-      (λ t. body_same frame.body none) (λ t. refl)
+  adds_none : (ns : List ℕ) (accepted : List SegmentView) → accepted ≡ s.accepted → Adds ns accepted
+  adds_none ns accepted same = ([], same ∙ sym (append-nil s.accepted), omega arith)
+
+  body_adds : (f : BodyView) → Adds (number_in f) (body_outcome s f).after.accepted
+  body_adds (Ad n u) =
+      cond_both (is_accepted (verdict_of s.farm n (is_free s))) _ _
+      (λ (o : SpacecraftOutcome Received). Adds (n ∷ []) o.after.accepted) (λ t. (u ∷ [], refl, omega arith))
+      (λ t. adds_none (n ∷ []) s.accepted refl)
+  body_adds (Bd u) =
+      adds_none [] (body_outcome s (Bd u)).after.accepted (bypass_same s u (is_kept s.config u))
+  body_adds (Bc command) = adds_none [] s.accepted refl
+
+  arrived_adds : (r : Result FrameView TcFault) → Adds (numbers_in r) (frame_outcome s r).after.accepted
+  arrived_adds (Err fault) = adds_none [] s.accepted refl
+  arrived_adds (Ok frame) =
+      cond_both (is_own_frame s.config frame) (body_outcome s frame.body) _
+      (λ (o : SpacecraftOutcome Received). Adds (number_in frame.body) o.after.accepted) (λ t. body_adds frame.body)
+      (λ t. adds_none (number_in frame.body) s.accepted refl)
 
 abbrev IsOff : World → Type 0
 IsOff w = w.ground_node.fop.state ≡ S6
 
-module _ (c : Config) (w : World) (k : Sound c w) (off : IsOff w) (none_up : numbers_up w ≡ []) where
+module _ (c : Config) (w : World) (k : Sound c w) (off : IsOff w) where
   abbrev s : FopState SegmentView
   s = w.ground_node.fop
 
-  -- ---- the sender stays in S6, and no segments are accepted
+  -- ---- the sender stays in S6, and a directive lets no segment be accepted
 
   abbrev Same : World → Type 0
   Same new = accepted new ≡ accepted w
@@ -443,26 +472,25 @@ module _ (c : Config) (w : World) (k : Sound c w) (off : IsOff w) (none_up : num
         (λ waiting pending on closed. heard_in s r s.state off off);
   })
 
-  -- ---- no Type-AD frame is on its way
+  -- ---- a frame is sent: it is no Type-AD frame
 
-  -- a frame that is sent is no Type-AD frame
   abbrev SendsSo : FopOutcome SegmentView (PulledUnit SegmentView) → Type 0
   SendsSo o = numbers_up (world_after_pull w (with_fop w.ground_node o.after)
-      (frame_to_send w.ground_node.config o.answer)).after ≡ []
+      (frame_to_send w.ground_node.config o.answer)).after ≡ numbers_up w
 
   not_active : {A : Type 0} → IsActive w.ground_node.fop.state → A
   not_active active = closed_not w.ground_node.fop.state off (active_on w.ground_node.fop.state active)
 
   sent_none : (f : BodyView) → Goes f → number_in f ≡ []
-      → numbers (w.up ++ spelling On (frame_of w.ground_node.config f) ∷ []) ≡ []
+      → numbers (w.up ++ spelling On (frame_of w.ground_node.config f) ∷ []) ≡ numbers_up w
   sent_none f goes none =
       let own : IsConfig w.ground_node.config = rw k.ground_node.config k.ranges in
-      push_none w.up (spelling On (frame_of w.ground_node.config f)) none_up
+      push_same w.up (spelling On (frame_of w.ground_node.config f))
       (ap numbers_in (reads_back w.ground_node.config f own goes) ∙ none)
 
   send_so : SendsSo (pull_step s)
   send_so = pulled_out s SendsSo (record {
-    none = none_up;
+    none = refl;
     command = λ command is. sent_none (Bc command) tt refl;
     bypass = λ u us is.
         let fit : AllByRecursion FitsFrame (u ∷ us) = rw is at k.ground_node.fop.bypass_fits in
@@ -471,34 +499,72 @@ module _ (c : Config) (w : World) (k : Sound c w) (off : IsOff w) (none_up : num
     first = λ active u is room. not_active active;
   })
 
-  -- a frame arrives on board, and others are left
-  up_none : (b : List ℕ) (bs : List (List ℕ)) → w.up ≡ b ∷ bs
-      → (numbers_in (reading.frame_at On b) ≡ []) × (numbers bs ≡ [])
-  up_none b bs is =
-      both_none (numbers_in (reading.frame_at On b)) (numbers bs)
-      (subst (λ (xs : List (List ℕ)). numbers xs ≡ []) is none_up)
+  -- ---- the first frame on its way is there no more, or arrives on board
 
-  pub none_so : (e : Event) → numbers_up (world_step w e).after ≡ []
-  none_so events.Send = send_so
-  none_so e = up_after w (λ way. numbers way ≡ []) e (λ is. cc is) none_up (λ b bs is. (up_none b bs is).1)
+  numbers_of : (b : List ℕ) (bs : List (List ℕ)) → w.up ≡ b ∷ bs
+      → length (numbers_up w) ≡ length (numbers_in (reading.frame_at On b)) + length (numbers bs)
+  numbers_of b bs is =
+      ap (λ (way : List (List ℕ)). length (numbers way)) is
+      ∙ length-append (numbers_in (reading.frame_at On b)) (numbers bs)
 
-  pub same_so : (e : Event) → BeginsNoSession w e → Same (world_step w e).after
-  same_so e goes =
-      let receives : e ≡ events.UpDeliver → (b : List ℕ) (bs : List (List ℕ)) → w.up ≡ b ∷ bs
-      → Same (record w { up = bs; spacecraft = (spacecraft_receive w.spacecraft b).after }) = λ is b bs first.
-      ap (λ (xs : List SegmentView). map segment_octets (drop w.session.before xs))
-      (arrived_same w.spacecraft (reading.frame_at On b) (up_none b bs first).0) in
-      let directs : (d : Directive) → e ≡ events.Directive d → Same (directed w d) = λ d is.
-      (directive_so d (subst (BeginsNoSession w) is goes)).1 in
-      let restarts : (value : ℕ) → e ≡ events.Resume value → can_resume w.ground_node value ≡ true
-      → Same (resumed w value) = λ value is can.
-      not_restarted w e goes value is can in
-      stepped w Same e (assumption (receives, directs, restarts))
+  arrived : (b : List ℕ) (bs : List (List ℕ)) → w.up ≡ b ∷ bs
+      → Fewer w (record w { up = bs; spacecraft = (spacecraft_receive w.spacecraft b).after })
+  arrived b bs is =
+      let t = arrived_adds w.spacecraft (reading.frame_at On b) in
+      record {
+        more = map segment_octets t.0;
+        after = ap (λ (xs : List SegmentView). map segment_octets (drop w.session.before xs)) t.1
+            ∙ ap (map segment_octets) (drop-append-le w.session.before w.spacecraft.accepted t.0 k.before)
+            ∙ map-append segment_octets (drop w.session.before w.spacecraft.accepted) t.0;
+        most = omega (arith, numbers_of b bs is, length-map t.0 segment_octets, t.2);
+      }
+
+  -- ---- each event
+
+  -- nothing is accepted, and what is on its way up stays
+  stays : (new : World) → Same new → new.up ≡ w.up → Fewer w new
+  stays new same up = still w new same (omega (arith, ap (λ (way : List (List ℕ)). length (numbers way)) up))
+
+  other_fewer : (e : Event) → (e ≡ events.Send → ⊥) → BeginsNoSession w e → Fewer w (world_step w e).after
+  other_fewer e other goes = stepped w (Fewer w) e (record {
+    same = stays w refl refl;
+    up_gone = λ b bs is. still w (record w { up = bs }) refl (omega (arith, numbers_of b bs is));
+    down_gone = λ b bs is gone. stays _ refl refl;
+    receives = λ is b bs first. arrived b bs first;
+    reports = λ is. stays _ refl refl;
+    takes = λ is left kept. stays _ refl refl;
+    releases = λ is left free. stays _ refl refl;
+    passes = λ is left. stays _ refl refl;
+    queues = λ octets is. stays _ refl refl;
+    submits = λ m octets none. stays _ refl refl;
+    bypasses = λ m octets is none. stays _ refl refl;
+    directs = λ d is. stays (directed w d) (directive_so d (subst (BeginsNoSession w) is goes)).1 refl;
+    restarts = λ value is can. not_restarted w e goes value is can;
+    ticks = λ is. stays _ refl refl;
+    sends = λ is up sent. absurd (other is);
+    hears_none = λ b bs is told x packets. stays _ refl refl;
+    hears = λ b bs is told x packets r. stays _ refl refl;
+  })
+
+  pub step_fewer : (e : Event) → BeginsNoSession w e → Fewer w (world_step w e).after
+  step_fewer events.Send goes =
+      let same : Same (world_step w events.Send).after =
+      pulled w (λ (o : WorldOutcome). Same o.after) (λ reply up sent silent. refl) in
+      still w (world_step w events.Send).after same (omega (arith, ap (λ (ns : List ℕ). length ns) send_so))
+  step_fewer e goes = other_fewer e (λ is. cc is) goes
 
 -- ---- all events
 
+run_fewer : (c : Config) (w : World) → Sound c w → IsOff w → (events : List Event) → AllByRecursion IsEvent events
+    → KeepsSession w events → Fewer w (world_run w events)
+run_fewer c w k off [] fits goes = still w w refl (omega arith)
+run_fewer c w k off (e ∷ es) fits goes =
+    let next = (world_step w e).after in
+    then_fewer w next (world_run next es) (step_fewer c w k off e goes.0)
+    (run_fewer c next (step_sound c w k e fits.0) (closed_so c w k off e goes.0) es fits.1 goes.1)
+
 pub accepts_no_more : (c : Config) (w : World) → Sound c w → IsOff w → numbers_up w ≡ [] → AcceptsNoMore w
-accepts_no_more c w k off none_up [] fits goes = refl
-accepts_no_more c w k off none_up (e ∷ es) fits goes =
-    accepts_no_more c (world_step w e).after (step_sound c w k e fits.0) (closed_so c w k off none_up e goes.0)
-    (none_so c w k off none_up e) es fits.1 goes.1 ∙ same_so c w k off none_up e goes.0
+accepts_no_more c w k off none_up events fits goes =
+    let t : Fewer w (world_run w events) = run_fewer c w k off events fits goes in
+    let none : t.more ≡ [] = nil_from_length t.more (omega (arith, t.most, ap (λ (ns : List ℕ). length ns) none_up)) in
+    t.after ∙ ap (λ (xs : List (List ℕ)). accepted w ++ xs) none ∙ append-nil (accepted w)

@@ -29,6 +29,7 @@ pub mod Silent
 pub mod SimFields
 pub mod Simulation
 pub mod Taken
+pub mod TypeB
 pub mod Telemetry
 pub mod Whole
 pub mod Resumed

@@ -1,5 +1,5 @@
 -- What is taken on board in a session, and what it has to do with what is delivered.
-use Rattle.std.specs.Prelude.{◌≡◌, ℕ, List, [], ◌∷◌, ◌++◌, flat_map, true, Result, Ok}
+use Rattle.std.specs.Prelude.{◌≡◌, ◌≤◌, length, ℕ, List, [], ◌∷◌, ◌++◌, flat_map, true, Result, Ok}
 use Rattle.std.specs.List.{AllByRecursion}
 use Rattle.octets.specs.Beginning.{IsBeginning}
 use Rattle.map_service.specs.Packets.{packets_in}
@@ -104,10 +104,16 @@ HandsOutAsSubmitted =
     → IsIdle (world_step w initiation).after
     → HandsOutInOneOrder (world_step w initiation).after since
 
--- After any past: in S6, with no Type-AD frame on its way up, no more segments are accepted until a
--- session begins. So no more is delivered.
-abbrev pub EachAcceptsNoMore : Type 0
-EachAcceptsNoMore =
+-- from one world to another, at most as many more segments are accepted as Type-AD frames were on
+-- their way up
+pub record AcceptsAtMost (old new : World) : Type 0 where
+  pub more : List (List ℕ)
+  pub after : accepted new ≡ accepted old ++ more
+  pub most : length more ≤ length (numbers_up old)
+
+-- After any past: in S6, so it is until a session begins. So with no Type-AD frame on its way up,
+-- no more is delivered.
+abbrev pub EachAcceptsAtMost : Type 0
+EachAcceptsAtMost =
     (w : World) (since : List LinkStep) → HasAnyPast w → w.ground_node.fop.state ≡ S6
-    → numbers_up w ≡ [] → AllByRecursion IsLinkStep since → SessionLasts w since
-    → accepted (link_run w since) ≡ accepted w
+    → AllByRecursion IsLinkStep since → SessionLasts w since → AcceptsAtMost w (link_run w since)

@@ -19,7 +19,8 @@ ghost use Rattle.tc_link.specs.Resumed.{ResumesInOrder, ResumesSo, ShowsNoneByIt
 ghost use Rattle.tc_link.specs.Seen.{EachIsSeen};
 ghost use Rattle.tc_link.specs.Silence.{SilenceIsIdle};
 ghost use Rattle.tc_link.specs.Silent.{GivesUpAloud, HoldsWhatIsNotAcknowledged};
-ghost use Rattle.tc_link.specs.Taken.{EachAcceptsNoMore, HandsOutAsSubmitted, HandsOutWhatIsDelivered, HandsOutWhatIsSubmitted};
+ghost use Rattle.tc_link.specs.TypeB.{CountsTypeB};
+ghost use Rattle.tc_link.specs.Taken.{EachAcceptsAtMost, HandsOutAsSubmitted, HandsOutWhatIsDelivered, HandsOutWhatIsSubmitted};
 
 /// For each configuration in its ranges and each list of events, what `run` promises of each event holds
 /// by the rules of the nodes and the link themselves. So it holds of a program with a loop of its own,
@@ -54,13 +55,13 @@ pub fn law_of_any_past()
 /// after the packets that were ready is therefore a prefix of what is submitted on it (`submitted`). Over
 /// all MAPs too: in such a session what `take` hands out, each packet with its MAP, followed by what is
 /// ready, is what was ready then, followed by a prefix of what is submitted, in the order of submission; by
-/// all of it in S1 with nothing outstanding (`order`). In S6, with no Type-AD frame on its way up, no more
-/// segments are accepted by such steps (`no_more`).
+/// all of it in S1 with nothing outstanding (`order`). In S6 at most as many more segments are accepted by such
+/// steps as Type-AD frames are on their way up, so none where there are none (`at_most`).
 pub fn law_of_taking()
     ensures delivered { HandsOutWhatIsDelivered }
     ensures submitted { HandsOutWhatIsSubmitted }
     ensures order { HandsOutAsSubmitted }
-    ensures no_more { EachAcceptsNoMore }
+    ensures at_most { EachAcceptsAtMost }
 {}
 
 /// The plain link whose history a settled session is, is one link: the records of the session and
@@ -112,9 +113,11 @@ pub fn law_of_silence()
 /// frames on their way up and those that wait on the ground are together, in this order and each with its
 /// MAP, some of those that were on board, on their way and on the ground then, followed by those that the
 /// ground has accepted since. In a new link there are none then. No octets from outside the link reach
-/// the spacecraft since; no session is needed, and any frame may be lost.
+/// the spacecraft since; no session is needed, and any frame may be lost (`order`). FARM-B moves by the number
+/// of Type-B frames that arrive, modulo 4, whatever else arrives (`counted`).
 pub fn law_of_bypass()
-    ensures { BypassKeepsOrder }
+    ensures order { BypassKeepsOrder }
+    ensures counted { CountsTypeB }
 {}
 
 /// A CLCW that comes again, and no other since, changes nothing. Of every ground, whatever it was called

@@ -1,5 +1,9 @@
 use Rattle.tc_link.proofs.Bypass.{bypass_keeps_order}
+use Rattle.tc_link.proofs.TypeB.{counts_type_b}
 use Rattle.tc_link.proofs.laws.law_of_bypass.Goals as goal
 
-pub returns : goal.returns
-returns c = bypass_keeps_order
+pub returns-clause-order : goal.returns-clause-order
+returns-clause-order c = bypass_keeps_order
+
+pub returns-clause-counted : goal.returns-clause-counted
+returns-clause-counted c = counts_type_b
