@@ -19,6 +19,7 @@ function shown(value) {
  * @param {any} value
  */
 export function numberOf(name, kind, value) {
+    if (Number.isInteger(value) && kind !== 'uint64_t' && value >= 0 && value <= MOST[kind]) return value; // most are
     const said = `${name}: ${shown(value)}`;
     if (kind === 'bool') {
         if (value === true || value === false || value === 0 || value === 1) return Number(value);

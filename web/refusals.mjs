@@ -46,7 +46,7 @@ function wrongFields({ type, count }) {
     const whole = Array(count).fill(0);
     const within = (at) => values.map(([it, error]) => [replaced(whole, at, it), error]);
     const lengths = [[], whole.slice(1), [...whole, 0]].map((it) => [it, RangeError]);
-    const kinds = [undefined, null, 7, '0'.repeat(count), { length: count }].map((it) => [it, TypeError]);
+    const kinds = [undefined, null, 7, '0'.repeat(count), { length: count }, Array(count)].map((it) => [it, TypeError]);
     return [...within(0), ...within(count - 1), ...lengths, ...kinds];
 }
 

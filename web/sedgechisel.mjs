@@ -11,23 +11,28 @@ const PAGE = 65536;
 const NONE = new Uint8Array(0);
 const SIZES = { bool: 1, uint8_t: 1, uint16_t: 2, uint32_t: 4, size_t: 4, pointer: 4, uint64_t: 8 };
 
+// How a number is read from the module's memory, and written there.
+const READ = { 1: (view, at) => view.getUint8(at), 2: (view, at) => view.getUint16(at, true),
+    4: (view, at) => view.getUint32(at, true), 8: (view, at) => view.getBigUint64(at, true) };
+const WRITE = { 1: (view, at, it) => view.setUint8(at, it), 2: (view, at, it) => view.setUint16(at, it, true),
+    4: (view, at, it) => view.setUint32(at, it, true), 8: (view, at, it) => view.setBigUint64(at, it, true) };
+
 // The memory of nodes, and of what calls are given: places of 16, 32, 64 .. octets after the module's own memory, with
-// lists of those that are free.
+// lists of those that are free. The order of a place, of which its size is a power of 2, is noted by its address: a Map
+// is slow to forget one of many.
 class Places {
     constructor(memory, begin) {
         this.memory = memory;
         this.end = (begin + 15) & ~15;
-        this.free = new Map();
-        this.sizes = new Map();
+        this.free = Array.from({ length: 32 }, () => []);
+        this.orders = new Uint8Array(1 << 16);
     }
 
     // The address of a place; 0 where there is none.
     take(count) {
-        let size = 16;
-        while (size < count) size *= 2;
-        let at = this.free.get(size)?.pop();
-        if (at === undefined) {
-            at = this.end;
+        const order = count <= 16 ? 4 : 32 - Math.clz32(count - 1), size = 2 ** order;
+        const at = this.free[order]?.pop() ?? this.end;
+        if (at === this.end) {
             const more = Math.ceil((at + size - this.memory.buffer.byteLength) / PAGE);
             try {
                 if (more > 0) this.memory.grow(more);
@@ -35,16 +40,24 @@ class Places {
                 return 0;
             }
             this.end += size;
+            if (this.orders.length <= at / 16) this.widen(at / 16);
         }
-        this.sizes.set(at, size);
+        this.orders[at / 16] = order;
         return at;
     }
 
+    widen(place) {
+        const before = this.orders;
+        this.orders = new Uint8Array(2 * place);
+        this.orders.set(before);
+    }
+
+    sizeOf(at) {
+        return 2 ** this.orders[at / 16];
+    }
+
     give(at) {
-        const size = this.sizes.get(at);
-        this.sizes.delete(at);
-        if (!this.free.has(size)) this.free.set(size, []);
-        this.free.get(size).push(at);
+        this.free[this.orders[at / 16]].push(at);
     }
 }
 
@@ -59,7 +72,7 @@ function memoryFunctions(of) {
         rattle_alloc: (to, count, align) => answer(to, of.places.take(count >>> 0), align),
         rattle_realloc: (to, at, kept, count, align) => {
             let found = at;
-            if (of.places.sizes.get(at) < count >>> 0) {
+            if (of.places.sizeOf(at) < count >>> 0) {
                 found = of.places.take(count >>> 0);
                 if (found !== 0) {
                     new Uint8Array(of.memory.buffer).copyWithin(found, at, at + kept);
@@ -109,28 +122,25 @@ class Given {
             this.view.setUint32(at, this.octets(octetsOf(name, value)), true);
             this.view.setUint32(count, value.length, true);
         } else if (count > 0) {
-            listOf(name, count, value).forEach((it, k) => this.write(kind, at + k * sizeOf(kind), 0, it, name));
+            const list = listOf(name, count, value), size = sizeOf(kind);
+            for (let k = 0; k < count; k++) this.write(kind, at + k * size, 0, list[k], name); // (a hole is undefined)
         } else if (structs[kind]) {
             this.struct(kind, at, objectOf(name, value, false));
-        } else if (kind === 'uint64_t') {
-            this.view.setBigUint64(at, numberOf(name, kind, value), true);
         } else {
-            this.view[`setUint${8 * SIZES[kind]}`](at, numberOf(name, kind, value), true);
+            WRITE[SIZES[kind]](this.view, at, numberOf(name, kind, value));
         }
     }
 }
 
 // Reads a value of some kind, a struct into an object.
-function read(memory, kind, at, count, into) {
-    const view = new DataView(memory.buffer);
-    if (count > 0) return Array.from({ length: count }, (_, k) => read(memory, kind, at + k * sizeOf(kind), 0));
+function read(view, kind, at, count, into) {
+    if (count > 0) return Array.from({ length: count }, (_, k) => read(view, kind, at + k * sizeOf(kind), 0));
     if (structs[kind]) {
         const it = into ?? {};
-        for (const [field, own, from, many] of structs[kind].fields) it[field] = read(memory, own, at + from, many);
+        for (const [field, own, from, many] of structs[kind].fields) it[field] = read(view, own, at + from, many);
         return it;
     }
-    if (kind === 'uint64_t') return view.getBigUint64(at, true);
-    const number = view[`getUint${8 * SIZES[kind]}`](at, true);
+    const number = READ[SIZES[kind]](view, at);
     return kind === 'bool' ? number !== 0 : number;
 }
 
@@ -164,8 +174,9 @@ function put(of, given, [name, way, kind], value) {
     const at = given.place(sizeOf(kind)), isStruct = kind in structs;
     if (isStruct) given.write(kind, at, 0, value, name);
     const back = () => {
-        if (isStruct) read(of.memory, kind, at, 0, value);
-        else value.value = read(of.memory, kind, at, 0);
+        const view = new DataView(of.memory.buffer); // (which the call may have made longer)
+        if (isStruct) read(view, kind, at, 0, value);
+        else value.value = read(view, kind, at, 0);
     };
     return [[at], way === 'written' ? back : undefined];
 }
