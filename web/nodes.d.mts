@@ -270,7 +270,7 @@ export class Ground extends Directing {
      */
     get acknowledgedWhole(): number;
     /**
-     * Of the sender, of sedge_fop_state (232.1-B-2, 5.1).
+     * The state of the sender (232.1-B-2, 5.1).
      * @returns {State}
      */
     get state(): import("./meanings.mjs").State;
@@ -315,7 +315,7 @@ export class Ground extends Directing {
      */
     get count(): number;
     /**
-     * Of telemetry, in octets.
+     * The length of a telemetry frame, in octets.
      * @returns {number}
      */
     get frameLength(): number;
@@ -385,7 +385,7 @@ export class Spacecraft extends Handle {
      */
     get controlWord(): Clcw;
     /**
-     * Of the receiver, of sedge_farm_mode.
+     * The state of the receiver.
      * @returns {Mode}
      */
     get mode(): import("./meanings.mjs").Mode;
@@ -400,7 +400,7 @@ export class Spacecraft extends Handle {
      */
     get bypassed(): number;
     /**
-     * Of telemetry, in octets.
+     * The length of a telemetry frame, in octets.
      * @returns {number}
      */
     get frameLength(): number;

@@ -580,7 +580,7 @@ export class Ground extends Directing {
     }
 
     /**
-     * Of the sender, of sedge_fop_state (232.1-B-2, 5.1).
+     * The state of the sender (232.1-B-2, 5.1).
      * @returns {State}
      */
     get state() {
@@ -652,7 +652,7 @@ export class Ground extends Directing {
     }
 
     /**
-     * Of telemetry, in octets.
+     * The length of a telemetry frame, in octets.
      * @returns {number}
      */
     get frameLength() {
@@ -788,7 +788,7 @@ export class Spacecraft extends Handle {
     }
 
     /**
-     * Of the receiver, of sedge_farm_mode.
+     * The state of the receiver.
      * @returns {Mode}
      */
     get mode() {
@@ -812,7 +812,7 @@ export class Spacecraft extends Handle {
     }
 
     /**
-     * Of telemetry, in octets.
+     * The length of a telemetry frame, in octets.
      * @returns {number}
      */
     get frameLength() {

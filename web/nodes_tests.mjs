@@ -251,6 +251,16 @@ function names() {
     }
 }
 
-for (const test of [session, telemetry, directives, alerts, fullQueue, configs, words, linked, closed, wrongArguments, names]) test();
+// The comments of the classes are in the words of JavaScript: of C they name only a call that no class has.
+function comments() {
+    for (const file of ['nodes', 'simulated', 'values']) {
+        const text = readFileSync(new URL(`${file}.mjs`, import.meta.url), 'utf8').replace(/import\('[^']*'\)\.\w+/g, '');
+        for (const [comment] of text.matchAll(/\/\*\*[^]*?\*\//g)) {
+            assert.ok(!/sedge_(?!config|map_count)|[;,:] writes |\* Writes |Returns 0[,.]/i.test(comment), comment);
+        }
+    }
+}
+
+for (const test of [session, telemetry, directives, alerts, fullQueue, configs, words, linked, closed, wrongArguments, names, comments]) test();
 await forgotten();
 console.log('all as wanted');

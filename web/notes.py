@@ -15,11 +15,18 @@ HEADERS = ("c/include/sedgechisel.h", "c/include/sedgechisel_nodes.h")
 CLASSES = {
     "Ground": ("ground", ("ground_reading",)),
     "Spacecraft": ("spacecraft", ("spacecraft_reading",)),
-    "Link": ("sim", ("ground_reading", "spacecraft_reading", "sim_reading")),
+    "Link": ("sim", ("sim_reading", "ground_reading", "spacecraft_reading")),
 }
 FAULTS = {"NODE": "LinkFault", "TM": "TelemetryFault", "SIM": "SimFault", "COP": "CopFault"}
-# A method or a getter that has another name than its call or its field.
-RENAMED = {"mode": "state"}
+# A getter that has another name than its field.
+RENAMED = {("Spacecraft", "mode"): "state"}
+# What the note of a field says, and what a getter says, which stands by itself.
+FIELD_SAID = (
+    (r"^[Oo]f the (.*?), of sedge_\w+", r"the state of the \1"),
+    (r"^[Oo]f telemetry, in octets", "the length of a telemetry frame, in octets"),
+    (r"^[Ii]t (?=began|had)", "whether the session "),
+    (r"^[Aa] report (?=has taken)", "whether a CLCW "),
+)
 # What C says, and what a class says: octets and numbers are returned, a fault is thrown, and null is nothing.
 SAID = (
     (r"(\w+), (the \w+), and the number of its octets", r"\1 and \2"),
@@ -33,7 +40,7 @@ SAID = (
     (r"(\d to \d) of sedge_node_status", r"LinkFault \1"),
     (r" ?Returns 0\.", ""),
     (r"\bfirst ones of (?:them|the (?:session's )?submissions)", "first submissions of the session"),
-    (r"\bfirst ones\b", "first submissions of the session"),
+    (r"(?<!the )\bfirst ones\b", "first submissions of the session"),
     (r"\bof them (?=wait|are to be)", "of the outstanding segments "),
 )
 ABSENT = r"Returns 0, or SEDGE_NODE_ABSENT(?= if| where)"
@@ -100,18 +107,26 @@ class Notes:
         self.directives = {js(it.name): f"Directive: {it.does}. Throws CopFault {it.refused.replace('NAME', f'({it.fault})')}."
                            for it in directives(headers)}
 
+    def field_note(self, owner, member, note):
+        """The note of a field as a getter has it; nothing where it names only an enumeration, or is another node's."""
+        if note.startswith(("of sedge_", "Of sedge_")) or (owner, member) == ("Link", "mode"):
+            return None
+        for words, other in FIELD_SAID:
+            note = re.sub(words, other, note)
+        return sentence(translated(note, self.known, False))
+
     def of(self, owner, member, is_getter, is_nullable):
         """The text of a member; nothing where it has its own."""
         if owner == "Directing":
             return self.directives.get(member)
         beginning, readings = CLASSES.get(owner, ("", ()))
-        name = re.sub(r"[A-Z]", lambda it: f"_{it[0].lower()}", RENAMED.get(member, member))
-        if is_getter:
-            found = [self.fields[key] for it in readings if (key := (f"sedge_{it}", name)) in self.fields]
-            if found:
-                return sentence(translated(re.sub(r"^[Oo]f the ([^,]*), of sedge_\w+", r"the state of the \1", found[-1]),
-                                           self.known, False))
-        elif owner == "Link" and name.upper() in self.events:
+        name = re.sub(r"[A-Z]", lambda it: f"_{it[0].lower()}", RENAMED.get((owner, member), member))
+        note = next((self.fields[key] for it in readings if (key := (f"sedge_{it}", name)) in self.fields), "")
+        if is_getter and note:
+            return self.field_note(owner, member, note.replace("`", ""))
+        if is_getter and owner == "Link":
+            return None
+        if owner == "Link" and name.upper() in self.events:
             return event_note(self.events[name.upper()], name)
         call = self.calls.get(f"sedge_{beginning}_{name}")
         return call and translated(call, self.known, is_nullable)

@@ -104,7 +104,7 @@ export class Link extends Directing {
      */
     telemetry(packet: Uint8Array): void;
     /**
-     * Of the ground's sender, of sedge_fop_state.
+     * The state of the ground's sender.
      * @returns {State}
      */
     get state(): import("./meanings.mjs").State;
@@ -114,27 +114,27 @@ export class Link extends Directing {
      */
     get outstanding(): number;
     /**
-     * How many of the first submissions of the session of the frames sent the ground holds acknowledged.
+     * How many of the first ones of the frames sent the ground holds acknowledged.
      * @returns {number}
      */
     get acknowledged(): number;
     /**
-     * Of sedge_begun.
+     * How the session began.
      * @returns {Begun}
      */
     get begun(): import("./meanings.mjs").Begun;
     /**
-     * It began with nothing on its way, and without a CLCW check only where V(R) was V(S).
+     * Whether the session began with nothing on its way, and without a CLCW check only where V(R) was V(S).
      * @returns {boolean}
      */
     get clean(): boolean;
     /**
-     * It had an idle start (docs/PROMISES.md).
+     * Whether the session had an idle start (docs/PROMISES.md).
      * @returns {boolean}
      */
     get idle(): boolean;
     /**
-     * A report has taken the ground from S4 or S5 to S1.
+     * Whether a CLCW has taken the ground from S4 or S5 to S1.
      * @returns {boolean}
      */
     get confirmed(): boolean;
@@ -179,7 +179,7 @@ export class Link extends Directing {
      */
     get controlWord(): import("./values.mjs").Clcw;
     /**
-     * Of the ground's sender, of sedge_fop_state.
+     * The state of the receiver on board.
      * @returns {Mode}
      */
     get mode(): import("./meanings.mjs").Mode;
@@ -194,7 +194,7 @@ export class Link extends Directing {
      */
     get bypassReady(): number;
     /**
-     * Returns how many submissions the session has: the calls of `submit` that the ground accepted.
+     * What was submitted in the session, in order: the MAP and the octets of each submission.
      * @returns {OnMap[]}
      */
     get submissions(): import("./nodes.mjs").OnMap[];

@@ -229,7 +229,7 @@ export class Link extends Directing {
     }
 
     /**
-     * Of the ground's sender, of sedge_fop_state.
+     * The state of the ground's sender.
      * @returns {State}
      */
     get state() {
@@ -245,7 +245,7 @@ export class Link extends Directing {
     }
 
     /**
-     * How many of the first submissions of the session of the frames sent the ground holds acknowledged.
+     * How many of the first ones of the frames sent the ground holds acknowledged.
      * @returns {number}
      */
     get acknowledged() {
@@ -253,7 +253,7 @@ export class Link extends Directing {
     }
 
     /**
-     * Of sedge_begun.
+     * How the session began.
      * @returns {Begun}
      */
     get begun() {
@@ -261,7 +261,7 @@ export class Link extends Directing {
     }
 
     /**
-     * It began with nothing on its way, and without a CLCW check only where V(R) was V(S).
+     * Whether the session began with nothing on its way, and without a CLCW check only where V(R) was V(S).
      * @returns {boolean}
      */
     get clean() {
@@ -269,7 +269,7 @@ export class Link extends Directing {
     }
 
     /**
-     * It had an idle start (docs/PROMISES.md).
+     * Whether the session had an idle start (docs/PROMISES.md).
      * @returns {boolean}
      */
     get idle() {
@@ -277,7 +277,7 @@ export class Link extends Directing {
     }
 
     /**
-     * A report has taken the ground from S4 or S5 to S1.
+     * Whether a CLCW has taken the ground from S4 or S5 to S1.
      * @returns {boolean}
      */
     get confirmed() {
@@ -359,7 +359,7 @@ export class Link extends Directing {
     }
 
     /**
-     * Of the ground's sender, of sedge_fop_state.
+     * The state of the receiver on board.
      * @returns {Mode}
      */
     get mode() {
@@ -398,7 +398,7 @@ export class Link extends Directing {
     }
 
     /**
-     * Returns how many submissions the session has: the calls of `submit` that the ground accepted.
+     * What was submitted in the session, in order: the MAP and the octets of each submission.
      * @returns {OnMap[]}
      */
     get submissions() {
