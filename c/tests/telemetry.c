@@ -389,27 +389,42 @@ static void a_packet_that_is_too_long(void) {
     WANT(!sedge_tm_packet(FOUR[0], 7, &packet) && packet.from == 0 && packet.count == 7);
 }
 
-/* The number of a packet that is dropped stands in two frames: the idle one is not told of, another is. */
-static unsigned dropped_with(uint8_t first, uint8_t second) {
+/* What is told of the packet that a frame began with these octets, and that is dropped at the next frame, of this pointer
+ * and count, whose data begin with these octets. */
+static unsigned dropped_by(const uint8_t *begun, size_t kept, uint16_t pointer, uint8_t count, const uint8_t *next,
+                           size_t given) {
     struct sedge_tm_extractor extractor = {0, 0, 0, 0};
     struct sedge_tm_frame frame = {42, 0, 1, 0, 0, {0, 0, 0, 0}};
-    uint8_t data[52] = {0x00, 0x05, 0xc0, 0, 0, 44}, octets[128], memory[200], out[38], packets[400];
+    uint8_t data[52] = {0x00, 0x05, 0xc0, 0, 0, 0}, octets[128], memory[200], out[38], packets[400];
     size_t total = 0, n = 0;
-    data[51] = first; /* after a packet of 51 octets */
+    data[5] = (uint8_t)(52 - kept - 7);
+    memcpy(data + 52 - kept, begun, kept);
     WANT(sedge_tm_encode(&frame, data, 52, octets, 64, &n) == SEDGE_OK && n == 64);
-    data[0] = second;
-    memcpy(data + 1, "\0\5\xc0\1\0\54", 6);
-    frame.pointer = 1;
-    frame.mc_count = frame.vc_count = 1;
+    memset(data, 0, sizeof data);
+    memcpy(data, next, given);
+    frame.pointer = pointer;
+    frame.mc_count = frame.vc_count = count;
     WANT(sedge_tm_encode(&frame, data, 52, octets + 64, 64, &n) == SEDGE_OK && n == 64);
     WANT(sedge_tm_extractor_frames(&extractor, octets, 128, 64, memory, 200, out, 38, packets, 400, &total) == 2);
     WANT(out[19 + 4] == SEDGE_OK);
     return out[19 + 7];
 }
 
-static void a_number_in_two_frames(void) {
-    WANT(dropped_with(0x07, 0xff) == 0);
-    WANT(dropped_with(0x07, 0xfe) == 1);
+/* A packet is dropped, of which a part was in the frame before: the idle one is not told of, another is. Its number is in
+ * two frames where its first octet alone was in the first. */
+static void a_dropped_packet_in_two_frames(void) {
+    static const uint8_t idle[] = {0x07, 0xff}, other[] = {0x07, 0xfe};
+    static const uint8_t whole[] = {0x00, 0x05, 0xc0, 0x01, 0x00, 0x2d};
+    uint8_t before[] = {0xff, 0x00, 0x05, 0xc0, 0x01, 0x00, 0x2c}, none[] = {0xff, 0xc0, 0x00, 0x00, 0x00};
+    WANT(dropped_by(idle, 1, 1, 1, before, 7) == 0);
+    WANT(dropped_by(idle, 1, SEDGE_POINTER_NO_START, 1, none, 5) == 0);
+    before[0] = none[0] = 0xfe;
+    WANT(dropped_by(other, 1, 1, 1, before, 7) == 1);
+    WANT(dropped_by(other, 1, SEDGE_POINTER_NO_START, 1, none, 5) == 1);
+    WANT(dropped_by(idle, 2, 0, 2, whole, 6) == 0);
+    WANT(dropped_by(other, 2, 0, 2, whole, 6) == 1);
+    WANT(dropped_by(idle, 2, SEDGE_POINTER_ONLY_IDLE, 1, whole, 0) == 0);
+    WANT(dropped_by(other, 2, SEDGE_POINTER_ONLY_IDLE, 1, whole, 0) == 1);
 }
 
 static void places_past_the_data(void) {
@@ -606,7 +621,7 @@ int main(void) {
     a_frame_that_ends_and_begins();
     refusals_of_an_extractor();
     a_packet_that_is_too_long();
-    a_number_in_two_frames();
+    a_dropped_packet_in_two_frames();
     places_past_the_data();
     packets_through_frames(16, 0);
     packets_through_frames(20, 1);
