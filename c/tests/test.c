@@ -1040,6 +1040,24 @@ static void octets_that_are_not_cut(void) {
     WANT(uncut(7, none, 0) == SEDGE_DAMAGED && uncut(7, flag, 0) == SEDGE_DAMAGED);
 }
 
+/* The data that a control frame is given are ignored. */
+static void control_frames_without_data(void) {
+    static const uint8_t data[300] = {1};
+    static const uint8_t *const wanted[] = {UNLOCK_FRAME, SET_SEVEN};
+    for (uint8_t command = SEDGE_UNLOCK; command <= SEDGE_SET_VR; command++) {
+        struct sedge_tc_frame frame = {0};
+        struct sedge_tc_frame read;
+        struct sedge_part part;
+        uint8_t octets[400];
+        size_t total = 0;
+        WANT(sedge_tc_decode(wanted[command], command == SEDGE_UNLOCK ? 6 : 8, false, &frame, &part) == SEDGE_OK);
+        WANT(frame.command == command);
+        WANT(sedge_tc_encode(&frame, data, sizeof data, false, octets, sizeof octets, &total) == SEDGE_OK);
+        WANT(total == (command == SEDGE_UNLOCK ? 6 : 8) && memcmp(octets, wanted[command], total) == 0);
+        WANT(sedge_tc_decode(octets, total, false, &read, &part) == SEDGE_OK && read.command == command);
+    }
+}
+
 int main(void) {
     the_version();
     names();
@@ -1052,6 +1070,7 @@ int main(void) {
     a_receiver_waits_for_a_buffer();
     a_receiver_reports();
     the_table();
+    control_frames_without_data();
     damaged_receivers();
     refusals_of_a_receiver();
     a_sender_sends_again();
