@@ -229,14 +229,20 @@ def united(a, b):
 
 
 def field_of(values, reads, fields):
-    """A name for values after the field that they are read from, or, with `new_`, that they are put into; or None."""
-    texts = [SET.match(it.text)[2] for _, it in values if isinstance(it, Statement)]
-    found = {fields.get((it[1], int(it[2] or 0))) for text in texts if (it := READ.fullmatch(text))}
+    """A name for values after the field that they are read from, or, with `new_`, that they are put into; or None. The
+    address is that of a parameter itself, and not of what its variable holds later."""
+
+    def field(it, found):
+        is_given = found and it.reads.get(found[1]) == {(found[1], "argument")}
+        return fields.get((found[1], int(found[2] or 0))) if is_given else None
+
+    set_by = [it for _, it in values if isinstance(it, Statement)]
+    found = {field(it, READ.fullmatch(SET.match(it.text)[2])) for it in set_by} - {None}
     if found:
         return found.pop() if len(found) == 1 else None
-    put = [it for value in values for it in reads.get(value, [])]
-    put = [(it, PUT.fullmatch(it.text)) for it in put if not it.to]
-    found = {fields.get((it[1], int(it[2] or 0))) for _, it in put if it and it[3] == values[0][0]}
+    put = [it for value in values for it in reads.get(value, []) if not it.to]
+    put = [(it, PUT.fullmatch(it.text)) for it in put]
+    found = {field(it, at) for it, at in put if at and at[3] == values[0][0]}
     name = found.pop() if len(found) == 1 else None
     return f"new_{name}" if name else None
 
