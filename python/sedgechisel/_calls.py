@@ -5,7 +5,8 @@ from __future__ import annotations
 import ctypes
 from ctypes import POINTER, c_bool, c_char, c_char_p, c_size_t, c_uint8, c_uint16, c_uint32
 from enum import IntEnum
-from itertools import chain, compress
+from itertools import chain, compress, repeat
+from operator import attrgetter
 from struct import Struct
 from sys import byteorder
 from threading import RLock
@@ -28,20 +29,37 @@ def _call(name: str, answer: Any, *kinds: Any) -> Callable[..., Any]:
     return call_of(FIRST, name, answer, *kinds)
 
 
-class _Struct(ctypes.Structure):
-    """A struct of the C header. It compares by its fields, shows them, and accepts no number that does not fit."""
+class _Struct:
+    """A struct of the C header. It compares by its fields, shows them, and accepts no number that does not fit. Its
+    memory, a struct of ctypes, is its own: a buffer of that would give octets that are not those on the link."""
 
+    __slots__ = ("_memory",)
+    _fields_: Any
     _kinds: Dict[str, Any] = {}
+    _C: Any
+    _memory: Any
 
     def __init_subclass__(cls) -> None:
-        cls._kinds = {it[0]: it[1] for it in cls._fields_}
+        if "_fields_" in vars(cls):
+            cls._kinds = dict(cls._fields_)
+            cls._C = type(cls.__name__, (ctypes.Structure,), {"_fields_": cls._fields_})
+            for name, kind in cls._kinds.items():
+                setattr(cls, name, property(attrgetter(f"_memory.{name}"), _putter(name, kind)))
 
-    def __setattr__(self, name: str, value: Any) -> None:
-        kind = self._kinds.get(name)
-        if kind is None and not isinstance(getattr(type(self), name, None), property):
-            raise AttributeError(f"{type(self).__name__} has no field {name}")
-        _within(name, kind, value)
-        super().__setattr__(name, value)
+    def __init__(self, *values: Any) -> None:
+        for (name, kind), value in zip(self._kinds.items(), values):
+            _within(name, kind, value)
+        self._memory = self._C(*values)
+
+    @classmethod
+    def _of(cls: Type[_Own], memory: Any) -> _Own:
+        """Returns the struct that has this memory."""
+        struct = cls.__new__(cls)
+        struct._memory = memory
+        return struct
+
+    def __reduce__(self) -> Tuple[Any, ...]:
+        return _copied, (type(self), bytes(self._memory))
 
     def _values(self) -> Dict[str, Any]:
         """Returns its fields by name. The octets between them are ignored."""
@@ -56,13 +74,33 @@ class _Struct(ctypes.Structure):
         return f"{type(self).__name__}({', '.join(f'{name}={it!r}' for name, it in self._values().items())})"
 
 
+def _putter(name: str, kind: Any) -> Callable[[Any, Any], None]:
+    def put(struct: Any, value: Any) -> None:
+        _within(name, kind, value)
+        setattr(struct._memory, name, value)
+
+    return put
+
+
+def _copied(cls: Type[_Own], memory: bytes) -> _Own:
+    return cls._of(cls._C.from_buffer_copy(memory))
+
+
+def _structs_with(cls: Any, memories: Sequence[Any]) -> List[Any]:
+    """Returns the structs that have these memories."""
+    structs = [*map(cls.__new__, repeat(cls, len(memories)))]
+    for struct, memory in zip(structs, memories):
+        struct._memory = memory
+    return structs
+
+
 def _typed(**fields: Dict[int, Any]) -> Callable[[Type[_Own]], Type[_Own]]:
     """Makes one-octet fields return members, by their numbers. A number that has no member, which only a caller can
     have set, stays a number."""
     def made(struct: Type[_Own]) -> Type[_Own]:
         for name, members in fields.items():
             field, of_all = getattr(struct, name), tuple(members.get(number, number) for number in range(256))
-            setattr(struct, name, property(_member_of(field.__get__, of_all), field.__set__))
+            setattr(struct, name, property(_member_of(field.fget, of_all), field.fset))
         return struct
 
     return made
@@ -144,6 +182,7 @@ class Clcw(_Struct):
     - `flags`, a Flags; `no_rf`, `no_bit_lock`, `lockout`, `wait` and `retransmit` are its flags, each True or False
     - `farm_b`, the FARM-B counter, 0 to 3; `value`, the report value, V(R) of the receiver"""
 
+    __slots__ = ()
     _fields_ = [("status", c_uint8), ("vcid", c_uint8), ("flags", c_uint8), ("farm_b", c_uint8), ("value", c_uint8)]
     status: int
     vcid: int
@@ -162,19 +201,21 @@ class Clcw(_Struct):
     @classmethod
     def decode(cls, octets: Octets) -> Clcw:
         """Reads four octets. Raises ClcwFault if they are not a control word, or not four."""
-        octets, word = _octets_of("octets", octets), cls.__new__(cls)
+        octets, word = _octets_of("octets", octets), cls._C()
         ClcwFault._look_at(_clcw_decode(octets, len(octets), word))
-        return word
+        return cls._of(word)
+
+    __bytes__: Callable[[Clcw], bytes] = lambda word: word.encode()
 
     def encode(self) -> bytes:
         """Returns the four octets. Raises ClcwFault if a field is too large."""
         out = ctypes.create_string_buffer(4)
-        ClcwFault._look_at(_clcw_encode(self, out, 4))
+        ClcwFault._look_at(_clcw_encode(self._memory, out, 4))
         return out.raw
 
 
-_clcw_decode = _call("clcw_decode", c_uint8, c_char_p, c_size_t, POINTER(Clcw))
-_clcw_encode = _call("clcw_encode", c_uint8, POINTER(Clcw), c_char_p, c_size_t)
+_clcw_decode = _call("clcw_decode", c_uint8, c_char_p, c_size_t, POINTER(Clcw._C))
+_clcw_encode = _call("clcw_encode", c_uint8, POINTER(Clcw._C), c_char_p, c_size_t)
 
 # ---- The receiver ----
 
@@ -209,6 +250,7 @@ class Farm(_Struct):
     """A receiver FARM-1 of one virtual channel (232.1-B-2, section 6). Its fields may be read freely. If they have
     values that no receiver has, each call raises CopFault 255 (Damaged) and changes nothing."""
 
+    __slots__ = ()
     _fields_ = [("width", c_uint8), ("vr", c_uint8), ("lockout", c_uint8), ("wait", c_uint8), ("retransmit", c_uint8),
                 ("farm_b", c_uint8)]
     width: int
@@ -221,52 +263,52 @@ class Farm(_Struct):
     def __init__(self, width: int, vr: int = 0) -> None:
         """Creates an open receiver with this window width, which expects the number `vr`. Raises CopFault 1."""
         super().__init__()
-        CopFault._look_at(_farm_open(self, width, vr))
+        CopFault._look_at(_farm_open(self._memory, width, vr))
 
     def ad(self, n: int, buffer_free: bool = True) -> Verdict:
         """Takes a Type-AD frame with N(S) = `n`; `buffer_free` says whether there is room for its data. Returns the
         Verdict. If that is ACCEPTED, pass the data on."""
-        return _answered(Verdict, _farm_ad(self, n, buffer_free))
+        return _answered(Verdict, _farm_ad(self._memory, n, buffer_free))
 
     def bd(self) -> None:
         """Takes a Type-BD frame. Pass its data on in every state."""
-        CopFault._look_at(_farm_bd(self))
+        CopFault._look_at(_farm_bd(self._memory))
 
     def unlock(self) -> None:
         """Takes the control command Unlock."""
-        CopFault._look_at(_farm_unlock(self))
+        CopFault._look_at(_farm_unlock(self._memory))
 
     def set_vr(self, vr: int) -> None:
         """Takes the control command Set V(R)."""
-        CopFault._look_at(_farm_set_vr(self, vr))
+        CopFault._look_at(_farm_set_vr(self._memory, vr))
 
     def released(self) -> None:
         """Notes that there is room on board again."""
-        CopFault._look_at(_farm_released(self))
+        CopFault._look_at(_farm_released(self._memory))
 
     def control_word(self, vcid: int) -> Clcw:
         """Returns the Clcw that reports the receiver as it is, for a virtual channel. Raises ClcwFault unless `vcid` <
         64."""
-        word = Clcw.__new__(Clcw)
-        ClcwFault._look_at(_farm_control_word(self, vcid, word))
-        return word
+        word = Clcw._C()
+        ClcwFault._look_at(_farm_control_word(self._memory, vcid, word))
+        return Clcw._of(word)
 
     report = renamed("report", control_word)
 
     @property
     def mode(self) -> Mode:
         """The receiver's state, a Mode."""
-        return _answered(Mode, _farm_state(self))
+        return _answered(Mode, _farm_state(self._memory))
 
 
-_farm_open = _call("farm_open", c_uint8, POINTER(Farm), ("width", c_uint8), ("vr", c_uint8))
-_farm_ad = _call("farm_ad", c_uint8, POINTER(Farm), ("n", c_uint8), c_bool)
-_farm_bd = _call("farm_bd", c_uint8, POINTER(Farm))
-_farm_unlock = _call("farm_unlock", c_uint8, POINTER(Farm))
-_farm_set_vr = _call("farm_set_vr", c_uint8, POINTER(Farm), ("vr", c_uint8))
-_farm_released = _call("farm_released", c_uint8, POINTER(Farm))
-_farm_control_word = _call("farm_control_word", c_uint8, POINTER(Farm), ("vcid", c_uint8), POINTER(Clcw))
-_farm_state = _call("farm_state", c_uint8, POINTER(Farm))
+_farm_open = _call("farm_open", c_uint8, POINTER(Farm._C), ("width", c_uint8), ("vr", c_uint8))
+_farm_ad = _call("farm_ad", c_uint8, POINTER(Farm._C), ("n", c_uint8), c_bool)
+_farm_bd = _call("farm_bd", c_uint8, POINTER(Farm._C))
+_farm_unlock = _call("farm_unlock", c_uint8, POINTER(Farm._C))
+_farm_set_vr = _call("farm_set_vr", c_uint8, POINTER(Farm._C), ("vr", c_uint8))
+_farm_released = _call("farm_released", c_uint8, POINTER(Farm._C))
+_farm_control_word = _call("farm_control_word", c_uint8, POINTER(Farm._C), ("vcid", c_uint8), POINTER(Clcw._C))
+_farm_state = _call("farm_state", c_uint8, POINTER(Farm._C))
 
 # ---- The sender ----
 
@@ -339,6 +381,8 @@ class Next(_Numbers):
 class Directives:
     """The directives to a sender FOP-1 (232.1-B-2, 5.2.4); tools/bindings makes the methods of the headers."""
 
+    __slots__ = ()
+
     def _direct(self, name: str, own: str = "", value: int = 0, kind: Any = c_uint8) -> None:
         raise NotImplementedError
 
@@ -397,6 +441,7 @@ class Fop(_Struct, Directives):
     Its `state` is a State, and its `control` a Control. If its fields have values that no sender has, each call raises
     CopFault 255 (Damaged) and changes nothing."""
 
+    __slots__ = ()
     _fields_ = [("timer", c_uint16), ("ticks", c_uint16), ("room", c_uint8), ("state", c_uint8), ("vs", c_uint8),
                 ("nn", c_uint8), ("waiting", c_uint8), ("sent", c_uint8), ("due", c_uint8), ("window", c_uint8),
                 ("limit", c_uint8), ("count", c_uint8), ("control", c_uint8), ("vr", c_uint8)]
@@ -419,32 +464,32 @@ class Fop(_Struct, Directives):
         """Creates a sender in S6, for a receiver of this window width, with the window K, the transmission limit and
         the timer's value in ticks. Raises CopFault 1 to 4."""
         super().__init__()
-        CopFault._look_at(_fop_open(self, width, window, limit, timer))
+        CopFault._look_at(_fop_open(self._memory, width, window, limit, timer))
 
     def _direct(self, name: str, own: str = "", value: int = 0, kind: Any = c_uint8) -> None:
-        CopFault._look_at(_fop_directive(self, *_directive(name, own, value, kind)))
+        CopFault._look_at(_fop_directive(self._memory, *_directive(name, own, value, kind)))
 
     def submit(self) -> None:
         """Takes a unit, which then waits. Raises CopFault 6 (not open) or 7 (one waits already)."""
-        CopFault._look_at(_fop_submit(self))
+        CopFault._look_at(_fop_submit(self._memory))
 
     def next(self) -> Tuple[Next, int]:
         """Takes what goes on the link next. Returns its Next and its number."""
         number = c_uint8()
-        return _answered(Next, _fop_next(self, number)), number.value
+        return _answered(Next, _fop_next(self._memory, number)), number.value
 
     def clcw(self, vcid: int, word: Clcw) -> Optional[Tuple[Alert, int]]:
         """Takes a Clcw, as the sender of the virtual channel `vcid`. Returns the Alert, and how many of the oldest
         units are acknowledged. Returns None, and changes nothing, if the word is about another channel."""
         released = c_uint8()
-        answer = _fop_clcw(self, vcid, _struct_of("word", Clcw, word), released)
+        answer = _fop_clcw(self._memory, vcid, _struct_of("word", Clcw, word)._memory, released)
         return None if answer == _ABSENT else (_answered(Alert, answer), released.value)
 
     report = renamed("report", clcw)
 
     def tick(self) -> Alert:
         """Counts a tick of the clock. Returns the Alert."""
-        return _answered(Alert, _fop_tick(self))
+        return _answered(Alert, _fop_tick(self._memory))
 
     def accepted_beyond(self, value: int) -> Optional[int]:
         """Returns how many of the sent and unacknowledged units, oldest first, had been accepted on board when a CLCW
@@ -452,7 +497,7 @@ class Fop(_Struct, Directives):
         V(S), because nothing is known of them. Also answers after an alert, in S6, until V(S) is set or an initiation
         begins (5.1), but by the numbers only: after an alert that shows a broken condition nothing is known of the
         units, whatever this returns."""
-        return _accepted_of(_fop_accepted_beyond, self, value)
+        return _accepted_of(_fop_accepted_beyond, self._memory, value)
 
 
 def accepted_beyond(nn: int, vs: int, value: int) -> Optional[int]:
@@ -470,14 +515,14 @@ def _accepted_of(call: Callable[..., Any], *values: Any) -> Optional[int]:
     return None if answer == _ABSENT else accepted.value
 
 
-_fop_open = _call("fop_open", c_uint8, POINTER(Fop), ("width", c_uint8), ("window", c_uint8), ("limit", c_uint8),
+_fop_open = _call("fop_open", c_uint8, POINTER(Fop._C), ("width", c_uint8), ("window", c_uint8), ("limit", c_uint8),
                   ("timer", c_uint16))
-_fop_directive = _call("fop_directive", c_uint8, POINTER(Fop), ("directive", c_uint8), ("value", c_uint16))
-_fop_submit = _call("fop_submit", c_uint8, POINTER(Fop))
-_fop_next = _call("fop_next", c_uint8, POINTER(Fop), POINTER(c_uint8))
-_fop_clcw = _call("fop_clcw", c_uint8, POINTER(Fop), ("vcid", c_uint8), POINTER(Clcw), POINTER(c_uint8))
-_fop_tick = _call("fop_tick", c_uint8, POINTER(Fop))
-_fop_accepted_beyond = _call("fop_accepted_beyond", c_uint8, POINTER(Fop), ("value", c_uint8), POINTER(c_uint8))
+_fop_directive = _call("fop_directive", c_uint8, POINTER(Fop._C), ("directive", c_uint8), ("value", c_uint16))
+_fop_submit = _call("fop_submit", c_uint8, POINTER(Fop._C))
+_fop_next = _call("fop_next", c_uint8, POINTER(Fop._C), POINTER(c_uint8))
+_fop_clcw = _call("fop_clcw", c_uint8, POINTER(Fop._C), ("vcid", c_uint8), POINTER(Clcw._C), POINTER(c_uint8))
+_fop_tick = _call("fop_tick", c_uint8, POINTER(Fop._C))
+_fop_accepted_beyond = _call("fop_accepted_beyond", c_uint8, POINTER(Fop._C), ("value", c_uint8), POINTER(c_uint8))
 _accepted_beyond = _call("accepted_beyond", c_uint8, ("nn", c_uint8), ("vs", c_uint8), ("value", c_uint8),
                          POINTER(c_uint8))
 
@@ -511,6 +556,7 @@ class TcFrame(_Struct):
     - BD: `flags` and `map`
     - BC: the `command`, a Command, and the number `vr` of Set V(R)"""
 
+    __slots__ = ()
     _fields_ = [("scid", c_uint16), ("vcid", c_uint8), ("kind", c_uint8), ("n", c_uint8), ("flags", c_uint8),
                 ("map", c_uint8), ("command", c_uint8), ("vr", c_uint8)]
     scid: int
@@ -531,9 +577,9 @@ class TcFrame(_Struct):
         """Reads all of the octets as one frame, which ends with its FECF unless `checked` is False. Returns the frame,
         and the data after the segment header (a control frame has neither). Raises TcFault 1 to 9 if the octets are not
         a frame."""
-        octets, frame, part = _octets_of("octets", octets), cls.__new__(cls), _Part()
+        octets, frame, part = _octets_of("octets", octets), cls._C(), _Part()
         TcFault._look_at(_tc_decode(octets, len(octets), checked, frame, part))
-        return frame, part.of(octets)
+        return cls._of(frame), part.of(octets)
 
     @classmethod
     def decode_all(cls, octets: Octets, checked: bool = True, *, scid: Optional[int] = None,
@@ -550,7 +596,7 @@ class TcFrame(_Struct):
         """Returns the octets of the frame with these data: at most 1,024, with its FECF, which it lacks if `checked` is
         False. Raises TcFault if a field is out of range."""
         data = _octets_of("data", data)
-        return _written(TcFault._look_at, _tc_encode, 1024, self, data, len(data), checked)
+        return _written(TcFault._look_at, _tc_encode, 1024, self._memory, data, len(data), checked)
 
     @staticmethod
     def declared(octets: Octets, checked: bool = True) -> int:
@@ -560,8 +606,8 @@ class TcFrame(_Struct):
         return _count_of(_tc_declared, TcFault, octets, len(octets), checked)
 
 
-_tc_decode = _call("tc_decode", c_uint8, c_char_p, c_size_t, c_bool, POINTER(TcFrame), POINTER(_Part))
-_tc_encode = _call("tc_encode", c_uint8, POINTER(TcFrame), c_char_p, c_size_t, c_bool, c_char_p, c_size_t,
+_tc_decode = _call("tc_decode", c_uint8, c_char_p, c_size_t, c_bool, POINTER(TcFrame._C), POINTER(_Part))
+_tc_encode = _call("tc_encode", c_uint8, POINTER(TcFrame._C), c_char_p, c_size_t, c_bool, c_char_p, c_size_t,
                    POINTER(c_size_t))
 _tc_declared = _call("tc_declared", c_uint8, c_char_p, c_size_t, c_bool, POINTER(c_size_t))
 _tc_frames = _call("tc_frames", c_size_t, c_char_p, c_size_t, c_bool, c_char_p, c_size_t, POINTER(c_size_t))
@@ -593,7 +639,7 @@ def _places_of(kinds: Iterable[Any], begun: int, order: str = byteorder) -> List
 def _structs_of(many: Any, records: bytes, size: int, begun: int) -> Any:
     """Returns the structs whose fields begin at this place in each record of this size. They share the memory of one
     array: making them together takes half the time."""
-    places = _places_of(many._type_._kinds.values(), begun)
+    places = _places_of((kind for _, kind in many._type_._fields_), begun)
     room = _columns(records, size, places, bytearray(ctypes.sizeof(many)), ctypes.sizeof(many._type_))
     return many.from_buffer(room)[:len(records) // size]
 
@@ -625,12 +671,12 @@ def _frames_in(cls: Type[TcFrame], octets: bytes, checked: bool,
                channel: Sequence[_Wanted]) -> Iterator[Iterable[Tuple[Union[TcFrame, TcFault], bytes]]]:
     """Yields the frames in the octets, piece by piece, and then what is left. `channel` has what the fields of the
     frames wanted must be: the lower octet of the scid, its higher octet, and the vcid."""
-    total, begun, many = c_size_t(), 0, cls * _MOST
+    total, begun, many = c_size_t(), 0, cls._C * _MOST
     out: Any = ctypes.create_string_buffer(_MOST * _FOUND)  # its slices are bytes, which Debian's mypy 1.0.1 does not know
     check, control, number = 2 if checked else 0, Kind.BC.value, _places_of([c_uint16], 0)
     while found := _tc_frames(piece := octets[begun:begun + _PIECE], len(piece), checked, out, len(out), total):
         records, end = out[:found * _FOUND], 0
-        frames, counts = _structs_of(many, records, _FOUND, _FIELDS), memoryview(
+        frames, counts = _structs_with(cls, _structs_of(many, records, _FOUND, _FIELDS)), memoryview(
             _columns(records, _FOUND, number, bytearray(found * 2), 2)).cast("H")
         faults, kinds = records[_FAULT::_FOUND], records[_KIND::_FOUND]
         data = [piece[end + 6:(end := end + count) - check] for count in counts]
@@ -675,6 +721,7 @@ class Packet(_Struct):
     - `kind`, a PacketKind; `secondary`, 1 if the data field begins with a secondary header, or 0
     - `flags`, a SequenceFlags; a new packet is UNSEGMENTED"""
 
+    __slots__ = ()
     _fields_ = [("apid", c_uint16), ("count", c_uint16), ("kind", c_uint8), ("secondary", c_uint8), ("flags", c_uint8)]
     apid: int
     count: int
@@ -690,14 +737,14 @@ class Packet(_Struct):
     def decode(cls, octets: Octets) -> Tuple[Packet, bytes]:
         """Reads the packet at the beginning of the octets. Returns it and its data field. Raises PacketFault if there
         is none."""
-        octets, packet, part = _octets_of("octets", octets), cls.__new__(cls), _Part()
+        octets, packet, part = _octets_of("octets", octets), cls._C(), _Part()
         PacketFault._look_at(_packet_decode(octets, len(octets), packet, part))
-        return packet, part.of(octets)
+        return cls._of(packet), part.of(octets)
 
     def encode(self, data: Octets) -> bytes:
         """Returns the octets of the packet with this data field. Raises PacketFault if a field is out of range."""
         data = _octets_of("data", data)
-        return _written(PacketFault._look_at, _packet_encode, len(data) + 6, self, data, len(data))
+        return _written(PacketFault._look_at, _packet_encode, len(data) + 6, self._memory, data, len(data))
 
     @staticmethod
     def declared(octets: Octets) -> int:
@@ -706,8 +753,8 @@ class Packet(_Struct):
         return _count_of(_packet_declared, PacketFault, octets, len(octets))
 
 
-_packet_decode = _call("packet_decode", c_uint8, c_char_p, c_size_t, POINTER(Packet), POINTER(_Part))
-_packet_encode = _call("packet_encode", c_uint8, POINTER(Packet), c_char_p, c_size_t, c_char_p, c_size_t,
+_packet_decode = _call("packet_decode", c_uint8, c_char_p, c_size_t, POINTER(Packet._C), POINTER(_Part))
+_packet_encode = _call("packet_encode", c_uint8, POINTER(Packet._C), c_char_p, c_size_t, c_char_p, c_size_t,
                        POINTER(c_size_t))
 _packet_declared = _call("packet_declared", c_uint8, c_char_p, c_size_t, POINTER(c_size_t))
 
@@ -751,6 +798,7 @@ class TmFrame(_Struct):
     - `pointer`, the place in the data, counted from 0, where the first packet starts, or ONLY_IDLE or NO_START
     - `ocf`, the operational control field, the four octets of a Clcw"""
 
+    __slots__ = ()
     _fields_ = [("scid", c_uint16), ("pointer", c_uint16), ("vcid", c_uint8), ("mc_count", c_uint8),
                 ("vc_count", c_uint8), ("_ocf", c_uint8 * 4)]
     scid: int
@@ -767,32 +815,32 @@ class TmFrame(_Struct):
     @property
     def ocf(self) -> bytes:
         """The operational control field, the four octets of a Clcw."""
-        return bytes(self._ocf)
+        return bytes(self._memory._ocf)
 
     @ocf.setter
     def ocf(self, octets: Octets) -> None:
         octets = _octets_of("ocf", octets)
         if len(octets) != 4:
             raise ValueError(f"ocf: {len(octets)} octets are not four")
-        self._ocf = (c_uint8 * 4)(*octets)
+        self._memory._ocf = (c_uint8 * 4)(*octets)
 
     @classmethod
     def decode(cls, octets: Octets, length: Optional[int] = None) -> Tuple[TmFrame, bytes]:
         """Reads all of the octets as one frame, of the channel's `length`, or of their own length. Returns the frame
         and its data. Raises TmFault 1 to 6 if the octets are not a frame."""
-        octets, frame, part = _octets_of("octets", octets), cls.__new__(cls), _Part()
+        octets, frame, part = _octets_of("octets", octets), cls._C(), _Part()
         length = len(octets) if length is None else length
         TmFault._look_at(_tm_decode(octets, len(octets), length, frame, part))
-        return frame, part.of(octets)
+        return cls._of(frame), part.of(octets)
 
     def encode(self, data: Octets) -> bytes:
         """Returns the octets of the frame with these data. Raises TmFault if a field is out of range."""
         data = _octets_of("data", data)
-        return _written(TmFault._look_at, _tm_encode, 2048, self, data, len(data))
+        return _written(TmFault._look_at, _tm_encode, 2048, self._memory, data, len(data))
 
 
-_tm_decode = _call("tm_decode", c_uint8, c_char_p, c_size_t, ("length", c_size_t), POINTER(TmFrame), POINTER(_Part))
-_tm_encode = _call("tm_encode", c_uint8, POINTER(TmFrame), c_char_p, c_size_t, c_char_p, c_size_t, POINTER(c_size_t))
+_tm_decode = _call("tm_decode", c_uint8, c_char_p, c_size_t, ("length", c_size_t), POINTER(TmFrame._C), POINTER(_Part))
+_tm_encode = _call("tm_encode", c_uint8, POINTER(TmFrame._C), c_char_p, c_size_t, c_char_p, c_size_t, POINTER(c_size_t))
 
 # ---- Packets in telemetry frames ----
 
@@ -908,7 +956,7 @@ class TmExtractor(Single):
             while found := _tm_extractor_frames(
                     self._extractor, piece, len(piece), length, self._memory, len(self._memory), out, len(out), place,
                     len(place), total):
-                self._dropped += _add_taken(answers, TmFrame * most, out[:found * _TAKEN.size], place[:total.value])
+                self._dropped += _add_taken(answers, TmFrame._C * most, out[:found * _TAKEN.size], place[:total.value])
                 begun += found * length
                 piece = octets[begun:begun + most * length]
         if piece:
@@ -920,7 +968,7 @@ class TmExtractor(Single):
         with self._lock:
             begun = self._begun()
             fault = _tm_extractor_frame(
-                self._extractor, frame, data, len(data), self._memory, len(self._memory), extracted)
+                self._extractor, frame._memory, data, len(data), self._memory, len(self._memory), extracted)
             if fault:
                 return fault, []
             packets = [self._memory[:extracted.joined]] if extracted.joined else []
@@ -954,7 +1002,7 @@ _TAKEN, _TAKEN_FIELDS = Struct("<IBBBB11x"), 8
 def _add_taken(answers: List[TakenFrame], many: Any, records: bytes, octets: bytes) -> int:
     """Adds what these records say of at most so many frames, whose packets have these octets. Returns the number of
     packets that were dropped."""
-    frames, end, all_dropped = _structs_of(many, records, _TAKEN.size, _TAKEN_FIELDS), 0, 0
+    frames, end, all_dropped = _structs_with(TmFrame, _structs_of(many, records, _TAKEN.size, _TAKEN_FIELDS)), 0, 0
     for frame, (count, fault, first, lost, dropped) in zip(frames, _TAKEN.iter_unpack(records)):
         packets: List[bytes] = []
         if fault:
@@ -984,8 +1032,8 @@ _tm_builder_open = _call("tm_builder_open", c_uint8, POINTER(_TmBuilder), ("scid
 _tm_builder_queue = _call("tm_builder_queue", c_uint8, POINTER(_TmBuilder), c_char_p, c_size_t, c_char_p, c_size_t)
 _tm_builder_build = _call("tm_builder_build", c_uint8, POINTER(_TmBuilder), c_char_p, c_size_t, c_char_p, c_size_t,
                           c_char_p, c_size_t, POINTER(c_size_t))
-_tm_extractor_frame = _call("tm_extractor_frame", c_uint8, POINTER(_TmExtractor), POINTER(TmFrame), c_char_p, c_size_t,
-                            c_char_p, c_size_t, POINTER(_TmExtracted))
+_tm_extractor_frame = _call("tm_extractor_frame", c_uint8, POINTER(_TmExtractor), POINTER(TmFrame._C), c_char_p,
+                            c_size_t, c_char_p, c_size_t, POINTER(_TmExtracted))
 _tm_packet = _call("tm_packet", c_bool, c_char_p, c_size_t, POINTER(_Part))
 _tm_extractor_frames = _call("tm_extractor_frames", c_size_t, POINTER(_TmExtractor), c_char_p, c_size_t,
                              ("frame_length", c_size_t), c_char_p, c_size_t, c_char_p, c_size_t, c_char_p, c_size_t,

@@ -103,8 +103,6 @@ def octets_of(name: str, value: Any) -> bytes:
         return value
     if isinstance(value, bytes):
         return bytes(value)
-    if isinstance(value, ctypes.Structure):  # its buffer is its memory, which is not its octets on the link
-        raise TypeError(f"{name}: {value!r} is not bytes; `encode` gives them")
     try:
         return bytes(memoryview(value))
     except TypeError:

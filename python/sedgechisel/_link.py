@@ -33,13 +33,13 @@ class _Event(ctypes.Structure):
 
 
 class _Reply(ctypes.Structure):
-    _fields_ = [("count", c_size_t), ("whole", c_uint64), ("up", _Received), ("down", _Heard), ("report", Clcw),
+    _fields_ = [("count", c_size_t), ("whole", c_uint64), ("up", _Received), ("down", _Heard), ("report", Clcw._C),
                 ("kind", c_uint8), ("by", c_uint8), ("fault", c_uint8), ("alert", c_uint8), ("map", c_uint8)]
     count: int
     whole: int
     up: _Received
     down: _Heard
-    report: Clcw
+    report: Any
     kind: int
     by: int
     fault: int
@@ -52,7 +52,7 @@ class _SimReading(ctypes.Structure):
                 ("vr", c_uint8), ("clean", c_bool), ("idle", c_bool), ("confirmed", c_bool)]
 
 
-_sim_open = _call("sim_open", c_uint8, POINTER(_Raw), POINTER(Config))
+_sim_open = _call("sim_open", c_uint8, POINTER(_Raw), POINTER(Config._C))
 _sim_close = _call("sim_close", None, POINTER(_Raw))
 
 
@@ -112,7 +112,7 @@ class Link(Directives, Handle):
     def report(self) -> Clcw:
         """Sends a telemetry frame from the spacecraft; it is then in transit on the downlink. Returns the CLCW in
         it."""
-        return Clcw.from_buffer_copy(self._event("report").report)
+        return Clcw._of(self._event("report").report)
 
     def down_deliver(self) -> Heard:
         """Delivers the first frame in transit on the downlink. Raises SimFault 7 (NothingInTransit) if there is

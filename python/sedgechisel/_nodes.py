@@ -49,6 +49,7 @@ class Config(_Struct):
     - `frame_length`: the octets of a telemetry frame, 16 to 2,048; default 64
     - `blocking`: 1 where a segment may hold several packets, 0 to 1; default 0"""
 
+    __slots__ = ()
     _fields_ = [("scid", c_uint32), ("vcid", c_uint32), ("tm_vcid", c_uint32), ("width", c_uint32),
                 ("window", c_uint32), ("limit", c_uint32), ("timer", c_uint32), ("part", c_uint32),
                 ("max_packet", c_uint32), ("maps", c_uint64), ("ready_slots", c_uint32), ("bypass_slots", c_uint32),
@@ -79,11 +80,11 @@ class Config(_Struct):
 
     def fault(self) -> Optional[str]:
         """Returns the name of the first parameter that is out of range, or None."""
-        number = _config_fault(self)
+        number = _config_fault(self._memory)
         return ConfigFault(number).name if number else None
 
 
-_config_fault = _call("config_fault", c_uint8, POINTER(Config))
+_config_fault = _call("config_fault", c_uint8, POINTER(Config._C))
 
 
 class ConfigFault(Fault):
@@ -136,7 +137,7 @@ class Handle(Single):
             self._left: DefaultDict[str, List[Tuple[int, bytes]]] = defaultdict(list)
         answer = self._open(config)
         if answer == _OUT_OF_RANGE:
-            raise ConfigFault(_config_fault(config))
+            raise ConfigFault(_config_fault(config._memory))
         LinkFault._look_at(answer)
         self._config = config._values()
 
@@ -147,7 +148,7 @@ class Handle(Single):
         super().__setattr__(name, value)
 
     def _open(self, config: Config) -> int:
-        return type(self)._opens(self._handle, config)
+        return type(self)._opens(self._handle, config._memory)
 
     def close(self) -> None:
         """Closes the node and releases its memory. A second call does nothing."""
@@ -359,8 +360,8 @@ class _KeptGround(ctypes.Structure):
 
 
 _ground_kept = _call("ground_kept", c_uint8, POINTER(_Raw), POINTER(_KeptGround))
-_ground_open_kept = _call("ground_open_kept", c_uint8, POINTER(_Raw), POINTER(Config), POINTER(_KeptGround))
-_ground_open = _call("ground_open", c_uint8, POINTER(_Raw), POINTER(Config))
+_ground_open_kept = _call("ground_open_kept", c_uint8, POINTER(_Raw), POINTER(Config._C), POINTER(_KeptGround))
+_ground_open = _call("ground_open", c_uint8, POINTER(_Raw), POINTER(Config._C))
 _ground_close = _call("ground_close", None, POINTER(_Raw))
 
 
@@ -414,8 +415,8 @@ class Ground(Directives, Handle):
     def _open(self, config: Config) -> int:
         if self._kept is None:
             return super()._open(config)
-        answer = int(_ground_open_kept(self._handle, config, self._kept))
-        if answer == _OUT_OF_RANGE and not _config_fault(config):
+        answer = int(_ground_open_kept(self._handle, config._memory, self._kept))
+        if answer == _OUT_OF_RANGE and not _config_fault(config._memory):
             raise OverflowError("kept: no ground of this configuration gives this record")
         return answer
 
@@ -517,8 +518,8 @@ class Ground(Directives, Handle):
     def clcw_in(self, octets: Octets) -> Optional[Clcw]:
         """Returns the CLCW that a telemetry frame of any spacecraft and virtual channel carries, or None if the octets
         are not a frame or the frame carries no CLCW. Changes nothing."""
-        octets, word = _octets_of("octets", octets), Clcw.__new__(Clcw)
-        return None if self._is_absent(_ground_clcw_in(self._handle, octets, len(octets), word)) else word
+        octets, word = _octets_of("octets", octets), Clcw._C()
+        return None if self._is_absent(_ground_clcw_in(self._handle, octets, len(octets), word)) else Clcw._of(word)
 
     report_in = renamed("report_in", clcw_in)
 
@@ -659,7 +660,7 @@ _ground_advance = _call("ground_advance", c_uint8, POINTER(_Raw))
 _ground_telemetry = _call("ground_telemetry", c_uint8, POINTER(_Raw), c_char_p, c_size_t, POINTER(_Heard))
 _ground_clcw = _call("ground_clcw", c_uint8, POINTER(_Raw), c_char_p, c_size_t, POINTER(_Heard))
 _ground_forget_telemetry = _call("ground_forget_telemetry", c_uint8, POINTER(_Raw))
-_ground_clcw_in = _call("ground_clcw_in", c_uint8, POINTER(_Raw), c_char_p, c_size_t, POINTER(Clcw))
+_ground_clcw_in = _call("ground_clcw_in", c_uint8, POINTER(_Raw), c_char_p, c_size_t, POINTER(Clcw._C))
 _ground_take_telemetry = _call("ground_take_telemetry", c_uint8, POINTER(_Raw), c_char_p, c_size_t, POINTER(c_size_t))
 _ground_tick = _call("ground_tick", c_uint8, POINTER(_Raw))
 _ground_known_on_board = _call("ground_known_on_board", c_uint8, POINTER(_Raw), ("value", c_uint8), POINTER(c_uint64))
@@ -678,8 +679,8 @@ class _SpacecraftReading(ctypes.Structure):
                 ("mc_count", c_uint8), ("vc_count", c_uint8)]
 
 
-_spacecraft_open = _call("spacecraft_open", c_uint8, POINTER(_Raw), POINTER(Config))
-_spacecraft_open_kept = _call("spacecraft_open_kept", c_uint8, POINTER(_Raw), POINTER(Config),
+_spacecraft_open = _call("spacecraft_open", c_uint8, POINTER(_Raw), POINTER(Config._C))
+_spacecraft_open_kept = _call("spacecraft_open_kept", c_uint8, POINTER(_Raw), POINTER(Config._C),
                               POINTER(_SpacecraftReading))
 _spacecraft_close = _call("spacecraft_close", None, POINTER(_Raw))
 
@@ -733,8 +734,8 @@ class Spacecraft(Handle):
     def _open(self, config: Config) -> int:
         if self._kept is None:
             return super()._open(config)
-        answer = int(_spacecraft_open_kept(self._handle, config, self._kept))
-        if answer == _OUT_OF_RANGE and not _config_fault(config):
+        answer = int(_spacecraft_open_kept(self._handle, config._memory, self._kept))
+        if answer == _OUT_OF_RANGE and not _config_fault(config._memory):
             raise OverflowError(f"farm_b: {self._kept.farm_b} is not in 0 to 3")
         return answer
 

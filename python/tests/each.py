@@ -1,9 +1,12 @@
 """Each member of each enumeration once, each method with the longest values, each argument with a wrong one, and
 threads that share an object."""
+import copy
 import ctypes
 import enum
 import inspect
 import io
+import pickle
+import socket
 import sys
 import threading
 import warnings
@@ -488,6 +491,26 @@ def each_wrong_argument(it):
         says(AttributeError, "", setattr, one, "other", 1)
 
 
+def structs_give_their_octets_or_none(it):
+    """A control word has one spelling, so `bytes` gives it. Nothing gives a struct's memory: neither `bytes` nor what
+    reads a buffer, such as `send` of a socket and `write` of a file. A copy has memory of its own."""
+    word = it.Clcw(vcid=2, flags=0x88, value=7)
+    assert bytes(word) == word.encode() == bytes.fromhex("01088807")
+    batch = [frame for frame, _ in it.TcFrame.decode_all(it.TcFrame(scid=1).encode(b"1") * 2)]
+    one, other = socket.socketpair()
+    with one, other:
+        for struct in (*owners(it)[:6], it.Config(), *batch):
+            takes = (memoryview, bytearray, io.BytesIO().write, one.send, it.check, *[bytes] * (type(struct) is not it.Clcw))
+            for call in takes:
+                says(TypeError, "", call, struct)
+            assert not isinstance(struct, ctypes.Structure) and not hasattr(struct, "__dict__")
+            for made in (copy.copy(struct), copy.deepcopy(struct), pickle.loads(pickle.dumps(struct))):
+                name = struct._fields_[0][0]
+                assert made == struct and type(made) is type(struct)
+                setattr(made, name, getattr(made, name) ^ 1)
+                assert made != struct
+
+
 # ---- Threads. ----
 
 
@@ -572,5 +595,5 @@ def names_before_0_3(it):
     assert not hasattr(it.Report, "ABSENT") and [*it.Report.__members__] == ["USED", "REFUSED", "OTHER_CHANNEL"]
 
 
-TESTS = (each_member_of_each_enumeration, each_method_with_the_longest_values, each_wrong_argument, threads_that_share,
-         names_before_0_3)
+TESTS = (each_member_of_each_enumeration, each_method_with_the_longest_values, each_wrong_argument,
+         structs_give_their_octets_or_none, threads_that_share, names_before_0_3)
