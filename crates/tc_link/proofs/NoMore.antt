@@ -1,6 +1,6 @@
 -- In S6, whatever comes beside the session, no more segments are accepted than Type-AD frames are on their way up.
-use Rattle.tc_link.proofs.Common.{◌≡◌, ap, arith, refl, List, [], ◌∷◌, drop, map, segment_octets, SegmentView, S6, World}
-use Rattle.tc_link.proofs.Common.{Config, AllByRecursion}
+use Rattle.tc_link.proofs.Common.{◌≡◌, ap, arith, refl, List, [], ◌∷◌, drop, map, segment_octets, SegmentView, S6}
+use Rattle.tc_link.proofs.Common.{World, Config, AllByRecursion}
 use Rattle.nodes.proofs.Arrivals.{bypass_same}
 use Rattle.tc_link.specs.AnyPast.{LinkStep, IsLinkStep, link_step, link_run}
 use Rattle.tc_link.specs.Beside.{LeavesSession, SessionLasts}

@@ -16,8 +16,8 @@ use Rattle.tc_link.proofs.Common.{world_after_pull, IsEvent, ◌<◌, map, cond_
 use Rattle.tc_link.proofs.Common.{report_in, IsActive, is_kept, SpacecraftState, frame_outcome, body_outcome}
 use Rattle.tc_link.proofs.Common.{is_own_frame, number_in, in_frame, world_after_directive, BeginsNoSession, accepted}
 use Rattle.tc_link.proofs.Common.{oldest_marked}
-use Rattle.tc_link.proofs.Common.{append-nil, length-append, length-map, map-append, drop-append-le, verdict_of, is_free}
-use Rattle.tc_link.proofs.Common.{SpacecraftOutcome, WorldOutcome, KeepsSession, world_run}
+use Rattle.tc_link.proofs.Common.{append-nil, length-append, length-map, map-append, drop-append-le, verdict_of}
+use Rattle.tc_link.proofs.Common.{is_free, SpacecraftOutcome, WorldOutcome, KeepsSession, world_run}
 use Rattle.std.proofs.lemmas.List.{nil_from_length}
 use Rattle.nodes.specs.Spacecraft.{is_accepted}
 use Rattle.nodes.specs.declared.received.Received.{Received}
@@ -371,7 +371,8 @@ numbers_in r = in_frame number_in r
 abbrev numbers : List (List ℕ) → List ℕ
 numbers bs = flat_map (λ octets. in_frame number_in (reading.frame_at On octets)) bs
 
-push_same : (bs : List (List ℕ)) (b : List ℕ) → numbers_in (reading.frame_at On b) ≡ [] → numbers (bs ++ b ∷ []) ≡ numbers bs
+push_same : (bs : List (List ℕ)) (b : List ℕ) → numbers_in (reading.frame_at On b) ≡ []
+    → numbers (bs ++ b ∷ []) ≡ numbers bs
 push_same [] b new = ap (λ (ns : List ℕ). ns ++ []) new
 push_same (x ∷ xs) b new = ap (λ (ns : List ℕ). numbers_in (reading.frame_at On x) ++ ns) (push_same xs b new)
 

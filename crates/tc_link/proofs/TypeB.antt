@@ -1,10 +1,12 @@
 -- FARM-B counts the frames of Type-B that arrive.
-use Rattle.tc_link.proofs.Common.{◌≡◌, ◌∙◌, ℕ, ◌+◌, ◌%◌, ◌<◌, Bool, true, false, List, [], ◌∷◌, Result, Ok, Err, refl, ap, arith}
+use Rattle.tc_link.proofs.Common.{◌≡◌, ◌∙◌, ℕ, ◌+◌, ◌%◌, ◌<◌, Bool, true, false, List, [], ◌∷◌, Result, Ok}
+use Rattle.tc_link.proofs.Common.{Err, refl, ap, arith}
 use Rattle.tc_link.proofs.Common.{cond_both, AllByRecursion, TcFault, On, SegmentView, BodyView, Ad, Bd, Bc, FarmState}
 use Rattle.tc_link.proofs.Common.{FarmMode, Open, Wait, Verdict, Command, Unlock, SetVr, verdict_of, after_verdict}
 use Rattle.tc_link.proofs.Common.{after_unlock, after_set_vr, after_release, farm_step, SpacecraftState}
 use Rattle.tc_link.proofs.Common.{SpacecraftOutcome, frame_outcome, body_outcome, sequence_outcome, bypass_outcome}
-use Rattle.tc_link.proofs.Common.{is_free, is_kept, is_own_frame, GroundState, Heard, Event, World, WorldOutcome, world_step}
+use Rattle.tc_link.proofs.Common.{is_free, is_kept, is_own_frame, GroundState, Heard, Event, World, WorldOutcome}
+use Rattle.tc_link.proofs.Common.{world_step}
 use Rattle.tc_frame.specs.Layout.{FrameView}
 use Rattle.tc_frame.specs.Decoding.{frame_at}
 use Rattle.cop1.specs.declared.farm.FarmMode.TheVariants.{Lockout}
@@ -68,7 +70,9 @@ module _ (s : SpacecraftState) (small : s.farm.farm_b < 4) where
   sequence_counted : (n : ℕ) (u : SegmentView) → Counts (body_outcome s (Ad n u))
   sequence_counted n u =
       let v : Verdict = verdict_of s.farm n (is_free s) in
-      cond_both (is_accepted v) _ _ Counts (λ t. none _ (verdict_counts s.farm v)) (λ t. none _ (verdict_counts s.farm v))
+      let same : By s 0 (after_verdict s.farm v).farm_b =
+      none (after_verdict s.farm v).farm_b (verdict_counts s.farm v) in
+      cond_both (is_accepted v) _ _ Counts (λ t. same) (λ t. same)
 
   bypass_counted : (u : SegmentView) (kept : Bool) → Counts (bypass_outcome s u kept)
   bypass_counted u true = refl
@@ -96,15 +100,16 @@ module _ (w : World) (small : w.spacecraft.farm.farm_b < 4) where
 
   -- an event by which no frame arrives on board
   rest_counted : (e : Event) → (e ≡ events.UpDeliver → ⊥) → By s 0 (world_step w e).after.spacecraft.farm.farm_b
-  rest_counted e other = none s small (world_step w e).after.spacecraft.farm.farm_b (board_after w (λ t. t.farm.farm_b ≡ s.farm.farm_b) e (record {
-    same = refl;
-    receives = λ is b bs first. absurd (other is);
-    reports = λ is. refl;
-    takes = λ is left kept. refl;
-    releases = λ is left free. release_counts s.farm s.farm.state;
-    passes = λ is left. refl;
-    queues = λ octets is. refl;
-  }))
+  rest_counted e other = none s small (world_step w e).after.spacecraft.farm.farm_b
+      (board_after w (λ t. t.farm.farm_b ≡ s.farm.farm_b) e (record {
+        same = refl;
+        receives = λ is b bs first. absurd (other is);
+        reports = λ is. refl;
+        takes = λ is left kept. refl;
+        releases = λ is left free. release_counts s.farm s.farm.state;
+        passes = λ is left. refl;
+        queues = λ octets is. refl;
+      }))
 
   event_counted : (e : Event) → By s (type_b_by e (world_step w e).answer) (world_step w e).after.spacecraft.farm.farm_b
   event_counted events.UpDeliver =
@@ -120,14 +125,15 @@ module _ (w : World) (small : w.spacecraft.farm.farm_b < 4) where
   heard_board after (heard_cases.Frame gap packets report alert) = report_board after report
   heard_board after _ = refl
 
-  step_counted : (step : LinkStep) → KeepsSpacecraft step → By s (type_b_at w step) (link_step w step).spacecraft.farm.farm_b
+  step_counted : (step : LinkStep) → KeepsSpacecraft step
+      → By s (type_b_at w step) (link_step w step).spacecraft.farm.farm_b
   step_counted (Happens e) keeps = event_counted e
   step_counted TakeTelemetry keeps = none s small s.farm.farm_b refl
   step_counted (Receives octets) keeps =
       let o : SpacecraftOutcome Received = frame_outcome s (frame_at On octets) in
       cond_both (is_left s.farm o.after.farm) (record w { spacecraft = o.after }) (with_nodes w w.ground_node o.after)
-      (λ (x : World). By s (type_b_in o.answer) x.spacecraft.farm.farm_b) (λ t. received_counted s small (frame_at On octets))
-      (λ t. received_counted s small (frame_at On octets))
+      (λ (x : World). By s (type_b_in o.answer) x.spacecraft.farm.farm_b)
+      (λ t. received_counted s small (frame_at On octets)) (λ t. received_counted s small (frame_at On octets))
   step_counted (Hears octets) keeps =
       let o = ground_step w.ground_node (ground_calls.Telemetry octets) in
       same_board (after_hearing w o.after o.answer) (heard_board o.after o.answer)

@@ -39,8 +39,8 @@ abbrev pub KeepsSpacecraft : LinkStep → Type 0
 KeepsSpacecraft (NewSpacecraft kept) = ⊥
 KeepsSpacecraft _ = Unit {0}
 
--- Since any moment, after any past: FARM-B is what it was then plus the number of Type-B frames that
--- have arrived since, modulo 4.
+-- Since any moment, after any past: FARM-B is what it was then plus the number of Type-B frames
+-- that have arrived since, modulo 4.
 abbrev pub CountsTypeB : Type 0
 CountsTypeB =
     (w : World) (since : List LinkStep) → HasAnyPast w → AllByRecursion KeepsSpacecraft since

@@ -55,8 +55,8 @@ pub fn law_of_any_past()
 /// after the packets that were ready is therefore a prefix of what is submitted on it (`submitted`). Over
 /// all MAPs too: in such a session what `take` hands out, each packet with its MAP, followed by what is
 /// ready, is what was ready then, followed by a prefix of what is submitted, in the order of submission; by
-/// all of it in S1 with nothing outstanding (`order`). In S6 at most as many more segments are accepted by such
-/// steps as Type-AD frames are on their way up, so none where there are none (`at_most`).
+/// all of it in S1 with nothing outstanding (`order`). In S6 at most as many more segments are accepted by
+/// such steps as Type-AD frames are on their way up, so none where there are none (`at_most`).
 pub fn law_of_taking()
     ensures delivered { HandsOutWhatIsDelivered }
     ensures submitted { HandsOutWhatIsSubmitted }
@@ -113,8 +113,8 @@ pub fn law_of_silence()
 /// frames on their way up and those that wait on the ground are together, in this order and each with its
 /// MAP, some of those that were on board, on their way and on the ground then, followed by those that the
 /// ground has accepted since. In a new link there are none then. No octets from outside the link reach
-/// the spacecraft since; no session is needed, and any frame may be lost (`order`). FARM-B moves by the number
-/// of Type-B frames that arrive, modulo 4, whatever else arrives (`counted`).
+/// the spacecraft since; no session is needed, and any frame may be lost (`order`). FARM-B moves by the
+/// number of Type-B frames that arrive, modulo 4, whatever else arrives (`counted`).
 pub fn law_of_bypass()
     ensures order { BypassKeepsOrder }
     ensures counted { CountsTypeB }
