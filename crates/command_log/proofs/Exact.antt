@@ -125,8 +125,11 @@ front_again (a ∷ b ∷ c ∷ d ∷ e ∷ f ∷ rest) fits least ten is =
     let cut : length (a ∷ b ∷ c ∷ d ∷ e ∷ f ∷ rest) - 4
     ≡ suc (suc (suc (suc (suc (suc (length (a ∷ b ∷ c ∷ d ∷ e ∷ f ∷ rest) - 10)))))) = omega arith in
     let body : length (take (length (a ∷ b ∷ c ∷ d ∷ e ∷ f ∷ rest) - 10) rest) + 4
-    ≡ length (a ∷ b ∷ c ∷ d ∷ e ∷ f ∷ rest) - 6 = omega (arith, length-take (length
-    (a ∷ b ∷ c ∷ d ∷ e ∷ f ∷ rest) - 10) rest) in
+    ≡ length (a ∷ b ∷ c ∷ d ∷ e ∷ f ∷ rest) - 6 = omega (
+      arith,
+      length-take (length
+          (a ∷ b ∷ c ∷ d ∷ e ∷ f ∷ rest) - 10) rest,
+    ) in
     let count : e * 256 + f + 7 ≡ length (a ∷ b ∷ c ∷ d ∷ e ∷ f ∷ rest) = omega (arith, is.count) in
     let header : (a ∷ b ∷ c ∷ d ∷ e ∷ f ∷ [])
     ≡ header_octets (a % 8 * 256 + b) (c % 64 * 256 + d) (length (a ∷ b ∷ c ∷ d ∷ e ∷ f ∷ rest) - 6) =

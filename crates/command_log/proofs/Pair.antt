@@ -116,8 +116,13 @@ suits_offer : (lost : List ℕ) (said : List Record) (begun : List ℕ) (s : Exe
     (order : Order) → Suits lost said begun s.stage order
     → Suits lost said begun (executor_step s (Takes octets)).stage order
 suits_offer lost said begun s octets order is =
-    cond_both (is_taken s octets) (at_stage (record { boot = s.kept.boot; last = s.kept.last; begun = true; known =
-    s.kept.known }) WritesFirst) s
+    cond_both (is_taken s octets) (at_stage (record {
+      boot = s.kept.boot;
+      last = s.kept.last;
+      begun = true;
+      known =
+          s.kept.known;
+    }) WritesFirst) s
     (λ (after : ExecutorState). Suits lost said begun after.stage order)
     (λ t. suits_none lost said said begun begun s.stage WritesFirst order (λ mark. refl) is) (λ f. is)
 
@@ -406,7 +411,7 @@ pair_step_holds p (Sends packet) is h =
       directed_low = directed_more p.high (number_in packet) p.directed h.directed_low;
       said_low = λ kept among. up_to_max p.high (number_in packet) kept.last (h.said_low kept among);
       between = between_more p.high (max p.high (number_in packet)) p.said p.board (first_max p.high
-      (number_in packet)) h.between;
+          (number_in packet)) h.between;
       suits = h.suits;
     }
 pair_step_holds p (Directs order) is h =
@@ -417,11 +422,14 @@ pair_step_holds p (Directs order) is h =
       goes_on = h.goes_on;
       said = h.said;
       sent_low = low_more p.high (last_of order) p.sent h.sent_low;
-      directed_low = (second_max p.high (last_of order), directed_more p.high
-      (last_of order) p.directed h.directed_low);
+      directed_low = (
+        second_max p.high (last_of order),
+        directed_more p.high
+            (last_of order) p.directed h.directed_low,
+      );
       said_low = λ kept among. up_to_max p.high (last_of order) kept.last (h.said_low kept among);
       between = between_more p.high (max p.high (last_of order)) p.said p.board (first_max p.high
-      (last_of order)) h.between;
+          (last_of order)) h.between;
       suits = (suits_new p order is h, h.suits);
     }
 pair_step_holds p LosesGround is h =

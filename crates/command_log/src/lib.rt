@@ -9,6 +9,8 @@ mod laws;
 mod packets;
 mod record;
 mod status;
+#[cfg(test)]
+mod tests;
 
 pub use crc::check;
 pub use executor::{Action, Executor, Place};
