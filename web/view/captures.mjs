@@ -1,59 +1,27 @@
 // The captures: a file is read by a command of tctool in a worker, its totals are shown, and its lines from a first
-// one on, a number of them at a time. The address says what to begin with: #capture=EXAMPLE&command=NAME, and the
+// one on, a number of them at a time. A total leads to its next line, and a line to its octets. The address says what to begin with: #capture=EXAMPLE&command=NAME, and the
 // options of the command by their names.
-import { make } from './panels.mjs';
+import { digitsOf, octetsOf } from '../link.mjs';
+import { decoded, make } from './panels.mjs';
+import { Runner } from './runner.mjs';
+import { KINDS } from './words.mjs';
 
-const LINES = 1000, OCTETS = 1 << 20;
+const FIRST = 1 << 20, FAULT = ' invalid \\d', BEFORE = 3; // octets of a hint, and lines before one that was found
+// What the records of a command are, by whether frames end with their check, and how long each is.
+const RECORDS = {
+    tc: (has) => ({ kind: 'frames', read: has('check') ? 'tc' : 'bare' }), packets: () => ({ kind: 'packets', read: 'packet' }),
+    tm: (has) => ({ length: Number(has('length')), read: 'tm' }), clcw: () => ({ length: 4, read: 'clcw' }),
+    check: () => ({ kind: 'frames', read: 'tc' }),
+};
+
 const at = (name) => document.getElementById(name);
-
-// The module of tctool, which is in the page as base64 of its gzip.
-async function moduleOf(text) {
-    const octets = Uint8Array.from(atob(text), (it) => it.charCodeAt(0));
-    const whole = new Blob([octets]).stream().pipeThrough(new DecompressionStream('gzip'));
-    return WebAssembly.compile(await new Response(whole).arrayBuffer());
-}
-
-// The address of a program that is in the page.
-const addressOf = (text) => URL.createObjectURL(new Blob([text], { type: 'text/javascript' }));
-
-// Runs commands in a worker, one at a time.
-class Runner {
-    // Runs a command. `take` is given what comes before its end. A run that is stopped, or after which another one
-    // began, never ends.
-    async run(asked, take) {
-        const turn = this.stop(), module = await (this.module ??= moduleOf(at('tctool').textContent));
-        if (turn !== this.turn) return new Promise(() => {});
-        this.worker ??= new Worker(this.address ??= addressOf(at('worker').textContent));
-        this.isRunning = true;
-        return new Promise((end, fail) => {
-            this.worker.onmessage = ({ data }) => {
-                if (!('said' in data)) return take(data);
-                this.isRunning = false;
-                return end(data);
-            };
-            this.worker.onerror = (event) => fail(new Error(event.message));
-            this.worker.postMessage({ module, before: 0, lines: LINES, octets: OCTETS, ends: false, ...asked });
-        });
-    }
-
-    stop() {
-        if (this.isRunning) {
-            this.worker.onmessage = null;
-            this.worker.terminate();
-            this.worker = undefined;
-            this.isRunning = false;
-        }
-        this.turn = (this.turn ?? 0) + 1;
-        return this.turn;
-    }
-}
 
 // A word as a shell takes it.
 const quoted = (word) => (/^[\w./:,+-]+$/.test(word) ? word : `'${word.replaceAll("'", "'\\''")}'`);
 
 export class Captures {
-    constructor({ commands, captures }) {
-        Object.assign(this, { commands, captures, runner: new Runner(), values: {} });
+    constructor({ commands, captures }, calls) {
+        Object.assign(this, { commands, captures, calls, runner: new Runner(), looker: new Runner(), values: {} });
         at('command').append(...commands.map((it) => new Option(it.name, it.name)));
         at('sample').append(new Option('none', ''), ...Object.keys(captures).map((it) => new Option(it, it)));
         this.choose(commands[0].name);
@@ -72,6 +40,15 @@ export class Captures {
             event.preventDefault();
             this.list();
         });
+        at('next-fault').addEventListener('click', () => this.find(FAULT, 'fault'));
+        at('use-check').addEventListener('click', () => {
+            this.values.check = true;
+            this.choose(this.command.name);
+            this.list();
+        });
+        at('totals').addEventListener('click', ({ target }) => target.dataset.finds && this.find(target.dataset.finds, target.textContent));
+        at('listed').addEventListener('click', ({ target }) => this.showRecord(target.closest('#listed > div')));
+        at('listed').addEventListener('keydown', (event) => this.moveLine(event));
         at('stop').addEventListener('click', () => this.runner.isRunning && this.stop());
         at('later').addEventListener('click', () => this.later && this.show([...this.starts, this.later]));
         at('earlier').addEventListener('click', () => this.starts?.length > 1 && this.show(this.starts.slice(0, -1)));
@@ -154,7 +131,9 @@ export class Captures {
         this.stop();
         if (this.file === undefined) return undefined;
         this.name = this.file.name.startsWith('-') ? `./${this.file.name}` : this.file.name;
-        for (const name of ['totals', 'listed']) at(name).replaceChildren();
+        for (const name of ['totals', 'listed', 'record']) at(name).replaceChildren();
+        at('hint').hidden = true;
+        this.found = undefined;
         this.say('');
         at('typed').textContent = ['tctool', ...this.words(), this.name].map(quoted).join(' ');
         return this.attempt(async () => {
@@ -162,7 +141,78 @@ export class Captures {
             this.begin('Reading for the totals');
             this.counted = await this.run([...this.words(), '--count'], {}, (it) => this.takeTotals(it));
             await this.showLines([0]);
+            await this.hint();
         });
+    }
+
+    // Says whether frames that are read without their check pass one: by chance 1 in 65,536 does.
+    async hint() {
+        const has = this.options.some(({ name }) => name === 'check'), totals = {}, { file } = this;
+        if (!has || this.values.check || file.size === 0) return;
+        await this.looker.run({ words: ['check', '--count', this.name], file: file.slice(0, FIRST) }, ({ lines = [] }) => {
+            for (const line of lines) totals[line.replace(/ \d+$/, '')] = Number(line.match(/\d+$/)?.[0]);
+        });
+        const good = totals.records - (totals.invalid ?? 0);
+        if (file !== this.file || !(good > totals.records / 100)) return;
+        at('hint-words').textContent = `${good} of the first ${totals.records} frames pass a check: `;
+        at('hint').hidden = false;
+    }
+
+    // Shows the next line of a pattern, after the one that was found last, or the first one where there is no later.
+    find(pattern, name) {
+        if (this.file === undefined) return undefined;
+        const after = this.found?.pattern === pattern ? this.found.place + 1 : 0, { starts, later } = this;
+        return this.attempt(async () => {
+            this.stop();
+            this.begin(`Looking for ${name}`);
+            const { place } = await this.run(this.words(), { before: after, finds: pattern }, ({ read }) => this.moved(read));
+            if (place === undefined) {
+                Object.assign(this, { starts, later, found: undefined });
+                this.end();
+                at('told').textContent = `No ${after === 0 ? '' : 'later '}line has ${name === 'fault' ? 'a fault' : name}.`;
+                return;
+            }
+            await this.showLines(place > BEFORE ? [0, place - BEFORE] : [0]);
+            this.found = { pattern, place };
+            const line = at('listed').children[Math.min(place, BEFORE)];
+            line.classList.add('found');
+            at('listed').scrollTop = line.offsetTop - at('listed').clientHeight / 3;
+            await this.showRecord(line);
+        });
+    }
+
+    // Shows the octets of a line, and their fields: those that it has, or those of its record.
+    async showRecord(line) {
+        if (!line) return;
+        for (const it of at('listed').querySelectorAll('[aria-current]')) it.removeAttribute('aria-current');
+        line.setAttribute('aria-current', 'true');
+        const text = line.textContent, has = (name) => this.values[name], [, digits] = text.match(/^(?:packet|bypass)(?: \d+)? (\S+)$/) ?? [];
+        const number = Number(text.match(/^\d+/)?.[0]), { read, ...where } = (RECORDS[this.command.name] ?? RECORDS.tc)(has);
+        if (digits) {
+            this.showOctets('The octets of this line', octetsOf(digits), 'packet');
+        } else if (!number || has('resync')) {
+            at('record').replaceChildren(make('p', 'note', 'Where this line is in the file is not known here.'));
+        } else {
+            const { from, octets } = await this.looker.run({ ...where, record: number, file: this.file }, () => {});
+            this.showOctets(`Record ${number}, from octet ${from} on`, octets, read);
+        }
+    }
+
+    // The arrow keys lead from a line to the one after it, or before it.
+    moveLine(event) {
+        const by = { ArrowDown: 'nextElementSibling', ArrowUp: 'previousElementSibling' }[event.key];
+        const line = by && (at('listed').querySelector('[aria-current]')?.[by] ?? at('listed').firstElementChild);
+        if (!line) return;
+        event.preventDefault();
+        line.scrollIntoView({ block: 'nearest' });
+        this.showRecord(line);
+    }
+
+    showOctets(title, octets, read) {
+        const shown = octets.subarray(0, 2048), digits = digitsOf(shown).replace(/../g, '$& ');
+        const more = octets.length > shown.length ? '..' : '';
+        at('record').replaceChildren(make('h3', '', `${title}: ${octets.length} octets`), make('p', 'octets', digits, more),
+            decoded(KINDS[read][1](this.calls, octets)));
     }
 
     // Shows the help of the command.
@@ -203,13 +253,24 @@ export class Captures {
         this.moved(read);
         for (const line of lines) {
             const [, name, count] = line.match(/^(.*) (\d+)$/) ?? [undefined, line, ''];
-            at('totals').append(make('div', '', make('dt', '', name), make('dd', '', count)));
+            at('totals').append(make('div', '', make('dt', '', this.total(name)), make('dd', '', count)));
         }
+    }
+
+    // A word of the totals, by which its next line is found.
+    total(name) {
+        if (name === 'records' || name === 'octets') return name;
+        const words = name.replace(/^channel=(\d+)\/(\d+)$/, 'scid=$1 vcid=$2').replace(/[.*+?^${}()|[\]\\]/g, '\\$&');
+        const button = make('button', 'link', name);
+        button.dataset.finds = `(?:^| )${words}(?: |$)`;
+        button.title = `The next line with ${name}`;
+        return button;
     }
 
     takeLines({ read, lines = [] }) {
         this.moved(read);
-        at('listed').append(...lines.map((it) => make('div', / invalid \d/.test(it) ? 'bad' : '', it)));
+        const parts = lines.map((it) => make('div', new RegExp(FAULT).test(it) ? 'bad' : '', it));
+        at('listed').append(...parts);
     }
 
     moved(read) {
@@ -222,7 +283,7 @@ export class Captures {
         at('progress').value = 0;
         at('progress').hidden = false;
         at('stop').setAttribute('aria-disabled', false);
-        for (const name of ['earlier', 'later']) at(name).setAttribute('aria-disabled', true);
+        for (const name of ['earlier', 'later', 'next-fault']) at(name).setAttribute('aria-disabled', true);
     }
 
     end() {
@@ -230,6 +291,7 @@ export class Captures {
         at('stop').setAttribute('aria-disabled', true);
         at('earlier').setAttribute('aria-disabled', !(this.starts?.length > 1));
         at('later').setAttribute('aria-disabled', this.later === undefined);
+        at('next-fault').setAttribute('aria-disabled', this.file === undefined);
     }
 
     // Ends what runs.

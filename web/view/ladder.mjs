@@ -1,10 +1,12 @@
-// The ladder of what was played, as tools/pictures.py draws it: the ground at the left, the spacecraft at the right, a
-// row for each line, an arrow for each frame, a cross where one is lost, and the beginning of one that is on its way.
+// The ladder of what was played: the ground at the left, the spacecraft at the right, a row for each line, an arrow for
+// each frame, a cross where one is lost, and the beginning of one that is in transit. Both ends have the colour of their
+// machine's state. Only the rows that are seen are drawn, and some around them.
 import { onBoard } from '../calls.mjs';
 import { numbers as n } from '../sedgechisel.mjs';
+import { arrowHint, FARM_MODES, rowHint } from './hints.mjs';
 import { frameName, reportName } from './words.mjs';
 
-const ROW = 26, TOP = 54;
+const ROW = 26, TOP = 54, AROUND = 20, MOST_ACROSS = 100, MOST_ROWS = 1000;
 
 function shape(name, fields, ...within) {
     const it = document.createElementNS('http://www.w3.org/2000/svg', name);
@@ -27,59 +29,123 @@ function fit(parts, most) {
 }
 
 // Words at x, in one or two lines.
-function text(x, y, lines, anchor = 'middle') {
+function text(x, y, lines, anchor = 'middle', kind = '') {
     const spans = lines.map((line, k) => shape('tspan', { x, dy: k === 0 ? 0 : '1.05em' }, line));
-    return shape('text', { x, y: y - 6 * (lines.length - 1), 'text-anchor': anchor }, ...spans);
+    return shape('text', { x, y: y - 6 * (lines.length - 1), 'text-anchor': anchor, class: kind }, ...spans);
 }
 
 export class Ladder {
-    constructor(box) {
-        this.box = box;
+    constructor(box, calls, made) {
+        Object.assign(this, { box, calls, made, canvas: document.createElement('div') });
+        this.canvas.className = 'canvas';
+        box.append(this.canvas);
+        box.addEventListener('scroll', () => this.player && this.draw());
     }
 
-    // A new ladder, as wide as its box: where its ends stand, and how many letters fit beside them.
-    clear() {
+    // As wide as its box: where its ends are, and how many letters fit beside them.
+    measure() {
         const from = this.box.clientWidth, width = Math.max(300, Math.min(from, 900));
-        const size = Math.max(10, Math.min(width / 45, 13));
-        const side = Math.min(300, width * 0.34), letter = 0.61 * size;
-        Object.assign(this, { from, width, ground: side, craft: width - side, letter, rows: [] });
-        this.now = shape('rect', { class: 'now', x: 0, width: 5, height: ROW });
-        this.ends = [this.ground, this.craft].map((x) => shape('line', { class: 'end', x1: x, y1: 34, x2: x }));
-        const names = [text(this.ground, 24, ['ground']), text(this.craft, 24, ['spacecraft'])];
-        this.svg = shape('svg', { role: 'img', class: 'ladder', width }, this.now, ...this.ends, ...names);
-        this.svg.style.fontSize = `${size}px`;
-        this.box.replaceChildren(this.svg);
+        const size = Math.max(10, Math.min(width / 45, 13)), side = Math.min(300, width * 0.34);
+        Object.assign(this, { from, width, size, ground: side, craft: width - side, letter: 0.61 * size });
     }
 
-    // Draws the steps up to a number of them: adds rows, or takes some away.
-    show(steps, count) {
-        while (this.rows.length > count) this.take();
-        while (this.rows.length < count) this.add(steps[this.rows.length]);
-        const height = TOP + ROW * Math.max(count, 6) + 8;
-        this.svg.setAttribute('height', height);
-        this.svg.setAttribute('aria-label', `Ladder of ${count} lines, which the list of lines has in words`);
-        for (const end of this.ends) end.setAttribute('y2', height - 12);
-        this.now.setAttribute('y', count === 0 ? -ROW : TOP + ROW * (count - 1.5));
+    heightOf(count) {
+        return TOP + ROW * Math.max(count, 6) + 8;
     }
 
-    // The last row goes; the frame that arrived or was lost in it is on its way again.
-    take() {
-        const { group, begun } = this.rows.pop();
-        group.remove();
-        if (begun) begun.style.display = '';
+    // Shows what is played of a player, at a row: that of the last line, unless another one is named.
+    show(player, row = player.at - 1) {
+        if (this.from !== this.box.clientWidth) this.measure();
+        Object.assign(this, { player, count: player.at, drawn: undefined });
+        this.canvas.style.height = `${this.heightOf(this.count)}px`;
+        this.box.scrollTop = row === this.count - 1 ? this.box.scrollHeight : TOP + ROW * row - this.box.clientHeight / 2;
+        this.draw();
     }
 
-    add(step) {
-        const y = TOP + ROW * this.rows.length, row = { group: shape('g', {}) };
-        if (step.sent) row.group.append(row.stub = this.stub(step.sent, y));
-        if (step.gone) {
-            row.begun = this.rows[step.gone.from].stub;
-            row.begun.style.display = 'none';
-            row.group.append(...this.arrow(step, y));
+    // Draws the rows that are seen.
+    draw() {
+        const rowAt = (y) => Math.min(this.count, Math.max(0, Math.round((y - TOP) / ROW)));
+        const { scrollTop, clientHeight } = this.box, from = rowAt(scrollTop), to = rowAt(scrollTop + clientHeight) + 1;
+        if (this.drawn && from >= this.drawn[0] && to <= this.drawn[1] + 1) return;
+        this.drawn = [rowAt(scrollTop - ROW * AROUND), rowAt(scrollTop + clientHeight + ROW * AROUND)];
+        this.svg = this.part(...this.drawn);
+        this.canvas.replaceChildren(this.svg);
+    }
+
+    // A drawing of its own of all rows, or of the last ones where they are too many.
+    whole() {
+        return this.part(Math.max(0, this.count - MOST_ROWS), this.count);
+    }
+
+    part(from, to) {
+        const top = from === 0 ? 0 : TOP + ROW * (from - 0.5), end = TOP + ROW * (to - 0.5);
+        const height = to === this.count ? this.heightOf(to) - top : end - top, bottom = top + height - 12;
+        const ends = [this.ground, this.craft].map((x) => shape('line', { class: 'end', x1: x, y1: top + 34, x2: x, y2: bottom }));
+        const names = [text(this.ground, top + 24, ['ground']), text(this.craft, top + 24, ['spacecraft'])];
+        const now = shape('rect', { class: 'now', x: 0, y: TOP + ROW * (this.count - 1.5), width: 5, height: ROW });
+        const label = `Ladder of ${this.count} lines, which the list of lines has in words`;
+        const svg = shape('svg', { role: 'img', class: 'ladder', width: this.width, height, 'aria-label': label,
+            viewBox: `0 ${top} ${this.width} ${height}` }, ...ends, this.count > 0 ? now : '', ...(from === 0 ? names : []));
+        svg.style.fontSize = `${this.size}px`;
+        svg.style.top = `${top}px`;
+        const steps = this.player.steps.slice(from, to);
+        svg.append(...steps.map((step, k) => this.under(step, TOP + ROW * (from + k), from + k)));
+        svg.append(...this.across(to), ...steps.map((step, k) => this.row(step, from + k)));
+        return svg;
+    }
+
+    isGone(sent) {
+        return sent.left !== undefined && sent.left < this.count;
+    }
+
+    // The arrows that begin before a row and end after it.
+    across(to) {
+        if (to === this.count || to === 0) return [];
+        const { up, down } = this.player.inTransit(this.player.steps[to - 1]);
+        const ending = [...up.slice(0, MOST_ACROSS), ...down.slice(0, MOST_ACROSS)].filter((it) => this.isGone(it) && it.left >= to);
+        return ending.map((it) => this.frame(this.player.steps[it.left], it.left));
+    }
+
+    row(step, k) {
+        const y = TOP + ROW * k, group = shape('g', {});
+        if (step.sent && !this.isGone(step.sent)) group.append(this.stub(step.sent, y, k));
+        if (step.gone) group.append(this.frame(step, k));
+        group.append(...this.turns(step, y), this.told(step, y));
+        return group;
+    }
+
+    frame(step, k) {
+        const group = shape('g', { class: 'frame', 'data-gone': k }, ...this.arrow(step, TOP + ROW * k));
+        group.append(shape('title', {}, arrowHint(this.calls, step, this.made)));
+        return group;
+    }
+
+    // What is under a row: a place to click, and a part of each end in the colour of its machine's state, with how much
+    // of the window, of the timer and of the board's buffer is used.
+    under(step, y, k) {
+        const { fop, farm } = step.after, place = { class: 'place', x: 0, y: y - ROW / 2, width: this.width, height: ROW };
+        const end = (x, state) => shape('rect', { class: `band ${state}`, x: x - 4, y, width: 8, height: ROW });
+        const part = (x, kind, of, most, down) => shape('rect', { class: `used ${kind}`, x, y: y + down, height: 3,
+            width: of === 0 ? 0 : Math.max(3, Math.round(18 * Math.min(1, of / Math.max(most, 1)))) });
+        const { ready_slots: slots } = this.player.config;
+        return shape('g', { 'data-step': k }, shape('rect', place, shape('title', {}, rowHint(step, this.made, this.player.config))),
+            end(this.ground, `fop${fop.state}`), end(this.craft, `farm${farm.state}`),
+            part(this.ground + 5, 'window', fop.sent, fop.window, 17), part(this.ground + 5, 'timer', fop.ticks, fop.timer, 21),
+            part(this.craft + 5, 'buffer', farm.ready, slots, 19));
+    }
+
+    // The states of both machines where they become others: S1 to S3 at the ground, Open to Lockout on board.
+    turns({ before: { fop, farm }, after: { fop: nextFop, farm: nextFarm } }, y) {
+        const found = [];
+        if (fop.state !== nextFop.state) {
+            const name = `S${fop.state} \u2192 S${nextFop.state}`;
+            found.push(text(this.ground + 28, y + 14, [name], 'start', `turn fop${nextFop.state}`));
         }
-        row.group.append(this.told(step, y));
-        this.svg.append(row.group);
-        this.rows.push(row);
+        if (farm.state !== nextFarm.state) {
+            const name = `${FARM_MODES[farm.state]} \u2192 ${FARM_MODES[nextFarm.state]}`;
+            found.push(text(this.craft - 9, y + 14, [name], 'end', `turn farm${nextFarm.state}`));
+        }
+        return found;
     }
 
     // How many letters fit into a width.
@@ -93,12 +159,13 @@ export class Ladder {
         return { isUp: false, start: this.craft, end: this.ground, label: reportName(word) };
     }
 
-    // The beginning of an arrow, for a frame that is on its way.
-    stub(sent, y) {
+    // The beginning of an arrow, for a frame that is in transit.
+    stub(sent, y, k) {
         const { isUp, start, end, label } = this.way(sent), x = start + (end - start) * 0.2;
         const name = text(x + (isUp ? 8 : -8), y + 10, [label], isUp ? 'start' : 'end');
-        return shape('g', { class: 'stub' }, shape('line', { x1: start, y1: y, x2: x, y2: y + 6 }),
-            shape('circle', { cx: x, cy: y + 6, r: 2.5 }), name);
+        return shape('g', { class: 'stub', 'data-sent': k }, shape('line', { x1: start, y1: y, x2: x, y2: y + 6 }),
+            shape('circle', { cx: x, cy: y + 6, r: 2.5 }), name,
+            shape('title', {}, `${label}, in transit. Click: it is lost.`));
     }
 
     arrow({ gone, reply }, y) {
@@ -106,19 +173,20 @@ export class Ladder {
         const x = (start + end) / 2, at = (begun + y) / 2;
         if (reply.kind === n.SEDGE_REPLY_LOST) {
             const cross = shape('path', { class: 'lost cross', d: `M ${x - 5} ${at - 5} l 10 10 m 0 -10 l -10 10` });
-            return [shape('line', { class: 'lost', x1: start, y1: begun, x2: x, y2: at }), cross];
+            const line = { x1: start, y1: begun, x2: x, y2: at };
+            return [shape('line', { class: 'reach', ...line }), shape('line', { class: 'lost', ...line }), cross];
         }
         const isDamaged = reply.up.kind === n.SEDGE_RECEIVED_INVALID || reply.down.kind === n.SEDGE_HEARD_INVALID;
-        const kind = isDamaged ? 'lost' : 'arrow';
+        const kind = isDamaged ? 'lost' : 'arrow', line = { x1: start, y1: begun, x2: end, y2: y };
         const words = fit([isDamaged ? `${label} damaged` : label], this.most(this.craft - this.ground));
-        const line = { class: kind, x1: start, y1: begun, x2: end, y2: y, 'marker-end': `url(#${kind}-tip)` };
-        return [shape('line', line), text(x, at - 4, words)];
+        return [shape('line', { class: 'reach', ...line }),
+            shape('line', { class: kind, ...line, 'marker-end': `url(#${kind}-tip)` }), text(x, at - 4, words)];
     }
 
     // What is said beside the ends: of a line of the script and its answer.
     told({ line, answer, event, reply, sent, gone }, y) {
         const [word] = line.split(' '), isLost = reply.kind === n.SEDGE_REPLY_LOST;
-        if (event.kind === 0) return text(this.width / 2, y + 4, fit([answer], this.most(this.width)));
+        if (event.kind === 0) return text(this.width / 2, y + 4, fit([answer], this.most(this.width)), 'middle', 'told');
         if (gone) {
             const { isUp, label } = this.way(gone);
             return this.beside(isUp, y, [isLost ? `${label} is lost` : answer]);
@@ -129,6 +197,6 @@ export class Ladder {
 
     beside(isOnBoard, y, parts) {
         const x = isOnBoard ? this.craft + 10 : this.ground - 10;
-        return text(x, y + 4, fit(parts, this.most(this.ground)), isOnBoard ? 'start' : 'end');
+        return text(x, y + 4, fit(parts, this.most(this.ground)), isOnBoard ? 'start' : 'end', 'told');
     }
 }

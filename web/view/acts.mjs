@@ -1,0 +1,332 @@
+// Does in the page what people do, and says of each act whether the page then is as it should be. web/check_page puts it
+// into a copy of the page; at last the page is a line for each act. Times are limits on a machine that is not busy with
+// anything else: how busy it is, is measured, and the limits are longer by that.
+const at = (name) => document.getElementById(name);
+const saved = []; // the files that the page has saved
+const OWN = 'init none\nsubmit 4 1005C0000000AA\nsend\nup deliver\nreport\ndown deliver\nshow\n';
+
+const sleep = (time) => new Promise((end) => { setTimeout(end, time); });
+
+async function until(what, holds) {
+    for (let k = 0; k < 2400 && !holds(); k++) await sleep(50);
+    is(Boolean(holds()), true, what);
+}
+
+function is(found, wanted, what) {
+    if (JSON.stringify(found) === JSON.stringify(wanted)) return;
+    throw new Error(`${what}: ${JSON.stringify(found)}, and not ${JSON.stringify(wanted)}`);
+}
+
+function has(text, part, what) {
+    if (!String(text).includes(part)) throw new Error(`${what}: no ${part} in ${String(text).slice(0, 300)}`);
+}
+
+function type(name, text) {
+    at(name).value = text;
+    at(name).dispatchEvent(new Event('input', { bubbles: true }));
+    at(name).dispatchEvent(new Event('change', { bubbles: true }));
+}
+
+function press(key) {
+    document.body.dispatchEvent(new KeyboardEvent('keydown', { key, bubbles: true }));
+}
+
+function drop(name, ...parts) {
+    const dataTransfer = new DataTransfer();
+    dataTransfer.items.add(new File(parts, name));
+    document.body.dispatchEvent(new DragEvent('drop', { dataTransfer, bubbles: true, cancelable: true }));
+}
+
+function click(element) {
+    element.dispatchEvent(new MouseEvent('click', { bubbles: true }));
+}
+
+// The page begins anew with an address.
+async function goTo(hash, what, holds) {
+    if (location.hash === hash) history.replaceState(null, '', '#');
+    location.hash = hash;
+    await until(what, holds);
+}
+
+async function own(text = OWN) {
+    at('to-scripts').click();
+    type('text', text);
+    at('end').click();
+    await until('the script is played', () => at('end').getAttribute('aria-disabled') === 'true');
+}
+
+// How many times longer than on a machine of its own a fixed piece of work takes now.
+function slowness() {
+    const begun = performance.now();
+    let it = 1;
+    for (let k = 0; k < 2e7; k++) it = Math.imul(it, 31) + k | 0;
+    return Math.max(1, (performance.now() - begun) / 40 + (it === 0 ? 1 : 0));
+}
+
+// The longest time for which the page did nothing else while something was done.
+async function longestWait(act) {
+    let last = performance.now(), longest = 0;
+    const beat = setInterval(() => {
+        longest = Math.max(longest, performance.now() - last);
+        last = performance.now();
+    }, 10);
+    await act();
+    clearInterval(beat);
+    return longest;
+}
+
+const lines = () => [...at('lines').querySelectorAll('code')].map((it) => it.textContent);
+const turns = () => [...at('ladder').querySelectorAll('.turn')].map((it) => it.textContent);
+const arrow = (k) => at('ladder').querySelectorAll('[data-gone]')[k];
+
+// 1: nothing that is typed is lost.
+
+async function typing() {
+    const text = `${OWN}fly\n`;
+    await own(text);
+    await until('the cause', () => at('fault').textContent.includes('no line begins with its first word'));
+    has(at('fault').textContent, 'line 8 is unreadable: fly', 'the complaint');
+    document.querySelector('[data-line="tick"]').click();
+    is(at('text').value, text, 'the text after an event button');
+    for (const name of ['back', 'first']) at(name).click();
+    is(at('fault').hidden, false, 'the complaint after Back');
+    has(at('fault').textContent, 'What is shown is the script before', 'the complaint after Back');
+    await own(`${OWN}${'submit 4 '.repeat(20000)}\n`);
+    is(at('fault').textContent.length < 300 && at('fault').getClientRects().length, 1, 'a long complaint is a line');
+    await own();
+    is(at('fault').hidden, true, 'no complaint about a good script');
+}
+
+async function unreadableAddress() {
+    await goTo('#script=init%20none%0Afly&line=1', 'a complaint', () => at('fault').textContent.includes('line 2 is unreadable'));
+    is(at('text').value, 'init none\nfly', 'the text is there');
+    await goTo('#packed=%21%21', 'a complaint', () => at('fault').textContent.includes('the address has no whole script'));
+}
+
+async function undoing() {
+    await own();
+    type('example', 'lost_frame');
+    await until('the example', () => lines().includes('# Frame 1 is lost. The receiver expects it and discards frame 2.')
+        || lines().some((it) => it.startsWith('#')));
+    at('undo').click();
+    is(at('text').value, OWN, 'the text after Undo');
+    at('octets').value = 'ABC';
+    document.querySelector('[data-line^="submit"]').click();
+    await until('a refused button', () => at('fault').textContent.includes('it is not submit M HEX'));
+    is(at('text').value, OWN, 'the text after a refused button');
+    at('octets').value = '1005C0000000AA';
+    document.querySelector('[data-line="tick"]').click();
+    is(at('fault').hidden, true, 'no complaint after a good button');
+    press('z');
+    is(at('text').value, OWN, 'the text after the key of Undo');
+}
+
+async function droppedScript() {
+    drop('some.script', OWN.replaceAll('\n', '\r\n'));
+    await until('a dropped script is played', () => lines().includes('init none') && at('last').textContent.includes('7 of 7'));
+    is([at('scripts').hidden, at('captures').hidden, at('listed').children.length], [false, true, 0], 'the views');
+}
+
+// 2: a run is a link, a file and a picture.
+
+async function addresses() {
+    await goTo('#example=lost_frame&line=20', 'a line of an example', () => at('last').textContent.startsWith('Line 20'));
+    at('back').click();
+    await until('the address follows', () => location.hash === '#example=lost_frame&line=19');
+    await own();
+    at('back').click();
+    await until('the address has the script', () => location.hash === `#script=${encodeURIComponent(OWN)}&line=6`);
+    const long = OWN + 'tick\n'.repeat(500);
+    await own(long);
+    await until('a compressed address', () => /^#packed=[\w-]{20,300}&line=507$/.test(location.hash));
+    const { hash } = location;
+    await own();
+    await goTo(hash, 'a compressed script', () => at('last').textContent.startsWith('Line 507'));
+    is(at('text').value, long, 'the script of a compressed address');
+    at('link').click();
+    await until('a link is copied', () => /^(Copied|In the address bar)$/.test(at('link').textContent));
+    is(location.hash, hash, 'the address of the link');
+}
+
+async function files() {
+    await goTo('#example=lost_frame&play', 'an example', () => at('last').textContent.includes('show'));
+    for (const name of ['save-script', 'save-svg', 'save-png']) at(name).click();
+    await until('three files', () => saved.length === 3);
+    is(saved.map(({ name }) => name), ['lost_frame.script', 'lost_frame.svg', 'lost_frame.png'], 'the names');
+    const [script, svg, png] = saved.splice(0).sort((one, other) => 'tgn'.indexOf(one.name.at(-1)) - 'tgn'.indexOf(other.name.at(-1)));
+    is(await script.part.text(), at('text').value, 'the file of the script');
+    const text = await svg.part.text(), drawn = new DOMParser().parseFromString(text, 'image/svg+xml');
+    is([drawn.querySelector('parsererror'), text.includes('var(')], [null, false], 'the SVG');
+    is(drawn.querySelectorAll('.frame').length, at('ladder').querySelectorAll('.frame').length, 'the frames of the SVG');
+    const picture = await createImageBitmap(png.part);
+    is(picture.width > 500 && picture.height > 500, true, 'the size of the PNG');
+}
+
+// 3: states, and what if.
+
+async function states() {
+    await goTo('#example=lost_frame&play', 'an example', () => at('last').textContent.includes('show'));
+    for (const it of ['S1 \u2192 S2', 'S2 \u2192 S1']) is(turns().includes(it), true, it);
+    await goTo('#example=lockout&play', 'a lockout', () => turns().includes('Open \u2192 Lockout'));
+    is(turns().includes('Lockout \u2192 Open'), true, 'the end of the lockout');
+    const hint = [...at('ladder').querySelectorAll('.frame title')].map((it) => it.textContent).find((it) => it.includes('Octets'));
+    for (const it of ['AD 100', 'Octets 00', 'MAP 4: packet of APID 5', 'Receiver: E5', 'In Open: ']) has(hint, it, 'a hint');
+    await goTo('#example=full_buffer&play', 'a Wait', () => turns().includes('Open \u2192 Wait') && turns().includes('S1 \u2192 S3'));
+    is(at('ladder').querySelectorAll('.used.timer').length > 5, true, 'the timer is drawn');
+}
+
+async function whatIf() {
+    await goTo('#example=one_packet&play', 'an example', () => at('last').textContent.includes('show'));
+    const before = at('text').value, isWhole = () => at('last').textContent.includes('delivered=1')
+        && at('last').textContent.includes('outstanding=0');
+    click(arrow(0).querySelector('.reach'));
+    is([lines().includes('up lose'), lines().filter((it) => it === 'send').length], [true, 2], 'a frame is lost and sent again');
+    is([turns().includes('S1 \u2192 S2') || lines().includes('tick'), isWhole()], [true, true], 'what follows');
+    click(arrow(0).querySelector('.reach'));
+    is([lines().includes('up lose'), isWhole()], [false, true], 'it arrives again');
+    at('undo').click();
+    at('undo').click();
+    is(at('text').value, before, 'the script after two times Undo');
+    click(at('ladder').querySelector('[data-step="2"] .place'));
+    is(at('last').textContent.includes(': send'), true, 'a click on a row goes there');
+    click(at('ladder').querySelector('[data-sent] circle'));
+    is([lines().includes('up lose'), isWhole()], [true, true], 'a frame in transit is lost');
+    at('undo').click();
+    at('step').click();
+    press('l');
+    is(lines().includes('up lose'), true, 'the key L');
+}
+
+// 5: large scripts.
+
+async function large() {
+    let text = 'init none\n';
+    for (let k = 0; k < 6250; k++) {
+        const count = (0xc000 + k % 16384).toString(16).toUpperCase();
+        text += `submit 4 1005${count}0000AA\nsend\nup deliver\nsend\ntake\nreport\ndown deliver\n${k % 5 ? '# a remark' : 'tick'}\n`;
+    }
+    const times = slowness(), begun = performance.now(), isThere = (it) => at('last').textContent.startsWith(`Line ${it}`);
+    const longest = await longestWait(async () => {
+        drop('large.script', text);
+        await until('50,001 lines are played', () => isThere(50000) || isThere(50001));
+    });
+    const opened = performance.now() - begun;
+    is(opened < 2000 * times ? 0 : [opened, times], 0, 'milliseconds to open and play 50,001 lines');
+    is(longest < 500 * times ? 0 : [longest, times], 0, 'the longest wait meanwhile');
+    is(at('lines').children.length < 500 && at('ladder').querySelectorAll('*').length < 5000, true, 'what is drawn');
+    for (const name of ['back', 'back', 'step', 'first', 'step', 'end', 'back']) {
+        const from = performance.now();
+        at(name).click();
+        const took = performance.now() - from;
+        is(took < 50 * times ? 0 : [took, times], 0, `milliseconds of ${name}`);
+    }
+    const from = performance.now();
+    document.querySelector('[data-line="tick"]').click();
+    is(performance.now() - from < 200 * times, true, 'an event in a large script');
+    at('ladder').scrollTop = at('ladder').scrollHeight / 2;
+    at('list').scrollTop = at('list').scrollHeight / 2;
+    await until('the middle is drawn', () => lines().length > 0 && at('ladder').querySelector('[data-step="20000"], [data-step="22000"]'));
+    await until('no script is in the address', () => location.hash.startsWith('#long='));
+    await own();
+}
+
+// 8: as it is seen and heard.
+
+function luminance(colour) {
+    const it = colour.length === 4 ? colour.replace(/[^#]/g, '$&$&') : colour;
+    const [r, g, b] = [1, 3, 5].map((k) => parseInt(it.slice(k, k + 2), 16) / 255)
+        .map((part) => (part <= 0.03928 ? part / 12.92 : ((part + 0.055) / 1.055) ** 2.4));
+    return 0.2126 * r + 0.7152 * g + 0.0722 * b;
+}
+
+function contrasts() {
+    const rules = [...document.styleSheets[0].cssRules], light = rules.find((it) => it.selectorText === ':root');
+    const dark = rules.find((it) => it.conditionText?.includes('dark')).cssRules[0];
+    for (const { style } of [light, dark]) {
+        const of = (name) => luminance(style.getPropertyValue(`--${name}`).trim());
+        const between = (one, other) => (Math.max(of(one), of(other)) + 0.05) / (Math.min(of(one), of(other)) + 0.05);
+        for (const name of ['edge', 'end', 'line', 'mark', 'focus']) is(between(name, 'back') >= 3 ? '' : name, '', 'a border of 3:1');
+        for (const name of ['ink', 'quiet', 'lost', 'good', 's1', 's2', 's3', 's4', 's5', 's6', 'm2']) {
+            is(between(name, 'back') >= 4.5 ? '' : name, '', 'text of 4.5:1');
+        }
+    }
+}
+
+async function names() {
+    const all = [...at('events').querySelectorAll('button')].map((it) => it.getAttribute('aria-label') ?? it.textContent);
+    is(new Set(all).size, all.length, 'the names of the event buttons');
+    await goTo('#example=lost_frame&line=3', 'an example', () => at('last').textContent.startsWith('Line 3'));
+    at('play').click();
+    is(at('play').getAttribute('aria-pressed'), 'true', 'Play is pressed');
+    at('play').click();
+    is(at('play').getAttribute('aria-pressed'), 'false', 'Play is not pressed');
+    const print = [...document.styleSheets[0].cssRules].find((it) => it.conditionText === 'print').cssText;
+    for (const it of ['nav', '#events', '#ladder']) has(print, it, 'the rules of print');
+}
+
+async function still() {
+    const { scrollingElement: page } = document;
+    await goTo('#example=lost_frame&line=1', 'an example', () => at('step').getAttribute('aria-disabled') === 'false');
+    at('first').click();
+    const seen = () => ['list', 'ladder', 'fop', 'events', 'states'].map((it) => Math.round(at(it).getBoundingClientRect().top));
+    const before = seen();
+    while (at('step').getAttribute('aria-disabled') === 'false') {
+        at('step').click();
+        is(seen(), before, `the panels after ${at('last').textContent}`);
+    }
+    for (const name of ['to-captures', 'to-choosing', 'to-scripts']) {
+        at(name).click();
+        is([page.scrollHeight <= innerHeight, page.scrollWidth <= innerWidth], [true, true], `no scrollbar after ${name}`);
+    }
+}
+
+const ACTS = {
+    'what is typed stays, and the cause of an unreadable line is that of the command': typing,
+    'an unreadable script in the address': unreadableAddress,
+    'Undo, and a button whose line is unreadable': undoing,
+    'a script that is dropped': droppedScript,
+    'the address follows the script and the line': addresses,
+    'the files Script, SVG and PNG': files,
+    'the states on the ladder, and hints': states,
+    'what if a frame is lost': whatIf,
+    'a script of 50,000 lines': large,
+    'contrast': contrasts,
+    'names, pressed buttons and print': names,
+    'no scrollbar, and panels that stay': still,
+};
+
+// Keeps what the page saves.
+function keepFiles() {
+    const parts = new Map(), { createObjectURL } = URL;
+    URL.createObjectURL = (part) => {
+        const address = createObjectURL.call(URL, part);
+        parts.set(address, part);
+        return address;
+    };
+    HTMLAnchorElement.prototype.click = function noted() {
+        saved.push({ name: this.download, part: parts.get(this.href) });
+    };
+}
+
+async function act() {
+    const said = [];
+    for (const [name, does] of Object.entries({ ...ACTS, ...globalThis.MORE_ACTS })) {
+        try {
+            await does();
+            said.push(`${name}: passed`);
+        } catch (error) {
+            said.push(`${error.message}\n${name}: failed`);
+        }
+    }
+    const shown = document.createElement('pre');
+    shown.id = 'acts';
+    shown.textContent = said.join('\n');
+    document.body.replaceChildren(shown);
+}
+
+const wait = setInterval(() => {
+    if (at('version').textContent === '') return;
+    clearInterval(wait);
+    keepFiles();
+    act();
+}, 50);

@@ -1,0 +1,294 @@
+// The scripts: a script is played line by line, and what is shown is that of the line played last.
+import { eventOf, octetsOf } from '../link.mjs';
+import { Ladder } from './ladder.mjs';
+import { List } from './list.mjs';
+import { decoded, make, showMachines, showPromises, showTransit } from './panels.mjs';
+import { lostInTransit, swapped } from './plan.mjs';
+import { Player } from './player.mjs';
+import { promisesOf } from './promises.mjs';
+import { Runner } from './runner.mjs';
+import { placeOf } from './script.mjs';
+import { pictureOf, pngOf, save, scriptPart } from './share.mjs';
+import { KINDS } from './words.mjs';
+
+const PACE = 700, LONG = 90, LONGEST_EDITED = 200000, TURN = 100;
+const at = (name) => document.getElementById(name);
+const cut = (text, most = LONG) => (text.length > most ? `${text.slice(0, most)}..` : text);
+
+export class Page {
+    constructor(calls, made) {
+        Object.assign(this, { calls, made, player: new Player(calls), undone: [], text: '', runner: new Runner() });
+        Object.assign(this, { ladder: new Ladder(at('ladder'), calls, made), list: new List(at('list'), at('lines')) });
+    }
+
+    // Does something, and says what is wrong with it, if anything is.
+    attempt(act) {
+        try {
+            act();
+            this.complain(this.broken);
+        } catch (error) {
+            this.pause();
+            this.complain(error.message);
+        }
+    }
+
+    complain(words) {
+        at('fault').textContent = words === undefined ? '' : cut(words, 3 * LONG);
+        at('fault').hidden = words === undefined;
+    }
+
+    // Takes a script, and plays a number of its lines; whether it can be read. Where it cannot, this is said until it
+    // can be, and what is shown stays that of the script before.
+    open(text, count) {
+        this.pause();
+        this.text = text;
+        this.broken = undefined;
+        this.attempt(() => this.take(text));
+        if (this.broken === undefined) this.attempt(() => this.goTo(count));
+        else this.complain(this.broken);
+        return this.broken === undefined;
+    }
+
+    take(text) {
+        const { script } = this.player;
+        try {
+            this.player.load(text);
+            at('line').max = this.player.rows.length;
+        } catch (error) {
+            const [, number, line = ''] = error.message.match(/^line (\d+) is unreadable: ([^]*)$/) ?? [];
+            const what = number === undefined ? error.message : `line ${number} is unreadable: ${cut(line, 30)}`;
+            this.break(what, '', script !== undefined);
+            if (number !== undefined) this.explain(text, what, script !== undefined);
+        }
+    }
+
+    break(what, cause, isBefore) {
+        this.broken = `${what}${cause && `: ${cause}`}${isBefore ? '. What is shown is the script before.' : ''}`;
+    }
+
+    // The cause for which a script is unreadable, as the command has it.
+    async cause(text) {
+        const asked = { words: ['sim', 'script'], file: new File([text], 'script') };
+        const { said } = await this.runner.run(asked, () => {});
+        return said.match(/^tctool: line \d+: unreadable\ntctool: (.*)$/m)?.[1] ?? '';
+    }
+
+    async explain(text, what, isBefore) {
+        const cause = await this.cause(text);
+        if (this.text !== text || this.broken === undefined) return;
+        this.break(what, cause, isBefore);
+        this.complain(this.broken);
+    }
+
+    // Takes a text for another one, which *Undo* brings back.
+    replace(text, name, count) {
+        if (this.text !== '' && this.text !== text) {
+            this.undone.push({ text: this.text, name: at('example').value, count: this.player.at });
+        }
+        at('undo').setAttribute('aria-disabled', this.undone.length === 0);
+        at('example').value = name;
+        this.text = text;
+        this.write();
+        return this.open(text, count);
+    }
+
+    undo() {
+        const before = this.undone.pop();
+        if (before === undefined) return;
+        this.text = '';
+        this.replace(before.text, before.name, before.count);
+    }
+
+    // The text is in its field, unless it is too long for a field.
+    write() {
+        const isLong = this.text.length > LONGEST_EDITED;
+        at('text').disabled = isLong;
+        at('text').value = isLong ? 'This script is too long to be edited here: save it, edit it, and drop the file here.' : this.text;
+    }
+
+    // Takes an example; under no name, the script as it is, whose field is shown.
+    choose(name, count) {
+        const example = this.made.examples[name];
+        at('own').open = example === undefined;
+        this.replace(example ?? this.text, example === undefined ? '' : name, count);
+    }
+
+    // The script has been typed.
+    edit() {
+        at('example').value = '';
+        this.open(at('text').value, this.player.at);
+    }
+
+    // Plays up to a number of lines, and shows them. Where they are many, the page can be used meanwhile.
+    goTo(count) {
+        clearTimeout(this.turn);
+        const { player } = this, begun = performance.now();
+        if (player.script === undefined) throw new Error(this.broken);
+        const wanted = Math.max(0, Math.min(count, player.events.length));
+        do player.goTo(Math.min(wanted, Math.max(player.at, player.steps.length) + 1000));
+        while (player.at < wanted && performance.now() - begun < TURN);
+        if (player.at === wanted) {
+            this.show();
+            return;
+        }
+        at('last').textContent = `${player.at} of ${player.events.length} lines are played ..`;
+        this.turn = setTimeout(() => this.attempt(() => this.goTo(count)));
+    }
+
+    move(count) {
+        this.pause();
+        this.attempt(() => this.goTo(count));
+    }
+
+    // Plays up to a line of the script.
+    runTo(line) {
+        if (this.player.script !== undefined) this.move(placeOf(this.player.lines, line));
+    }
+
+    show(row) {
+        const { player } = this, { last } = player;
+        this.list.show(player);
+        this.ladder.show(player, row);
+        showMachines(at('fop'), at('farm'), last, this.made);
+        showTransit(at('transit'), this.calls, player.inTransit(last));
+        showPromises(at('promises'), promisesOf(this.calls, last));
+        this.tell(player.at, last);
+        this.tellAddress();
+    }
+
+    tell(count, last) {
+        const { length } = this.player.events, line = this.player.lines[count - 1] + 1;
+        at('last').textContent = count === 0 ? `Nothing is played of ${length} lines.`
+            : `Line ${line}, ${count} of ${length}: ${cut(last.line)} \u2014 ${cut(last.answer)}`;
+        const [way, what] = last.line?.split(' ') ?? [], isFrame = way === 'up' || way === 'down';
+        const isOver = { first: count === 0, back: count === 0, step: count === length, end: count === length, swap: !isFrame };
+        for (const [name, is] of Object.entries(isOver)) at(name).setAttribute('aria-disabled', is);
+        at('swap').textContent = what === 'lose' ? 'Deliver it' : 'Lose it';
+        if (count > 0) at('line').value = line;
+    }
+
+    play() {
+        const isPlaying = this.timer !== undefined;
+        this.pause();
+        if (isPlaying) return;
+        at('play').setAttribute('aria-pressed', true);
+        this.timer = setInterval(() => {
+            this.attempt(() => this.goTo(this.player.at + 1));
+            if (this.player.at === this.player.events?.length) this.pause();
+        }, PACE);
+    }
+
+    pause() {
+        clearInterval(this.timer);
+        clearTimeout(this.turn);
+        this.timer = undefined;
+        at('play').setAttribute('aria-pressed', false);
+    }
+
+    // Puts a line after the one that was played last, or before the first one, and plays it.
+    insert(template) {
+        if (this.broken !== undefined) return;
+        const fields = { MAP: at('map').value, OCTETS: at('octets').value.trim() || '-', X: at('number').value };
+        const { player } = this, { at: count, lines } = player, line = template.replace(/MAP|OCTETS|X$/g, (it) => fields[it]);
+        const rows = player.text === '' ? [] : player.text.replace(/\n$/, '').split('\n');
+        rows.splice(count > 0 ? lines[count - 1] + 1 : lines[0] ?? rows.length, 0, line);
+        if (eventOf(line) === null) this.refuse(line);
+        else if (this.replace(`${rows.join('\n')}\n`, '', count + 1) && /^(submit|bypass)/.test(line)) this.nextPacket();
+    }
+
+    // A line that is not put into the script, since it is unreadable.
+    async refuse(line) {
+        const what = `This line is unreadable: ${cut(line, 30)}`, cause = await this.cause(line);
+        this.complain(`${what}${cause && `: ${cause}`}`);
+    }
+
+    // The frame of a step meets the other end, and the rest is planned again; its row stays in sight.
+    swap(k) {
+        if (this.broken !== undefined) return;
+        const text = swapped(this.player, k);
+        if (text !== null) this.plan(text, k);
+    }
+
+    // The frame in transit that a step sent is lost.
+    lose(k) {
+        if (this.broken === undefined) this.plan(lostInTransit(this.player, k), k);
+    }
+
+    plan(text, row) {
+        this.replace(text, '', Infinity);
+        this.ladder.show(this.player, row);
+    }
+
+    // A click on an arrow, on one in transit, or on a row of the ladder.
+    click(target) {
+        const frame = target.closest('[data-gone]'), sent = target.closest('[data-sent]'), row = target.closest('[data-step]');
+        if (frame) this.swap(Number(frame.dataset.gone));
+        else if (sent) this.lose(Number(sent.dataset.sent));
+        else if (row) this.move(Number(row.dataset.step) + 1);
+    }
+
+    // The address of what is shown; null where the script is too long for one.
+    async address() {
+        const { player } = this, name = at('example').value, line = player.at > 0 ? `&line=${player.lines[player.at - 1] + 1}` : '';
+        if (this.part?.text !== player.text) this.part = { text: player.text, is: name === '' && scriptPart(player.text) };
+        const part = name === '' ? await (this.part.is || scriptPart(player.text)) : `example=${name}`;
+        return part === null ? null : `#${part}${line}`;
+    }
+
+    // The address bar has it, a little later, since browsers bound how often it changes.
+    tellAddress() {
+        clearTimeout(this.telling);
+        const telling = this.telling = setTimeout(async () => {
+            const address = await this.address(), { length } = this.player.events;
+            if (telling !== this.telling || at('scripts').hidden || this.broken !== undefined) return;
+            history.replaceState(null, '', address ?? `#long=${length}`);
+        }, 300);
+    }
+
+    // What the address says is taken now, and it does not change before.
+    keepAddress() {
+        clearTimeout(this.telling);
+        this.telling = undefined;
+    }
+
+    async copyLink() {
+        const address = await this.address();
+        let said = 'Too long: save Script';
+        if (address !== null) {
+            history.replaceState(null, '', address);
+            said = await navigator.clipboard?.writeText(location.href).then(() => 'Copied', () => null) ?? 'In the address bar';
+        }
+        at('link').textContent = said;
+        setTimeout(() => { at('link').textContent = 'Copy link'; }, 2500);
+    }
+
+    saveScript() {
+        save(`${at('example').value || 'own'}.script`, 'text/plain', this.text);
+    }
+
+    async savePicture(kind) {
+        const svg = this.ladder.whole(), text = pictureOf(svg), name = `${at('example').value || 'ladder'}.${kind}`;
+        const size = ['width', 'height'].map((it) => Number(svg.getAttribute(it)));
+        if (kind === 'svg') save(name, 'image/svg+xml', text);
+        else save(name, 'image/png', await pngOf(text, ...size));
+    }
+
+    // The packet in the field gets the next count.
+    nextPacket() {
+        const next = (_, head, count) => head + (0xc000 | parseInt(count, 16) + 1 & 0x3fff).toString(16).toUpperCase();
+        at('octets').value = at('octets').value.replace(/^([0-9A-F]{4})([CDEF][0-9A-F]{3})/i, next);
+    }
+
+    decode() {
+        const digits = at('pasted').value.replace(/\s/g, ''), octets = octetsOf(digits);
+        const [, read] = KINDS[at('kind').value], wrong = make('p', 'invalid', 'no pairs of hexadecimal digits');
+        at('decoded').replaceChildren(digits === '' ? '' : octets ? decoded(read(this.calls, octets)) : wrong);
+    }
+
+    // Draws again where there is another width.
+    resized() {
+        if (at('scripts').hidden || this.player.script === undefined || at('ladder').clientWidth === this.ladder.from) return;
+        this.list.show(this.player);
+        this.ladder.show(this.player);
+    }
+}

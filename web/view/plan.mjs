@@ -1,0 +1,96 @@
+// What if: a frame is lost where it arrived, or arrives where it was lost, and the rest of the script is planned again.
+// Its lines stay where they still do something; lines that find nothing go; and at last the link is driven until all
+// is acknowledged, or an alert ends the session. What is sent again follows from the machines alone.
+import { numbers as n } from '../sedgechisel.mjs';
+import { eventOf } from '../link.mjs';
+import { Player } from './player.mjs';
+
+const ROUNDS = 64, MOST = 5000; // rounds, and lines, that are added at most
+
+// Plays lines one after another on a link of its own, and keeps those that do something.
+class Planner {
+    constructor(calls, rows) {
+        this.player = new Player(calls);
+        this.player.load(rows.join('\n'));
+        this.player.goTo(Infinity);
+        this.rows = rows;
+        this.added = 0;
+    }
+
+    get now() {
+        return this.player.final;
+    }
+
+    isWaiting(way) {
+        const [first, next] = this.now[way];
+        return first < next;
+    }
+
+    // Adds a line, unless it finds nothing or is refused, which changes nothing; whether it did.
+    add(line, wasRefused = false) {
+        const [way] = line.split(' '), isEmpty = (way === 'up' || way === 'down') && !this.isWaiting(way);
+        if (isEmpty || this.added === MOST) return false;
+        const { player } = this, event = eventOf(line), step = player.step({ line, event });
+        if (step.answer === 'nothing' || (step.answer.startsWith('refused') && !wasRefused)) return false;
+        player.steps.push(step);
+        this.rows.push(line);
+        this.added++;
+        return true;
+    }
+
+    // Sends what is to be sent, delivers it and the report on it, and waits for the timer if that changes nothing.
+    round() {
+        const before = JSON.stringify(this.now.after.fop);
+        while (this.add('send'));
+        while (this.add('up deliver'));
+        while (this.now.after.farm.wait && this.add('take'));
+        if (!this.isWaiting('down')) this.add('report');
+        while (this.add('down deliver'));
+        if (JSON.stringify(this.now.after.fop) !== before) return;
+        for (let { ticks } = this.now.after.fop; ticks > 0 && this.add('tick'); ticks--);
+    }
+
+    get isSettled() {
+        const { fop } = this.now.after, isOver = fop.state === n.SEDGE_FOP_S6;
+        const isDone = fop.state === n.SEDGE_FOP_S1 && fop.outstanding === 0 && fop.bypass === 0;
+        return (isOver || isDone) && !this.isWaiting('up') && !this.isWaiting('down');
+    }
+
+    settle() {
+        for (let k = 0; k < ROUNDS && this.added < MOST && !this.isSettled; k++) this.round();
+    }
+
+    end() {
+        this.player.link.close();
+        return `${this.rows.join('\n')}\n`;
+    }
+}
+
+// The text of a script that begins with some rows, and goes on with the steps of another one from a place on.
+function planned({ calls, steps, events }, rows, from) {
+    const planner = new Planner(calls, rows), rest = events.slice(from, from + MOST).map(({ line }) => line);
+    const isShown = rest.includes('show');
+    rest.forEach((line, k) => line === 'show' || planner.add(line, steps[from + k]?.answer.startsWith('refused')));
+    planner.settle();
+    if (isShown) planner.add('show');
+    return planner.end();
+}
+
+// The script in which the frame of a step meets the other end; null where the step has none.
+export function swapped(player, k) {
+    const [way, what] = player.events[k]?.line.split(' ') ?? [];
+    if (way !== 'up' && way !== 'down') return null;
+    const rows = player.rows.slice(0, player.lines[k]);
+    return planned(player, [...rows, `${way} ${what === 'lose' ? 'deliver' : 'lose'}`], k + 1);
+}
+
+// The script in which the frame that a step sent, and that is in transit, is lost, after those before it have arrived.
+export function lostInTransit(player, k) {
+    const way = player.steps[k].sent.word ? 'down' : 'up', [first] = player.last[way];
+    const place = player.ways[way].indexOf(player.steps[k].sent, first), count = place - first + 1;
+    const rows = player.rows.slice(0, player.lines[player.at - 1] + 1);
+    let left = count;
+    const events = player.events.slice(player.at).filter(({ line }) => !(line.startsWith(`${way} `) && left-- > 0));
+    const lost = [...Array(count - 1).fill(`${way} deliver`), `${way} lose`];
+    return planned({ calls: player.calls, steps: [], events }, [...rows, ...lost], 0);
+}
