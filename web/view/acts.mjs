@@ -60,7 +60,7 @@ function slowness() {
     const begun = performance.now();
     let it = 1;
     for (let k = 0; k < 2e7; k++) it = Math.imul(it, 31) + k | 0;
-    return Math.max(1, (performance.now() - begun) / 40 + (it === 0 ? 1 : 0));
+    return Math.max(1, (performance.now() - begun) / 30 + (it === 0 ? 1 : 0));
 }
 
 // The longest time for which the page did nothing else while something was done.
@@ -206,12 +206,15 @@ async function large() {
         text += `submit 4 1005${count}0000AA\nsend\nup deliver\nsend\ntake\nreport\ndown deliver\n${k % 5 ? '# a remark' : 'tick'}\n`;
     }
     const times = slowness(), begun = performance.now(), isThere = (it) => at('last').textContent.startsWith(`Line ${it}`);
+    let opened;
     const longest = await longestWait(async () => {
         drop('large.script', text);
+        await until('50,001 lines are opened', () => lines().length > 100 && at('line').max === '50002');
+        opened = performance.now() - begun;
         await until('50,001 lines are played', () => isThere(50000) || isThere(50001));
     });
-    const opened = performance.now() - begun;
-    is(opened < 2000 * times ? 0 : [opened, times], 0, 'milliseconds to open and play 50,001 lines');
+    is(opened < 2000 * times ? 0 : [opened, times], 0, 'milliseconds to open 50,001 lines');
+    is(performance.now() - begun < 20000 * times ? 0 : [performance.now() - begun, times], 0, 'milliseconds to play them');
     is(longest < 500 * times ? 0 : [longest, times], 0, 'the longest wait meanwhile');
     is(at('lines').children.length < 500 && at('ladder').querySelectorAll('*').length < 5000, true, 'what is drawn');
     for (const name of ['back', 'back', 'step', 'first', 'step', 'end', 'back']) {
@@ -310,18 +313,19 @@ function keepFiles() {
 
 async function act() {
     const said = [];
-    for (const [name, does] of Object.entries({ ...ACTS, ...globalThis.MORE_ACTS })) {
+    for (const [name, does] of Object.entries(globalThis.CAPTURE_ACTS ?? ACTS)) {
         try {
             await does();
             said.push(`${name}: passed`);
         } catch (error) {
             said.push(`${error.message}\n${name}: failed`);
         }
+        document.title = said.join('\n');
     }
     const shown = document.createElement('pre');
     shown.id = 'acts';
     shown.textContent = said.join('\n');
-    document.body.replaceChildren(shown);
+    at('scripts').before(shown);
 }
 
 const wait = setInterval(() => {

@@ -127,10 +127,8 @@ export class Page {
         const wanted = Math.max(0, Math.min(count, player.events.length));
         do player.goTo(Math.min(wanted, Math.max(player.at, player.steps.length) + 1000));
         while (player.at < wanted && performance.now() - begun < TURN);
-        if (player.at === wanted) {
-            this.show();
-            return;
-        }
+        if (player.at === wanted || this.shown !== player.script) this.show();
+        if (player.at === wanted) return;
         at('last').textContent = `${player.at} of ${player.events.length} lines are played ..`;
         this.turn = setTimeout(() => this.attempt(() => this.goTo(count)));
     }
@@ -147,6 +145,7 @@ export class Page {
 
     show(row) {
         const { player } = this, { last } = player;
+        this.shown = player.script;
         this.list.show(player);
         this.ladder.show(player, row);
         showMachines(at('fop'), at('farm'), last, this.made);

@@ -5,6 +5,8 @@ import assert from 'node:assert/strict';
 import { readFileSync } from 'node:fs';
 import { load, numbers as n } from '../sedgechisel.mjs';
 import { Link, octetsOf } from '../link.mjs';
+import { choices, expected } from './choosing.mjs';
+import { swapped } from './plan.mjs';
 import { Player } from './player.mjs';
 import { promisesOf } from './promises.mjs';
 import { KINDS } from './words.mjs';
@@ -136,6 +138,42 @@ function keepsSteps(text) {
     for (const { link } of [player, whole]) link.close();
 }
 
+// What if each frame of a script met the other end: what comes before is as it was, and at last all is acknowledged and
+// delivered, or an alert has ended the session.
+function whatIf(file) {
+    const player = new Player(calls), other = new Player(calls);
+    player.load(readFileSync(file, 'latin1'));
+    player.goTo(Infinity);
+    assert.equal(swapped(player, player.events.findIndex(({ line }) => line === 'send')), null);
+    player.steps.forEach(({ line, gone }, k) => {
+        if (!gone) return;
+        other.load(swapped(player, k));
+        other.goTo(Infinity);
+        const said = `${file}: ${line}, line ${player.lines[k] + 1}`, { up, down } = other.inTransit(other.final);
+        assert.deepEqual(other.rows.slice(0, player.lines[k]), player.rows.slice(0, player.lines[k]), said);
+        assert.equal(other.events[k].line, `${line.split(' ')[0]} ${line.endsWith('lose') ? 'deliver' : 'lose'}`, said);
+        assert.deepEqual([up, down], [[], []], said);
+        const { fop } = other.final.after;
+        assert.ok(fop.state === n.SEDGE_FOP_S6 || (fop.state === n.SEDGE_FOP_S1 && fop.outstanding === 0), said);
+        checkPromises(other);
+    });
+    for (const { link } of [player, other]) link.close();
+}
+
+// The formulas are those by which bench/choose made the table of docs/CHOOSING.md.
+function formulas() {
+    const text = readFileSync('docs/CHOOSING.md', 'utf8'), link = { rate: 4000, octets: 64, trip: 2, clcw: 1, tick: 1 };
+    const it = { ...link, loss: 0.03, down: 0, packets: 1000 }, by = choices(it);
+    assert.ok(text.includes(`by the formulas: window=${by.window} timer=${by.timer} limit=${by.limit} `));
+    assert.ok(text.includes(`a frame takes ${by.frame} s; the longest round trip ${by.longest} s, or ${by.count} frames`));
+    const rows = [...text.matchAll(/^\| `window` (\d+) \|(.*)\|$/gm)];
+    assert.equal(rows.length, 4);
+    for (const [, window, cells] of rows) {
+        const [, , time, , carried] = cells.split('|').map((cell) => cell.trim()), wanted = expected(it, Number(window), by.count);
+        assert.deepEqual([wanted.time.toFixed(2), wanted.carried.toFixed(2)], [time, carried]);
+    }
+}
+
 function plays(file) {
     const player = new Player(calls), seen = [];
     player.load(readFileSync(file, 'latin1'));
@@ -207,7 +245,9 @@ function reads() {
 
 reads();
 uncleanSession();
+formulas();
 for (const file of files) plays(file);
+for (const file of files.filter((it) => it.endsWith('.script'))) whatIf(file);
 keepsSteps(readFileSync('examples/lost_frame.script', 'latin1'));
 keepsSteps(readFileSync(files.at(-1), 'latin1').split('\n').slice(0, 1500).join('\n'));
 console.log('all as wanted');
