@@ -205,13 +205,15 @@ async function large() {
         const count = (0xc000 + k % 16384).toString(16).toUpperCase();
         text += `submit 4 1005${count}0000AA\nsend\nup deliver\nsend\ntake\nreport\ndown deliver\n${k % 5 ? '# a remark' : 'tick'}\n`;
     }
+    const digits = Array.from({ length: 60000 }, () => Math.floor(16 * Math.random()).toString(16)).join('');
+    text = `# ${digits}\n${text}`; // which no compression makes short enough for an address
     const times = slowness(), begun = performance.now(), isThere = (it) => at('last').textContent.startsWith(`Line ${it}`);
     let opened;
     const longest = await longestWait(async () => {
         drop('large.script', text);
-        await until('50,001 lines are opened', () => lines().length > 100 && at('line').max === '50002');
+        await until('50,001 lines are opened', () => lines().length > 100 && at('line').max === '50003');
         opened = performance.now() - begun;
-        await until('50,001 lines are played', () => isThere(50000) || isThere(50001));
+        await until('50,001 lines are played', () => isThere(50001));
     });
     is(opened < 2000 * times ? 0 : [opened, times], 0, 'milliseconds to open 50,001 lines');
     is(performance.now() - begun < 20000 * times ? 0 : [performance.now() - begun, times], 0, 'milliseconds to play them');
@@ -225,7 +227,8 @@ async function large() {
     }
     const from = performance.now();
     document.querySelector('[data-line="tick"]').click();
-    is(performance.now() - from < 200 * times, true, 'an event in a large script');
+    const took = performance.now() - from, most = 500 * slowness();
+    is(took < most ? 0 : [took, most], 0, 'milliseconds of an event in a large script');
     at('ladder').scrollTop = at('ladder').scrollHeight / 2;
     at('list').scrollTop = at('list').scrollHeight / 2;
     await until('the middle is drawn', () => lines().length > 0 && at('ladder').querySelector('[data-step="22500"]'));
