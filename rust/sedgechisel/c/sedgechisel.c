@@ -223,12 +223,13 @@ static const unsigned char constant_1[81] = {
 };
 
 /* Of sedge_alert_advice_at. */
-static const unsigned char constant_2[107] = {
+static const unsigned char constant_2[141] = {
     102, 114, 97, 109, 101, 115, 32, 111, 114, 32, 67, 76, 67, 87, 115, 32, 119, 101, 114, 101, 32, 108, 111, 115,
-    116, 58, 32, 97, 102, 116, 101, 114, 32, 97, 32, 115, 105, 108, 101, 110, 116, 32, 114, 111, 117, 110, 100, 32,
-    116, 114, 105, 112, 44, 32, 114, 101, 115, 117, 109, 101, 32, 98, 121, 32, 97, 32, 110, 101, 119, 101, 114, 32,
-    67, 76, 67, 87, 44, 32, 105, 102, 32, 116, 104, 101, 32, 98, 111, 111, 116, 32, 99, 111, 117, 110, 116, 32, 105,
-    115, 32, 116, 104, 101, 32, 115, 97, 109, 101
+    116, 32, 111, 114, 32, 108, 97, 116, 101, 44, 32, 111, 114, 32, 116, 104, 101, 32, 98, 111, 97, 114, 100, 32, 104,
+    97, 115, 32, 110, 111, 32, 114, 111, 111, 109, 58, 32, 97, 102, 116, 101, 114, 32, 97, 32, 115, 105, 108, 101,
+    110, 116, 32, 114, 111, 117, 110, 100, 32, 116, 114, 105, 112, 44, 32, 114, 101, 115, 117, 109, 101, 32, 98, 121,
+    32, 97, 32, 110, 101, 119, 101, 114, 32, 67, 76, 67, 87, 44, 32, 105, 102, 32, 116, 104, 101, 32, 98, 111, 111,
+    116, 32, 99, 111, 117, 110, 116, 32, 105, 115, 32, 116, 104, 101, 32, 115, 97, 109, 101
 };
 
 /* Of sedge_alert_advice_at. */
@@ -1410,9 +1411,9 @@ static void sedge_alert_advice_at(uint64_t result, uint32_t alert)
         break;
     case SEDGE_ALERT_LIMIT:
     case SEDGE_ALERT_TIMER:
-        v4 = v2 + 267;
+        v4 = v2 + 301;
         v5 = address(constant_2);
-        v3 = 107;
+        v3 = 141;
         break;
     case SEDGE_ALERT_TERMINATED:
         break;
@@ -2443,8 +2444,8 @@ l4:;
 static uint32_t sedge_tm_decode_at(uint64_t octets, uint64_t count, uint64_t length, uint64_t frame, uint64_t data)
 {
     unsigned char frame_octets[48 + 15];
-    uint32_t v6, v7, v8, v9, v10, v11, v12;
-    uint64_t v5, v2;
+    uint32_t new_ocf, new_pointer, new_vc_count, new_mc_count, new_vcid, new_scid, v12;
+    uint64_t v5, new_count;
     v5 = aligned(frame_octets);
     put64(v5 + 40, 0);
     put64(v5 + 32, 0);
@@ -2457,31 +2458,31 @@ static uint32_t sedge_tm_decode_at(uint64_t octets, uint64_t count, uint64_t len
         v12 = get8(v5 + 1) + 1;
         return v12 & 255;
     }
-    v6 = get32(v5 + 40);
-    v2 = get64(v5 + 32);
-    v7 = get16(v5 + 16);
-    v8 = get8(v5 + 12);
-    v9 = get8(v5 + 11);
-    v10 = get8(v5 + 10);
-    v11 = get16(v5 + 8);
+    new_ocf = get32(v5 + 40);
+    new_count = get64(v5 + 32);
+    new_pointer = get16(v5 + 16);
+    new_vc_count = get8(v5 + 12);
+    new_mc_count = get8(v5 + 11);
+    new_vcid = get8(v5 + 10);
+    new_scid = get16(v5 + 8);
     switch ((uint32_t)(uint64_t)get8(v5 + 14)) {
     case 1:
-        v7 = 0x7ff;
+        new_pointer = 0x7ff;
         break;
     case 2:
-        v7 = 0x7fe;
+        new_pointer = 0x7fe;
         break;
     default:
         break;
     }
     put8(frame + 11, 0);
-    put32(frame + 7 /* ocf */, v6);
-    put8(frame + 6 /* vc_count */, v8);
-    put8(frame + 5 /* mc_count */, v9);
-    put8(frame + 4 /* vcid */, v10);
-    put16(frame + 2 /* pointer */, v7);
-    put16(frame /* scid */, v11);
-    put64(data + 8 /* count */, v2);
+    put32(frame + 7 /* ocf */, new_ocf);
+    put8(frame + 6 /* vc_count */, new_vc_count);
+    put8(frame + 5 /* mc_count */, new_mc_count);
+    put8(frame + 4 /* vcid */, new_vcid);
+    put16(frame + 2 /* pointer */, new_pointer);
+    put16(frame /* scid */, new_scid);
+    put64(data + 8 /* count */, new_count);
     put64(data /* from */, 6);
     return SEDGE_OK;
 }
@@ -2699,7 +2700,7 @@ static void sedge_version_at(uint64_t result)
 static uint32_t sedge_tc_encode_at(uint64_t frame, uint64_t data, uint64_t data_count, uint32_t checked, uint64_t out,
     uint64_t room, uint64_t total)
 {
-    uint32_t kind, flags, n, v12, v10, new_flags, map, scid, vcid, v8, new_flags_2, v11, v4, v5, v34;
+    uint32_t kind, flags, n, v12, v10, v13, map, scid, vcid, v8, v9, v11, v4, v5, v34;
     uint64_t data_count_now, v2, v16, v3, v17, v18, v6, v19, v21, v20, v22, v23, v24, v25, v26, v27, v28, v29, v30,
         v31, v32, v33;
     data_count_now = data_count;
@@ -2721,13 +2722,13 @@ static uint32_t sedge_tc_encode_at(uint64_t frame, uint64_t data, uint64_t data_
         v10 = get8(frame + 7 /* command */);
         n = v10;
         v2 = 0;
-        new_flags = v10;
+        v13 = v10;
         switch (v10) {
         case 0:
             goto l2;
         case 1:
             v10 = get8(frame + 8 /* vr */);
-            new_flags = SEDGE_SEGMENT_CONTINUING;
+            v13 = 0;
             v2 = 0;
             n = 1;
             data_count_now = 0;
@@ -2741,7 +2742,7 @@ static uint32_t sedge_tc_encode_at(uint64_t frame, uint64_t data, uint64_t data_
     }
     v2 = some(data);
     map = get8(frame + 6 /* map */);
-    new_flags = map + (flags << 6);
+    v13 = map + (flags << 6);
     v12 = map > 63;
     v10 = 0;
 l2:;
@@ -2755,7 +2756,7 @@ l2:;
         v8 = n & 255;
         v17 = ((v8 != 0) ? 4ULL : 2ULL) + (((checked & 1) != 0) ? 6ULL : 4ULL);
         if (room < v17) return SEDGE_TC_ROOM;
-        new_flags_2 = SEDGE_SEGMENT_CONTINUING;
+        v9 = 0;
         put8(v3 + 4, 0);
         put16(v3, (scid << 8) | ((scid | 0x3000) >> 8));
         v11 = ((uint32_t)v17 | (vcid << 10)) - 1;
@@ -2763,9 +2764,9 @@ l2:;
         if (v8 != 0) {
             put8(v3 + 7, v10);
             put8(v3 + 6, 0);
-            new_flags_2 = 130;
+            v9 = 130;
         }
-        put8(v3 + 5, new_flags_2);
+        put8(v3 + 5, v9);
         goto l9;
     }
     v4 = data_count_now == 0;
@@ -2779,7 +2780,7 @@ l2:;
     v18 = v3 + 6;
     v6 = v18 - v2;
     if (kind == SEDGE_TC_AD) {
-        put8(v3 + 5, new_flags);
+        put8(v3 + 5, v13);
         put8(v3 + 4, n);
         if (v6 >= data_count_now) {
             if (v4 != 0) goto l9;
@@ -2811,7 +2812,7 @@ l2:;
             } while (v19 != 0);
         }
     } else {
-        put8(v3 + 5, new_flags);
+        put8(v3 + 5, v13);
         put8(v3 + 4, 0);
         if (v6 >= data_count_now) {
             if (v4 == 0) copy(v18, v2, data_count_now);
