@@ -2,7 +2,7 @@
  * 32 to 64 bits. It is made by tools/portable_c of the program's object for wasm64, and not edited: change the program,
  * and make this anew.
  *
- * tools/sources_sum of the code that it was made of: 4029787714-1258273
+ * tools/sources_sum of the code that it was made of: 2261538007-1258459
  *
  * What is proved is the code as the prover has it, for 64 bits: the program writes what the contracts of its crates say
  * (docs/PROMISES.md). LLVM, which compiles that for wasm64, tools/program_module and tools/portable_c, which write this
@@ -426,6 +426,11 @@ HELPER uint64_t (lseek_at)(uint32_t file, uint64_t offset, uint32_t whence)
     (void)offset;
     (void)whence;
     return (uint64_t)tctool_end((int)file);
+}
+
+HELPER uint32_t (isatty_at)(uint32_t file)
+{
+    return (uint32_t)tctool_is_terminal((int)file);
 }
 
 /* ---- Constants. ---- */
@@ -21196,13 +21201,15 @@ LOCAL void tctool_noting_reason(uint64_t p0, uint32_t p1)
 LOCAL void tctool_explain(uint64_t p0, uint64_t p1, uint64_t p2, uint64_t p3)
 {
     unsigned char frame_octets[2512 + 15];
-    uint32_t v5 = 0, v6 = 0, t2, t3, t4, t6, t7;
+    uint32_t v5 = 0, v6 = 0, t1, t3, t4, t5, t7, t8;
     uint64_t v4 = 0, v7 = 0;
     v4 = aligned(frame_octets);
+    put64(v4 + 32, p1);
+    put64(v4 + 24, p0);
     put64(v4 + 16, 1);
     put64(v4 + 8, address(constant_113));
-    put64(v4 + 24, p0);
-    put64(v4 + 32, p1);
+    t1 = isatty_at(2);
+    if (t1 != 1) return;
     v5 = core_cmp_text_RefStrPartialEq_eq(v4 + 24, v4 + 8);
     put64(v4 + 2408, p3);
     put64(v4 + 2400, p2);
@@ -21221,60 +21228,55 @@ LOCAL void tctool_explain(uint64_t p0, uint64_t p1, uint64_t p2, uint64_t p3)
     put32(v4 + 0x914, 0);
     put64(v4 + 2328, ~0ULL);
     fill(v4 + 0x920, 0, 16);
-    p0 = get64(v4 + 2312);
+    p1 = get64(v4 + 2312);
     put32(v4 + 2312, 32);
-    p1 = get64(v4 + 2320);
+    p0 = get64(v4 + 2320);
     fill(v4 + 0x90c, 0, 12);
     put64(v4 + 2432, ~0ULL);
-    put64(v4 + 2424, p1);
-    put64(v4 + 2416, p0);
-    p0 = v4 + 0x498 + 0x470;
-    t2 = core_fmt_formatter_Formatter_write_piece_4792e67e40da9d69(v4 + 0x498, v4 + 0x930);
-    if ((t2 & 255) == 0) {
-        t3 = core_fmt_formatter_Formatter_write_piece_4792e67e40da9d69(v4 + 0x498, v4 + 0x940);
-        if ((t3 & 255) == 0) {
-            t4 = core_fmt_formatter_Formatter_write_piece_4792e67e40da9d69(v4 + 0x498, v4 + 0x950);
-            if ((t4 & 255) == 0) {
+    put64(v4 + 2424, p0);
+    put64(v4 + 2416, p1);
+    p1 = v4 + 0x498 + 0x470;
+    t3 = core_fmt_formatter_Formatter_write_piece_4792e67e40da9d69(v4 + 0x498, v4 + 0x930);
+    if ((t3 & 255) == 0) {
+        t4 = core_fmt_formatter_Formatter_write_piece_4792e67e40da9d69(v4 + 0x498, v4 + 0x940);
+        if ((t4 & 255) == 0) {
+            t5 = core_fmt_formatter_Formatter_write_piece_4792e67e40da9d69(v4 + 0x498, v4 + 0x950);
+            if ((t5 & 255) == 0) {
                 v6 = core_fmt_formatter_Formatter_write_piece_4792e67e40da9d69(v4 + 0x498, v4 + 0x960);
-                put64(p0 + 16, get64(v4 + 2432));
-                put64(p0 + 8, get64(v4 + 2424));
-                put64(p0, get64(v4 + 2416));
-                if ((v6 & 255) != 0) {
-                    copy(v4 + 40, v4 + 0x498, 0x470);
-                    std_io_io_buffer_Buffer_finish(v4 + 0x970, v4 + 40, v5);
-                    return;
-                }
-                p1 = get64(p0);
-                p3 = get64(p0 + 8);
-                p2 = get64(p0 + 16);
+                put64(p1 + 16, get64(v4 + 2432));
+                put64(p1 + 8, get64(v4 + 2424));
+                put64(p1, get64(v4 + 2416));
+                if ((v6 & 255) != 0) goto l2;
+                p0 = get64(p1);
+                p3 = get64(p1 + 8);
+                p2 = get64(p1 + 16);
                 v7 = v4 + 0x90c;
                 fill(v7, 0, 12);
                 put64(v4 + 2432, p2);
                 put64(v4 + 2424, p3);
-                put64(v4 + 2416, p1);
+                put64(v4 + 2416, p0);
                 put32(v4 + 2312, 32);
                 put64(v4 + 2328, ~0ULL);
                 if (get64(v4 + 2336) == 0) {
-                    t6 = std_io_io_buffer_BufferWrite_write_str(v4 + 0x498, address(constant_126), 1);
-                    v5 = t6 & 255;
-                } else {
-                    t7 = core_fmt_formatter_Formatter_write_indented_bf264aed5fa78656(v4 + 0x498,
-                        address(constant_126), 1);
+                    t7 = std_io_io_buffer_BufferWrite_write_str(v4 + 0x498, address(constant_126), 1);
                     v5 = t7 & 255;
+                } else {
+                    t8 = core_fmt_formatter_Formatter_write_indented_bf264aed5fa78656(v4 + 0x498,
+                        address(constant_126), 1);
+                    v5 = t8 & 255;
                 }
-                put64(p0 + 16, get64(v4 + 2432));
-                put64(p0 + 8, get64(v4 + 2424));
-                put64(p0, get64(v4 + 2416));
+                put64(p1 + 16, get64(v4 + 2432));
+                put64(p1 + 8, get64(v4 + 2424));
+                put64(p1, get64(v4 + 2416));
                 v5 = v5 == 0;
-                copy(v4 + 40, v4 + 0x498, 0x470);
-                std_io_io_buffer_Buffer_finish(v4 + 0x970, v4 + 40, v5);
-                return;
+                goto l2;
             }
         }
     }
-    put64(p0 + 16, get64(v4 + 2432));
-    put64(p0 + 8, get64(v4 + 2424));
-    put64(p0, get64(v4 + 2416));
+    put64(p1 + 16, get64(v4 + 2432));
+    put64(p1 + 8, get64(v4 + 2424));
+    put64(p1, get64(v4 + 2416));
+l2:;
     copy(v4 + 40, v4 + 0x498, 0x470);
     std_io_io_buffer_Buffer_finish(v4 + 0x970, v4 + 40, v5);
     return;
