@@ -1045,7 +1045,7 @@ static void control_frames_without_data(void) {
     static const uint8_t data[300] = {1};
     static const uint8_t *const wanted[] = {UNLOCK_FRAME, SET_SEVEN};
     for (uint8_t command = SEDGE_UNLOCK; command <= SEDGE_SET_VR; command++) {
-        struct sedge_tc_frame frame = {0};
+        struct sedge_tc_frame frame;
         struct sedge_tc_frame read;
         struct sedge_part part;
         uint8_t octets[400];

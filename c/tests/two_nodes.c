@@ -112,7 +112,7 @@ int main(int count, char **words) {
         config.ready_slots = 8;
         config.bypass_slots = 2;
         config.frame_length = FRAME;
-        want(sedge_spacecraft_open(&config, &nodes[k]) == 0, "open");
+        want(sedge_spacecraft_open(&nodes[k], &config) == 0, "open");
     }
     for (long k = 0; k < turns; k++) turn((int)below(NODES));
     printf("%ld calls that may take memory, %ld refused\n", calls, refused);

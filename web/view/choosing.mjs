@@ -38,7 +38,7 @@ class Run {
         Object.assign(this, { out: new Uint8Array(1100), count: {}, now: 0, free: 0, quiet: undefined, base: 0 });
         Object.assign(this, { carried: 0, alerts: 0, order: 0, taken: 0 });
         const config = { ...defaults, window, timer, limit: Math.min(limit, 255), ready_slots: 64, queue_slots: 1 };
-        if (calls.sedge_ground_open(config, this.ground) !== 0 || calls.sedge_spacecraft_open(config, this.board) !== 0) {
+        if (calls.sedge_ground_open(this.ground, config) !== 0 || calls.sedge_spacecraft_open(this.board, config) !== 0) {
             throw new RangeError('no such parameters');
         }
     }
