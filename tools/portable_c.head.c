@@ -233,29 +233,29 @@ static uint64_t ordered64(uint64_t x)
 /* How many of the highest bits are 0, of the lowest, and how many bits are 1. */
 static uint32_t clz32(uint32_t x)
 {
-    uint32_t count = 32;
-    for (; x != 0; x >>= 1) count--;
+    uint32_t count = 32, left = x;
+    for (; left != 0; left >>= 1) count--;
     return count;
 }
 
 static uint64_t clz64(uint64_t x)
 {
-    uint64_t count = 64;
-    for (; x != 0; x >>= 1) count--;
+    uint64_t count = 64, left = x;
+    for (; left != 0; left >>= 1) count--;
     return count;
 }
 
 static uint32_t ones32(uint32_t x)
 {
-    uint32_t count = 0;
-    for (; x != 0; x &= x - 1) count++;
+    uint32_t count = 0, left = x;
+    for (; left != 0; left &= left - 1) count++;
     return count;
 }
 
 static uint64_t ones64(uint64_t x)
 {
-    uint64_t count = 0;
-    for (; x != 0; x &= x - 1) count++;
+    uint64_t count = 0, left = x;
+    for (; left != 0; left &= left - 1) count++;
     return count;
 }
 

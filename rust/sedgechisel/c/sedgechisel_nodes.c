@@ -192,8 +192,8 @@ static uint64_t ordered64(uint64_t x)
 
 static uint64_t clz64(uint64_t x)
 {
-    uint64_t count = 64;
-    for (; x != 0; x >>= 1) count--;
+    uint64_t count = 64, left = x;
+    for (; left != 0; left >>= 1) count--;
     return count;
 }
 
