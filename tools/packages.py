@@ -36,8 +36,9 @@ def tarball(files, when, top):
 def debian_source(control, version, name, octets):
     """What a .dsc says of a source package of one tarball, by its debian/control."""
     of = dict(line.split(": ", 1) for line in control.splitlines() if ": " in line)
-    sums = {"Checksums-Sha256": hashlib.sha256, "Files": hashlib.md5}
+    sums = {"Checksums-Sha1": hashlib.sha1, "Checksums-Sha256": hashlib.sha256, "Files": hashlib.md5}
     told = {"Format": "3.0 (native)", "Source": of["Source"], "Binary": of["Package"], "Architecture": of["Architecture"]}
     told |= {"Version": version, **{it: of[it] for it in ("Maintainer", "Standards-Version", "Build-Depends")}}
+    told |= {"Package-List": f"\n {of['Package']} deb {of['Section']} {of['Priority']} arch={of['Architecture']}"}
     told |= {it: f"\n {summed(octets).hexdigest()} {len(octets)} {name}" for it, summed in sums.items()}
     return "".join(f"{it}: {what}\n".replace(": \n", ":\n") for it, what in told.items()).encode()
