@@ -98,8 +98,7 @@ class Debian(Room):
         self.where = f"{where}: "
         os.makedirs(f"{root}{folder}")
         os.symlink(f"{root}{folder}", folder)
-        inside = 'mount --rbind /dev "$0/dev" && ' * (os.geteuid() != 0)
-        inside += 'mount -t proc proc "$0/proc" && exec chroot "$0" "$@"'
+        inside = 'mount --rbind /dev "$0/dev" && mount -t proc proc "$0/proc" && exec chroot "$0" "$@"'
         as_root = ["--map-root-user"] * (os.geteuid() != 0)
         apart = ("unshare", *as_root, "--mount", "--pid", "--fork")
         self.enter = (*apart, "sh", "-c", inside, root)
