@@ -930,6 +930,8 @@ static void unwritten_telemetry_frames(void) {
 static const uint8_t FIRST_HALF[4] = {0x10, 0x05, 0xc0, 0x00}, LAST_HALF[3] = {0x00, 0x00, 0xaa};
 static const uint8_t TWO[15] = {0x10, 0x05, 0xc0, 0x00, 0x00, 0x00, 0xaa, 0x10,
                                 0x05, 0xc0, 0x01, 0x00, 0x01, 0xbb, 0xcc};
+/* An idle packet with a secondary header, which it may not have. */
+static const uint8_t IDLE_PACKET[7] = {0x0f, 0xff, 0xc0, 0x00, 0x00, 0x00, 0xaa};
 
 static struct sedge_taken take(struct sedge_map *map, uint8_t flags, const uint8_t *data, size_t count, uint8_t *memory,
                                size_t room) {
@@ -960,6 +962,8 @@ static void packets_from_segments(void) {
     WANT(is_taken(take(&map, SEDGE_SEGMENT_FIRST, TWO, 9, memory, 8), 0, SEDGE_NO_PACKET, SEDGE_DROPPED_TOO_LONG));
     WANT(is_taken(take(&map, SEDGE_SEGMENT_ALONE, TWO, 15, memory, 9), 0, SEDGE_NO_PACKET, SEDGE_DROPPED_TOO_LONG));
     WANT(is_taken(take(&map, SEDGE_SEGMENT_ALONE, TWO, 6, memory, 8), 0, SEDGE_NO_PACKET, SEDGE_DROPPED_NOT_A_PACKET));
+    WANT(is_taken(take(&map, SEDGE_SEGMENT_ALONE, IDLE_PACKET, 7, memory, 8), 0, SEDGE_NO_PACKET,
+                  SEDGE_DROPPED_NOT_A_PACKET));
 }
 
 static void packets_in_blocks(void) {
