@@ -572,6 +572,25 @@ static void look_at_submissions(void) {
     WANT(answer != SEDGE_NODE_OK || hash_of(out, count) == submissions[k].hash);
 }
 
+/* What a reply's kind does not have is 0. */
+static void look_at_rest(const struct sedge_reply *reply) {
+    const struct sedge_received *received = &reply->up;
+    const struct sedge_heard *heard = &reply->down;
+    const struct sedge_clcw *report = &reply->report;
+    bool hears = reply->kind == SEDGE_REPLY_DOWN || reply->kind == SEDGE_REPLY_DOWN_CLCW;
+    WANT(reply->kind == SEDGE_REPLY_RESUMED || reply->whole == 0);
+    WANT(reply->kind == SEDGE_REPLY_UP ||
+         (received->ready | received->kind | received->fault | received->n | received->verdict | received->dropped |
+          received->kept | received->command | received->vr) == 0);
+    WANT(hears || (heard->packets | heard->kind | heard->fault | heard->first | heard->missing | heard->report |
+                   heard->word_fault | heard->alert) == 0);
+    WANT(reply->kind == SEDGE_REPLY_REPORTED ||
+         (report->status | report->vcid | report->flags | report->farm_b | report->value) == 0);
+    WANT(reply->kind == SEDGE_REPLY_REFUSED || (reply->by | reply->fault) == 0);
+    WANT(reply->kind == SEDGE_REPLY_ALERT || reply->alert == 0);
+    WANT(reply->kind == SEDGE_REPLY_PACKET || reply->map == 0);
+}
+
 static void links(void) {
     struct sedge_reply reply = {.kind = 77};
     struct sedge_sim_reading read = {.state = 99};
@@ -585,6 +604,7 @@ static void links(void) {
     WANT(answer == 0 || reply.kind == 77);
     if (sim.link != NULL && answer == 0 && reply.kind != 77) {
         WANT((reply.count > 0) == (reply.kind == SEDGE_REPLY_SENT || reply.kind == SEDGE_REPLY_PACKET));
+        look_at_rest(&reply);
         out = room_of(room = any_room(reply.count));
         answer = sedge_sim_octets(&sim, out, room, &count);
         look_at_written(answer, reply.count, room, count, out);
