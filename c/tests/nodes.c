@@ -50,6 +50,16 @@ static struct sedge_config config;
 static const uint8_t packet[] = {0x10, 0x05, 0xc0, 0x00, 0x00, 0x00, 0xaa};
 static uint8_t up[1024], down[2048], out[65542];
 
+/* Below the caller's frame no octet of the stack is 0 then, so a call that reads what it has not written is found. */
+static void fills(void) {
+    volatile uint8_t octets[65536];
+    size_t i;
+    for (i = 0; i < sizeof octets; i++) octets[i] = 0x55;
+}
+
+/* Through a pointer, so that no compiler puts the octets into the caller's frame. */
+static void (*volatile fill_stack)(void) = fills;
+
 /* A call that was refused for want of memory changed nothing, and is made again once there is some. */
 static int again(uint8_t answer) {
     WANT(answer == SEDGE_NODE_OK || answer == SEDGE_NODE_MEMORY);
@@ -171,6 +181,35 @@ static void session(void) {
     sedge_ground_close(&ground);
     sedge_spacecraft_close(&spacecraft);
     WANT(ground.node == NULL && spacecraft.node == NULL && live == 0);
+}
+
+/* An idle packet between two packets of a telemetry frame is dropped, and the packet after it comes out. */
+static void telemetry_with_an_idle_packet(void) {
+    static const uint8_t idle[] = {0x07, 0xff, 0xc0, 0x00, 0x00, 0x00, 0x00}, word[4] = {0x01, 0x08, 0x00, 0x00};
+    struct sedge_tm_frame frame = {0};
+    struct sedge_ground ground = {0};
+    struct sedge_heard heard = {0};
+    uint8_t data[52] = {0}, number;
+    size_t count = 77;
+    while (again(sedge_ground_open(&ground, &config)))
+        ;
+    frame.scid = (uint16_t)config.scid;
+    frame.vcid = (uint8_t)config.tm_vcid;
+    memcpy(frame.ocf, word, sizeof word);
+    memcpy(data, packet, 7);
+    memcpy(data + 7, idle, 7);
+    memcpy(data + 14, packet, 7);
+    memcpy(data + 21, idle, 7);
+    data[25] = sizeof data - 21 - 7;
+    WANT(sedge_tm_encode(&frame, data, sizeof data, down, sizeof down, &count) == SEDGE_OK && count == 64);
+    while (again(sedge_ground_telemetry(&ground, down, count, &heard)))
+        ;
+    WANT(heard.kind == SEDGE_HEARD_FRAME && heard.packets == 2);
+    for (number = 0; number < 2; number++) {
+        WANT(sedge_ground_take_telemetry(&ground, out, 7, &count) == 0 && count == 7 && memcmp(out, packet, 7) == 0);
+    }
+    WANT(sedge_ground_next_telemetry(&ground, &count) == 0 && count == 0);
+    sedge_ground_close(&ground);
 }
 
 static void past_the_sequence_control(void) {
@@ -601,7 +640,7 @@ static void link(void) {
     size_t count = 0;
     static const uint8_t field[] = {0xc4, 0x10, 0x05, 0xc0, 0x00, 0x00, 0x00, 0xaa}; /* the segment header first */
     whole.part = 1016;
-    while (again(sedge_sim_open(&sim, &whole)))
+    while (fill_stack(), again(sedge_sim_open(&sim, &whole)))
         ;
     HAPPENS(sedge_sim_submit(&sim, 4, packet, sizeof packet, &reply), SEDGE_REPLY_REFUSED);
     WANT(reply.by == SEDGE_BY_NODE && reply.fault == SEDGE_NODE_NOT_OPEN);
@@ -800,6 +839,7 @@ int main(void) {
     names();
     WANT(tried == 0);
     session();
+    telemetry_with_an_idle_packet();
     past_the_sequence_control();
     after_an_alert();
     on_a_closed_map();
@@ -815,6 +855,7 @@ int main(void) {
     for (refused = 0; refused < all; refused++) {
         tried = 0;
         session();
+        telemetry_with_an_idle_packet();
         past_the_sequence_control();
         after_an_alert();
         on_a_closed_map();
