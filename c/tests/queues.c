@@ -110,6 +110,23 @@ static void segments(void) {
     config.part = 1016;
 }
 
+/* A ground is closed with segments of one octet in its sent queue, some of which are back at the queue's beginning. */
+static void closed_amid_segments(void) {
+    struct sedge_received received;
+    size_t k, count = 1;
+    config.part = 1;
+    open_nodes();
+    WANT(sedge_ground_init_without_check(&ground) == 0);
+    WANT(sedge_ground_submit(&ground, 4, wanted, make(wanted, 1, 0, LONG)) == 0);
+    for (k = 0; k < 200; k++) {
+        WANT(sedge_ground_pull(&ground, up, sizeof up, &count) == 0 && count > 0);
+        WANT(sedge_spacecraft_receive(&spacecraft, up, count, &received) == 0 && received.dropped == 0);
+        if (k == 100) comes_down();
+    }
+    close_nodes();
+    config.part = 1016;
+}
+
 static void submissions(void) {
     size_t k;
     open_nodes();
@@ -204,6 +221,7 @@ int main(void) {
     config.queue_slots = 60000, config.frame_length = 2048;
     telemetry();
     segments();
+    closed_amid_segments();
     submissions();
     blocked();
     past_the_sequence_control();
