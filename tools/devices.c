@@ -35,7 +35,7 @@ ssize_t read(int file, void *octets, size_t length) {
     if (!next) next = (ssize_t (*)(int, void *, size_t))dlsym(RTLD_NEXT, "read");
     if (file != 0) return next(file, octets, length);
     if (fails("FAIL_READ", &calls)) {
-        errno = EIO;
+        errno = getenv("ERROR") ? (int)number("ERROR") : EIO;
         return -1;
     }
     return next(file, octets, least("READ", length));
