@@ -185,7 +185,7 @@ module _ (s : SpacecraftState) where
         says.0,
       )
 
-  all_confirm : (base : ℕ) (rs : List Clcw) → AllSay (report_of s.farm s.config.vcid) rs → WouldConfirm base s.farm
+  pub all_confirm : (base : ℕ) (rs : List Clcw) → AllSay (report_of s.farm s.config.vcid) rs → WouldConfirm base s.farm
       → AllGood base rs (WouldConfirm base s.farm)
   all_confirm base [] say would = would
   all_confirm base (r ∷ rs) say would =

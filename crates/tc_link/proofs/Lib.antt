@@ -3,12 +3,15 @@ pub mod AnyPast
 pub mod CountsOn
 pub mod OneLink
 pub mod Confirmation
+pub mod Confirmed
+pub mod ConfirmedBoard
 pub mod FalseAlarms
 pub mod InTransit
 pub mod Upward
 pub mod IdleStart
 pub mod Beside
 pub mod Bypass
+pub mod DeadLink
 pub mod TypeB
 pub mod Readable
 pub mod Configured

@@ -344,7 +344,7 @@ abbrev pub Lasts : ℕ → List Clcw → Type 0 → Type 0
 Lasts base [] last = Unit {0}
 Lasts base (c ∷ cs) last = (Good base c → AllGood base cs last) × Lasts base cs last
 
-all_good_on : (base : ℕ) (cs : List Clcw) (l m : Type 0) → (l → m) → AllGood base cs l → AllGood base cs m
+pub all_good_on : (base : ℕ) (cs : List Clcw) (l m : Type 0) → (l → m) → AllGood base cs l → AllGood base cs m
 all_good_on base [] l m on all = on all
 all_good_on base (c ∷ cs) l m on all = (all.0, all_good_on base cs l m on all.1)
 

@@ -434,15 +434,17 @@ new_octets c = record {
 }
 
 new_timed : (c : Config) → IsConfig c → Timed (new_ground c).fop
-new_timed c ranges = timed_empty _ refl (λ e. absurd cc) ranges.timer.0 (omega arith) ranges.window.0
+new_timed c ranges =
+    timed_empty _ refl (λ e. absurd cc) (λ e. absurd cc) ranges.timer.0 (omega arith) ranges.window.0
 
 -- How schedules are put together: an alert comes in one of their parts, or each leads to what the next one starts from.
 
 -- ---- a session goes on
 
--- an event of an exchange: nothing is lost, and no directive is given
+-- an event of an exchange, or of a dead link: no directive is given
 abbrev pub IsCalm : Event → Type 0
 IsCalm events.Send = Unit {0}
+IsCalm events.UpLose = Unit {0}
 IsCalm events.UpDeliver = Unit {0}
 IsCalm events.Report = Unit {0}
 IsCalm events.DownDeliver = Unit {0}
@@ -466,7 +468,7 @@ calm_goes w (events.Directive d) calm = elim calm [ ]
 calm_goes w (events.Resume value) calm = elim calm [ ]
 calm_goes w _ calm = tt
 
-octet_step : (w : World) (e : Event) → HasOctetPast w → IsEvent e → HasOctetPast (world_step w e).after
+pub octet_step : (w : World) (e : Event) → HasOctetPast w → IsEvent e → HasOctetPast (world_step w e).after
 octet_step w e r fits = record {
   config = r.config;
   ranges = r.ranges;

@@ -346,17 +346,19 @@ IsDueNow _ = ⊥
 pub record Timed (f : FopState SegmentView) : Type 0 where
   pub active : IsActive f.state ⊎ (f.sent ≡ [])
   pub running : (f.sent ≡ []) ⊎ Running f.ticks
-  -- in S5 the timer runs once the command is pulled
+  -- in S4 the timer runs, and in S5 once the command is pulled
+  pub check : f.state ≡ S4 → Running f.ticks
   pub command : f.state ≡ S5 → IsDueNow f.control ⊎ Running f.ticks
   pub timer : 1 ≤ f.timer
   pub count : 1 ≤ f.count
   pub window : 1 ≤ f.window
 
-pub timed_empty : (f : FopState SegmentView) → f.sent ≡ [] → (f.state ≡ S5 → IsDueNow f.control) → 1 ≤ f.timer
-    → 1 ≤ f.count → 1 ≤ f.window → Timed f
-timed_empty f none due timer count window = record {
+pub timed_empty : (f : FopState SegmentView) → f.sent ≡ [] → (f.state ≡ S4 → Running f.ticks)
+    → (f.state ≡ S5 → IsDueNow f.control) → 1 ≤ f.timer → 1 ≤ f.count → 1 ≤ f.window → Timed f
+timed_empty f none check due timer count window = record {
   active = inr none;
   running = inl none;
+  check = check;
   command = λ is. inl (due is);
   timer = timer;
   count = count;
@@ -373,6 +375,7 @@ module _ (s : FopState SegmentView) (k : Timed s) where
   fewer f active sent ticks timer count window = record {
     active = inl active;
     running = elim k.running [ inl none ↦ inl (sent none) | inr runs ↦ inr (rw ticks runs) ];
+    check = λ is. absurd (let no : IsActive S4 = rw is at active in no);
     command = λ is. absurd (let no : IsActive S5 = rw is at active in no);
     timer = rw timer k.timer;
     count = count;
@@ -385,6 +388,7 @@ module _ (s : FopState SegmentView) (k : Timed s) where
   same_as f state sent ticks control count timer window = record {
     active = rw (state, sent) k.active;
     running = rw (sent, ticks) k.running;
+    check = rw (state, ticks) k.check;
     command = rw (state, ticks, control) k.command;
     timer = timer;
     count = rw count k.count;
@@ -397,6 +401,7 @@ module _ (s : FopState SegmentView) (k : Timed s) where
       record {
         active = active;
         running = inr (rw ticks k.timer);
+        check = λ is. rw ticks k.timer;
         command = λ is. inr (rw ticks k.timer);
         timer = rw timer k.timer;
         count = count;
@@ -406,7 +411,7 @@ module _ (s : FopState SegmentView) (k : Timed s) where
   gives_up : (f : FopState SegmentView) → f.timer ≡ s.timer → 1 ≤ f.count → f.window ≡ s.window
       → Timed (after_alert f)
   gives_up f timer count window =
-      timed_empty (after_alert f) refl (λ e. absurd cc) (rw timer k.timer) count (rw window k.window)
+      timed_empty (after_alert f) refl (λ e. absurd cc) (λ e. absurd cc) (rw timer k.timer) count (rw window k.window)
 
   -- in S4 to S6 none is sent
   none_in : (m : FopMode) → s.state ≡ m → (IsActive m → ⊥) → s.sent ≡ []
@@ -440,6 +445,7 @@ module _ (s : FopState SegmentView) (k : Timed s) where
       moves = λ inside. record {
         active = inl tt;
         running = moved_ticks (drop (ahead_by r.value s.nn) s.sent);
+        check = λ e. absurd cc;
         command = λ e. absurd cc;
         timer = k.timer;
         count = omega arith;
@@ -460,9 +466,9 @@ module _ (s : FopState SegmentView) (k : Timed s) where
     active = λ active. active_timed r active;
     alerted = λ is x cause. gives_up s refl k.count refl;
     checked = λ is confirms. timed_empty (record s { state = S1; ticks = None }) (none_in S4 is (λ a. a))
-        (λ e. absurd cc) k.timer k.count k.window;
+        (λ e. absurd cc) (λ e. absurd cc) k.timer k.count k.window;
     commanded = λ is confirms. timed_empty (record s { state = S1; ticks = None; control = Idle })
-        (none_in S5 is (λ a. a)) (λ e. absurd cc) k.timer k.count k.window;
+        (none_in S5 is (λ a. a)) (λ e. absurd cc) (λ e. absurd cc) k.timer k.count k.window;
     same = k;
   })
 
@@ -486,7 +492,8 @@ module _ (s : FopState SegmentView) (k : Timed s) where
       let f = record (after_count (after_stop s)) { control = due_again s.control } in
       below f (restarted f k.active refl refl (omega arith) refl)
   ended_timed S6 is =
-      timed_empty (after_stop s) (none_in S6 is (λ a. a)) (λ e. absurd (cc (e, is))) k.timer k.count k.window
+      timed_empty (after_stop s) (none_in S6 is (λ a. a)) (λ e. absurd (cc (e, is))) (λ e. absurd (cc (e, is))) k.timer
+      k.count k.window
 
   runs_on : (left : ℕ) → s.ticks ≡ Some left → (left == 1) ≡ false → Running s.ticks → Running (Some (left - 1))
   runs_on left is t runs =
@@ -502,6 +509,7 @@ module _ (s : FopState SegmentView) (k : Timed s) where
       (λ t. record {
         active = k.active;
         running = elim k.running [ inl none ↦ inl none | inr runs ↦ inr (runs_on left is t runs) ];
+        check = λ e. runs_on left is t (k.check e);
         command = λ e. elim (k.command e) [ inl due ↦ inl due | inr runs ↦ inr (runs_on left is t runs) ];
         timer = k.timer;
         count = k.count;
@@ -521,6 +529,7 @@ module _ (s : FopState SegmentView) (k : Timed s) where
     first = λ active u is room. record {
       active = inl active;
       running = inr k.timer;
+      check = λ e. k.timer;
       command = λ e. inr k.timer;
       timer = k.timer;
       count = cond_both (is_none_sent s.sent) 1 s.count (λ n. 1 ≤ n) (λ t. omega arith) (λ t. k.count);
@@ -532,10 +541,13 @@ module _ (s : FopState SegmentView) (k : Timed s) where
 
   begun_timed : (d : Directive) → Timed (begun s d)
   begun_timed InitWithoutCheck =
-      timed_empty (begun s InitWithoutCheck) refl (λ e. absurd cc) k.timer (omega arith) k.window
-  begun_timed InitWithCheck = timed_empty (begun s InitWithCheck) refl (λ e. absurd cc) k.timer (omega arith) k.window
-  begun_timed InitUnlock = timed_empty (begun s InitUnlock) refl (λ e. tt) k.timer (omega arith) k.window
-  begun_timed (InitSetVr x) = timed_empty (begun s (InitSetVr x)) refl (λ e. tt) k.timer (omega arith) k.window
+      timed_empty (begun s InitWithoutCheck) refl (λ e. absurd cc) (λ e. absurd cc) k.timer (omega arith) k.window
+  begun_timed InitWithCheck =
+      timed_empty (begun s InitWithCheck) refl (λ e. k.timer) (λ e. absurd cc) k.timer (omega arith) k.window
+  begun_timed InitUnlock =
+      timed_empty (begun s InitUnlock) refl (λ e. absurd cc) (λ e. tt) k.timer (omega arith) k.window
+  begun_timed (InitSetVr x) =
+      timed_empty (begun s (InitSetVr x)) refl (λ e. absurd cc) (λ e. tt) k.timer (omega arith) k.window
   begun_timed _ = k
 
   directive_timed : (d : Directive) → Times (directive_step s d)

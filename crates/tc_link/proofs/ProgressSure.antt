@@ -39,7 +39,7 @@ use Rattle.tc_link.proofs.Promised.{promised_of_so, run_append}
 -- Exchanges while a session is not confirmed yet, in S4 and S5: each ends with an alert or with the sender Active,
 -- or one transmission less is left.
 
-abbrev IsBeginning : FopMode → Type 0
+abbrev pub IsBeginning : FopMode → Type 0
 IsBeginning m = (m ≡ S4) ⊎ (m ≡ S5)
 
 -- ---- the sender
@@ -52,12 +52,12 @@ module _ (s : FopState SegmentView) (begins : IsBeginning s.state) where
   ]
 
   -- a pull leaves it in its state, with its count and its limit
-  record Stays (t : FopState SegmentView) : Type 0 where
-    state : t.state ≡ s.state
-    count : t.count ≡ s.count
-    limit : t.limit ≡ s.limit
+  pub record Stays (t : FopState SegmentView) : Type 0 where
+    pub state : t.state ≡ s.state
+    pub count : t.count ≡ s.count
+    pub limit : t.limit ≡ s.limit
 
-  pull_stays : Stays (pull_step s).after
+  pub pull_stays : Stays (pull_step s).after
   pull_stays = pulled_out s (λ o. Stays o.after) (record {
     none = assumption;
     command = λ c is. assumption;
@@ -76,7 +76,7 @@ module _ (s : FopState SegmentView) (begins : IsBeginning s.state) where
   bypass_control (u ∷ us) = refl
 
   -- and no command is due then
-  command_pulled : (control : Control) → s.control ≡ control → IsDueNow (pull_control s control).after.control → ⊥
+  pub command_pulled : (control : Control) → s.control ≡ control → IsDueNow (pull_control s control).after.control → ⊥
   command_pulled (Due c) is due = due
   command_pulled Idle is due =
       let same : (pull_control s Idle).after.control ≡ Idle = bypass_control s.bypass ∙ is in
@@ -357,7 +357,7 @@ module _ (Leads : ℕ → World → ℕ → Type 0)
 abbrev Within : ℕ → World → ℕ → Type 0
 Within most w m = (m ≤ most) × (AlertsIn w (times m exchange w) ⊎ Active (world_run w (times m exchange w)))
 
-beginning : (m : FopMode) → is_initialising m ≡ true → IsBeginning m
+pub beginning : (m : FopMode) → is_initialising m ≡ true → IsBeginning m
 beginning S4 is = inl refl
 beginning S5 is = inr refl
 beginning _ is = absurd cc
@@ -415,7 +415,8 @@ each_ends w reached on = in_mode w.ground_node.fop.state refl on
 
 -- ---- alerts
 
-alerts_parted : (es fs : List Event) (w : World) → AlertsIn w (es ++ fs) → AlertsIn w es ⊎ AlertsIn (world_run w es) fs
+pub alerts_parted : (es fs : List Event) (w : World) → AlertsIn w (es ++ fs)
+    → AlertsIn w es ⊎ AlertsIn (world_run w es) fs
 alerts_parted [] fs w a = inr a
 alerts_parted (e ∷ es) fs w a = elim a [
   | inl now ↦ inl (inl now)
@@ -563,7 +564,7 @@ module _ (P Q : World → Type 0) (first next : Schedule) where
 abbrev Fine : World → Type 0
 Fine w = IsFine w.ground_node.fop
 
-before_all : (w : World) → AllByRecursion IsBefore (all_sent w) × AllByRecursion IsBefore (all_arrived w)
+pub before_all : (w : World) → AllByRecursion IsBefore (all_sent w) × AllByRecursion IsBefore (all_arrived w)
     × AllByRecursion IsBefore (all_taken w) × AllByRecursion IsBefore (reported w)
 before_all w =
     befores_are IsBefore (tt, λ is. absurd (cc is), λ is. absurd (cc is))

@@ -4,6 +4,8 @@ pub mod Beside
 pub mod Bypass
 pub mod Configured
 pub mod Confirmation
+pub mod Confirmed
+pub mod DeadLink
 pub mod CountsOn
 pub mod FalseAlarms
 pub mod Fates

@@ -3,7 +3,9 @@
 ghost use Rattle.tc_link.specs.AnyPast.{HoldsAfterAnyPast, EachGoesOnAsKept, ReportsDoAsFrames, RunsAsEvents};
 ghost use Rattle.tc_link.specs.Bypass.{BypassKeepsOrder};
 ghost use Rattle.tc_link.specs.Configured.{AlikeIsAsOne};
+ghost use Rattle.tc_link.specs.Confirmed.{EachIsConfirmed, EachResumptionIsConfirmed};
 ghost use Rattle.tc_link.specs.CountsOn.{KeepsWhatIsKnown};
+ghost use Rattle.tc_link.specs.DeadLink.{EachNoticesSilence};
 ghost use Rattle.tc_link.specs.Fates.{KnowsFates};
 ghost use Rattle.tc_link.specs.FramesAgain.{EachComesAgain, EachGoesOnAgain, EachGoesOnUnchanged, EachIsAnswered};
 ghost use Rattle.tc_link.specs.OneLink.{EachGoesOnAsOne, EachHasOneLink};
@@ -89,13 +91,18 @@ pub fn law_of_numbers()
 /// as the window has room for, or all (`acknowledges`). No alert comes in a session that had an idle start
 /// by CLCW check, Unlock or Set V(R), where the transmission count is below its limit (`delivered`). Before
 /// the confirmation such exchanges end with an alert, or the sender is Active (`begins`). So from any state
-/// but S6 they end with an alert or with nothing outstanding (`ends`).
+/// but S6 they end with an alert or with nothing outstanding (`ends`). One such exchange confirms an
+/// initiation by an idle start, and no alert is raised: Unlock if V(R) = V(S), Set V(R) if the receiver
+/// is not in Lockout, CLCW check if V(R) = V(S) and neither the lockout nor the retransmit flag is set
+/// (`confirmed`). It also confirms a resumption by the value of a report that is made now (`resumed`).
 pub fn law_of_progress()
     ensures progress { EachMakesProgress }
     ensures acknowledges { EachAcknowledges }
     ensures delivered { EachIsDelivered }
     ensures begins { EachBegins }
     ensures ends { EachEnds }
+    ensures confirmed { EachIsConfirmed }
+    ensures resumed { EachResumptionIsConfirmed }
 {}
 
 /// Silence makes an idle start. After any past, once nothing is on its way up: no frame is sent up,
@@ -204,10 +211,13 @@ pub fn law_of_resuming()
 /// Loss is never silent. After any past, in a session with an idle start, from its initiation until an alert
 /// leads to S6: what the ground holds outstanding is exactly what was submitted, but for what is
 /// acknowledged, in the order of submission (`held`). S6 comes only with an alert that the call answers, of
-/// each ground, whatever it was called with, and of each link (`aloud`).
+/// each ground, whatever it was called with, and of each link (`aloud`). A dead link is noticed in any
+/// session: if the ground waits for an answer, every frame that it sends is lost and nothing is heard, an
+/// alert is raised once the timer has run out as often as transmissions are left (`noticed`).
 pub fn law_of_loss()
     ensures held { HoldsWhatIsNotAcknowledged }
     ensures aloud { GivesUpAloud }
+    ensures noticed { EachNoticesSilence }
 {}
 
 /// What a program takes on board, by what it sees alone: the events of a run, and what each was answered.

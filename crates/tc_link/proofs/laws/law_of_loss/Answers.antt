@@ -1,3 +1,4 @@
+use Rattle.tc_link.proofs.DeadLink.{each_notices_silence}
 use Rattle.tc_link.proofs.Silent.{holds_what_is_not_acknowledged, gives_up_aloud}
 use Rattle.tc_link.proofs.laws.law_of_loss.Goals as goal
 
@@ -6,3 +7,6 @@ returns-clause-held c = holds_what_is_not_acknowledged
 
 pub returns-clause-aloud : goal.returns-clause-aloud
 returns-clause-aloud c = gives_up_aloud
+
+pub returns-clause-noticed : goal.returns-clause-noticed
+returns-clause-noticed c = each_notices_silence

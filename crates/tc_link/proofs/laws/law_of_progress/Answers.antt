@@ -1,3 +1,4 @@
+use Rattle.tc_link.proofs.Confirmed.{each_is_confirmed, each_resumption_is_confirmed}
 use Rattle.tc_link.proofs.ProgressSure.{each_begins, each_ends, each_is_delivered}
 use Rattle.tc_link.proofs.ProgressNext.{each_makes_progress, each_acknowledges}
 use Rattle.tc_link.proofs.laws.law_of_progress.Goals as goal
@@ -16,3 +17,9 @@ returns-clause-acknowledges c = each_acknowledges
 
 pub returns-clause-ends : goal.returns-clause-ends
 returns-clause-ends c = each_ends
+
+pub returns-clause-confirmed : goal.returns-clause-confirmed
+returns-clause-confirmed c = each_is_confirmed
+
+pub returns-clause-resumed : goal.returns-clause-resumed
+returns-clause-resumed c = each_resumption_is_confirmed
