@@ -47,7 +47,7 @@ pub record LiesBetween (high : ℕ) (said : List Record) (b : Board) : Type 0 wh
   pub copies : AreBetween high said b.first b.second
   pub kept : BetweenAt high said b.executor.kept b.executor.stage
 
--- a record of which no command is begun, and whose last is no less and no more than was
+-- a record with no begun command, whose last lies between the last and the top of the one before
 later : (high : ℕ) (said : List Record) (kept after : Record) → after.begun ≡ false
     → kept.last ≤ after.last
     → after.last ≤ top kept → IsBetween high said kept → IsBetween high said after
@@ -125,16 +125,17 @@ between_at_start high said None (Some two) mark is = is.second
 between_at_start high said None None mark is = tt
 
 -- the next command is one that has gone up
-taken_between : (high : ℕ) (said : List Record) (kept : Record) (stage : Stage) → is_at_rest stage ≡ true
-    → BetweenAt high said kept stage → kept.last + 1 ≤ high → IsBetween high said (begun kept)
-taken_between high said kept Rests e is up = record { no_less = is.no_less; no_more = up }
-taken_between high said kept Ordered e is up = absurd cc
-taken_between high said kept (Lost mark) e is up = absurd cc
-taken_between high said kept RepairsFirst e is up = absurd cc
-taken_between high said kept RepairsSecond e is up = absurd cc
-taken_between high said kept WritesFirst e is up = absurd cc
-taken_between high said kept WritesSecond e is up = absurd cc
-taken_between high said kept Executes e is up = absurd cc
+taken_between : (high : ℕ) (said : List Record) (kept : Record) (packet : List ℕ) (stage : Stage)
+    → is_at_rest stage ≡ true → BetweenAt high said kept stage → kept.last + 1 ≤ high
+    → IsBetween high said (begun kept packet)
+taken_between high said kept packet Rests e is up = record { no_less = is.no_less; no_more = up }
+taken_between high said kept packet Ordered e is up = absurd cc
+taken_between high said kept packet (Lost mark) e is up = absurd cc
+taken_between high said kept packet RepairsFirst e is up = absurd cc
+taken_between high said kept packet RepairsSecond e is up = absurd cc
+taken_between high said kept packet WritesFirst e is up = absurd cc
+taken_between high said kept packet WritesSecond e is up = absurd cc
+taken_between high said kept packet Executes e is up = absurd cc
 
 ordered_between : (high : ℕ) (said : List Record) (kept : Record) (stage : Stage) → is_at_rest stage ≡ true
     → BetweenAt high said kept stage → BetweenAt high said kept Ordered
@@ -187,14 +188,14 @@ between_step high said b (Offers octets) comes holds h =
     record {
       copies = h.copies;
       kept =
-          cond_both (is_taken b.executor octets) (at_stage (begun b.executor.kept) WritesFirst) b.executor
+          cond_both (is_taken b.executor octets) (at_stage (begun b.executor.kept octets) WritesFirst) b.executor
           (λ (after : ExecutorState). BetweenAt high said after.kept after.stage)
           (λ (t : is_taken b.executor octets ≡ true).
           let parts = taken_parts b.executor octets t in
           let number : number_in octets ≡ b.executor.kept.last + 1 = parts.3 in
           let most : number_in octets ≤ high = comes parts.0 in
           let up : b.executor.kept.last + 1 ≤ high = subst (λ (n : ℕ). n ≤ high) number most in
-          taken_between high said b.executor.kept b.executor.stage parts.1 h.kept up)
+          taken_between high said b.executor.kept octets b.executor.stage parts.1 h.kept up)
           (λ (f : is_taken b.executor octets ≡ false). h.kept);
     }
 between_step high said b (Orders octets) comes holds h =
@@ -308,7 +309,7 @@ between_said high said ns ws one two kept RepairsSecond new e at is = absurd cc
 between_said high said ns ws one two kept WritesFirst new e at is = absurd cc
 between_said high said ns ws one two kept WritesSecond new e at is = absurd cc
 
--- a status says no less than those before it
+-- the last of a status is at least that of each status before it
 pub no_less_said : (high : ℕ) (said : List Record) (kept : Record) (stage : Stage) (new : Record)
     → status_at kept stage ≡ Says new → BetweenAt high said kept stage → (earlier : Record) → IsAmong earlier said
     → earlier.last ≤ new.last

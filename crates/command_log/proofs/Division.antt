@@ -10,7 +10,7 @@ use Rattle.std.proofs.Math.Nat.{pow-suc}
 use Rattle.octets.specs.Check.{bit_sum, sum_without_carries}
 use Rattle.octets.proofs.Bits.{bit_sum-false, sum-assoc, sum-comm, sum-zeros, sum-longer, sum-apart}
 use Rattle.command_log.specs.Check.{low_bits, number_of_low_bits, octet_bits, generator_rest, remainder, check_of}
-use Rattle.command_log.specs.Check.{register_step, register_after}
+use Rattle.command_log.specs.Check.{check_after, register_step, register_after}
 
 step_fits : (b : Bool) (half : ℕ) → half < 2 ^ 32 → cond b (bit_xor half 0xEDB88320) half < 2 ^ 32
 step_fits true half h = xor_lt 32 half 0xEDB88320 h (omega arith)
@@ -112,7 +112,7 @@ takes_octet r x xs small =
     ∙ ap (λ (n : ℕ). remainder n (sum_without_carries (low_bits 32 r) (octet_bits (x ∷ xs) ++ replicate 32 false)))
     count
 
--- one step of the division, where the next bit that comes in is 0
+-- one step of the division, if the next bit that comes in is 0
 one_step : (b : Bool) (low : List Bool) (n : ℕ) (rest : List Bool)
     → remainder (suc n) (sum_without_carries (b ∷ low) (false ∷ rest))
     ≡ remainder n (cond b (sum_without_carries generator_rest (sum_without_carries low rest))
@@ -189,14 +189,27 @@ divided_first octets =
     ap (λ (n : ℕ). 4294967295 - number_of_low_bits (remainder n
     (sum_without_carries (replicate 32 true) (octet_bits octets ++ replicate 32 false)))) count
 
+-- then it has those of another check
+pub divided_after : (check : ℕ) (octets : List ℕ)
+    → 4294967295 - number_of_low_bits (divided (4294967295 - check) 0 octets) ≡ check_after check octets
+unfolding divided check_after
+divided_after check octets =
+    let count : 0 + 8 * length octets ≡ 8 * length octets = omega arith in
+    ap (λ (n : ℕ). 4294967295 - number_of_low_bits (remainder n
+    (sum_without_carries (low_bits 32 (4294967295 - check)) (octet_bits octets ++ replicate 32 false)))) count
+
+-- the check of no octets is 0
+pub check_from_none : (octets : List ℕ) → check_after 0 octets ≡ check_of octets
+check_from_none octets = sym (divided_after 0 octets) ∙ divided_first octets
+
 -- the end of a loop over the octets that are left
-pub check_from : (r i : ℕ) (left octets : List ℕ) → r < 2 ^ 32 → length left ≤ i
-    → divided r 0 (drop i left) ≡ divided 0xffffffff 0 octets → 4294967295 - r ≡ check_of octets
-check_from r i left octets small le e =
-    let all : number_of_low_bits (divided 0xffffffff 0 octets) ≡ r =
+pub check_from : (r i check : ℕ) (left octets : List ℕ) → r < 2 ^ 32 → length left ≤ i
+    → divided r 0 (drop i left) ≡ divided (4294967295 - check) 0 octets → 4294967295 - r ≡ check_after check octets
+check_from r i check left octets small le e =
+    let all : number_of_low_bits (divided (4294967295 - check) 0 octets) ≡ r =
     sym (ap number_of_low_bits e) ∙ ap (λ (xs : List ℕ). number_of_low_bits (divided r 0 xs)) (drop_all i left le)
     ∙ divided_all r small in
-    ap (λ (n : ℕ). 4294967295 - n) (sym all) ∙ divided_first octets
+    ap (λ (n : ℕ). 4294967295 - n) (sym all) ∙ divided_after check octets
 
 -- the loop over the bits of an octet
 pub one_bit_less : (i r next last : ℕ) → i < 8 → next ≡ register_step r → register_after (8 - i) r ≡ last

@@ -156,7 +156,7 @@ written_length apid count body =
     let front : List ℕ = header_octets apid count (length body + 4) ++ body in
     omega (arith, length-append body (big_bytes 4 (check_of (header_octets apid count (length body + 4) ++ body))))
 
-are_both : (a b : Bool) → a ≡ true → b ≡ true → (a && b) ≡ true
+pub are_both : (a b : Bool) → a ≡ true → b ≡ true → (a && b) ≡ true
 are_both true b e f = f
 are_both false b e f = absurd cc
 

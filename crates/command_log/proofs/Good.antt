@@ -22,7 +22,7 @@ use Rattle.command_log.specs.Board.{after_doing, after_break}
 use Rattle.command_log.specs.NeverLost.{are_both_good, still_spoiled, IsMild, AreMild, EachKeepsItsRecord}
 use Rattle.command_log.proofs.Steps.{both, taken_parts}
 
--- where no copy is spoiled: at each stage the copies that are good, so that a torn write spoils one alone
+-- if no copy is spoiled: the copies that are good at each stage, so that a torn write spoils only one
 abbrev pub GoodAt : Option Record → Option Record → Stage → Type 0
 GoodAt one two (Lost mark) = ⊥
 GoodAt one two RepairsFirst = is_some two ≡ true
@@ -203,7 +203,7 @@ pub step_good : (spoiled : Bool) (b : Board) (event : Event) → IsMild spoiled 
     → GoodBy (still_spoiled spoiled event (board_step b event)) (board_step b event).first (board_step b event).second
     (board_step b event).executor.stage
 step_good spoiled b (Offers octets) mild is =
-    cond_both (is_taken b.executor octets) (at_stage (begun b.executor.kept) WritesFirst) b.executor
+    cond_both (is_taken b.executor octets) (at_stage (begun b.executor.kept octets) WritesFirst) b.executor
     (λ (after : ExecutorState). GoodBy spoiled b.first b.second after.stage)
     (λ (t : is_taken b.executor octets ≡ true).
     let parts = taken_parts b.executor octets t in

@@ -1,4 +1,5 @@
 pub mod Division
+pub mod History
 pub mod Numbers
 pub mod Steps
 pub mod Linked

@@ -1,4 +1,4 @@
--- What is begun on board was sent, under the number by which the board counts it.
+-- What is begun on board was sent, under the number that the board gives it.
 use Rattle.std.proofs.Common.{◌≡◌, ℕ, ◌+◌, ◌<◌, ◌≤◌, inl, inr, min, List, [], ◌∷◌, Bool, true, false, Option}
 use Rattle.std.proofs.Common.{Some, None, Result, Ok, Err}
 use Rattle.std.proofs.Common.{refl, sym, ◌∙◌, arith, subst}
@@ -30,7 +30,7 @@ HaveNumbers (packet ∷ packets) (n ∷ ns) = (number_in packet ≡ n) × HaveNu
 HaveNumbers [] (n ∷ ns) = ⊥
 HaveNumbers (packet ∷ packets) [] = ⊥
 
--- the packet that was taken last is the next command, where the record has it as begun
+-- the packet that was taken last is the next command, if the record has it as begun
 abbrev pub IsHeld : List (List ℕ) → List ℕ → Record → Type 0
 IsHeld sent held kept = (number_in held ≡ kept.last + 1) × IsAmong held sent
 
@@ -114,8 +114,8 @@ held_at_start sent held None None mark = tt
 offered_too : (sent : List (List ℕ)) (b : Board) (octets : List ℕ) → (is_command octets ≡ true → IsAmong octets sent)
     → Linked sent b → (flag : Bool) → is_taken b.executor octets ≡ flag
     → HeldAt sent (if flag then octets else b.held)
-    (if flag then at_stage (begun b.executor.kept) WritesFirst else b.executor).kept
-    (if flag then at_stage (begun b.executor.kept) WritesFirst else b.executor).stage
+    (if flag then at_stage (begun b.executor.kept octets) WritesFirst else b.executor).kept
+    (if flag then at_stage (begun b.executor.kept octets) WritesFirst else b.executor).stage
 offered_too sent b octets among h false e = h.holds
 offered_too sent b octets among h true e =
     let parts = taken_parts b.executor octets e in
@@ -221,7 +221,7 @@ has_command n (packet ∷ packets) (m ∷ ns) same (inr h) =
     let rest = has_command n packets ns same.1 h in
     (rest.0, inr rest.1, rest.2)
 
--- no number above the last was begun where none was sent
+-- no number above the last was begun if none was sent
 pub below_sent : (last bound : ℕ) (sent packets : List (List ℕ)) (ns : List ℕ)
     → AllByRecursion (λ (packet : List ℕ). number_in packet ≤ last) sent → HaveNumbers packets ns
     → AllByRecursion (λ packet. IsAmong packet sent) packets → AreBelow bound ns → AreBelow (last + 1) ns

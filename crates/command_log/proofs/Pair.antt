@@ -19,6 +19,7 @@ use Rattle.command_log.specs.declared.packets.Order.TheVariants.{Rebuild}
 use Rattle.command_log.specs.declared.packets.Order.TheVariants as orders
 use Rattle.command_log.specs.Packets.{number_in, content_in, order_at, last_of}
 use Rattle.command_log.specs.Record.{no_commands}
+use Rattle.command_log.specs.Record as records
 use Rattle.command_log.specs.Executor.{ExecutorState, at_stage, start, action_at, after_action, after_writes}
 use Rattle.command_log.specs.Executor.{has_mark, is_taken, is_obeyed, obey_any, executor_step, Takes}
 use Rattle.command_log.specs.Executor.{status_of, status_at}
@@ -37,7 +38,7 @@ use Rattle.command_log.proofs.Linked.{has_command, below_sent}
 number_up : (high last n : ℕ) → n ≤ high → high ≤ last → n ≤ last
 number_up high last n low up = omega arith
 
--- of an order that brings a record to a board whose loss has this mark: it is above what was begun and said
+-- an order that brings a record to a board whose loss has this mark is above what was begun and said
 abbrev pub IsAbove : List Record → List ℕ → ℕ → Type 0
 IsAbove said begun last =
     AreBelow (last + 1) begun × ((earlier : Record) → IsAmong earlier said → earlier.last ≤ last)
@@ -62,7 +63,7 @@ pub record PairHolds (p : Pair) : Type 0 where
 
 -- ---- orders
 
--- where the board has a record, no order brings one
+-- if the board has a record, no order brings one
 suits_none : (lost : List ℕ) (said said_too : List Record) (begun begun_too : List ℕ) (stage stage_too : Stage)
     (order : Order) → ((mark : ℕ) → has_mark stage_too mark ≡ false) → Suits lost said begun stage order
     → Suits lost said_too begun_too stage_too order
@@ -116,13 +117,7 @@ suits_offer : (lost : List ℕ) (said : List Record) (begun : List ℕ) (s : Exe
     (order : Order) → Suits lost said begun s.stage order
     → Suits lost said begun (executor_step s (Takes octets)).stage order
 suits_offer lost said begun s octets order is =
-    cond_both (is_taken s octets) (at_stage (record {
-      boot = s.kept.boot;
-      last = s.kept.last;
-      begun = true;
-      known =
-          s.kept.known;
-    }) WritesFirst) s
+    cond_both (is_taken s octets) (at_stage (records.begun s.kept octets) WritesFirst) s
     (λ (after : ExecutorState). Suits lost said begun after.stage order)
     (λ t. suits_none lost said said begun begun s.stage WritesFirst order (λ mark. refl) is) (λ f. is)
 
@@ -158,7 +153,7 @@ suits_step p (BreaksOff mark) link order is =
 suits_step p (Spoils First) link order is = is
 suits_step p (Spoils Second) link order is = is
 
--- one more status: where it says a record, the board has it
+-- one more status: if it says a record, the board has it
 suits_told : (lost : List ℕ) (said : List Record) (begun : List ℕ) (kept new : Record) (stage : Stage)
     (order : Order) → status_at kept stage ≡ Says new → Suits lost said begun stage order
     → Suits lost (new ∷ said) begun stage order

@@ -14,26 +14,26 @@ flag_back : (flag : Bool) → ((if flag then 1 else 0) == 1) ≡ flag
 flag_back true = refl
 flag_back false = refl
 
-same_fields : (boot boot_too last last_too known known_too : ℕ) (begun begun_too : Bool) → boot ≡ boot_too
-    → last ≡ last_too → known ≡ known_too → begun ≡ begun_too
-    → ◌≡◌ {A = Record} (record { boot = boot; last = last; begun = begun; known = known })
-    (record { boot = boot_too; last = last_too; begun = begun_too; known = known_too })
-same_fields boot boot_too last last_too known known_too begun begun_too e f g h = cc
+same_fields : (kept : Record) (boot last known history : ℕ) (begun : Bool) → boot ≡ kept.boot → last ≡ kept.last
+    → known ≡ kept.known → history ≡ kept.history → begun ≡ kept.begun
+    → ◌≡◌ {A = Record}
+    (record { boot = boot; last = last; begun = begun; known = known; history = history }) kept
+same_fields kept boot last known history begun e f g h i = rw (e, f, g, h, i) refl
 
 pub fields_back : (kept : Record) (more : List ℕ) → IsInRange kept → fields_of (front_octets kept ++ more) ≡ kept
 fields_back kept more is =
     let read = fields_of (front_octets kept ++ more) in
-    same_fields read.boot kept.boot read.last kept.last read.known kept.known read.begun kept.begun
-    (omega (arith, is.boot)) (omega (arith, is.last)) (omega (arith, is.known)) (flag_back kept.begun)
+    same_fields kept read.boot read.last read.known read.history read.begun (omega (arith, is.boot))
+    (omega (arith, is.last)) (omega (arith, is.known)) (omega (arith, is.history)) (flag_back kept.begun)
 
 pub read_back : (kept : Record) → IsInRange kept → fields_of (place_octets kept) ≡ kept
-read_back kept is = fields_back kept (drop 17 (place_octets kept)) is
+read_back kept is = fields_back kept (drop 21 (place_octets kept)) is
 
 pub status_back : (status : Status) (waiting : ℕ) → IsStatusInRange status
     → status_with (slice_index (status_octets status waiting) 0) (fields_of (drop 1 (status_octets status waiting)))
     ≡ status
 status_back (Says kept) waiting is =
-    ap (λ (r : Record). Says r) (fields_back kept (drop 18 (status_octets (Says kept) waiting)) is)
+    ap (λ (r : Record). Says r) (fields_back kept (drop 22 (status_octets (Says kept) waiting)) is)
 status_back Changes waiting is = refl
 status_back Starts waiting is = refl
 status_back (Lost mark) waiting is =
@@ -43,10 +43,10 @@ status_back (Lost mark) waiting is =
 
 pub read_status : (octets : List ℕ) (status : Status) (waiting : ℕ) → IsStatusInRange status
     → octets ≡ status_octets status waiting
-    → (status_with (slice_index octets 0) (fields_of (drop 1 octets)) ≡ status) × (slice_index octets 18 ≡ waiting)
+    → (status_with (slice_index octets 0) (fields_of (drop 1 octets)) ≡ status) × (slice_index octets 22 ≡ waiting)
 read_status octets status waiting is e = (
   ap (λ (xs : List ℕ). status_with (slice_index xs 0) (fields_of (drop 1 xs))) e ∙ status_back status waiting is,
-  ap (λ (xs : List ℕ). slice_index xs 18) e,
+  ap (λ (xs : List ℕ). slice_index xs 22) e,
 )
 
 -- a list is alike to itself

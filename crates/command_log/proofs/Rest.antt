@@ -10,6 +10,7 @@ use Rattle.command_log.specs.Packets.{is_command, number_in}
 use Rattle.command_log.specs.Record.{begun}
 use Rattle.command_log.specs.Executor.{ExecutorState, at_stage, has_lost, is_taken}
 use Rattle.command_log.specs.Board.{Board, Offers, board_run}
+use Rattle.command_log.proofs.Exact.{are_both}
 use Rattle.command_log.specs.Progress.{five, IsExecuted, EachComesToRest, EachNextIsExecuted}
 
 comes : (b : Board) (kept : Record) (stage : Stage) (flag : Bool) → kept.begun ≡ flag → has_lost stage ≡ false
@@ -30,10 +31,6 @@ comes b kept Ordered flag e is not = absurd (not refl)
 pub each_comes_to_rest : EachComesToRest
 each_comes_to_rest b is not = comes b b.executor.kept b.executor.stage b.executor.kept.begun refl is not
 
-are_both : (a b : Bool) → a ≡ true → b ≡ true → (a && b) ≡ true
-are_both true b e f = f
-are_both false b e f = absurd cc
-
 chosen : (b : Board) (packet : List ℕ) (taken dropped : ExecutorState) (flag : Bool) → flag ≡ true
     → ◌≡◌ {A = Board}
     (record b { executor = if flag then taken else dropped; held = if flag then packet else b.held })
@@ -44,7 +41,7 @@ chosen b packet taken dropped false e = absurd cc
 -- what was taken is executed
 executed_next : (b : Board) (kept : Record) (packet : List ℕ) → kept.last < 4294967295
     → IsExecuted (record b { executor = at_stage kept Rests }) packet
-    (board_run (record b { executor = at_stage (begun kept) WritesFirst; held = packet }) five)
+    (board_run (record b { executor = at_stage (begun kept packet) WritesFirst; held = packet }) five)
 executed_next b kept packet low =
     let last : min (kept.last + 1) 4294967295 ≡ kept.last + 1 = omega arith in
     record { whole = ap (λ (n : ℕ). n ∷ b.whole) last; packets = refl; said = refl }
@@ -60,7 +57,7 @@ next_is b kept packet low whole number =
     let is : is_taken (at_stage kept Rests) packet ≡ true =
     are_both (is_command packet) (nat_lt kept.last 4294967295 && nat_eq (number_in packet) (kept.last + 1)) whole parts
     in
-    let offered = chosen (record b { executor = at_stage kept Rests }) packet (at_stage (begun kept) WritesFirst)
+    let offered = chosen (record b { executor = at_stage kept Rests }) packet (at_stage (begun kept packet) WritesFirst)
     (at_stage kept Rests)
     (is_taken (at_stage kept Rests) packet) is in
     subst (λ (after : Board). IsExecuted (record b { executor = at_stage kept Rests }) packet (board_run after five))

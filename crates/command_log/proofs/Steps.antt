@@ -66,7 +66,7 @@ pub record Holds (b : Board) : Type 0 where
 
 -- ---- records
 
--- a record of which no command is begun, if no number above its last was
+-- a record with no begun command, if no number above its last was begun
 not_begun : (ns ws : List ℕ) (kept : Record) → kept.begun ≡ false → AreBelow (kept.last + 1) ns
     → ((n : ℕ) → IsKnown kept n → IsAmong n ws) → IsReady ns ws kept
 not_begun ns ws kept e below known =
@@ -79,8 +79,9 @@ not_begun ns ws kept e below known =
       below = below;
     }
 
-begins : (ns ws : List ℕ) (kept : Record) → kept.last < 4294967295 → IsReady ns ws kept → IsReady ns ws (begun kept)
-begins ns ws kept low is =
+begins : (ns ws : List ℕ) (kept : Record) (packet : List ℕ) → kept.last < 4294967295 → IsReady ns ws kept
+    → IsReady ns ws (begun kept packet)
+begins ns ws kept packet low is =
     record {
       safe =
           record {
@@ -162,7 +163,7 @@ executed ns ws kept e is =
     not_begun (min (kept.last + 1) 4294967295 ∷ ns) (min (kept.last + 1) 4294967295 ∷ ws) (passed kept 1) refl
     (omega arith, below) known
 
--- a place that has no other record is safe where that one is
+-- a place that has no other record is safe if that one is
 pub no_other : (P : Record → Type 0) (place : Option Record) (kept : Record) → HasNoOther place kept → P kept
     → IfSome place P
 no_other P None kept only is = tt
@@ -256,16 +257,17 @@ both true false e = absurd cc
 both false b e = absurd cc
 
 -- a command is taken
-taken : (ns ws : List ℕ) (one two : Option Record) (kept : Record) (stage : Stage) → is_at_rest stage ≡ true
-    → kept.last < 4294967295 → AtStage ns ws one two kept stage → IsReady ns ws (begun kept)
-taken ns ws one two kept Rests e low is = begins ns ws kept low is.0
-taken ns ws one two kept Ordered e low is = absurd cc
-taken ns ws one two kept (Lost mark) e low is = absurd cc
-taken ns ws one two kept RepairsFirst e low is = absurd cc
-taken ns ws one two kept RepairsSecond e low is = absurd cc
-taken ns ws one two kept WritesFirst e low is = absurd cc
-taken ns ws one two kept WritesSecond e low is = absurd cc
-taken ns ws one two kept Executes e low is = absurd cc
+taken : (ns ws : List ℕ) (one two : Option Record) (kept : Record) (packet : List ℕ) (stage : Stage)
+    → is_at_rest stage ≡ true → kept.last < 4294967295 → AtStage ns ws one two kept stage
+    → IsReady ns ws (begun kept packet)
+taken ns ws one two kept packet Rests e low is = begins ns ws kept packet low is.0
+taken ns ws one two kept packet Ordered e low is = absurd cc
+taken ns ws one two kept packet (Lost mark) e low is = absurd cc
+taken ns ws one two kept packet RepairsFirst e low is = absurd cc
+taken ns ws one two kept packet RepairsSecond e low is = absurd cc
+taken ns ws one two kept packet WritesFirst e low is = absurd cc
+taken ns ws one two kept packet WritesSecond e low is = absurd cc
+taken ns ws one two kept packet Executes e low is = absurd cc
 
 -- the parts of what a board takes
 pub taken_parts : (s : ExecutorState) (octets : List ℕ) → is_taken s octets ≡ true
@@ -313,7 +315,7 @@ spoiled ns ws one two kept Executes is = ((is.0, is.1, tt, is.3), (is.0, is.1, i
 spoiled ns ws one two kept Rests is = ((is.0, is.1, tt, is.3), (is.0, is.1, is.2, tt))
 spoiled ns ws one two kept Ordered is = ((is.0, is.1, tt, is.3), (is.0, is.1, is.2, tt))
 
--- an order comes, or octets that are none
+-- an order comes, or octets that do not form an order
 obeyed : (b : Board) (read : Result Order LogFault) → IsSoundOrder b read
     → AtStage b.begun b.whole b.first b.second b.executor.kept b.executor.stage
     → AtStage b.begun b.whole b.first b.second (obey_any b.executor read).kept (obey_any b.executor read).stage
@@ -338,11 +340,11 @@ step_holds b (Offers octets) sound h =
     record {
       always = h.always;
       stage =
-          cond_both (is_taken b.executor octets) (at_stage (begun b.executor.kept) WritesFirst) b.executor
+          cond_both (is_taken b.executor octets) (at_stage (begun b.executor.kept octets) WritesFirst) b.executor
           (λ (after : ExecutorState). AtStage b.begun b.whole b.first b.second after.kept after.stage)
           (λ (t : is_taken b.executor octets ≡ true).
           let parts = taken_parts b.executor octets t in
-          taken b.begun b.whole b.first b.second b.executor.kept b.executor.stage parts.1 parts.2 h.stage)
+          taken b.begun b.whole b.first b.second b.executor.kept octets b.executor.stage parts.1 parts.2 h.stage)
           (λ (f : is_taken b.executor octets ≡ false). h.stage);
     }
 step_holds b (Orders octets) sound h =

@@ -1,4 +1,4 @@
--- Of a record that stands twice one is whole after a write that is cut off.
+-- One of the two copies of a record at a place is whole after a write that is cut off.
 use Rattle.std.proofs.Common.{◌≡◌, ℕ, ◌+◌, ◌-◌, ◌≤◌, ◌⊎◌, inl, inr, min, List, ◌++◌, take, drop, length, refl, sym}
 use Rattle.std.specs.Prelude.{replicate, slice_index, if◌then◌else◌}
 use Rattle.std.proofs.Common.{Bool, true, false, ◌%◌}
@@ -12,7 +12,7 @@ use Rattle.command_log.specs.Layout.{front_octets, spelling, fields_of, IsInRang
 use Rattle.command_log.specs.Tearing.{torn, EachErasedIsNone, EachTornIsOneOfBoth}
 use Rattle.command_log.proofs.ReadBack.{read_back}
 
--- the second half is the old one, where no more than the first was written
+-- the second half is the old one, if at most the first was written
 second_half : (n done : ℕ) (xs ys : List ℕ) → length xs ≡ n → length ys ≡ n → done ≤ n
     → drop n (torn done (ys ++ ys) (xs ++ xs)) ≡ ys
 second_half n done xs ys e f low =
@@ -28,7 +28,7 @@ second_half n done xs ys e f low =
     ∙ ap (λ (i : ℕ). drop i (ys ++ ys)) all
     ∙ drop_at ys ys n f
 
--- the first half is the new one, where it was written
+-- the first half is the new one, if it was written
 first_half : (n done : ℕ) (xs ys : List ℕ) → length xs ≡ n → n ≤ done → take n (torn done (ys ++ ys) (xs ++ xs)) ≡ xs
 first_half n done xs ys e high =
     let long : length (take done (xs ++ xs)) ≡ min done (length (xs ++ xs)) = length-take done (xs ++ xs) in
@@ -44,20 +44,20 @@ one_spelling a b is are e =
 
 pub each_torn : EachTornIsOneOfBoth
 each_torn old new kept done is_old is_new is same =
-    elim (cases_lt done 21) as (λ _. (kept ≡ old) ⊎ (kept ≡ new)) [
+    elim (cases_lt done 25) as (λ _. (kept ≡ old) ⊎ (kept ≡ new)) [
       | inl low ↦
           inl (one_spelling kept old is is_old
-          (sym (drop_at (spelling kept) (spelling kept) 21 refl) ∙ ap (drop 21) (sym same)
-          ∙ second_half 21 done (spelling new) (spelling old) refl refl (omega arith)))
+          (sym (drop_at (spelling kept) (spelling kept) 25 refl) ∙ ap (drop 25) (sym same)
+          ∙ second_half 25 done (spelling new) (spelling old) refl refl (omega arith)))
       | inr high ↦
           inr (one_spelling kept new is is_new
-          (sym (take_at (spelling kept) (spelling kept) 21 refl) ∙ ap (take 21) (sym same)
-          ∙ first_half 21 done (spelling new) (spelling old) refl high))
+          (sym (take_at (spelling kept) (spelling kept) 25 refl) ∙ ap (take 25) (sym same)
+          ∙ first_half 25 done (spelling new) (spelling old) refl high))
     ]
 
 -- ---- memory that is erased
 
-check_of_zeros : check_of (replicate 17 0) ≡ 3387945405
+check_of_zeros : check_of (replicate 21 0) ≡ 1090831755
 unfolding check_of remainder
 check_of_zeros = refl
 
@@ -68,10 +68,10 @@ flag_small false e = absurd cc
 pub each_erased : EachErasedIsNone
 each_erased kept = (
   λ e.
-      let front : front_octets kept ≡ replicate 17 0 = ap (take 17) e in
-      let last : check_of (front_octets kept) % 256 ≡ 0 = ap (λ (xs : List ℕ). slice_index xs 20) e in
-      let same : check_of (front_octets kept) ≡ 3387945405 = ap check_of front ∙ check_of_zeros in
-      let wrong : ◌≡◌ {A = ℕ} (3387945405 % 256) 0 = sym (ap (λ (n : ℕ). n % 256) same) ∙ last in
+      let front : front_octets kept ≡ replicate 21 0 = ap (take 21) e in
+      let last : check_of (front_octets kept) % 256 ≡ 0 = ap (λ (xs : List ℕ). slice_index xs 24) e in
+      let same : check_of (front_octets kept) ≡ 1090831755 = ap check_of front ∙ check_of_zeros in
+      let wrong : ◌≡◌ {A = ℕ} (1090831755 % 256) 0 = sym (ap (λ (n : ℕ). n % 256) same) ∙ last in
       absurd cc,
-  λ e. flag_small kept.begun (ap (λ (xs : List ℕ). slice_index xs 16) e),
+  λ e. flag_small kept.begun (ap (λ (xs : List ℕ). slice_index xs 20) e),
 )

@@ -231,7 +231,7 @@ step_knows k b (Offers octets) holds h =
     no_excuse k (board_step b (Offers octets)) (record {
       copies = h.copies;
       kept =
-          cond_both (is_taken b.executor octets) (at_stage (begun b.executor.kept) WritesFirst) b.executor
+          cond_both (is_taken b.executor octets) (at_stage (begun b.executor.kept octets) WritesFirst) b.executor
           (λ (after : ExecutorState). KnowsAt k after.kept after.stage)
           (λ (t : is_taken b.executor octets ≡ true).
           let parts = taken_parts b.executor octets t in

@@ -1,5 +1,6 @@
--- A board over time. Its program does what the executor answers, hands it what comes, and restarts
--- at any moment, also in the middle of an action. Nothing is assumed of the link: any octets come.
+-- A board over time. Its program does what the executor answers, passes what arrives to it, and
+-- restarts at any moment, also in the middle of an action. Nothing is assumed of the link: any octets
+-- arrive.
 use Rattle.std.specs.Prelude.{◌≡◌, ⊤, ℕ, ◌+◌, ◌-◌, ◌<◌, ◌≤◌, ◌⊎◌, List, [], ◌∷◌, true, Result, Ok}
 use Rattle.std.specs.Prelude.{Err}
 use Rattle.std.specs.Prelude.{if◌then◌else◌, Option, Some, None}
@@ -22,7 +23,7 @@ use Rattle.command_log.specs.Executor.{executor_step}
 use Rattle.command_log.specs.Executor.{Takes, Obeys, Done}
 
 pub record Board : Type 0 where
-  -- what stands at the two places, none where its check fails
+  -- the records at the two places, none if the check fails
   pub first : Option Record
   pub second : Option Record
   pub executor : ExecutorState
@@ -72,9 +73,8 @@ after_doing b (Write place kept) = with_place b place (Some kept)
 after_doing b (Execute number) =
     record b { begun = number ∷ b.begun; packets = b.held ∷ b.packets; whole = number ∷ b.whole }
 
--- An action that is broken off in its middle: what stands at the place is no record, the command is
--- begun. (Where the old record still stands there, or the new one is whole, the board restarts
--- between two actions.)
+-- An action that is broken off in its middle: the place has no record, or the command is begun. (If
+-- the place still has the old record, or the whole new one, the board restarts between two actions.)
 abbrev pub after_break : Board → Action → Board
 after_break b Nothing = b
 after_break b Restart = b
@@ -146,7 +146,7 @@ bound_of kept = if kept.begun then kept.last + 2 else kept.last + 1
 
 -- what a record says of the numbers that were begun, and of those that were executed whole
 pub record IsTrueOf (begun whole : List ℕ) (kept : Record) : Type 0 where
-  -- no number above the last was begun, but for the next where the record says that it may be
+  -- no number above the last was begun, except the next if the record says that it may be
   pub no_more : AreBelow (bound_of kept) begun
   pub known : (n : ℕ) → IsKnown kept n → IsAmong n whole
 

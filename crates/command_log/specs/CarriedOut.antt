@@ -1,7 +1,6 @@
--- A ground and a board, with any link between them: what went up comes, or not, or several times,
--- in any order, and so do other octets, whose check does not hold. The ground gives a number to
--- each
--- command, stores what it has given, and sends only what is stored; it may be lost, and another one
+-- A ground and a board, with any link between them: what went up arrives, or not, or several times,
+-- in any order, and so do other octets, whose check does not hold. The ground gives a number to each
+-- command, stores what it has given, and sends only what is stored. It may be lost, and another one
 -- begins with what was stored last.
 use Rattle.std.specs.Prelude.{◌≡◌, ⊤, ℕ, ◌-◌, ◌<◌, ◌≤◌, max, List, [], ◌∷◌, ◌++◌, true, Some, Ok}
 use Rattle.std.specs.Prelude.{slice_get}
@@ -84,8 +83,7 @@ abbrev pub IsNumbered : List (List ℕ) → List ℕ → Type 0
 IsNumbered commands packet =
     (0 < number_in packet) × (slice_get commands (number_in packet - 1) ≡ Some (content_in packet))
 
--- Of the link: a packet whose check holds is one that went up. Of a start: its mark is none that a
--- status has said before.
+-- The link: a packet whose check holds went up. A start: no status has said its mark before.
 abbrev pub IsOfTheLink : Pair → Event → Type 0
 IsOfTheLink p (Offers octets) = is_command octets ≡ true → IsAmong octets p.sent
 IsOfTheLink p (Orders octets) =
@@ -128,12 +126,12 @@ pub record AreCarriedOut (p : Pair) : Type 0 where
   -- order
   pub once : (bound : ℕ) × AreInOrder bound p.board.packets
   pub stored : AllByRecursion (IsNumbered p.stored) p.board.packets
-  -- of what any status said was executed, the command was, whole
+  -- each command that any status said was executed was executed, whole
   pub said : (kept : Record) (n : ℕ) → IsAmong kept p.said → IsKnown kept n
       → IsAmong n p.board.whole
   pub whole : (n : ℕ) → IsAmong n p.board.whole
       → (packet : List ℕ) × IsAmong packet p.board.packets × (number_in packet ≡ n)
-  -- a status says no less than those before it: what says less is an older one
+  -- the last of a status is at least the last of each status before it
   pub rises : (kept earlier : Record) → status_of p.board.executor ≡ Says kept
       → IsAmong earlier p.said
       → earlier.last ≤ kept.last

@@ -1,5 +1,5 @@
 -- The check of records, status, orders and command packets: CRC-32 (ISO/IEC 3309, IEEE 802.3), the
--- remainder of a division of bits. Of each octet the lowest bit comes first.
+-- remainder of a division of bits. The lowest bit of each octet comes first.
 use Rattle.std.specs.Prelude.{◌-◌, take, drop, ℕ, zero, suc, ◌+◌, ◌*◌, ◌/◌, ◌%◌, ◌==◌, Bool}
 use Rattle.std.specs.Prelude.{true, false, ◌&&◌, nat_le, if◌then◌else◌, List, [], ◌∷◌, ◌++◌, length}
 use Rattle.std.specs.Prelude.{replicate, bit_xor}
@@ -41,6 +41,12 @@ check_of octets =
     4294967295 - number_of_low_bits (remainder (8 * length octets)
     (sum_without_carries (replicate 32 true) (octet_bits octets ++ replicate 32 false)))
 
+-- the check of octets that have this check, and of these octets after them
+unfoldable pub check_after : ℕ → List ℕ → ℕ
+check_after check octets =
+    4294967295 - number_of_low_bits (remainder (8 * length octets)
+    (sum_without_carries (low_bits 32 (4294967295 - check)) (octet_bits octets ++ replicate 32 false)))
+
 -- octets, and then their check
 abbrev pub sealed : List ℕ → List ℕ
 sealed front = front ++ big_bytes 4 (check_of front)
@@ -51,7 +57,7 @@ holds_check octets =
     let long = length octets - 4 in
     nat_le 4 (length octets) && (big_number 4 (drop long octets) == check_of (take long octets))
 
--- The register by which the check is computed.
+-- The register that computes the check.
 
 -- the register after one bit more
 abbrev pub register_step : ℕ → ℕ

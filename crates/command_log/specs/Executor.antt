@@ -30,7 +30,7 @@ pub record ExecutorState : Type 0 where
 abbrev pub at_stage : Record → Stage → ExecutorState
 at_stage kept stage = record { kept = kept; stage = stage }
 
--- The first copy that is good goes over the other one. Where none is, the mark is that of this
+-- The first good copy is written over the other one. If no copy is good, the mark is that of this
 -- loss.
 abbrev pub start : Option Record → Option Record → ℕ → ExecutorState
 start (Some first) second mark = at_stage first RepairsSecond
@@ -51,7 +51,7 @@ action_at kept Ordered = Restart
 abbrev pub action_of : ExecutorState → Action
 action_of s = action_at s.kept s.stage
 
--- a record that says that a command is begun stands at both places before the command is executed
+-- a record that says that a command is begun is at both places before the command is executed
 abbrev pub after_writes : Record → Bool → ExecutorState
 after_writes kept true = at_stage kept Executes
 after_writes kept false = at_stage kept Rests
@@ -119,7 +119,7 @@ after_order s (Rebuild mark boot last) = at_stage (no_commands boot last) Writes
 abbrev pub obey_order : ExecutorState → Order → ExecutorState
 obey_order s order = if is_obeyed s order then after_order s order else s
 
--- octets that are no order change nothing
+-- octets that do not form an order change nothing
 abbrev pub obey_any : ExecutorState → Result Order LogFault → ExecutorState
 obey_any s (Err e) = s
 obey_any s (Ok order) = obey_order s order
@@ -131,7 +131,7 @@ pub data Call : Type 0 where
 
 abbrev pub executor_step : ExecutorState → Call → ExecutorState
 executor_step s (Takes octets) = if is_taken s octets then at_stage
-    (begun s.kept) WritesFirst else s
+    (begun s.kept octets) WritesFirst else s
 executor_step s (Obeys octets) = obey_any s (order_at octets)
 executor_step s Done = after_action s.kept s.stage
 

@@ -1,4 +1,4 @@
--- How much is not known: at most one number for each restart, and all where a record is brought.
+-- How much is not known: at most one number for each restart, and all if a record is brought.
 use Rattle.std.specs.Prelude.{◌≡◌, ℕ, zero, suc, ◌+◌, ◌-◌, ◌≤◌, min, List, [], ◌∷◌, Result, Ok, Err}
 use Rattle.std.specs.Int.{bit_at}
 use Rattle.command_log.specs.declared.record.Record.{Record}
@@ -12,12 +12,12 @@ use Rattle.command_log.specs.Executor.{status_of}
 use Rattle.command_log.specs.Board.{Event, Offers, Orders, Acts, Restarts, BreaksOff, Spoils}
 use Rattle.command_log.specs.Board.{new_board, board_run, AreSound}
 
--- of how many of the latest numbers nothing is known
+-- how many of the latest numbers are not known
 abbrev pub unknown_among : ℕ → ℕ → ℕ
 unknown_among zero known = 0
 unknown_among (suc age) known = (1 - bit_at known age) + unknown_among age known
 
--- among the numbers up to the last, of which the latest 64 have a bit
+-- among the numbers up to the last; the latest 64 have a bit
 abbrev pub unknown_of : Record → ℕ
 unknown_of kept = unknown_among (min kept.last 64) kept.known
 

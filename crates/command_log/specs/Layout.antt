@@ -1,5 +1,5 @@
--- The record in octets: 4 of the boot count, 4 of the last number, 8 of what is known, 1 of whether
--- the next command is begun, and 4 of the check of all these.
+-- The record in octets: 4 of the boot count, 4 of the last number, 8 of what is known, 4 of the
+-- history, 1 of whether the next command is begun, and 4 of the check of all these.
 use Rattle.std.specs.Prelude.{ℕ, ◌<◌, ◌^◌, List, [], ◌∷◌, ◌++◌, if◌then◌else◌, drop, ◌==◌}
 use Rattle.std.specs.Prelude.{slice_index}
 use Rattle.byteorder.specs.Endian.{big_bytes, big_number}
@@ -9,12 +9,13 @@ use Rattle.command_log.specs.declared.record.Record.{Record}
 abbrev pub front_octets : Record → List ℕ
 front_octets kept =
     big_bytes 4 kept.boot ++
-    (big_bytes 4 kept.last ++ (big_bytes 8 kept.known ++ (if kept.begun then 1 else 0) ∷ []))
+    (big_bytes 4 kept.last ++ (big_bytes 8 kept.known ++
+    (big_bytes 4 kept.history ++ (if kept.begun then 1 else 0) ∷ [])))
 
 abbrev pub spelling : Record → List ℕ
 spelling kept = sealed (front_octets kept)
 
--- what stands at a place: the record twice
+-- the octets at a place: the record twice
 abbrev pub place_octets : Record → List ℕ
 place_octets kept = spelling kept ++ spelling kept
 
@@ -22,6 +23,7 @@ pub record IsInRange (kept : Record) : Type 0 where
   pub boot : kept.boot < 2 ^ 32
   pub last : kept.last < 2 ^ 32
   pub known : kept.known < 2 ^ 64
+  pub history : kept.history < 2 ^ 32
 
 -- the fields, whether or not the check holds
 abbrev pub fields_of : List ℕ → Record
@@ -29,6 +31,7 @@ fields_of octets =
     record {
       boot = big_number 4 octets;
       last = big_number 4 (drop 4 octets);
-      begun = slice_index octets 16 == 1;
+      begun = slice_index octets 20 == 1;
       known = big_number 8 (drop 8 octets);
+      history = big_number 4 (drop 16 octets);
     }

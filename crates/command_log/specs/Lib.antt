@@ -1,4 +1,5 @@
 pub mod Check
+pub mod History
 pub mod Faults
 pub mod Record
 pub mod Layout

@@ -78,7 +78,7 @@ command_at octets =
     else if not (is_sound octets) then Err faults.Check
     else Ok (command_in octets)
 
--- how many octets are written where there is room for this many, or why none are
+-- how many octets are written if there is room for this many, or why none are
 abbrev pub command_answer : CommandView → ℕ → Result ℕ LogFault
 command_answer c room =
     count_written (command_fits c) (length c.content + 14) room faults.FieldRange faults.Room

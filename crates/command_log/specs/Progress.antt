@@ -1,4 +1,4 @@
--- What a board comes to where it is not cut off.
+-- What a board comes to if it is not cut off.
 use Rattle.std.specs.Prelude.{◌≡◌, ℕ, ◌+◌, ◌<◌, List, [], ◌∷◌, true, false}
 use Rattle.command_log.specs.declared.status.Status.TheVariants.{Says}
 use Rattle.command_log.specs.declared.executor.Stage.TheVariants.{Rests, Ordered}
@@ -22,7 +22,7 @@ EachComesToRest =
 pub record IsExecuted (b : Board) (packet : List ℕ) (after : Board) : Type 0 where
   pub whole : after.whole ≡ (b.executor.kept.last + 1) ∷ b.whole
   pub packets : after.packets ≡ packet ∷ b.packets
-  pub said : status_of after.executor ≡ Says (passed (begun b.executor.kept) 1)
+  pub said : status_of after.executor ≡ Says (passed (begun b.executor.kept packet) 1)
 
 abbrev pub EachNextIsExecuted : Type 0
 EachNextIsExecuted =

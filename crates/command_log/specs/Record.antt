@@ -1,19 +1,26 @@
 -- The record that a board keeps: how often it has started, the last number that was executed or
--- passed over, whether the next command is begun, and of which numbers it is known that they were
--- executed.
-use Rattle.std.specs.Prelude.{ℕ, ◌+◌, ◌*◌, ◌%◌, ◌^◌, min, Bool, true, false}
+-- passed over, whether the next command is begun, which numbers are known to be executed, and the
+-- history.
+use Rattle.std.specs.Prelude.{ℕ, ◌+◌, ◌*◌, ◌%◌, ◌^◌, min, List, Bool, true, false}
+use Rattle.command_log.specs.History.{history_after}
 use Rattle.command_log.specs.declared.record.Record.{Record}
 
 -- the record of a new board, and of one that has none
 abbrev pub no_commands : ℕ → ℕ → Record
-no_commands boot last = record { boot = boot; last = last; begun = false; known = 0 }
+no_commands boot last = record { boot = boot; last = last; begun = false; known = 0; history = 0 }
 
--- the next command is begun
-abbrev pub begun : Record → Record
-begun r = record { boot = r.boot; last = r.last; begun = true; known = r.known }
+-- the next command is begun: this packet
+abbrev pub begun : Record → List ℕ → Record
+begun r packet =
+    record {
+      boot = r.boot;
+      last = r.last;
+      begun = true;
+      known = r.known;
+      history = history_after r.history packet;
+    }
 
--- the next number is the last; the bit is 1 where its command was executed, 0 where nothing is
--- known
+-- the next number is the last; the bit is 1 if its command was executed, 0 if nothing is known
 abbrev pub passed : Record → ℕ → Record
 passed r bit =
     record {
@@ -21,15 +28,23 @@ passed r bit =
       last = min (r.last + 1) 4294967295;
       begun = false;
       known = r.known % 2 ^ 63 * 2 + bit;
+      history = r.history;
     }
 
--- the board has started: of a command that was begun nothing is known
+-- the board has started: nothing is known of a command that was begun
 abbrev pub passed_if_begun : Record → Bool → Record
 passed_if_begun r true = passed r 0
 passed_if_begun r false = r
 
 abbrev pub counted : Record → Record
-counted r = record { boot = (r.boot + 1) % 2 ^ 32; last = r.last; begun = r.begun; known = r.known }
+counted r =
+    record {
+      boot = (r.boot + 1) % 2 ^ 32;
+      last = r.last;
+      begun = r.begun;
+      known = r.known;
+      history = r.history;
+    }
 
 abbrev pub after_start : Record → Record
 after_start r = counted (passed_if_begun r r.begun)

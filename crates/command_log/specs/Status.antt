@@ -1,6 +1,5 @@
 -- What telemetry says, in octets: 1 of the kind, the fields of a record, 1 of how many commands
--- wait,
--- and 4 of the check.
+-- wait, and 4 of the check.
 use Rattle.std.specs.Prelude.{ℕ, ◌<◌, ◌^◌, List, [], ◌∷◌, ◌++◌, ⊤, if◌then◌else◌, ◌==◌}
 use Rattle.command_log.specs.Check.{sealed}
 use Rattle.command_log.specs.Record.{no_commands}
@@ -15,7 +14,7 @@ kind_of Changes = 1
 kind_of Starts = 2
 kind_of (Lost mark) = 3
 
--- the record of a status; the mark of a loss stands in place of the boot count, and all else is 0
+-- the record of a status; the mark of a loss is in the place of the boot count, and all else is 0
 abbrev pub record_of : Status → Record
 record_of (Says kept) = kept
 record_of Changes = no_commands 0 0

@@ -1,8 +1,9 @@
 // The check of records, status, orders and command packets.
 
 ghost use Rattle.std.specs.Prelude.{◌≡◌, ◌≤◌, ◌<◌, ◌-◌, ◌^◌, length, take, bit_xor};
-ghost use Rattle.command_log.specs.Check.{check_of, sealed, holds_check};
+ghost use Rattle.command_log.specs.Check.{check_of, check_after, sealed, holds_check};
 ghost use Rattle.command_log.specs.Check.{register_step, register_after};
+ghost use Rattle.command_log.specs.History.{history_after};
 
 use byteorder::{BigEndian, ByteOrder};
 
@@ -11,11 +12,26 @@ use byteorder::{BigEndian, ByteOrder};
 pub fn check(octets: &[u8]) -> u32
     ensures { result ≡ check_of octets.now }
 {
-    let mut register = u32::MAX;
+    check_after(0, octets)
+}
+
+fn check_after(check: u32, octets: &[u8]) -> u32
+    ensures { result ≡ check_after check octets.now }
+{
+    let mut register = u32::MAX - check;
     for octet in octets {
         register = after_octet(register, *octet);
     }
     u32::MAX - register
+}
+
+/// Returns the history after one command packet more: CRC-32 continued over the packet's check, its last
+/// four octets. The history of no packets is 0.
+pub fn history_after(history: u32, packet: &[u8]) -> u32
+    ensures { result ≡ history_after history packet.now }
+{
+    let front = packet.len().saturating_sub(4);
+    check_after(history, &packet[front..])
 }
 
 fn after_octet(register: u32, octet: u8) -> u32

@@ -2,6 +2,7 @@
 
 ghost use Rattle.std.specs.Prelude.{◌≡◌};
 
+use crate::crc::history_after;
 use crate::fault::LogFault;
 use crate::packets::{Order, decode_command, decode_order};
 use crate::record::Record;
@@ -33,9 +34,9 @@ pub enum Action {
 pub enum Stage {
     /// No copy is good: nothing is executed until a record is brought. The mark of this loss.
     Lost(u32),
-    /// The second copy goes over the first.
+    /// The second copy is written over the first.
     RepairsFirst,
-    /// The first copy goes over the second.
+    /// The first copy is written over the second.
     RepairsSecond,
     /// A changed record is written at the first place.
     WritesFirst,
@@ -50,8 +51,8 @@ pub enum Stage {
 }
 
 /// Decides what is executed next on board: each command once and in order, over restarts at any moment. It
-/// does no input or output, and takes no memory. The program does whole what `next` returns, before it calls
-/// it again.
+/// does no input or output, and takes no memory. The program does what `next` returns, whole, before it calls
+/// `next` again.
 #[derive(Clone, Copy)]
 pub struct Executor {
     kept: Record,
@@ -77,7 +78,8 @@ impl Executor {
     ghost use Rattle.command_log.specs.Record.{passed};
 
     /// Starts with the records at the two places, `None` if a place has no record. The program gives another
-    /// mark at each start, from a clock or at random; if both records are lost, it is the mark of this loss.
+    /// mark at each start, from a clock or at random. If neither place has a record, it is the mark of this
+    /// loss.
     pub fn start(first: Option<Record>, second: Option<Record>, mark: u32) -> Executor
         ensures { result ≡ start first second mark }
     {
@@ -175,6 +177,7 @@ impl Executor {
             return Err(LogFault::Ahead);
         }
         self.kept.begun = true;
+        self.kept.history = history_after(self.kept.history, octets);
         self.stage = Stage::WritesFirst;
         Ok(command.content)
     }
@@ -190,10 +193,10 @@ impl Executor {
         }
     }
 
-    /// Takes an order that arrived. `next` then returns `Restart`; or the board that has lost its record goes
-    /// on with the record of the order, if the order has the mark of this loss. Nothing is known of the
-    /// numbers up to its last, and none of them is executed. Drops any other packet, and changes nothing
-    /// then.
+    /// Takes an order that arrived. `next` then returns `Restart`; or the board that has lost its record
+    /// continues with the record of the order, if the order has the mark of this loss. Nothing is known of
+    /// the numbers up to its last, none of them is executed, and the history is 0. Drops any other packet,
+    /// and changes nothing then.
     /// Faults: 1 Layout, then 2 Check; of a restart 3 Starting, 4 Busy or 5 Lost, then 8 OtherBoot; of a
     /// record 9 NotLost, then 10 OtherMark.
     pub fn obey(&mut self, octets: &[u8]) -> Result<(), LogFault>
@@ -228,6 +231,7 @@ impl Executor {
             last,
             begun: false,
             known: 0,
+            history: 0,
         };
         self.stage = Stage::WritesFirst;
         Ok(())

@@ -29,9 +29,9 @@ pub enum LogFault {
     NotLost = 9,
     /// The order brings a record after another loss.
     OtherMark = 10,
-    /// A field is out of its range, or the data are too long.
+    /// A field is out of range, or the data are too long.
     FieldRange = 11,
-    /// The output has too little room for the packet.
+    /// The output is too short for the packet.
     Room = 12,
 }
 

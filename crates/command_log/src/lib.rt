@@ -12,12 +12,12 @@ mod status;
 #[cfg(test)]
 mod tests;
 
-pub use crc::check;
+pub use crc::{check, history_after};
 pub use executor::{Action, Executor, Place};
 pub use fault::LogFault;
 pub use laws::{
-    law_of_carrying_out, law_of_commands, law_of_erasing, law_of_execution, law_of_keeping,
-    law_of_knowing, law_of_orders, law_of_rest, law_of_tearing,
+    law_of_carrying_out, law_of_commands, law_of_erasing, law_of_execution, law_of_history,
+    law_of_keeping, law_of_knowing, law_of_orders, law_of_rest, law_of_tearing,
 };
 pub use packets::{Command, Order, decode_command, decode_order, encode_command, encode_order};
 pub use record::{Record, decode_record, encode_record};

@@ -11,8 +11,8 @@ use crate::crc::{append_check, check_holds};
 use crate::fault::LogFault;
 use byteorder::{BigEndian, ByteOrder};
 
-/// A command packet: an unsegmented telecommand packet with no secondary header (CCSDS 133.0-B-2, 4.1),
-/// whose data are the command's number in 4 octets, the mission's own octets, and the check in 4.
+/// A command packet: an unsegmented telecommand packet with no secondary header (CCSDS 133.0-B-2, 4.1). Its
+/// data are the command's number in 4 octets, the mission's own octets, and the check in 4.
 #[derive(Clone, Copy, Debug, PartialEq, Eq)]
 pub struct Command<'a> {
     pub apid: u16,
@@ -28,13 +28,13 @@ pub struct Command<'a> {
 pub enum Order {
     /// The board with this boot count restarts.
     Restart { boot: u32 },
-    /// The board that has lost its record, with this mark of the loss, goes on with this boot count and
+    /// The board that has lost its record, with this mark of the loss, continues with this boot count and
     /// with this number as the last.
     Rebuild { mark: u32, boot: u32, last: u32 },
 }
 
-/// Writes the command packet at the beginning of `out`, and says how many octets it has: 14 and those of the
-/// mission. Octets past it stay. Refuses by 11 `FieldRange` an APID above 2,047, a count above 16,383, the
+/// Writes the command packet at the beginning of `out`, and returns how many octets it has: 14 and those of
+/// the mission. The octets after it stay. Refuses by 11 `FieldRange` an APID above 2,047, a count above 16,383, the
 /// number 0 and more than 65,528 octets of the mission, and then by 12 `Room` an output that is too short.
 /// Faults: 11 FieldRange, then 12 Room. Cost: n.
 pub fn encode_command(command: &Command, out: &mut [u8]) -> Result<usize, LogFault>
@@ -121,8 +121,8 @@ fn put_header(apid: u16, count: u16, long: usize, out: &mut [u8])
 }
 
 /// Reads the octets as a command packet. It borrows the mission's octets from them. Refuses by 1 `Layout`
-/// what is not exactly one such packet, and then by 2 `Check` one whose check does not hold, and the number
-/// 0.
+/// octets that are not exactly one such packet, and then by 2 `Check` a check that does not hold, and the
+/// number 0.
 /// Faults: 1 Layout, then 2 Check. Cost: n.
 pub fn decode_command(octets: &[u8]) -> Result<Command<'_>, LogFault>
     ensures { map_ok command_view result ≡ command_at octets.now }
@@ -165,8 +165,8 @@ fn is_framed(octets: &[u8], least: usize) -> bool
         && usize::from(BigEndian::read_u16(&octets[4..])) + 7 == octets.len()
 }
 
-/// Writes the order as a packet at the beginning of `out`, and says how many octets it has: 23. Octets past
-/// it stay. Refuses by 11 `FieldRange` an APID above 2,047 and a count above 16,383, and then by 12 `Room` an
+/// Writes the order as a packet at the beginning of `out`, and returns how many octets it has: 23. The octets
+/// after it stay. Refuses by 11 `FieldRange` an APID above 2,047 and a count above 16,383, and then by 12 `Room` an
 /// output that is too short.
 /// Faults: 11 FieldRange, then 12 Room.
 pub fn encode_order(apid: u16, count: u16, order: &Order, out: &mut [u8]) -> Result<usize, LogFault>
@@ -196,8 +196,8 @@ fn order_front(order: &Order) -> [u8; 13]
     ]
 }
 
-/// Reads the octets as an order. Refuses by 1 `Layout` what is not exactly one such packet, and then by 2
-/// `Check` one whose check does not hold, and a kind that is none or, of a restart, a field that is not 0.
+/// Reads the octets as an order. Refuses by 1 `Layout` octets that are not exactly one such packet, and then
+/// by 2 `Check` a check that does not hold, a kind that is not valid and, in a restart, a field that is not 0.
 /// Faults: 1 Layout, then 2 Check.
 pub fn decode_order(octets: &[u8]) -> Result<Order, LogFault>
     ensures { result ≡ order_at octets.now }

@@ -9,7 +9,7 @@ use crate::crc::append_check;
 use crate::fault::LogFault;
 use byteorder::{BigEndian, ByteOrder};
 
-/// What a board keeps at two places of a memory that stays over restarts.
+/// What a board keeps at two places of a memory that survives restarts.
 #[derive(Clone, Copy, Debug, PartialEq, Eq)]
 pub struct Record {
     /// How often the board has started.
@@ -21,10 +21,13 @@ pub struct Record {
     /// A bit for each of the 64 numbers up to the last, the lowest for the last: whether it is known that
     /// the command was executed, whole.
     pub known: u64,
+    /// The running check of the history: CRC-32 over the checks of all command packets that were taken since
+    /// the record was new or was brought, in that order, including the packet of the begun command.
+    pub history: u32,
 }
 
 impl Record {
-    /// The record of a new board, which stands at both places before it starts for the first time.
+    /// The record of a new board, stored at both places before it starts for the first time.
     pub fn new_board() -> Record
         ensures { result ≡ no_commands 0 0 }
     {
@@ -33,36 +36,38 @@ impl Record {
             last: 0,
             begun: false,
             known: 0,
+            history: 0,
         }
     }
 }
 
-/// What stands at a place: the octets that spell the record, their check among them, twice.
-pub fn encode_record(kept: &Record) -> [u8; 42]
+/// Returns the octets at a place: those of the record with their check, twice.
+pub fn encode_record(kept: &Record) -> [u8; 50]
     ensures { result ≡ place_octets kept.now }
 {
     let one = spelled(kept);
-    let mut octets = [0; 42];
-    octets[..21].copy_from_slice(&one);
-    octets[21..].copy_from_slice(&one);
+    let mut octets = [0; 50];
+    octets[..25].copy_from_slice(&one);
+    octets[25..].copy_from_slice(&one);
     octets
 }
 
-fn spelled(kept: &Record) -> [u8; 21]
+fn spelled(kept: &Record) -> [u8; 25]
     ensures { result ≡ spelling kept.now }
 {
-    let mut octets = [0; 21];
-    octets[..17].copy_from_slice(&front(kept));
+    let mut octets = [0; 25];
+    octets[..21].copy_from_slice(&front(kept));
     append_check(&mut octets);
     octets
 }
 
-pub(crate) fn front(kept: &Record) -> [u8; 17]
+pub(crate) fn front(kept: &Record) -> [u8; 21]
     ensures { result ≡ front_octets kept.now }
 {
     let boot = kept.boot.to_be_bytes();
     let last = kept.last.to_be_bytes();
     let known = kept.known.to_be_bytes();
+    let history = kept.history.to_be_bytes();
     [
         boot[0],
         boot[1],
@@ -80,20 +85,24 @@ pub(crate) fn front(kept: &Record) -> [u8; 17]
         known[5],
         known[6],
         known[7],
+        history[0],
+        history[1],
+        history[2],
+        history[3],
         kept.begun as u8,
     ]
 }
 
-/// The record that stands at a place. Refuses by 1 `Layout` octets that are not 42, and then by 2 `Check`
-/// octets that spell none, as after a write that was cut off, or where a copy was spoiled.
+/// Returns the record at a place. Refuses by 1 `Layout` octets that are not 50, and then by 2 `Check` octets
+/// that do not spell a record, for example after a write that was cut off or if a copy was spoiled.
 /// Faults: 1 Layout, then 2 Check.
 pub fn decode_record(octets: &[u8]) -> Result<Record, LogFault>
     ensures found { IfOk result (λ kept. octets.now ≡ place_octets kept) }
     ensures only { (kept : Record) → IsInRange kept → octets.now ≡ place_octets kept → result ≡ Ok kept }
-    ensures layout { (length octets.now ≡ 42 → ⊥) → result ≡ Err faults.Layout }
-    ensures check { length octets.now ≡ 42 → OnErr result (result ≡ Err faults.Check) }
+    ensures layout { (length octets.now ≡ 50 → ⊥) → result ≡ Err faults.Layout }
+    ensures check { length octets.now ≡ 50 → OnErr result (result ≡ Err faults.Check) }
 {
-    if octets.len() != 42 {
+    if octets.len() != 50 {
         return Err(LogFault::Layout);
     }
     let kept = fields_at(octets);
@@ -104,16 +113,18 @@ pub fn decode_record(octets: &[u8]) -> Result<Record, LogFault>
 }
 
 pub(crate) fn fields_at(octets: &[u8]) -> Record
-    requires { 17 ≤ length octets.now }
+    requires { 21 ≤ length octets.now }
     ensures { result ≡ fields_of octets.now }
 {
     let (boot, rest) = octets.split_at(4);
     let (last, rest) = rest.split_at(4);
     let (known, rest) = rest.split_at(8);
+    let (history, rest) = rest.split_at(4);
     Record {
         boot: BigEndian::read_u32(boot),
         last: BigEndian::read_u32(last),
         begun: rest[0] == 1,
         known: BigEndian::read_u64(known),
+        history: BigEndian::read_u32(history),
     }
 }

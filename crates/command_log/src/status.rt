@@ -1,4 +1,4 @@
-// What telemetry says, and its octets.
+// What telemetry says of the board, and its octets.
 
 ghost use Rattle.std.specs.Prelude.{◌≡◌, ◌≤◌, ◌<◌, ◌^◌, ℕ, length, drop, min, slice_index, Ok, Err, IfOk, OnErr};
 ghost use Rattle.command_log.specs.Layout.{front_octets, fields_of};
@@ -14,7 +14,7 @@ use crate::record::{Record, fields_at, front};
 pub enum Status {
     /// The record, as it is at both places.
     Says(Record),
-    /// It is being written: the status before holds.
+    /// The record is being written: the status before holds.
     Changes,
     /// The board has just started: the status before holds.
     Starts,
@@ -23,28 +23,28 @@ pub enum Status {
 }
 
 /// The octets of a status, with how many commands wait on board to be executed, at most 255.
-pub fn encode_status(status: &Status, waiting: usize) -> [u8; 23]
+pub fn encode_status(status: &Status, waiting: usize) -> [u8; 27]
     ensures { result ≡ status_octets status.now (min waiting 255) }
 {
     spelled(status, waiting.min(255) as u8)
 }
 
-fn spelled(status: &Status, waiting: u8) -> [u8; 23]
+fn spelled(status: &Status, waiting: u8) -> [u8; 27]
     ensures { result ≡ status_octets status.now waiting }
 {
-    let mut octets = [0; 23];
-    octets[..19].copy_from_slice(&status_front(status, waiting));
+    let mut octets = [0; 27];
+    octets[..23].copy_from_slice(&status_front(status, waiting));
     append_check(&mut octets);
     octets
 }
 
-fn status_front(status: &Status, waiting: u8) -> [u8; 19]
+fn status_front(status: &Status, waiting: u8) -> [u8; 23]
     ensures { result ≡ status_front status.now waiting }
 {
-    let mut octets = [0; 19];
+    let mut octets = [0; 23];
     octets[0] = kind_of(status);
-    octets[1..18].copy_from_slice(&front(&record_of(status)));
-    octets[18] = waiting;
+    octets[1..22].copy_from_slice(&front(&record_of(status)));
+    octets[22] = waiting;
     octets
 }
 
@@ -70,25 +70,26 @@ fn record_of(status: &Status) -> Record
             last: 0,
             begun: false,
             known: 0,
+            history: 0,
         },
     }
 }
 
-/// The status that the octets spell, and how many commands wait. Refuses by 1 `Layout` octets that are not
-/// 23, and then by 2 `Check` octets that spell none.
+/// Returns the status that the octets spell, and how many commands wait. Refuses by 1 `Layout` octets that
+/// are not 27, and then by 2 `Check` octets that do not spell a status.
 /// Faults: 1 Layout, then 2 Check.
 pub fn decode_status(octets: &[u8]) -> Result<(Status, u8), LogFault>
     ensures found { IfOk result (λ r. octets.now ≡ status_octets r.0 r.1) }
     ensures only { (status : Status) (waiting : ℕ) → IsStatusInRange status → waiting < 2 ^ 8
         → octets.now ≡ status_octets status waiting → result ≡ Ok (status, waiting) }
-    ensures layout { (length octets.now ≡ 23 → ⊥) → result ≡ Err faults.Layout }
-    ensures check { length octets.now ≡ 23 → OnErr result (result ≡ Err faults.Check) }
+    ensures layout { (length octets.now ≡ 27 → ⊥) → result ≡ Err faults.Layout }
+    ensures check { length octets.now ≡ 27 → OnErr result (result ≡ Err faults.Check) }
 {
-    if octets.len() != 23 {
+    if octets.len() != 27 {
         return Err(LogFault::Layout);
     }
     let status = status_at(octets);
-    let waiting = octets[18];
+    let waiting = octets[22];
     if &spelled(&status, waiting)[..] != octets {
         return Err(LogFault::Check);
     }
@@ -96,7 +97,7 @@ pub fn decode_status(octets: &[u8]) -> Result<(Status, u8), LogFault>
 }
 
 fn status_at(octets: &[u8]) -> Status
-    requires { 18 ≤ length octets.now }
+    requires { 22 ≤ length octets.now }
     ensures { result ≡ status_with (slice_index octets.now 0) (fields_of (drop 1 octets.now)) }
 {
     let (_, fields) = octets.split_at(1);

@@ -4,20 +4,21 @@ use crate::*;
 use std::fmt::Debug;
 use std::process::Abort;
 
-const RECORD: [u8; 42] = [
+const RECORD: [u8; 50] = [
     0x00, 0x00, 0x00, 0x07, 0x00, 0x00, 0x01, 0x2c, 0xff, 0xff, 0xff, 0xff, 0xff, 0xff, 0xff, 0xfd,
-    0x01, 0x5d, 0xd7, 0xd6, 0x44, 0x00, 0x00, 0x00, 0x07, 0x00, 0x00, 0x01, 0x2c, 0xff, 0xff, 0xff,
-    0xff, 0xff, 0xff, 0xff, 0xfd, 0x01, 0x5d, 0xd7, 0xd6, 0x44,
+    0x8a, 0x3b, 0x0c, 0x5d, 0x01, 0xf7, 0x81, 0x33, 0xad, 0x00, 0x00, 0x00, 0x07, 0x00, 0x00, 0x01,
+    0x2c, 0xff, 0xff, 0xff, 0xff, 0xff, 0xff, 0xff, 0xfd, 0x8a, 0x3b, 0x0c, 0x5d, 0x01, 0xf7, 0x81,
+    0x33, 0xad,
 ];
 
-const STATUS: [u8; 23] = [
+const STATUS: [u8; 27] = [
     0x00, 0x00, 0x00, 0x00, 0x07, 0x00, 0x00, 0x01, 0x2c, 0xff, 0xff, 0xff, 0xff, 0xff, 0xff, 0xff,
-    0xfd, 0x01, 0x03, 0x87, 0xf4, 0xea, 0x4a,
+    0xfd, 0x8a, 0x3b, 0x0c, 0x5d, 0x01, 0x03, 0x39, 0x12, 0x75, 0xf5,
 ];
 
-const LOST: [u8; 23] = [
+const LOST: [u8; 27] = [
     0x03, 0x12, 0x34, 0x56, 0x78, 0x00, 0x00, 0x00, 0x00, 0x00, 0x00, 0x00, 0x00, 0x00, 0x00, 0x00,
-    0x00, 0x00, 0xff, 0x67, 0xcc, 0xac, 0x33,
+    0x00, 0x00, 0x00, 0x00, 0x00, 0x00, 0xff, 0x40, 0x47, 0x68, 0xef,
 ];
 
 const COMMAND: [u8; 17] = [
@@ -35,6 +36,11 @@ const REBUILD: [u8; 23] = [
     0x34, 0x56, 0x78, 0x2d, 0x00, 0xbf, 0x90,
 ];
 
+// A history, and the one after COMMAND.
+const BEFORE: u32 = 0x8a3b_0c5d;
+
+const AFTER: u32 = 0x4313_d201;
+
 // A comparison that is proved once, and not at each place.
 fn equal<A: PartialEq + Debug>(rt: &impl Abort, left: &A, right: &A) {
     assert_eq!(*rt; *left, *right);
@@ -44,12 +50,13 @@ fn same(rt: &impl Abort, left: &[u8], right: &[u8]) {
     assert!(*rt; *left == *right);
 }
 
-fn record(boot: u32, last: u32, begun: bool, known: u64) -> Record {
+fn record(boot: u32, last: u32, known: u64, history: u32, begun: bool) -> Record {
     Record {
         boot,
         last,
         begun,
         known,
+        history,
     }
 }
 
@@ -63,6 +70,18 @@ fn the_check(rt: HostRuntime) {
     checks(&rt, b"", 0);
 }
 
+fn continues(rt: &impl Abort, history: u32, packet: &[u8], wanted: u32) {
+    equal(rt, &history_after(history, packet), &wanted);
+}
+
+#[test]
+fn the_history(rt: HostRuntime) {
+    continues(&rt, 0, &COMMAND, 0x42b1_791c);
+    continues(&rt, 0x42b1_791c, &COMMAND, 0x6652_7da1);
+    continues(&rt, BEFORE, &COMMAND, AFTER);
+    continues(&rt, 0x6652_7da1, &[1, 2], 0x2f64_a4e9);
+}
+
 fn reads_record(rt: &impl Abort, octets: &[u8], wanted: Result<Record, LogFault>) {
     equal(rt, &decode_record(octets), &wanted);
 }
@@ -73,12 +92,12 @@ fn writes_record(rt: &impl Abort, kept: &Record, wanted: &[u8]) {
 
 #[test]
 fn a_record(rt: HostRuntime) {
-    let kept = record(7, 300, true, 0xffff_ffff_ffff_fffd);
+    let kept = record(7, 300, 0xffff_ffff_ffff_fffd, BEFORE, true);
     writes_record(&rt, &kept, &RECORD);
     reads_record(&rt, &RECORD, Ok(kept));
-    reads_record(&rt, &RECORD[..41], Err(LogFault::Layout));
-    reads_record(&rt, &[0xff; 42], Err(LogFault::Check));
-    reads_record(&rt, &[0; 42], Err(LogFault::Check));
+    reads_record(&rt, &RECORD[..49], Err(LogFault::Layout));
+    reads_record(&rt, &[0xff; 50], Err(LogFault::Check));
+    reads_record(&rt, &[0; 50], Err(LogFault::Check));
 }
 
 fn reads_status(rt: &impl Abort, octets: &[u8], wanted: Result<(Status, u8), LogFault>) {
@@ -91,14 +110,14 @@ fn writes_status(rt: &impl Abort, status: &Status, waiting: usize, wanted: &[u8]
 
 #[test]
 fn a_status(rt: HostRuntime) {
-    let kept = Status::Says(record(7, 300, true, 0xffff_ffff_ffff_fffd));
+    let kept = Status::Says(record(7, 300, 0xffff_ffff_ffff_fffd, BEFORE, true));
     let lost = Status::Lost(0x1234_5678);
     writes_status(&rt, &kept, 3, &STATUS);
     writes_status(&rt, &lost, 1000, &LOST);
     reads_status(&rt, &STATUS, Ok((kept, 3)));
     reads_status(&rt, &LOST, Ok((lost, 255)));
     reads_status(&rt, &LOST[1..], Err(LogFault::Layout));
-    reads_status(&rt, &[0; 23], Err(LogFault::Check));
+    reads_status(&rt, &[0; 27], Err(LogFault::Check));
 }
 
 fn reads_command(rt: &impl Abort, octets: &[u8], wanted: Result<Command<'_>, LogFault>) {
@@ -186,21 +205,21 @@ fn says(rt: &impl Abort, board: &Executor, wanted: &Status) {
 
 #[test]
 fn a_command_is_executed(rt: HostRuntime) {
-    let kept = record(6, 300, false, 1);
+    let kept = record(6, 300, 1, BEFORE, false);
     let mut board = Executor::start(None, Some(kept), 0);
     offers(&rt, &mut board, &COMMAND, Err(LogFault::Starting));
     says(&rt, &board, &Status::Starts);
     acts(&rt, &mut board, Action::Write(Place::First, kept));
     board.done(Action::Nothing);
-    writes(&rt, &mut board, record(7, 300, false, 1));
+    writes(&rt, &mut board, record(7, 300, 1, BEFORE, false));
     offers(&rt, &mut board, &COMMAND, Ok(&[1, 2, 3]));
     offers(&rt, &mut board, &COMMAND, Err(LogFault::Busy));
-    writes(&rt, &mut board, record(7, 300, true, 1));
+    writes(&rt, &mut board, record(7, 300, 1, AFTER, true));
     acts(&rt, &mut board, Action::Execute(301));
     says(&rt, &board, &Status::Changes);
-    writes(&rt, &mut board, record(7, 301, false, 3));
+    writes(&rt, &mut board, record(7, 301, 3, AFTER, false));
     offers(&rt, &mut board, &COMMAND, Err(LogFault::Behind));
-    says(&rt, &board, &Status::Says(record(7, 301, false, 3)));
+    says(&rt, &board, &Status::Says(record(7, 301, 3, AFTER, false)));
     obeys(&rt, &mut board, &REBUILD, Err(LogFault::NotLost));
     obeys(&rt, &mut board, &RESTART, Ok(()));
     acts(&rt, &mut board, Action::Restart);
@@ -216,7 +235,7 @@ fn a_record_is_brought(rt: HostRuntime) {
     says(&rt, &board, &Status::Lost(0x1234_5678));
     offers(&rt, &mut board, &COMMAND, Err(LogFault::Lost));
     obeys(&rt, &mut board, &REBUILD, Ok(()));
-    writes(&rt, &mut board, record(65543, 301, false, 0));
+    writes(&rt, &mut board, record(65543, 301, 0, 0, false));
     obeys(&rt, &mut board, &RESTART, Err(LogFault::OtherBoot));
 }
 
@@ -225,6 +244,6 @@ fn a_new_board(rt: HostRuntime) {
     let kept = Record::new_board();
     let mut board = Executor::start(Some(kept), Some(kept), 0);
     acts(&rt, &mut board, Action::Write(Place::Second, kept));
-    writes(&rt, &mut board, record(1, 0, false, 0));
+    writes(&rt, &mut board, record(1, 0, 0, 0, false));
     offers(&rt, &mut board, &COMMAND, Err(LogFault::Ahead));
 }

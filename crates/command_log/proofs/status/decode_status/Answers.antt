@@ -13,7 +13,7 @@ returns-then-ne-clause-only c status waiting is small e =
     let read = read_status octets status waiting is e in
     let one : c.status_at-status.result ≡ status = c.status_at-status.ensures ∙ read.0 in
     let same : c.spelled.result ≡ octets =
-    c.spelled.ensures ∙ ap (λ (s : Status). status_octets s (slice_index octets 18)) one
+    c.spelled.ensures ∙ ap (λ (s : Status). status_octets s (slice_index octets 22)) one
     ∙ ap (status_octets status) read.1 ∙ sym e in
     let alike_too : pointwise eqb c.spelled.result octets ≡ true =
     subst (λ (xs : List ℕ). pointwise eqb xs octets ≡ true) (sym same) (alike octets) in
@@ -25,7 +25,7 @@ pub returns-clause-only : goal.returns-clause-only
 returns-clause-only c status waiting is small e =
     let read = read_status c.args.octets.now status waiting is e in
     let one : c.status_at-status.result ≡ status = c.status_at-status.ensures ∙ read.0 in
-    let two : slice_index c.args.octets.now 18 ≡ waiting = read.1 in
+    let two : slice_index c.args.octets.now 22 ≡ waiting = read.1 in
     cc
 
 pub returns-clause-found : goal.returns-clause-found
