@@ -6,7 +6,7 @@ use Rattle.std.specs.List.{AllByRecursion}
 use Rattle.std.proofs.lemmas.Nat.{xor_lt}
 use Rattle.octets.specs.Number.{IsOctets}
 use Rattle.octets.proofs.Checked.{drop_fits}
-use Rattle.command_log.specs.Check.{number_of_low_bits, check_of, check_after, register_after}
+use Rattle.command_log.specs.Check.{number_of_low_bits, check_of, register_after}
 use Rattle.command_log.specs.History.{check_octets, checks_of, history_of, EachHistoryIsACheck}
 use Rattle.command_log.proofs.Division.{divided, divided_all, divided_first, divided_after, register_fits, takes_bits}
 use Rattle.command_log.proofs.Division.{takes_octet}
@@ -68,7 +68,8 @@ check_is : (packets : List (List ℕ)) → AllByRecursion IsOctets packets
     → check_of (checks_of packets) ≡ 4294967295 - register_of packets
 check_is packets all =
     sym (divided_first (checks_of packets))
-    ∙ ap (λ (ys : List ℕ). 4294967295 - number_of_low_bits (divided 4294967295 0 ys)) (sym (append-nil (checks_of packets)))
+    ∙ ap (λ (ys : List ℕ). 4294967295 - number_of_low_bits (divided 4294967295 0 ys))
+    (sym (append-nil (checks_of packets)))
     ∙ ap (λ (bits : List Bool). 4294967295 - number_of_low_bits bits) (divided_checks packets [] all)
     ∙ ap (λ (n : ℕ). 4294967295 - n) (divided_all (register_of packets) (register_of_fits packets all))
 

@@ -1,14 +1,17 @@
 -- What was spelled is read again.
 use Rattle.std.proofs.Common.{◌≡◌, ℕ, List, [], ◌∷◌, ◌++◌, Bool, true, false, refl, arith, ap, drop}
 use Rattle.std.specs.Prelude.{if◌then◌else◌, ◌==◌, slice_index, not}
-use Rattle.std.proofs.Common.{eq-eqb, eqb-true, ◌∙◌, ◌⊎◌, inl, inr}
+use Rattle.std.proofs.Common.{eq-eqb, eqb-true, ◌∙◌, ◌⊎◌, inl, inr, length, sym, Result, Ok, Err}
+use Rattle.std.specs.Str.{bytes_eq}
 use lib.Pointwise.{pointwise}
 use lib.Dec.{eqb}
 use Rattle.command_log.specs.declared.record.Record.{Record}
 use Rattle.command_log.specs.declared.status.Status.{Status}
 use Rattle.command_log.specs.declared.status.Status.TheVariants.{Says, Changes, Starts, Lost}
-use Rattle.command_log.specs.Layout.{front_octets, fields_of, place_octets, IsInRange}
-use Rattle.command_log.specs.Status.{status_octets, status_with, IsStatusInRange}
+use Rattle.command_log.specs.declared.fault.LogFault.{LogFault}
+use Rattle.command_log.specs.declared.fault.LogFault.TheVariants as faults
+use Rattle.command_log.specs.Layout.{front_octets, fields_of, place_octets, record_spelled, IsInRange}
+use Rattle.command_log.specs.Status.{status_octets, status_with, status_in, status_spelled, IsStatusInRange}
 
 flag_back : (flag : Bool) → ((if flag then 1 else 0) == 1) ≡ flag
 flag_back true = refl
@@ -70,3 +73,49 @@ same_lists (x ∷ xs) (y ∷ ys) e =
           ap (λ (z : ℕ). z ∷ xs) (eqb-true x y t) ∙ ap (λ (zs : List ℕ). y ∷ zs) rest
       | inr f ↦ let none : false ≡ true = rw f at e in absurd cc
     ]
+
+-- ---- what octets spell
+
+turned : (a b : Bool) → b ≡ not a → a ≡ not b
+turned true true e = absurd cc
+turned true false e = refl
+turned false true e = refl
+turned false false e = absurd cc
+
+record_by : (octets : List ℕ) (same : Bool) → (length octets == 50) ≡ true
+    → bytes_eq (place_octets (fields_of octets)) octets ≡ same
+    → ◌≡◌ {A = Result Record LogFault} (if same then Ok (fields_of octets) else Err faults.Check)
+    (record_spelled octets)
+record_by octets true long e = rw (long, e) refl
+record_by octets false long e = rw (long, e) refl
+
+-- the record that was found is the one that is spelled, if its octets do not differ
+pub found_record : (octets written : List ℕ) (found : Record) (differs : Bool) → length octets ≡ 50
+    → found ≡ fields_of octets → written ≡ place_octets found → differs ≡ not (pointwise eqb written octets)
+    → ◌≡◌ {A = Result Record LogFault} (if not differs then Ok found else Err faults.Check) (record_spelled octets)
+found_record octets written found differs long e f is =
+    let same : bytes_eq (place_octets (fields_of octets)) octets ≡ not differs =
+    ap (λ (xs : List ℕ). bytes_eq xs octets) (sym (f ∙ ap place_octets e)) ∙ turned (bytes_eq written octets) differs is
+    in
+    ap (λ (r : Record). if not differs then Ok r else Err faults.Check) e
+    ∙ record_by octets (not differs) (eq-eqb (length octets) 50 long) same
+
+status_by : (octets : List ℕ) (same : Bool) → (length octets == 27) ≡ true
+    → bytes_eq (status_octets (status_in octets) (slice_index octets 22)) octets ≡ same
+    → ◌≡◌ {A = Result (Status × ℕ) LogFault}
+    (if same then Ok (status_in octets, slice_index octets 22) else Err faults.Check) (status_spelled octets)
+status_by octets true long e = rw (long, e) refl
+status_by octets false long e = rw (long, e) refl
+
+pub found_status : (octets written : List ℕ) (found : Status) (differs : Bool) → length octets ≡ 27
+    → found ≡ status_in octets → written ≡ status_octets found (slice_index octets 22)
+    → differs ≡ not (pointwise eqb written octets)
+    → ◌≡◌ {A = Result (Status × ℕ) LogFault}
+    (if not differs then Ok (found, slice_index octets 22) else Err faults.Check) (status_spelled octets)
+found_status octets written found differs long e f is =
+    let same : bytes_eq (status_octets (status_in octets) (slice_index octets 22)) octets ≡ not differs =
+    ap (λ (xs : List ℕ). bytes_eq xs octets)
+    (sym (f ∙ ap (λ (s : Status). status_octets s (slice_index octets 22)) e))
+    ∙ turned (bytes_eq written octets) differs is in
+    ap (λ (s : Status). if not differs then Ok (s, slice_index octets 22) else Err faults.Check) e
+    ∙ status_by octets (not differs) (eq-eqb (length octets) 27 long) same

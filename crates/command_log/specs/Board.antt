@@ -1,6 +1,6 @@
 -- A board over time. Its program does what the executor answers, passes what arrives to it, and
--- restarts at any moment, also in the middle of an action. Nothing is assumed of the link: any octets
--- arrive.
+-- restarts at any moment, also in the middle of an action. Nothing is assumed of the link: any
+-- octets arrive.
 use Rattle.std.specs.Prelude.{◌≡◌, ⊤, ℕ, ◌+◌, ◌-◌, ◌<◌, ◌≤◌, ◌⊎◌, List, [], ◌∷◌, true, Result, Ok}
 use Rattle.std.specs.Prelude.{Err}
 use Rattle.std.specs.Prelude.{if◌then◌else◌, Option, Some, None}
@@ -74,7 +74,8 @@ after_doing b (Execute number) =
     record b { begun = number ∷ b.begun; packets = b.held ∷ b.packets; whole = number ∷ b.whole }
 
 -- An action that is broken off in its middle: the place has no record, or the command is begun. (If
--- the place still has the old record, or the whole new one, the board restarts between two actions.)
+-- the place still has the old record, or the whole new one, the board restarts between two
+-- actions.)
 abbrev pub after_break : Board → Action → Board
 after_break b Nothing = b
 after_break b Restart = b

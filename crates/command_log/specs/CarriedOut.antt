@@ -1,7 +1,7 @@
 -- A ground and a board, with any link between them: what went up arrives, or not, or several times,
--- in any order, and so do other octets, whose check does not hold. The ground gives a number to each
--- command, stores what it has given, and sends only what is stored. It may be lost, and another one
--- begins with what was stored last.
+-- in any order, and so do other octets, whose check does not hold. The ground gives a number to
+-- each command, stores what it has given, and sends only what is stored. It may be lost, and
+-- another one begins with what was stored last.
 use Rattle.std.specs.Prelude.{◌≡◌, ⊤, ℕ, ◌-◌, ◌<◌, ◌≤◌, max, List, [], ◌∷◌, ◌++◌, true, Some, Ok}
 use Rattle.std.specs.Prelude.{slice_get}
 use Rattle.std.specs.List.{AllByRecursion}

@@ -45,7 +45,8 @@ check_of octets =
 unfoldable pub check_after : ℕ → List ℕ → ℕ
 check_after check octets =
     4294967295 - number_of_low_bits (remainder (8 * length octets)
-    (sum_without_carries (low_bits 32 (4294967295 - check)) (octet_bits octets ++ replicate 32 false)))
+    (sum_without_carries (low_bits 32 (4294967295 - check))
+    (octet_bits octets ++ replicate 32 false)))
 
 -- octets, and then their check
 abbrev pub sealed : List ℕ → List ℕ

@@ -1,9 +1,12 @@
 -- The record in octets: 4 of the boot count, 4 of the last number, 8 of what is known, 4 of the
 -- history, 1 of whether the next command is begun, and 4 of the check of all these.
 use Rattle.std.specs.Prelude.{ℕ, ◌<◌, ◌^◌, List, [], ◌∷◌, ◌++◌, if◌then◌else◌, drop, ◌==◌}
-use Rattle.std.specs.Prelude.{slice_index}
+use Rattle.std.specs.Prelude.{slice_index, length, not, Option, Some, None, Result, Ok, Err}
+use Rattle.std.specs.Str.{bytes_eq}
 use Rattle.byteorder.specs.Endian.{big_bytes, big_number}
 use Rattle.command_log.specs.Check.{sealed}
+use Rattle.command_log.specs.declared.fault.LogFault.{LogFault}
+use Rattle.command_log.specs.declared.fault.LogFault.TheVariants as faults
 use Rattle.command_log.specs.declared.record.Record.{Record}
 
 abbrev pub front_octets : Record → List ℕ
@@ -35,3 +38,18 @@ fields_of octets =
       known = big_number 8 (drop 8 octets);
       history = big_number 4 (drop 16 octets);
     }
+
+-- the record that the octets at a place spell, or why they spell none
+abbrev pub record_spelled : List ℕ → Result Record LogFault
+record_spelled octets =
+    if not (length octets == 50) then Err faults.Layout
+    else if bytes_eq (place_octets (fields_of octets)) octets then Ok (fields_of octets)
+    else Err faults.Check
+
+abbrev pub copy_if : Result Record LogFault → Option Record
+copy_if (Ok kept) = Some kept
+copy_if (Err e) = None
+
+-- the copy at a place, if its octets spell a record
+abbrev pub copy_at : List ℕ → Option Record
+copy_at octets = copy_if (record_spelled octets)

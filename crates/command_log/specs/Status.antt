@@ -1,9 +1,13 @@
 -- What telemetry says, in octets: 1 of the kind, the fields of a record, 1 of how many commands
 -- wait, and 4 of the check.
-use Rattle.std.specs.Prelude.{ℕ, ◌<◌, ◌^◌, List, [], ◌∷◌, ◌++◌, ⊤, if◌then◌else◌, ◌==◌}
+use Rattle.std.specs.Prelude.{ℕ, ◌<◌, ◌^◌, List, [], ◌∷◌, ◌++◌, ⊤, if◌then◌else◌, ◌==◌, not}
+use Rattle.std.specs.Prelude.{length, drop, slice_index, Result, Ok, Err}
+use Rattle.std.specs.Str.{bytes_eq}
 use Rattle.command_log.specs.Check.{sealed}
 use Rattle.command_log.specs.Record.{no_commands}
-use Rattle.command_log.specs.Layout.{front_octets, IsInRange}
+use Rattle.command_log.specs.Layout.{front_octets, fields_of, IsInRange}
+use Rattle.command_log.specs.declared.fault.LogFault.{LogFault}
+use Rattle.command_log.specs.declared.fault.LogFault.TheVariants as faults
 use Rattle.command_log.specs.declared.record.Record.{Record}
 use Rattle.command_log.specs.declared.status.Status.{Status}
 use Rattle.command_log.specs.declared.status.Status.TheVariants.{Says, Changes, Starts, Lost}
@@ -38,3 +42,15 @@ IsStatusInRange (Says kept) = IsInRange kept
 IsStatusInRange Changes = ⊤
 IsStatusInRange Starts = ⊤
 IsStatusInRange (Lost mark) = mark < 2 ^ 32
+
+-- the status in the octets, whether or not the check holds
+abbrev pub status_in : List ℕ → Status
+status_in octets = status_with (slice_index octets 0) (fields_of (drop 1 octets))
+
+-- the status that octets spell, and how many commands wait; or why they spell none
+abbrev pub status_spelled : List ℕ → Result (Status × ℕ) LogFault
+status_spelled octets =
+    if not (length octets == 27) then Err faults.Layout
+    else if bytes_eq (status_octets (status_in octets) (slice_index octets 22)) octets
+    then Ok (status_in octets, slice_index octets 22)
+    else Err faults.Check

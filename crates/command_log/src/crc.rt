@@ -15,6 +15,8 @@ pub fn check(octets: &[u8]) -> u32
     check_after(0, octets)
 }
 
+// One copy, since a board has little memory.
+#[inline(never)]
 fn check_after(check: u32, octets: &[u8]) -> u32
     ensures { result ≡ check_after check octets.now }
 {
@@ -48,11 +50,7 @@ fn after_octet(register: u32, octet: u8) -> u32
 fn after_bit(register: u32) -> u32
     ensures { result ≡ register_step register }
 {
-    if register % 2 == 1 {
-        (register / 2) ^ 0xEDB8_8320
-    } else {
-        register / 2
-    }
+    (register / 2) ^ (register % 2 * 0xEDB8_8320)
 }
 
 /// Sets the last four octets to the check of those before them.

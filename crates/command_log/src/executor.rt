@@ -73,7 +73,7 @@ impl Executor {
     ghost use Rattle.std.specs.Prelude.{◌≡◌, Ok, Err, IfOk, OnErr};
     ghost use Rattle.octets.specs.Outcome.{map_ok};
     ghost use Rattle.command_log.specs.declared.packets.Order.TheVariants as orders;
-    ghost use Rattle.command_log.specs.Executor.{start, action_of, status_of, executor_step, offer_answer, order_answer, obey_order, rest_at, rebuilt_at, Takes, Obeys, Done};
+    ghost use Rattle.command_log.specs.Executor.{start, at_stage, action_of, status_of, executor_step, offer_answer, order_answer, obey_order, rest_at, rebuilt_at, Takes, Obeys, Done};
     ghost use Rattle.std.specs.Prelude.{◌<◌};
     ghost use Rattle.command_log.specs.Record.{passed};
 
@@ -99,6 +99,27 @@ impl Executor {
         }
     }
 
+    /// Continues with a record and at a stage that `kept` and `stage` returned.
+    pub fn restore(kept: Record, stage: Stage) -> Executor
+        ensures { result ≡ at_stage kept stage }
+    {
+        Executor { kept, stage }
+    }
+
+    /// Returns the record, as it is at both places or as it is being written.
+    pub fn kept(&self) -> Record
+        ensures { result ≡ self.now.kept }
+    {
+        self.kept
+    }
+
+    /// Returns how far the executor is.
+    pub fn stage(&self) -> Stage
+        ensures { result ≡ self.now.stage }
+    {
+        self.stage
+    }
+
     /// Returns what the program does now.
     pub fn next(&self) -> Action
         ensures { result ≡ action_of self.now }
@@ -122,6 +143,7 @@ impl Executor {
         }
     }
 
+    #[inline(never)]
     fn moves_on(&mut self)
         ensures { self.new ≡ executor_step self.old Done }
     {
@@ -151,6 +173,7 @@ impl Executor {
         }
     }
 
+    #[inline(never)]
     fn pass(&mut self, bit: u64)
         requires { bit < 2 }
         ensures { self.new ≡ record self.old { kept = passed self.old.kept bit } }

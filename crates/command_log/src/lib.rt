@@ -13,7 +13,7 @@ mod status;
 mod tests;
 
 pub use crc::{check, history_after};
-pub use executor::{Action, Executor, Place};
+pub use executor::{Action, Executor, Place, Stage};
 pub use fault::LogFault;
 pub use laws::{
     law_of_carrying_out, law_of_commands, law_of_erasing, law_of_execution, law_of_history,

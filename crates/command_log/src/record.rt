@@ -1,7 +1,7 @@
 // The record, and its octets.
 
 ghost use Rattle.std.specs.Prelude.{◌≡◌, ◌≤◌, ◌<◌, ◌+◌, ◌++◌, drop, length, Ok, Err, IfOk, OnErr, replicate};
-ghost use Rattle.command_log.specs.Layout.{front_octets, spelling, place_octets, fields_of, IsInRange};
+ghost use Rattle.command_log.specs.Layout.{front_octets, spelling, place_octets, fields_of, record_spelled, IsInRange};
 ghost use Rattle.command_log.specs.Record.{no_commands};
 ghost use Rattle.command_log.specs.declared.fault.LogFault.TheVariants as faults;
 
@@ -52,6 +52,7 @@ pub fn encode_record(kept: &Record) -> [u8; 50]
     octets
 }
 
+#[inline(never)]
 fn spelled(kept: &Record) -> [u8; 25]
     ensures { result ≡ spelling kept.now }
 {
@@ -61,6 +62,7 @@ fn spelled(kept: &Record) -> [u8; 25]
     octets
 }
 
+#[inline(never)]
 pub(crate) fn front(kept: &Record) -> [u8; 21]
     ensures { result ≡ front_octets kept.now }
 {
@@ -97,6 +99,7 @@ pub(crate) fn front(kept: &Record) -> [u8; 21]
 /// that do not spell a record, for example after a write that was cut off or if a copy was spoiled.
 /// Faults: 1 Layout, then 2 Check.
 pub fn decode_record(octets: &[u8]) -> Result<Record, LogFault>
+    ensures answer { result ≡ record_spelled octets.now }
     ensures found { IfOk result (λ kept. octets.now ≡ place_octets kept) }
     ensures only { (kept : Record) → IsInRange kept → octets.now ≡ place_octets kept → result ≡ Ok kept }
     ensures layout { (length octets.now ≡ 50 → ⊥) → result ≡ Err faults.Layout }
@@ -112,6 +115,7 @@ pub fn decode_record(octets: &[u8]) -> Result<Record, LogFault>
     Ok(kept)
 }
 
+#[inline(never)]
 pub(crate) fn fields_at(octets: &[u8]) -> Record
     requires { 21 ≤ length octets.now }
     ensures { result ≡ fields_of octets.now }

@@ -2,7 +2,7 @@
 
 ghost use Rattle.std.specs.Prelude.{◌≡◌, ◌≤◌, ◌<◌, ◌^◌, ℕ, length, drop, min, slice_index, Ok, Err, IfOk, OnErr};
 ghost use Rattle.command_log.specs.Layout.{front_octets, fields_of};
-ghost use Rattle.command_log.specs.Status.{kind_of, record_of, status_front, status_octets, status_with, IsStatusInRange};
+ghost use Rattle.command_log.specs.Status.{kind_of, record_of, status_front, status_octets, status_with, status_in, status_spelled, IsStatusInRange};
 ghost use Rattle.command_log.specs.declared.fault.LogFault.TheVariants as faults;
 
 use crate::crc::append_check;
@@ -79,6 +79,7 @@ fn record_of(status: &Status) -> Record
 /// are not 27, and then by 2 `Check` octets that do not spell a status.
 /// Faults: 1 Layout, then 2 Check.
 pub fn decode_status(octets: &[u8]) -> Result<(Status, u8), LogFault>
+    ensures answer { result ≡ status_spelled octets.now }
     ensures found { IfOk result (λ r. octets.now ≡ status_octets r.0 r.1) }
     ensures only { (status : Status) (waiting : ℕ) → IsStatusInRange status → waiting < 2 ^ 8
         → octets.now ≡ status_octets status waiting → result ≡ Ok (status, waiting) }
@@ -98,7 +99,7 @@ pub fn decode_status(octets: &[u8]) -> Result<(Status, u8), LogFault>
 
 fn status_at(octets: &[u8]) -> Status
     requires { 22 ≤ length octets.now }
-    ensures { result ≡ status_with (slice_index octets.now 0) (fields_of (drop 1 octets.now)) }
+    ensures { result ≡ status_in octets.now }
 {
     let (_, fields) = octets.split_at(1);
     status_with(octets[0], fields_at(fields))

@@ -1,9 +1,9 @@
-use Rattle.std.proofs.Common.{◌≡◌, ℕ, List, true, false, ap, sym, ◌∙◌, subst}
+use Rattle.std.proofs.Common.{◌≡◌, ℕ, List, true, false, ap, sym, ◌∙◌, subst, arith}
 use Rattle.std.specs.Prelude.{not}
 use lib.Pointwise.{pointwise}
 use lib.Dec.{eqb}
 use Rattle.command_log.specs.Layout.{place_octets, fields_of}
-use Rattle.command_log.proofs.ReadBack.{read_back, alike}
+use Rattle.command_log.proofs.ReadBack.{read_back, alike, found_record}
 use Rattle.command_log.proofs.record.decode_record.Goals as goal
 
 pub returns-then-ne-clause-only : goal.returns-then-ne-clause-only
@@ -16,3 +16,13 @@ returns-then-ne-clause-only c kept is e =
     ∙ c.ne.ensures in
     let none : true ≡ false = differs ∙ ap not alike_too in
     absurd cc
+
+pub returns-then-ne-clause-answer : goal.returns-then-ne-clause-answer
+returns-then-ne-clause-answer c =
+    found_record c.args.octets.now c.encode_record.result c.fields_at-kept.result true
+    (omega (arith, c.if-octets-ne50.false)) c.fields_at-kept.ensures c.encode_record.ensures c.if-ne.ensures
+
+pub returns-clause-answer : goal.returns-clause-answer
+returns-clause-answer c =
+    found_record c.args.octets.now c.encode_record.result c.fields_at-kept.result false
+    (omega (arith, c.if-octets-ne50.false)) c.fields_at-kept.ensures c.encode_record.ensures c.if-ne.ensures

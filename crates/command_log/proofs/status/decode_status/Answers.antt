@@ -1,10 +1,10 @@
-use Rattle.std.proofs.Common.{◌≡◌, ℕ, List, true, false, ap, sym, ◌∙◌, subst}
+use Rattle.std.proofs.Common.{◌≡◌, ℕ, List, true, false, ap, sym, ◌∙◌, subst, arith}
 use Rattle.std.specs.Prelude.{not, slice_index}
 use lib.Pointwise.{pointwise}
 use lib.Dec.{eqb}
 use Rattle.command_log.specs.Status.{status_octets}
 use Rattle.command_log.specs.declared.status.Status.{Status}
-use Rattle.command_log.proofs.ReadBack.{read_status, alike, same_lists}
+use Rattle.command_log.proofs.ReadBack.{read_status, alike, same_lists, found_status}
 use Rattle.command_log.proofs.status.decode_status.Goals as goal
 
 pub returns-then-ne-clause-only : goal.returns-then-ne-clause-only
@@ -30,3 +30,13 @@ returns-clause-only c status waiting is small e =
 
 pub returns-clause-found : goal.returns-clause-found
 returns-clause-found c = sym (same_lists c.spelled.result c.args.octets.now c.if-ne.ensures) ∙ c.spelled.ensures
+
+pub returns-then-ne-clause-answer : goal.returns-then-ne-clause-answer
+returns-then-ne-clause-answer c =
+    found_status c.args.octets.now c.spelled.result c.status_at-status.result true
+    (omega (arith, c.if-octets-ne27.false)) c.status_at-status.ensures c.spelled.ensures c.if-ne.ensures
+
+pub returns-clause-answer : goal.returns-clause-answer
+returns-clause-answer c =
+    found_status c.args.octets.now c.spelled.result c.status_at-status.result false
+    (omega (arith, c.if-octets-ne27.false)) c.status_at-status.ensures c.spelled.ensures c.if-ne.ensures
