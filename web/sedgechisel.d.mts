@@ -182,6 +182,53 @@ export interface sedge_limits {
     blocking: number;
 }
 
+export interface sedge_log_record {
+    /**
+     * A bit for each of the 64 numbers up to last, the lowest for last: 1 if it is known that the command was executed,
+     * whole.
+     */
+    known: bigint;
+    /** How often the board has started. */
+    boot: number;
+    /** The number of the last command that was executed or passed over. Numbers begin at 1. */
+    last: number;
+    /** The running check of all commands that were taken since the record was new or was brought. */
+    history: number;
+    /** Whether the next command is begun, 0 or 1. */
+    begun: number;
+}
+
+export interface sedge_log {
+    /** The record as it is at both places, or as it is being written. */
+    kept: sedge_log_record;
+    /** The mark of the loss if the record is lost, and 0 otherwise. */
+    mark: number;
+    /** The stage, 1 to 8. */
+    stage: number;
+}
+
+export interface sedge_board_status {
+    /** The record for `SEDGE_LOG_STATUS_SAYS`, otherwise zeros. */
+    kept: sedge_log_record;
+    /** The mark of the loss for `SEDGE_LOG_STATUS_LOST`, otherwise 0. */
+    mark: number;
+    /** Of `sedge_log_status_kind`. */
+    kind: number;
+    /** How many commands wait on board, at most 255. */
+    waiting: number;
+}
+
+export interface sedge_log_order {
+    /** The boot count: of the board that restarts, or of the record. */
+    boot: number;
+    /** The last number of the record; 0 for a restart. */
+    last: number;
+    /** The mark of the loss; 0 for a restart. */
+    mark: number;
+    /** Of `sedge_log_order_kind`. */
+    kind: number;
+}
+
 export interface sedge_config {
     /** The spacecraft identifier, 0 to 1,023; default 1. */
     scid: number;
@@ -629,6 +676,76 @@ export interface Calls {
      * in proportion to n * n. Returns what `sedge_map_count` does, or `SEDGE_ABSENT` if there are not that many.
      */
     sedge_map_segment(octets: Uint8Array, limits: Partial<sedge_limits>, k: number, flags: Partial<Box>, data: Partial<sedge_part>): number;
+    /**
+     * Starts with the octets at the two places of the memory that survives restarts, 50 each. A place whose octets are
+     * not 50, or do not spell a record, has none. Give another mark at each start, from a clock or at random: if
+     * neither place has a record, it is the mark of this loss.
+     */
+    sedge_log_start(log: Partial<sedge_log>, first: Uint8Array, second: Uint8Array, mark: number): void;
+    /**
+     * Returns what the program does next, of `sedge_log_action`: it does this whole, and calls `sedge_log_done`, before
+     * it calls this again. For a write, `out` gets the 50 octets of the place; otherwise it stays as it is. `number`
+     * gets the number of the command to be executed, or 0 for any other action. Or returns the first of
+     * `SEDGE_WRONG_COUNT`, if the room is not 50 octets, and `SEDGE_DAMAGED`, with nothing written.
+     */
+    sedge_log_next(log: Partial<sedge_log>, out: Uint8Array, number: Partial<Box>): number;
+    /**
+     * The action that `sedge_log_next` returned, with its number, was done whole. Returns 0; or it changes nothing and
+     * returns the first of `SEDGE_DAMAGED` and `SEDGE_ABSENT`, if the action or its number is not what `sedge_log_next`
+     * returns.
+     */
+    sedge_log_done(log: Partial<sedge_log>, action: number, number: number): number;
+    /**
+     * Takes the octets of a packet that arrived if it is the next command, and writes where the mission's octets are in
+     * them: keep these until the command was executed, after `sedge_log_next` has returned `SEDGE_LOG_EXECUTE` with its
+     * number. Returns 0; or it changes and writes nothing, the packet is dropped, and it returns `SEDGE_DAMAGED` or the
+     * first of 1 to 7 of `sedge_log_fault`: 1 Layout, then 2 Check, then 3 Starting, 4 Busy or 5 Lost, then 6 Behind or
+     * 7 Ahead.
+     */
+    sedge_log_offer(log: Partial<sedge_log>, octets: Uint8Array, content: Partial<sedge_part>): number;
+    /**
+     * Takes the octets of an order that arrived: the next action is then `SEDGE_LOG_RESTART`; or the board that has
+     * lost its record continues with the one that the order brings, if the order has the mark of this loss. Returns 0;
+     * or it changes nothing, the packet is dropped, and it returns `SEDGE_DAMAGED`, or the first of 1 to 5 of
+     * `sedge_log_fault`, or 8 to 10 of `sedge_log_fault`: 1 Layout, then 2 Check; of a restart 3 Starting, 4 Busy or 5
+     * Lost, then 8 OtherBoot; of a record 9 NotLost, then 10 OtherMark.
+     */
+    sedge_log_obey(log: Partial<sedge_log>, octets: Uint8Array): number;
+    /**
+     * Writes the status for telemetry, 27 octets, with how many commands wait on board to be offered, at most 255.
+     * Returns 0, or the first of `SEDGE_WRONG_COUNT`, if the room is not 27 octets, and `SEDGE_DAMAGED`.
+     */
+    sedge_log_status(log: Partial<sedge_log>, waiting: number, out: Uint8Array): number;
+    /**
+     * Writes the record of a new board, the 50 octets that both places have before the board starts for the first time.
+     * Returns 0, or `SEDGE_WRONG_COUNT` if the room is not 50 octets.
+     */
+    sedge_log_new_record(out: Uint8Array): number;
+    /**
+     * Reads a status that arrived. Returns 0, or the first of 1 to 2 of `sedge_log_fault`: 1 Layout if the octets are
+     * not 27, then 2 Check.
+     */
+    sedge_log_status_decode(octets: Uint8Array, status: Partial<sedge_board_status>): number;
+    /**
+     * Writes a command packet with this APID, sequence count and number, and with the mission's octets, to the
+     * beginning of `out`, and its length in octets, 14 more than the mission's, to `total`. Returns 0, or the first of
+     * `SEDGE_LOG_FIELD_RANGE` (the APID is above 2,047, the count above 16,383, the number 0, or the mission's octets
+     * are more than 65,528) and `SEDGE_LOG_ROOM`.
+     */
+    sedge_log_command_encode(apid: number, count: number, number: number, content: Uint8Array, out: Uint8Array, total: Partial<Box>): number;
+    /**
+     * Writes an order as a packet with this APID and sequence count to the beginning of `out`, and its length, 23
+     * octets, to `total`. Returns 0, or the first of `SEDGE_DAMAGED` (the kind is out of its enum, or a restart has a
+     * last number or a mark), `SEDGE_LOG_FIELD_RANGE` (the APID is above 2,047 or the count above 16,383) and
+     * `SEDGE_LOG_ROOM`.
+     */
+    sedge_log_order_encode(order: Partial<sedge_log_order>, apid: number, count: number, out: Uint8Array, total: Partial<Box>): number;
+    /**
+     * Returns the history after one command packet more: CRC-32 continued over the packet's check, its last four
+     * octets. The history of no packets is 0. A ground that computes it for the packets that it sends compares it with
+     * a status.
+     */
+    sedge_log_history_after(history: number, packet: Uint8Array): number;
     /** The name of a `sedge_clcw_fault`. */
     sedge_clcw_fault_name(fault: number): string;
     /** The name of a `sedge_cop_fault`. */
@@ -647,6 +764,8 @@ export interface Calls {
     sedge_map_fault_name(fault: number): string;
     /** The name of a `sedge_dropped`. */
     sedge_dropped_name(cause: number): string;
+    /** The name of a `sedge_log_fault`. */
+    sedge_log_fault_name(fault: number): string;
     /**
      * Whether a `sedge_alert` says that a condition of the link is broken: true for `SEDGE_ALERT_LOCKOUT`,
      * `SEDGE_ALERT_NNR`, `SEDGE_ALERT_CLCW` and `SEDGE_ALERT_SYNCH`. In a confirmed session that was begun by check,
@@ -1034,6 +1153,29 @@ export const numbers: {
     readonly SEDGE_IN_DATA: 2;
     readonly SEDGE_MAP_NOT_A_PACKET: 1;
     readonly SEDGE_MAP_TOO_LONG: 2;
+    readonly SEDGE_LOG_LAYOUT: 1;
+    readonly SEDGE_LOG_CHECK: 2;
+    readonly SEDGE_LOG_STARTING: 3;
+    readonly SEDGE_LOG_BUSY: 4;
+    readonly SEDGE_LOG_LOST: 5;
+    readonly SEDGE_LOG_BEHIND: 6;
+    readonly SEDGE_LOG_AHEAD: 7;
+    readonly SEDGE_LOG_OTHER_BOOT: 8;
+    readonly SEDGE_LOG_NOT_LOST: 9;
+    readonly SEDGE_LOG_OTHER_MARK: 10;
+    readonly SEDGE_LOG_FIELD_RANGE: 11;
+    readonly SEDGE_LOG_ROOM: 12;
+    readonly SEDGE_LOG_NOTHING: 0;
+    readonly SEDGE_LOG_WRITE_FIRST: 1;
+    readonly SEDGE_LOG_WRITE_SECOND: 2;
+    readonly SEDGE_LOG_EXECUTE: 3;
+    readonly SEDGE_LOG_RESTART: 4;
+    readonly SEDGE_LOG_STATUS_SAYS: 0;
+    readonly SEDGE_LOG_STATUS_CHANGES: 1;
+    readonly SEDGE_LOG_STATUS_STARTS: 2;
+    readonly SEDGE_LOG_STATUS_LOST: 3;
+    readonly SEDGE_LOG_ORDER_RESTART: 1;
+    readonly SEDGE_LOG_ORDER_REBUILD: 2;
     readonly SEDGE_PACKET_LONGEST: 65542;
     readonly SEDGE_TC_LONGEST: 1024;
     readonly SEDGE_SEGMENT_LONGEST: 1016;

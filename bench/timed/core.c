@@ -263,6 +263,52 @@ static void maps(void) {
     }
 }
 
+/* Does what is due on board, until nothing is. */
+static void act(struct sedge_log *log) {
+    uint8_t action;
+    uint32_t number;
+    do {
+        TIMED("sedge_log_next", 0, 0, 0, 0, action = sedge_log_next(log, memory, 50, &number));
+        TIMED("sedge_log_done", 0, 0, 0, 0, want(sedge_log_done(log, action, number) == SEDGE_OK));
+    } while (action != SEDGE_LOG_NOTHING && action != SEDGE_LOG_RESTART);
+}
+
+/* A board starts, executes commands of several lengths, and restarts; another one has lost its record. */
+static void commands(void) {
+    static const size_t counts[] = {0, 1, 50, 1000, 65528};
+    struct sedge_log log;
+    struct sedge_part content;
+    struct sedge_board_status status;
+    struct sedge_log_order order = {1, 0, 0, SEDGE_LOG_ORDER_RESTART};
+    uint8_t place[50], told[27];
+    uint32_t history = 0;
+    size_t total;
+    TIMED("sedge_log_new_record", 0, 0, 0, 0, want(sedge_log_new_record(place, 50) == SEDGE_OK));
+    TIMED("sedge_log_start", 0, 0, 0, 0, sedge_log_start(&log, place, 50, place, 50, 7));
+    act(&log);
+    for (uint32_t k = 0; k < 5; k++) {
+        const size_t n = counts[k];
+        TIMED("sedge_log_command_encode", n, 0, 0, 0,
+              want(sedge_log_command_encode(5, 44, k + 1, octets, n, out, sizeof out, &total) == SEDGE_OK));
+        TIMED("sedge_log_offer", n, 0, 0, 0, want(sedge_log_offer(&log, out, total, &content) == SEDGE_OK));
+        TIMED("sedge_log_history_after", 0, 0, 0, 0, history = sedge_log_history_after(history, out, total));
+        act(&log);
+        TIMED("sedge_log_status", 0, 0, 0, 0, want(sedge_log_status(&log, 3, told, 27) == SEDGE_OK));
+        TIMED("sedge_log_status_decode", 0, 0, 0, 0, want(sedge_log_status_decode(told, 27, &status) == SEDGE_OK));
+    }
+    TIMED("sedge_log_order_encode", 0, 0, 0, 0,
+          want(sedge_log_order_encode(&order, 6, 45, out, 23, &total) == SEDGE_OK));
+    TIMED("sedge_log_obey", 0, 0, 0, 0, want(sedge_log_obey(&log, out, total) == SEDGE_OK));
+    act(&log);
+    place[49] ^= 1;
+    TIMED("sedge_log_start", 0, 0, 0, 0, sedge_log_start(&log, place, 50, place, 50, 7));
+    order = (struct sedge_log_order){1, 9, 7, SEDGE_LOG_ORDER_REBUILD};
+    TIMED("sedge_log_order_encode", 0, 0, 0, 0,
+          want(sedge_log_order_encode(&order, 6, 45, out, 23, &total) == SEDGE_OK));
+    TIMED("sedge_log_obey", 0, 0, 0, 0, want(sedge_log_obey(&log, out, total) == SEDGE_OK));
+    act(&log);
+}
+
 static struct sedge_text text;
 static struct sedge_advice advice;
 
@@ -279,6 +325,7 @@ static void names(void) {
         TIMED("sedge_.._name", 0, 0, 0, 0, text = sedge_tm_fault_name(n));
         TIMED("sedge_.._name", 0, 0, 0, 0, text = sedge_map_fault_name(n));
         TIMED("sedge_.._name", 0, 0, 0, 0, text = sedge_dropped_name(n));
+        TIMED("sedge_.._name", 0, 0, 0, 0, text = sedge_log_fault_name(n));
         TIMED("sedge_alert_advice", 0, 0, 0, 0, advice = sedge_alert_advice(n));
         TIMED("sedge_alert_shows_broken_condition", 0, 0, 0, 0, (void)sedge_alert_shows_broken_condition(n));
     }
@@ -298,6 +345,7 @@ void measure(void) {
     extractors();
     many_telemetry_frames();
     segments();
+    commands();
     maps();
     names();
 }

@@ -24,6 +24,8 @@ static const struct words ALL[] = {
      "Length Version Check Status Pointer NoOcf Memory NotAPacket Room FieldRange"},
     {sedge_map_fault_name, "sedge_map_fault_name", 1, "NotAPacket TooLong Memory"},
     {sedge_dropped_name, "sedge_dropped_name", 1, "ClosedMap Interrupted NoBeginning NotAPacket TooLong"},
+    {sedge_log_fault_name, "sedge_log_fault_name", 1,
+     "Layout Check Starting Busy Lost Behind Ahead OtherBoot NotLost OtherMark FieldRange Room"},
 };
 
 /* Word k of words between spaces, with zeros after it; "?" where there is none. */

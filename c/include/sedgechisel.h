@@ -1,6 +1,6 @@
 /* Sedgechisel for programs in C: the FECF of frames, telecommand frames, space packets, control words, telemetry
- * frames, the receiver FARM-1, the sender FOP-1, packets in segments, and packets in telemetry frames. For C99 and
- * later, and for C++.
+ * frames, the receiver FARM-1, the sender FOP-1, packets in segments, packets in telemetry frames, and the commands
+ * of a board over restarts. For C99 and later, and for C++.
  *
  * Nothing here allocates, keeps a state of its own, or calls a function of another library but memcpy, memmove and
  * memset; so each may be called anywhere, from two threads at once too, where they do not share what they write. Each
@@ -18,13 +18,14 @@
  *
  * What is returned:
  * - A uint8_t is a number of the one enumeration that the call's comment names, or of sedge_status, which all calls
- *   share. It is SEDGE_OK or the first fault that applies, and a call that returns a fault has written nothing. Five
+ *   share. It is SEDGE_OK or the first fault that applies, and a call that returns a fault has written nothing. Six
  *   calls return what is no fault: a verdict (sedge_farm_ad), a state (sedge_farm_state), what goes on the link next
- *   (sedge_fop_next), and an alert (sedge_fop_clcw, sedge_fop_tick). Those of them that write have written unless it is
- *   SEDGE_ABSENT or SEDGE_DAMAGED.
+ *   (sedge_fop_next), an alert (sedge_fop_clcw, sedge_fop_tick), and what a board does next (sedge_log_next). Those of
+ *   them that write have written unless it is SEDGE_ABSENT, SEDGE_WRONG_COUNT or SEDGE_DAMAGED.
  * - A bool says whether something holds (sedge_check_holds), or whether the call has written (sedge_check_append,
  *   sedge_tm_packet, sedge_map_packet). Where it is false nothing is written.
- * - A uint16_t is the check of octets (sedge_check), and a struct sedge_text a word.
+ * - A uint16_t is the check of octets (sedge_check), a uint32_t a history (sedge_log_history_after), and a struct
+ *   sedge_text a word.
  *
  * SEDGE_CHECK marks each call whose answer says more than that a struct is damaged: a compiler warns where a program
  * does not use it. In C each number of an enumeration is a constant of an unsigned type too, at the end of this file,
@@ -740,6 +741,163 @@ SEDGE_CHECK uint8_t sedge_map_count(const uint8_t *octets, size_t count, const s
 SEDGE_CHECK uint8_t sedge_map_segment(const uint8_t *octets, size_t count, const struct sedge_limits *limits,
                                       size_t k, uint8_t *flags, struct sedge_part *data);
 
+/* ---- Commands that are executed once and in order on board, over restarts at any moment (docs/PROFILE.md, "Commands
+ * that are executed once"). ---- */
+
+enum sedge_log_fault {
+    SEDGE_LOG_LAYOUT = 1,       /* not exactly one packet of this layout, or not as many octets as the layout has */
+    SEDGE_LOG_CHECK = 2,        /* the check does not hold, or a field has a value that no layout gives it */
+    SEDGE_LOG_STARTING = 3,     /* the board has started, and a copy of its record is being repaired */
+    SEDGE_LOG_BUSY = 4,         /* the record is being written, a command is executed, or a restart is due */
+    SEDGE_LOG_LOST = 5,         /* the board has lost its record */
+    SEDGE_LOG_BEHIND = 6,       /* the command's number is that of one that was executed or passed over */
+    SEDGE_LOG_AHEAD = 7,        /* the command's number is above the next one */
+    SEDGE_LOG_OTHER_BOOT = 8,   /* the order is for another boot count */
+    SEDGE_LOG_NOT_LOST = 9,     /* the order brings a record, and the board has its own */
+    SEDGE_LOG_OTHER_MARK = 10,  /* the order brings a record after another loss */
+    SEDGE_LOG_FIELD_RANGE = 11, /* a field is out of range, or the data are too long */
+    SEDGE_LOG_ROOM = 12         /* the output is too short for the packet */
+};
+
+/* What the program does next. */
+enum sedge_log_action {
+    SEDGE_LOG_NOTHING = 0,      /* nothing: a command or an order may be passed in */
+    SEDGE_LOG_WRITE_FIRST = 1,  /* write the octets at the first place */
+    SEDGE_LOG_WRITE_SECOND = 2, /* write the octets at the second place */
+    SEDGE_LOG_EXECUTE = 3,      /* execute the command that was taken last */
+    SEDGE_LOG_RESTART = 4       /* restart: an order was obeyed */
+};
+
+/* What a status states. */
+enum sedge_log_status_kind {
+    SEDGE_LOG_STATUS_SAYS = 0,    /* the record, as it is at both places */
+    SEDGE_LOG_STATUS_CHANGES = 1, /* the record is being written: the previous status holds */
+    SEDGE_LOG_STATUS_STARTS = 2,  /* the board has just started: the previous status holds */
+    SEDGE_LOG_STATUS_LOST = 3     /* the board has lost its record */
+};
+
+enum sedge_log_order_kind {
+    SEDGE_LOG_ORDER_RESTART = 1, /* the board with this boot count restarts */
+    SEDGE_LOG_ORDER_REBUILD = 2  /* the board that has lost its record, with this mark, gets this one */
+};
+
+/* The octets of a record at one place, of a status and of an order; and those of a command packet beside the mission's.
+ */
+#define SEDGE_LOG_RECORD_OCTETS 50U
+#define SEDGE_LOG_STATUS_OCTETS 27U
+#define SEDGE_LOG_ORDER_OCTETS 23U
+#define SEDGE_LOG_COMMAND_OVERHEAD 14U
+
+/* What a board keeps of its commands at two places of a memory that survives restarts. */
+struct sedge_log_record {
+    uint64_t known;   /* a bit for each of the 64 numbers up to last, the lowest for last: 1 if it is known that the
+                       * command was executed, whole */
+    uint32_t boot;    /* how often the board has started */
+    uint32_t last;    /* the number of the last command that was executed or passed over. Numbers begin at 1 */
+    uint32_t history; /* the running check of all commands that were taken since the record was new or was brought */
+    uint8_t begun;    /* whether the next command is begun, 0 or 1 */
+};
+
+/* The state of a board's commands: begin it with sedge_log_start. One rule: the program does what sedge_log_next
+ * returns, whole, and calls sedge_log_done, before it calls sedge_log_next again. So a program is
+ *
+ *     sedge_log_start(&log, first, 50, second, 50, mark); what both places have, and a mark of this start
+ *     for (;;) {
+ *         action = sedge_log_next(&log, octets, sizeof octets, &number); 50 octets
+ *         switch (action) {
+ *         case SEDGE_LOG_WRITE_FIRST:  write_place(0, octets); break;
+ *         case SEDGE_LOG_WRITE_SECOND: write_place(1, octets); break;
+ *         case SEDGE_LOG_EXECUTE:      execute(number, content); break;
+ *         case SEDGE_LOG_RESTART:      restart(); break;
+ *         default:                     wait_and_offer(&log); continue; sedge_log_offer, or sedge_log_obey for an order
+ *         }
+ *         if (sedge_log_done(&log, action, number)) stop();
+ *     }
+ *
+ * A telemetry packet of the mission carries the status (sedge_log_status). The fields are the library's: read them, and
+ * do not change them. */
+struct sedge_log {
+    struct sedge_log_record kept; /* the record as it is at both places, or as it is being written */
+    uint32_t mark;                /* the mark of the loss if the record is lost, and 0 otherwise */
+    uint8_t stage;                /* the stage, 1 to 8 */
+};
+
+/* Starts with the octets at the two places of the memory that survives restarts, 50 each. A place whose octets are not
+ * 50, or do not spell a record, has none. Give another mark at each start, from a clock or at random: if neither place
+ * has a record, it is the mark of this loss. */
+void sedge_log_start(struct sedge_log *log, const uint8_t *first, size_t first_count, const uint8_t *second,
+                     size_t second_count, uint32_t mark);
+
+/* Returns what the program does next, of sedge_log_action: it does this whole, and calls sedge_log_done, before it
+ * calls this again. For a write, out gets the 50 octets of the place; otherwise it stays as it is. number gets the
+ * number of the command to be executed, or 0 for any other action. Or returns the first of SEDGE_WRONG_COUNT, if the
+ * room is not 50 octets, and SEDGE_DAMAGED, with nothing written. */
+SEDGE_CHECK uint8_t sedge_log_next(const struct sedge_log *log, uint8_t *out, size_t room, uint32_t *number);
+
+/* The action that sedge_log_next returned, with its number, was done whole. Returns 0; or it changes nothing and
+ * returns the first of SEDGE_DAMAGED and SEDGE_ABSENT, if the action or its number is not what sedge_log_next
+ * returns. */
+SEDGE_CHECK uint8_t sedge_log_done(struct sedge_log *log, uint8_t action, uint32_t number);
+
+/* Takes the octets of a packet that arrived if it is the next command, and writes where the mission's octets are in
+ * them: keep these until the command was executed, after sedge_log_next has returned SEDGE_LOG_EXECUTE with its number.
+ * Returns 0; or it changes and writes nothing, the packet is dropped, and it returns SEDGE_DAMAGED or the first of 1 to
+ * 7 of sedge_log_fault: 1 Layout, then 2 Check, then 3 Starting, 4 Busy or 5 Lost, then 6 Behind or 7 Ahead. */
+SEDGE_CHECK uint8_t sedge_log_offer(struct sedge_log *log, const uint8_t *octets, size_t count,
+                                    struct sedge_part *content);
+
+/* Takes the octets of an order that arrived: the next action is then SEDGE_LOG_RESTART; or the board that has lost its
+ * record continues with the one that the order brings, if the order has the mark of this loss. Returns 0; or it changes
+ * nothing, the packet is dropped, and it returns SEDGE_DAMAGED, or the first of 1 to 5 of sedge_log_fault, or 8 to 10
+ * of sedge_log_fault: 1 Layout, then 2 Check; of a restart 3 Starting, 4 Busy or 5 Lost, then 8 OtherBoot; of a record
+ * 9 NotLost, then 10 OtherMark. */
+SEDGE_CHECK uint8_t sedge_log_obey(struct sedge_log *log, const uint8_t *octets, size_t count);
+
+/* Writes the status for telemetry, 27 octets, with how many commands wait on board to be offered, at most 255. Returns
+ * 0, or the first of SEDGE_WRONG_COUNT, if the room is not 27 octets, and SEDGE_DAMAGED. */
+SEDGE_CHECK uint8_t sedge_log_status(const struct sedge_log *log, size_t waiting, uint8_t *out, size_t room);
+
+/* Writes the record of a new board, the 50 octets that both places have before the board starts for the first time.
+ * Returns 0, or SEDGE_WRONG_COUNT if the room is not 50 octets. */
+SEDGE_CHECK uint8_t sedge_log_new_record(uint8_t *out, size_t room);
+
+/* What a status states, on the ground. */
+struct sedge_board_status {
+    struct sedge_log_record kept; /* the record for SEDGE_LOG_STATUS_SAYS, otherwise zeros */
+    uint32_t mark;                /* the mark of the loss for SEDGE_LOG_STATUS_LOST, otherwise 0 */
+    uint8_t kind;                 /* of sedge_log_status_kind */
+    uint8_t waiting;              /* how many commands wait on board, at most 255 */
+};
+
+/* Reads a status that arrived. Returns 0, or the first of 1 to 2 of sedge_log_fault: 1 Layout if the octets are not 27,
+ * then 2 Check. */
+SEDGE_CHECK uint8_t sedge_log_status_decode(const uint8_t *octets, size_t count, struct sedge_board_status *status);
+
+/* Writes a command packet with this APID, sequence count and number, and with the mission's octets, to the beginning of
+ * out, and its length in octets, 14 more than the mission's, to total. Returns 0, or the first of SEDGE_LOG_FIELD_RANGE
+ * (the APID is above 2,047, the count above 16,383, the number 0, or the mission's octets are more than 65,528) and
+ * SEDGE_LOG_ROOM. */
+SEDGE_CHECK uint8_t sedge_log_command_encode(uint16_t apid, uint16_t count, uint32_t number, const uint8_t *content,
+                                             size_t content_count, uint8_t *out, size_t room, size_t *total);
+
+/* An order to the board itself. It goes up by bypass (Type-BD). */
+struct sedge_log_order {
+    uint32_t boot; /* the boot count: of the board that restarts, or of the record */
+    uint32_t last; /* the last number of the record; 0 for a restart */
+    uint32_t mark; /* the mark of the loss; 0 for a restart */
+    uint8_t kind;  /* of sedge_log_order_kind */
+};
+
+/* Writes an order as a packet with this APID and sequence count to the beginning of out, and its length, 23 octets, to
+ * total. Returns 0, or the first of SEDGE_DAMAGED (the kind is out of its enum, or a restart has a last number or a
+ * mark), SEDGE_LOG_FIELD_RANGE (the APID is above 2,047 or the count above 16,383) and SEDGE_LOG_ROOM. */
+SEDGE_CHECK uint8_t sedge_log_order_encode(const struct sedge_log_order *order, uint16_t apid, uint16_t count,
+                                           uint8_t *out, size_t room, size_t *total);
+
+/* Returns the history after one command packet more: CRC-32 continued over the packet's check, its last four octets.
+ * The history of no packets is 0. A ground that computes it for the packets that it sends compares it with a status. */
+uint32_t sedge_log_history_after(uint32_t history, const uint8_t *packet, size_t count);
+
 /* ---- Names, as tctool writes them; "?" for a number out of the enum. ---- */
 
 struct sedge_text sedge_clcw_fault_name(uint8_t fault);   /* the name of a sedge_clcw_fault */
@@ -751,6 +909,7 @@ struct sedge_text sedge_packet_fault_name(uint8_t fault); /* the name of a sedge
 struct sedge_text sedge_tm_fault_name(uint8_t fault);     /* the name of a sedge_tm_fault */
 struct sedge_text sedge_map_fault_name(uint8_t fault);    /* the name of a sedge_map_fault */
 struct sedge_text sedge_dropped_name(uint8_t cause);      /* the name of a sedge_dropped */
+struct sedge_text sedge_log_fault_name(uint8_t fault);    /* the name of a sedge_log_fault */
 
 /* ---- What an alert says. ---- */
 
@@ -884,6 +1043,29 @@ struct sedge_advice sedge_alert_advice(uint8_t alert);
 #define SEDGE_IN_DATA ((uint8_t)2)
 #define SEDGE_MAP_NOT_A_PACKET ((uint8_t)1)
 #define SEDGE_MAP_TOO_LONG ((uint8_t)2)
+#define SEDGE_LOG_LAYOUT ((uint8_t)1)
+#define SEDGE_LOG_CHECK ((uint8_t)2)
+#define SEDGE_LOG_STARTING ((uint8_t)3)
+#define SEDGE_LOG_BUSY ((uint8_t)4)
+#define SEDGE_LOG_LOST ((uint8_t)5)
+#define SEDGE_LOG_BEHIND ((uint8_t)6)
+#define SEDGE_LOG_AHEAD ((uint8_t)7)
+#define SEDGE_LOG_OTHER_BOOT ((uint8_t)8)
+#define SEDGE_LOG_NOT_LOST ((uint8_t)9)
+#define SEDGE_LOG_OTHER_MARK ((uint8_t)10)
+#define SEDGE_LOG_FIELD_RANGE ((uint8_t)11)
+#define SEDGE_LOG_ROOM ((uint8_t)12)
+#define SEDGE_LOG_NOTHING ((uint8_t)0)
+#define SEDGE_LOG_WRITE_FIRST ((uint8_t)1)
+#define SEDGE_LOG_WRITE_SECOND ((uint8_t)2)
+#define SEDGE_LOG_EXECUTE ((uint8_t)3)
+#define SEDGE_LOG_RESTART ((uint8_t)4)
+#define SEDGE_LOG_STATUS_SAYS ((uint8_t)0)
+#define SEDGE_LOG_STATUS_CHANGES ((uint8_t)1)
+#define SEDGE_LOG_STATUS_STARTS ((uint8_t)2)
+#define SEDGE_LOG_STATUS_LOST ((uint8_t)3)
+#define SEDGE_LOG_ORDER_RESTART ((uint8_t)1)
+#define SEDGE_LOG_ORDER_REBUILD ((uint8_t)2)
 #endif
 
 /* ---- Names that go after 0.3: each call has another name now. ---- */

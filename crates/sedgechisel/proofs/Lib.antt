@@ -1,4 +1,5 @@
 mod SenderFields
+mod LogFields
 mod Described
 mod Builders
 mod Extractors

@@ -9,3 +9,4 @@ pub mod Packets
 pub mod Receivers
 pub mod Senders
 pub mod Extractors
+pub mod CommandLogs

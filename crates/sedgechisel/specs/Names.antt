@@ -19,6 +19,8 @@ use Rattle.tm_link.specs.Faults as tm_faults
 use Rattle.map_service.specs.declared.fault.MapFault.TheVariants as map
 use Rattle.map_service.specs.Faults as map_faults
 use Rattle.map_service.specs.Causes.{cause_row}
+use Rattle.command_log.specs.declared.fault.LogFault.TheVariants as log
+use Rattle.command_log.specs.Faults as log_faults
 use Rattle.sedgechisel.specs.Maps.{cause_at}
 
 abbrev pub clcw_fault_word : ℕ → List ℕ
@@ -75,6 +77,12 @@ abbrev pub map_fault_word : ℕ → List ℕ
 map_fault_word n =
     name_by map_faults.fault_row
     (map.NotAPacket ∷ map.TooLong ∷ map.Memory ∷ []) n
+
+abbrev pub log_fault_word : ℕ → List ℕ
+log_fault_word n =
+    name_by log_faults.fault_row
+    (log.Layout ∷ log.Check ∷ log.Starting ∷ log.Busy ∷ log.Lost ∷ log.Behind ∷ log.Ahead
+    ∷ log.OtherBoot ∷ log.NotLost ∷ log.OtherMark ∷ log.FieldRange ∷ log.Room ∷ []) n
 
 abbrev pub dropped_word : ℕ → List ℕ
 dropped_word n = name_if cause_row (cause_at n)

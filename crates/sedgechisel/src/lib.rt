@@ -40,6 +40,7 @@ mod assembly;
 mod command_frame;
 mod control_word;
 mod cutting;
+mod executor;
 mod extracted_frames;
 mod frame_check;
 mod names;

@@ -2,10 +2,11 @@
 
 ghost use Rattle.std.specs.Prelude.{◌≡◌};
 ghost use Rattle.c_words.specs.Words.{text_of, sentence_of};
-ghost use Rattle.sedgechisel.specs.Names.{clcw_fault_word, cop_fault_word, verdict_word, alert_word, alert_at, broken_if, advice_if, tc_fault_word, packet_fault_word, tm_fault_word, map_fault_word, dropped_word};
+ghost use Rattle.sedgechisel.specs.Names.{clcw_fault_word, cop_fault_word, verdict_word, alert_word, alert_at, broken_if, advice_if, tc_fault_word, packet_fault_word, tm_fault_word, map_fault_word, log_fault_word, dropped_word};
 
 use c_words::{Advice, Text, advised, named};
 use clcw::ClcwFault;
+use command_log::LogFault;
 use cop1::{Alert, CopFault, Verdict};
 use map_service::{Dropped, MapFault};
 use space_packet::PacketFault;
@@ -125,6 +126,16 @@ pub extern "C" fn sedge_map_fault_name(fault: u8) -> Text
     ensures { result.text ≡ text_of (map_fault_word fault) }
 {
     named!(fault, MapFault: 1 => NotAPacket, 2 => TooLong, 3 => Memory)
+}
+
+/// The name of a `sedge_log_fault`.
+#[unsafe(no_mangle)]
+pub extern "C" fn sedge_log_fault_name(fault: u8) -> Text
+    ensures { result.text ≡ text_of (log_fault_word fault) }
+{
+    named!(fault, LogFault:
+        1 => Layout, 2 => Check, 3 => Starting, 4 => Busy, 5 => Lost, 6 => Behind, 7 => Ahead,
+        8 => OtherBoot, 9 => NotLost, 10 => OtherMark, 11 => FieldRange, 12 => Room)
 }
 
 /// The name of a `sedge_dropped`.

@@ -179,6 +179,12 @@ static void put_own16_at(uintptr_t at, uint32_t value)
 }
 #define put_own16(at, value) put_own16_at((uintptr_t)(at), value)
 
+static void put_own32_at(uintptr_t at, uint32_t value)
+{
+    *(uint32_t *)(void *)OCTETS(at) = value;
+}
+#define put_own32(at, value) put_own32_at((uintptr_t)(at), value)
+
 /* Moves octets, which may overlap. */
 static void copy_at(uintptr_t to, uintptr_t from, size_t count)
 {
@@ -191,6 +197,11 @@ static void fill_at(uintptr_t to, uint32_t value, size_t count)
     if (count > 0) memset(OCTETS(to), (int)(value & 255), (size_t)count);
 }
 #define fill(to, value, count) fill_at((uintptr_t)(to), value, (size_t)(count))
+
+static uint32_t rotl32(uint32_t x, uint32_t count)
+{
+    return x << count | x >> ((32 - count) & 31);
+}
 
 /* A number of fewer bits, the highest of them this, made longer with its sign. */
 static uint32_t extend32(uint32_t x, uint32_t highest)
@@ -599,17 +610,17 @@ static const unsigned char constant_29[7] = {
 };
 
 /* Of sedge_packet_fault_name_at. */
-static const unsigned char constant_31[17] = {
+static const unsigned char constant_43[17] = {
     73, 100, 108, 101, 87, 105, 116, 104, 83, 101, 99, 111, 110, 100, 97, 114, 121
 };
 
 /* Of sedge_version_at. */
-static const unsigned char constant_51[5] = {
+static const unsigned char constant_59[5] = {
     48, 46, 51, 46, 48
 };
 
 /* Of sedge_tm_builder_build_at. */
-static const unsigned char constant_58[7] = {
+static const unsigned char constant_66[7] = {
     7, 255, 192, 0, 0, 0, 85
 };
 
@@ -619,7 +630,7 @@ static const unsigned char table_sedge_clcw_fault_name[10] = {
 };
 
 /* Of sedge_clcw_fault_name_at. */
-static const unsigned char table_sedge_clcw_fault_name_30[20] = {
+static const unsigned char table_sedge_clcw_fault_name_38[20] = {
     75, 105, 110, 100, 86, 101, 114, 115, 67, 111, 112, 0, 83, 112, 97, 114, 82, 97, 110, 103
 };
 
@@ -629,9 +640,27 @@ static const unsigned char table_sedge_dropped_name[10] = {
 };
 
 /* Of sedge_dropped_name_at. */
-static const unsigned char table_sedge_dropped_name_31[40] = {
+static const unsigned char table_sedge_dropped_name_39[40] = {
     108, 111, 115, 101, 100, 77, 97, 112, 110, 116, 101, 114, 114, 117, 112, 116, 111, 66, 101, 103, 105, 110, 110,
     105, 111, 116, 65, 80, 97, 99, 107, 101, 111, 111, 76, 111, 110, 103, 0, 0
+};
+
+/* Of sedge_log_fault_name_at. */
+static const unsigned char table_sedge_log_fault_name[12] = {
+    0, 0, 0, 0, 0, 0, 0, 116, 0, 107, 103, 0
+};
+
+/* Of sedge_log_fault_name_at. */
+static const unsigned char table_sedge_log_fault_name_40[12] = {
+    0, 0, 0, 0, 0, 0, 0, 0, 0, 0, 101, 0
+};
+
+/* Of sedge_log_fault_name_at. */
+static const unsigned char table_sedge_log_fault_name_41[96] = {
+    76, 97, 121, 111, 117, 116, 0, 0, 67, 104, 101, 99, 107, 0, 0, 0, 83, 116, 97, 114, 116, 105, 110, 103, 66, 117,
+    115, 121, 0, 0, 0, 0, 76, 111, 115, 116, 0, 0, 0, 0, 66, 101, 104, 105, 110, 100, 0, 0, 65, 104, 101, 97, 100, 0,
+    0, 0, 79, 116, 104, 101, 114, 66, 111, 111, 78, 111, 116, 76, 111, 115, 116, 0, 79, 116, 104, 101, 114, 77, 97,
+    114, 70, 105, 101, 108, 100, 82, 97, 110, 82, 111, 111, 109, 0, 0, 0, 0
 };
 
 /* Of sedge_verdict_name_at. */
@@ -643,12 +672,23 @@ static const unsigned char table_sedge_verdict_name[48] = {
 /* ---- The functions, as they were compiled. ---- */
 
 static uint32_t octets_frame_check_check(uint64_t p0, uint64_t p1);
+static uint32_t command_log_crc_check_after(uint32_t p0, uint64_t p1, uint64_t p2);
+static void command_log_record_spelled(uint64_t p0, uint64_t p1);
+static void command_log_record_front(uint64_t p0, uint64_t p1);
+static void sedgechisel_executor_copy_in(uint64_t p0, uint64_t p1, uint64_t p2);
+static void command_log_record_fields_at(uint64_t p0, uint64_t p1);
+static uint32_t core_cmp_slices_groups_equal_i8_31_core_cmp_numbers_U8PartialEq(uint64_t p0, uint64_t p1, uint64_t
+    p2);
+static void sedgechisel_executor_fields_kept(uint64_t p0, uint64_t p1);
 static void map_service_cutting_segment_count(uint64_t p0, uint64_t p1, uint64_t p2, uint64_t p3);
 static uint64_t map_service_cutting_group_len(uint64_t p0, uint64_t p1, uint64_t p2);
 static uint32_t sedgechisel_command_frame_sedge_tc_decode(uint64_t p0, uint64_t p1, uint32_t p2, uint64_t p3, uint64_t
     p4);
 static void tm_link_decoding_decode(uint64_t p0, uint64_t p1, uint64_t p2, uint64_t p3);
 static void tm_link_decoding_fields_of(uint64_t p0, uint64_t p1, uint64_t p2, uint32_t p3, uint32_t p4);
+static void sedgechisel_executor_fields_described(uint64_t p0, uint64_t p1);
+static void command_log_executor_Executor_moves_on(uint64_t p0);
+static void command_log_executor_Executor_pass(uint64_t p0, uint64_t p1);
 static uint32_t sedgechisel_telemetry_extractor_sedge_tm_extractor_frame(uint64_t p0, uint64_t p1, uint64_t p2,
     uint64_t p3, uint64_t p4, uint64_t p5, uint64_t p6);
 static void sedgechisel_telemetry_extractor_start(uint64_t p0, uint64_t p1, uint64_t p2, uint64_t p3, uint64_t p4,
@@ -675,6 +715,15 @@ static uint32_t sedge_farm_unlock_at(uint64_t farm);
 static uint32_t sedge_fop_open_at(uint64_t fop, uint32_t width, uint32_t window, uint32_t limit, uint32_t timer);
 static void sedge_gap_check_open_at(uint64_t check);
 static uint32_t sedge_gap_check_see_at(uint64_t check, uint32_t apid, uint32_t count, uint64_t missing);
+static uint32_t sedge_log_command_encode_at(uint32_t apid, uint32_t count, uint32_t number, uint64_t content, uint64_t
+    content_count, uint64_t out, uint64_t room, uint64_t total);
+static void sedge_log_fault_name_at(uint64_t result, uint32_t fault);
+static uint32_t sedge_log_history_after_at(uint32_t history, uint64_t packet, uint64_t count);
+static uint32_t sedge_log_new_record_at(uint64_t out, uint64_t room);
+static uint32_t sedge_log_order_encode_at(uint64_t order, uint32_t apid, uint32_t count, uint64_t out, uint64_t room,
+    uint64_t total);
+static void sedge_log_start_at(uint64_t log, uint64_t first, uint64_t first_count, uint64_t second, uint64_t
+    second_count, uint32_t mark);
 static uint32_t sedge_map_count_at(uint64_t octets, uint64_t count, uint64_t limits, uint64_t segments);
 static void sedge_map_fault_name_at(uint64_t result, uint32_t fault);
 static uint32_t sedge_map_packet_at(uint64_t octets, uint64_t count, uint64_t packet);
@@ -700,6 +749,12 @@ static void sedge_verdict_name_at(uint64_t result, uint32_t verdict);
 static void sedge_version_at(uint64_t result);
 static uint32_t sedge_tc_encode_at(uint64_t frame, uint64_t data, uint64_t data_count, uint32_t checked, uint64_t out,
     uint64_t room, uint64_t total);
+static uint32_t sedge_log_done_at(uint64_t log, uint32_t action, uint32_t number);
+static uint32_t sedge_log_next_at(uint64_t log, uint64_t out, uint64_t room, uint64_t number);
+static uint32_t sedge_log_obey_at(uint64_t log, uint64_t octets, uint64_t count);
+static uint32_t sedge_log_offer_at(uint64_t log, uint64_t octets, uint64_t count, uint64_t content);
+static uint32_t sedge_log_status_at(uint64_t log, uint64_t waiting, uint64_t out, uint64_t room);
+static uint32_t sedge_log_status_decode_at(uint64_t octets, uint64_t count, uint64_t status);
 static uint32_t sedge_map_take_at(uint64_t map, uint32_t flags, uint64_t data, uint64_t data_count, uint64_t memory,
     uint64_t room, uint64_t taken);
 static uint32_t sedge_tm_extractor_frame_at(uint64_t extractor, uint64_t frame, uint64_t data, uint64_t data_count,
@@ -808,6 +863,410 @@ static uint32_t octets_frame_check_check(uint64_t p0, uint64_t p1)
     return v8;
 }
 #endif
+
+/* command_log::crc::check_after, crates/command_log/src/crc.rt:20 */
+static uint32_t command_log_crc_check_after(uint32_t p0, uint64_t p1, uint64_t p2)
+{
+    uint32_t v2, v4, t1, v5, v3, v6, t2, v7, v8, v9, v10, v11;
+    uint64_t p2_now, p1_now;
+    p2_now = p2;
+    p1_now = p1;
+    if (p2_now == 0) return p0;
+    v2 = ~p0;
+    do {
+        v4 = v2 ^ get8(p1_now);
+        t1 = ((v4 & 1) != 0) ? 0xedb88320U : 0U;
+        v5 = v4 >> 1;
+        v3 = (t1 ^ v5) >> 1;
+        v6 = (v3 ^ (((v5 & 1) != 0) ? 0xedb88320U : 0U)) >> 1;
+        t2 = ((v6 & 1) != 0) ? 0xedb88320U : 0U;
+        v7 = ((((v3 & 1) != 0) ? 0xedb88320U : 0U) ^ v6) >> 1;
+        v8 = (t2 ^ v7) >> 1;
+        v9 = ((((v7 & 1) != 0) ? 0xedb88320U : 0U) ^ v8) >> 1;
+        v10 = ((((v8 & 1) != 0) ? 0xedb88320U : 0U) ^ v9) >> 1;
+        v2 = (((v10 & 1) != 0) ? 0xedb88320U : 0U) ^ (((((v9 & 1) != 0) ? 0xedb88320U : 0U) ^ v10) >> 1);
+        p1_now = p1_now + 1;
+        p2_now = p2_now - 1;
+    } while (p2_now != 0);
+    v11 = ~v2;
+    return v11;
+}
+
+/* command_log::record::spelled, crates/command_log/src/record.rt:56 */
+static void command_log_record_spelled(uint64_t p0, uint64_t p1)
+{
+    unsigned char frame_octets[64 + 15];
+    uint32_t v3;
+    uint64_t v2;
+    v2 = aligned(frame_octets);
+    put64(v2 + 21, 0);
+    put64(v2 + 16, 0);
+    put64(v2 + 8, 0);
+    put64(v2 + 32, 0);
+    put64(v2 + 40, 0);
+    put64(v2 + 48, 0);
+    put8(v2 + 56, 0);
+    command_log_record_front(v2 + 8, p1);
+    put64(v2 + 45, get64(v2 + 21));
+    put64(v2 + 40, get64(v2 + 16));
+    put64(v2 + 32, get64(v2 + 8));
+    v3 = command_log_crc_check_after(0, v2 + 32, 21);
+    put64(p0, get64(v2 + 32));
+    put64(p0 + 8, get64(v2 + 40));
+    put32(v2 + 53, rotl32(v3 & 0xff00ff, 24) | (rotl32(v3, 8) & 0xff00ff));
+    put64(p0 + 16, get64(v2 + 48));
+    put8(p0 + 24, get8(v2 + 56));
+    return;
+}
+
+/* command_log::record::front, crates/command_log/src/record.rt:66 */
+static void command_log_record_front(uint64_t p0, uint64_t p1)
+{
+    uint32_t v2, v4, v5;
+    uint64_t v3;
+    v2 = get32(p1 + 4);
+    v3 = get64(p1 + 16);
+    v4 = get32(p1 + 24);
+    v5 = get32(p1);
+    put8(p0 + 20, get8(p1 + 8));
+    put8(p0 + 19, v4);
+    put8(p0 + 15, (uint32_t)v3);
+    put8(p0 + 7, v2);
+    put8(p0 + 3, v5);
+    put8(p0 + 2, v5 >> 8);
+    put8(p0 + 1, v5 >> 16);
+    put8(p0, v5 >> 24);
+    put8(p0 + 18, v4 >> 8);
+    put8(p0 + 17, v4 >> 16);
+    put8(p0 + 16, v4 >> 24);
+    put8(p0 + 14, (uint32_t)(v3 >> 8));
+    put8(p0 + 13, (uint32_t)(v3 >> 16));
+    put8(p0 + 12, (uint32_t)(v3 >> 24));
+    put8(p0 + 11, (uint32_t)(v3 >> 32));
+    put8(p0 + 10, (uint32_t)(v3 >> 40));
+    put8(p0 + 9, (uint32_t)(v3 >> 48));
+    put8(p0 + 8, (uint32_t)(v3 >> 56));
+    put8(p0 + 6, v2 >> 8);
+    put8(p0 + 5, v2 >> 16);
+    put8(p0 + 4, v2 >> 24);
+    return;
+}
+
+/* sedgechisel::executor::copy_in, crates/sedgechisel/src/executor.rt:60 */
+static void sedgechisel_executor_copy_in(uint64_t p0, uint64_t p1, uint64_t p2)
+{
+    unsigned char frame_octets[240 + 15];
+    uint32_t v5, t1;
+    uint64_t v3, v4, v2, v6, v7, v8, v9, v10, v11;
+    v3 = aligned(frame_octets);
+    v4 = 0;
+    put64(v3 + 24, 0);
+    put64(v3 + 16, 0);
+    put64(v3 + 8, 0);
+    put64(v3, 0);
+    put64(v3 + 120, 0);
+    put64(v3 + 128, 0);
+    put64(v3 + 136, 0);
+    put64(v3 + 144, 0);
+    if (p2 == 50) {
+        command_log_record_fields_at(v3 + 120, p1);
+        put8(v3 + 176, 0);
+        put64(v3 + 168, 0);
+        put64(v3 + 160, 0);
+        put64(v3 + 152, 0);
+        command_log_record_spelled(v3 + 152, v3 + 120);
+        v2 = get64(v3 + 152);
+        put64(v3 + 209, v2);
+        v5 = get8(v3 + 176);
+        put8(v3 + 208, v5);
+        v6 = get64(v3 + 160);
+        put64(v3 + 217, v6);
+        v7 = get64(v3 + 168);
+        put64(v3 + 225, v7);
+        put8(v3 + 233, v5);
+        put64(v3 + 200, v7);
+        put64(v3 + 192, v6);
+        put64(v3 + 184, v2);
+        put64(v3 + 64, v2);
+        put64(v3 + 72, v6);
+        put64(v3 + 80, v7);
+        put64(v3 + 88, get64(v3 + 208));
+        put64(v3 + 96, get64(v3 + 216));
+        put64(v3 + 104, get64(v3 + 224));
+        put16(v3 + 112, get16(v3 + 232));
+        if (get8(v3 + 64) == get8(p1) && (get8(v3 + 65) & 255) == (get8(p1 + 1) & 255) && (get8(v3 + 66) & 255) ==
+            (get8(p1 + 2) & 255) && (get8(v3 + 67) & 255) == (get8(p1 + 3) & 255)) {
+            t1 = core_cmp_slices_groups_equal_i8_31_core_cmp_numbers_U8PartialEq(v3 + 64, 50, p1);
+            if (t1 != 0) {
+                v8 = get64(v3 + 144);
+                put64(v3 + 56, v8);
+                v9 = get64(v3 + 136);
+                put64(v3 + 48, v9);
+                v10 = get64(v3 + 128);
+                put64(v3 + 40, v10);
+                v11 = get64(v3 + 120);
+                put64(v3 + 32, v11);
+                put64(v3, v11);
+                put64(v3 + 8, v10);
+                put64(v3 + 16, v9);
+                put64(v3 + 24, v8);
+                v4 = 1;
+            }
+        }
+    }
+    put64(p0, v4);
+    put64(p0 + 8, get64(v3));
+    put64(p0 + 16, get64(v3 + 8));
+    put64(p0 + 24, get64(v3 + 16));
+    put64(p0 + 32, get64(v3 + 24));
+    return;
+}
+
+/* command_log::record::fields_at, crates/command_log/src/record.rt:119 */
+static void command_log_record_fields_at(uint64_t p0, uint64_t p1)
+{
+    uint32_t v3, v4, v5, v6;
+    uint64_t v2, t1;
+    v2 = get64(p1 + 8);
+    v3 = get32(p1 + 16);
+    v4 = get32(p1 + 4);
+    v5 = get8(p1 + 20);
+    v6 = get32(p1);
+    put32(p0 + 9, 0);
+    put32(p0 + 12, 0);
+    put32(p0 + 28, 0);
+    put8(p0 + 8, v5 == 1);
+    put32(p0, rotl32(v6 & 0xff00ff, 24) | (rotl32(v6, 8) & 0xff00ff));
+    put32(p0 + 4, rotl32(v4 & 0xff00ff, 24) | (rotl32(v4, 8) & 0xff00ff));
+    put32(p0 + 24, rotl32(v3 & 0xff00ff, 24) | (rotl32(v3, 8) & 0xff00ff));
+    t1 = (((v2 << 56) | ((v2 & 0xff00) << 40)) | (((v2 & 0xff0000) << 24) | ((v2 & 0xff000000ULL) << 8))) | ((((v2 >>
+        8) & 0xff000000ULL) | ((v2 >> 24) & 0xff0000)) | (((v2 >> 40) & 0xff00) | (v2 >> 56)));
+    put64(p0 + 16, t1);
+    return;
+}
+
+static uint32_t core_cmp_slices_groups_equal_i8_31_core_cmp_numbers_U8PartialEq(uint64_t p0, uint64_t p1, uint64_t p2)
+{
+    uint32_t t1, t2, t3, t4, v4, t5, t6, t7, t8, t9, t10, t11, t12, t13, t14, v18, t45, t46, t47, t48, t49, t50, t51,
+        t52, t53, t54, t55, t56, t57, t58, t59, t60, t61, t62, t63, t64, t65, t66, t67, v22, v25, v32, t15, t16, t17,
+        t18, t19, t20, t21, t22, t23, t24, t25, t26, t27, t28, t29, t30, t31, t32, t33, t34, t35, t36, t37, t38, t39,
+        t40, t41, t42, t43, t44, v36;
+    uint64_t v3, v2, v11, v12, v13, v5, v14, v15, v6, v7, v16, v8, v17, v19, v20, v21, v9, v10, v23, v24, v26, v27,
+        v28, v29, v30, v31, v33, v34, v35;
+    if (p1 <= 8) {
+        t1 = ((get8(p0) != get8(p2) || get8(p0 + 1) != get8(p2 + 1)) || get8(p0 + 2) != get8(p2 + 2)) || get8(p0 + 3)
+            != get8(p2 + 3);
+        v3 = p1 - 4;
+        t2 = get8(p0 + v3) != get8(p2 + v3);
+        v2 = p1 - 3;
+        t3 = t2 | (uint32_t)(get8(p0 + v2) != get8(p2 + v2));
+        v11 = p1 - 2;
+        t4 = t3 | (uint32_t)(get8(p0 + v11) != get8(p2 + v11));
+        v12 = p1 - 1;
+        v4 = t1 | (t4 | (uint32_t)(get8(p0 + v12) != get8(p2 + v12)));
+        return ~v4 & 1;
+    }
+    if (p1 <= 32) {
+        v13 = p1 - 8;
+        v5 = (v13 < 8) ? v13 : 8ULL;
+        v14 = p0 + v5;
+        v15 = p2 + v5;
+        v6 = (v13 < 16) ? v13 : 16ULL;
+        v7 = p0 + v6;
+        v16 = p2 + v6;
+        v8 = p0 + v13;
+        v17 = p2 + v13;
+        t5 = (uint32_t)((get8(v14 + 1) != get8(v15 + 1) || get8(v7 + 1) != get8(v16 + 1)) || get8(v8 + 1) != get8(v17
+            + 1)) << 1;
+        t6 = (uint32_t)((get8(v14 + 3) != get8(v15 + 3) || get8(v7 + 3) != get8(v16 + 3)) || get8(v8 + 3) != get8(v17
+            + 3)) << 3;
+        t7 = (uint32_t)((get8(v14 + 2) != get8(v15 + 2) || get8(v7 + 2) != get8(v16 + 2)) || get8(v8 + 2) != get8(v17
+            + 2)) << 2;
+        t8 = ((uint32_t)((get8(v14) != get8(v15) || get8(v7) != get8(v16)) || get8(v8) != get8(v17)) | t5) | (t6 |
+            t7);
+        t9 = (uint32_t)((get8(v14 + 5) != get8(v15 + 5) || get8(v7 + 5) != get8(v16 + 5)) || get8(v8 + 5) != get8(v17
+            + 5)) << 1;
+        t10 = (uint32_t)((get8(v14 + 4) != get8(v15 + 4) || get8(v7 + 4) != get8(v16 + 4)) || get8(v8 + 4) != get8(v17
+            + 4)) | t9;
+        t11 = (uint32_t)((get8(v14 + 7) != get8(v15 + 7) || get8(v7 + 7) != get8(v16 + 7)) || get8(v8 + 7) != get8(v17
+            + 7)) << 3;
+        t12 = (uint32_t)((get8(v14 + 6) != get8(v15 + 6) || get8(v7 + 6) != get8(v16 + 6)) || get8(v8 + 6) != get8(v17
+            + 6)) << 2;
+        t13 = (((t8 | ((t10 | (t11 | t12)) << 4)) & 255) != 0 || get8(p0) != get8(p2)) || (get8(p0 + 1) != get8(p2 +
+            1) || get8(p0 + 2) != get8(p2 + 2));
+        t14 = (get8(p0 + 3) != get8(p2 + 3) || get8(p0 + 4) != get8(p2 + 4)) || (get8(p0 + 5) != get8(p2 + 5) ||
+            get8(p0 + 6) != get8(p2 + 6));
+        v18 = (t13 | t14) | (uint32_t)(get8(p0 + 7) != get8(p2 + 7));
+        return ~v18 & 1;
+    }
+    if (p1 < 65) {
+        v19 = p1 - 32;
+        v20 = p0 + v19;
+        v21 = p2 + v19;
+        t45 = ((uint32_t)(get8(v20) != get8(v21)) | ((uint32_t)(get8(v20 + 1) != get8(v21 + 1)) << 1)) |
+            (((uint32_t)(get8(v20 + 3) != get8(v21 + 3)) << 3) | ((uint32_t)(get8(v20 + 2) != get8(v21 + 2)) << 2));
+        t46 = ((uint32_t)(get8(v20 + 4) != get8(v21 + 4)) | ((uint32_t)(get8(v20 + 5) != get8(v21 + 5)) << 1)) |
+            (((uint32_t)(get8(v20 + 7) != get8(v21 + 7)) << 3) | ((uint32_t)(get8(v20 + 6) != get8(v21 + 6)) << 2));
+        t47 = ((uint32_t)(get8(v20 + 15) != get8(v21 + 15)) << 3) | ((uint32_t)(get8(v20 + 14) != get8(v21 + 14)) <<
+            2);
+        t48 = ((uint32_t)(get8(v20 + 12) != get8(v21 + 12)) | ((uint32_t)(get8(v20 + 13) != get8(v21 + 13)) << 1)) |
+            t47;
+        t49 = ((uint32_t)(get8(v20 + 11) != get8(v21 + 11)) << 3) | ((uint32_t)(get8(v20 + 10) != get8(v21 + 10)) <<
+            2);
+        t50 = (((uint32_t)(get8(v20 + 8) != get8(v21 + 8)) | ((uint32_t)(get8(v20 + 9) != get8(v21 + 9)) << 1)) | t49)
+            << 8;
+        t51 = ((uint32_t)(get8(v20 + 19) != get8(v21 + 19)) << 3) | ((uint32_t)(get8(v20 + 18) != get8(v21 + 18)) <<
+            2);
+        t52 = ((uint32_t)(get8(v20 + 16) != get8(v21 + 16)) | ((uint32_t)(get8(v20 + 17) != get8(v21 + 17)) << 1)) |
+            t51;
+        t53 = ((uint32_t)(get8(v20 + 23) != get8(v21 + 23)) << 3) | ((uint32_t)(get8(v20 + 22) != get8(v21 + 22)) <<
+            2);
+        t54 = ((uint32_t)(get8(v20 + 20) != get8(v21 + 20)) | ((uint32_t)(get8(v20 + 21) != get8(v21 + 21)) << 1)) |
+            t53;
+        t55 = ((uint32_t)(get8(v20 + 31) != get8(v21 + 31)) << 3) | ((uint32_t)(get8(v20 + 30) != get8(v21 + 30)) <<
+            2);
+        t56 = ((uint32_t)(get8(v20 + 28) != get8(v21 + 28)) | ((uint32_t)(get8(v20 + 29) != get8(v21 + 29)) << 1)) |
+            t55;
+        t57 = ((uint32_t)(get8(v20 + 27) != get8(v21 + 27)) << 3) | ((uint32_t)(get8(v20 + 26) != get8(v21 + 26)) <<
+            2);
+        t58 = ((uint32_t)(get8(v20 + 24) != get8(v21 + 24)) | ((uint32_t)(get8(v20 + 25) != get8(v21 + 25)) << 1)) |
+            t57;
+        t59 = (((t45 | (t46 << 4)) | ((t48 << 12) | t50)) | ((t52 | (t54 << 4)) | ((t56 << 12) | (t58 << 8)))) &
+            0xffff;
+        t60 = (get8(p0 + 3) != get8(p2 + 3) || get8(p0 + 4) != get8(p2 + 4)) || (get8(p0 + 5) != get8(p2 + 5) ||
+            get8(p0 + 6) != get8(p2 + 6));
+        t61 = (uint32_t)((t59 != 0 || get8(p0) != get8(p2)) || (get8(p0 + 1) != get8(p2 + 1) || get8(p0 + 2) !=
+            get8(p2 + 2))) | t60;
+        t62 = (get8(p0 + 7) != get8(p2 + 7) || get8(p0 + 8) != get8(p2 + 8)) || (get8(p0 + 9) != get8(p2 + 9) ||
+            get8(p0 + 10) != get8(p2 + 10));
+        t63 = (get8(p0 + 11) != get8(p2 + 11) || get8(p0 + 12) != get8(p2 + 12)) || (get8(p0 + 13) != get8(p2 + 13) ||
+            get8(p0 + 14) != get8(p2 + 14));
+        t64 = (get8(p0 + 15) != get8(p2 + 15) || get8(p0 + 16) != get8(p2 + 16)) || (get8(p0 + 17) != get8(p2 + 17) ||
+            get8(p0 + 18) != get8(p2 + 18));
+        t65 = (get8(p0 + 19) != get8(p2 + 19) || get8(p0 + 20) != get8(p2 + 20)) || (get8(p0 + 21) != get8(p2 + 21) ||
+            get8(p0 + 22) != get8(p2 + 22));
+        t66 = (get8(p0 + 23) != get8(p2 + 23) || get8(p0 + 24) != get8(p2 + 24)) || (get8(p0 + 25) != get8(p2 + 25) ||
+            get8(p0 + 26) != get8(p2 + 26));
+        t67 = (get8(p0 + 27) != get8(p2 + 27) || get8(p0 + 28) != get8(p2 + 28)) || (get8(p0 + 29) != get8(p2 + 29) ||
+            get8(p0 + 30) != get8(p2 + 30));
+        v22 = ((t61 | (t62 | t63)) | ((t64 | t65) | (t66 | t67))) | (uint32_t)(get8(p0 + 31) != get8(p2 + 31));
+        return ~v22 & 1;
+    }
+    v9 = p1 & ~63ULL;
+    v10 = 0;
+    v23 = p0;
+    v24 = p2;
+    do {
+        v25 = 0;
+        v26 = 0;
+        do {
+            v27 = v23 + v26;
+            v28 = v24 + v26;
+            v25 = (v25 | (uint32_t)(get8(v27) != get8(v28))) | (uint32_t)(get8(v27 + 1) != get8(v28 + 1));
+            v26 = v26 + 2;
+        } while (v26 != 64);
+        if ((v25 & 1) != 0) goto l6;
+        v23 = v23 + 64;
+        v24 = v24 + 64;
+        v10 = v10 + 64;
+    } while ((p1 - v10) > 63);
+    v10 = v9;
+l6:;
+    v29 = p1 - v10;
+    if (v29 >= 32) {
+        v30 = p2 + v10;
+        v31 = p0 + v10;
+        for (;;) {
+            v32 = 1;
+            t15 = ((uint32_t)(get8(v31) != get8(v30)) | ((uint32_t)(get8(v31 + 1) != get8(v30 + 1)) << 1)) |
+                (((uint32_t)(get8(v31 + 3) != get8(v30 + 3)) << 3) | ((uint32_t)(get8(v31 + 2) != get8(v30 + 2)) <<
+                2));
+            t16 = ((uint32_t)(get8(v31 + 4) != get8(v30 + 4)) | ((uint32_t)(get8(v31 + 5) != get8(v30 + 5)) << 1)) |
+                (((uint32_t)(get8(v31 + 7) != get8(v30 + 7)) << 3) | ((uint32_t)(get8(v31 + 6) != get8(v30 + 6)) <<
+                2));
+            t17 = ((uint32_t)(get8(v31 + 15) != get8(v30 + 15)) << 3) | ((uint32_t)(get8(v31 + 14) != get8(v30 + 14))
+                << 2);
+            t18 = ((uint32_t)(get8(v31 + 12) != get8(v30 + 12)) | ((uint32_t)(get8(v31 + 13) != get8(v30 + 13)) << 1))
+                | t17;
+            t19 = ((uint32_t)(get8(v31 + 11) != get8(v30 + 11)) << 3) | ((uint32_t)(get8(v31 + 10) != get8(v30 + 10))
+                << 2);
+            t20 = (((uint32_t)(get8(v31 + 8) != get8(v30 + 8)) | ((uint32_t)(get8(v31 + 9) != get8(v30 + 9)) << 1)) |
+                t19) << 8;
+            t21 = ((uint32_t)(get8(v31 + 19) != get8(v30 + 19)) << 3) | ((uint32_t)(get8(v31 + 18) != get8(v30 + 18))
+                << 2);
+            t22 = ((uint32_t)(get8(v31 + 16) != get8(v30 + 16)) | ((uint32_t)(get8(v31 + 17) != get8(v30 + 17)) << 1))
+                | t21;
+            t23 = ((uint32_t)(get8(v31 + 23) != get8(v30 + 23)) << 3) | ((uint32_t)(get8(v31 + 22) != get8(v30 + 22))
+                << 2);
+            t24 = ((uint32_t)(get8(v31 + 20) != get8(v30 + 20)) | ((uint32_t)(get8(v31 + 21) != get8(v30 + 21)) << 1))
+                | t23;
+            t25 = ((uint32_t)(get8(v31 + 31) != get8(v30 + 31)) << 3) | ((uint32_t)(get8(v31 + 30) != get8(v30 + 30))
+                << 2);
+            t26 = ((uint32_t)(get8(v31 + 28) != get8(v30 + 28)) | ((uint32_t)(get8(v31 + 29) != get8(v30 + 29)) << 1))
+                | t25;
+            t27 = ((uint32_t)(get8(v31 + 27) != get8(v30 + 27)) << 3) | ((uint32_t)(get8(v31 + 26) != get8(v30 + 26))
+                << 2);
+            t28 = ((uint32_t)(get8(v31 + 24) != get8(v30 + 24)) | ((uint32_t)(get8(v31 + 25) != get8(v30 + 25)) << 1))
+                | t27;
+            t29 = (((t15 | (t16 << 4)) | ((t18 << 12) | t20)) | ((t22 | (t24 << 4)) | ((t26 << 12) | (t28 << 8)))) &
+                0xffff;
+            if (t29 != 0) break;
+            v30 = v30 + 32;
+            v31 = v31 + 32;
+            v29 = v29 - 32;
+            if (v29 < 32) goto l9;
+        }
+        if (v29 > 31) return ~v32 & 1;
+    }
+l9:;
+    v33 = p1 - 32;
+    v34 = p0 + v33;
+    v35 = p2 + v33;
+    t30 = ((uint32_t)(get8(v34) != get8(v35)) | ((uint32_t)(get8(v34 + 1) != get8(v35 + 1)) << 1)) |
+        (((uint32_t)(get8(v34 + 3) != get8(v35 + 3)) << 3) | ((uint32_t)(get8(v34 + 2) != get8(v35 + 2)) << 2));
+    t31 = ((uint32_t)(get8(v34 + 4) != get8(v35 + 4)) | ((uint32_t)(get8(v34 + 5) != get8(v35 + 5)) << 1)) |
+        (((uint32_t)(get8(v34 + 7) != get8(v35 + 7)) << 3) | ((uint32_t)(get8(v34 + 6) != get8(v35 + 6)) << 2));
+    t32 = ((uint32_t)(get8(v34 + 15) != get8(v35 + 15)) << 3) | ((uint32_t)(get8(v34 + 14) != get8(v35 + 14)) << 2);
+    t33 = ((uint32_t)(get8(v34 + 12) != get8(v35 + 12)) | ((uint32_t)(get8(v34 + 13) != get8(v35 + 13)) << 1)) | t32;
+    t34 = ((uint32_t)(get8(v34 + 11) != get8(v35 + 11)) << 3) | ((uint32_t)(get8(v34 + 10) != get8(v35 + 10)) << 2);
+    t35 = (((uint32_t)(get8(v34 + 8) != get8(v35 + 8)) | ((uint32_t)(get8(v34 + 9) != get8(v35 + 9)) << 1)) | t34) <<
+        8;
+    t36 = ((uint32_t)(get8(v34 + 19) != get8(v35 + 19)) << 3) | ((uint32_t)(get8(v34 + 18) != get8(v35 + 18)) << 2);
+    t37 = ((uint32_t)(get8(v34 + 16) != get8(v35 + 16)) | ((uint32_t)(get8(v34 + 17) != get8(v35 + 17)) << 1)) | t36;
+    t38 = ((uint32_t)(get8(v34 + 23) != get8(v35 + 23)) << 3) | ((uint32_t)(get8(v34 + 22) != get8(v35 + 22)) << 2);
+    t39 = ((uint32_t)(get8(v34 + 20) != get8(v35 + 20)) | ((uint32_t)(get8(v34 + 21) != get8(v35 + 21)) << 1)) | t38;
+    t40 = ((uint32_t)(get8(v34 + 31) != get8(v35 + 31)) << 3) | ((uint32_t)(get8(v34 + 30) != get8(v35 + 30)) << 2);
+    t41 = ((uint32_t)(get8(v34 + 28) != get8(v35 + 28)) | ((uint32_t)(get8(v34 + 29) != get8(v35 + 29)) << 1)) | t40;
+    t42 = ((uint32_t)(get8(v34 + 27) != get8(v35 + 27)) << 3) | ((uint32_t)(get8(v34 + 26) != get8(v35 + 26)) << 2);
+    t43 = ((uint32_t)(get8(v34 + 24) != get8(v35 + 24)) | ((uint32_t)(get8(v34 + 25) != get8(v35 + 25)) << 1)) | t42;
+    t44 = (((t30 | (t31 << 4)) | ((t33 << 12) | t35)) | ((t37 | (t39 << 4)) | ((t41 << 12) | (t43 << 8)))) & 0xffff;
+    v36 = t44 != 0;
+    return ~v36 & 1;
+}
+
+/* sedgechisel::executor::fields::kept, crates/sedgechisel/src/executor/fields.rt:29 */
+static void sedgechisel_executor_fields_kept(uint64_t p0, uint64_t p1)
+{
+    uint32_t v2, v3, v6, v7;
+    uint64_t v4, v5;
+    v2 = get32(p1 + 36);
+    v3 = get8(p1 + 32);
+    v4 = get64(p1 + 16);
+    v5 = get64(p1);
+    v6 = get32(p1 + 24);
+    v7 = get8(p1 + 8);
+    put16(p0 + 21, 0);
+    put8(p0 + 20, v7);
+    put32(p0 + 16, v6);
+    put64(p0 + 8, v5);
+    put8(p0 + 23, 0);
+    put16(p0 + 29, 0);
+    put8(p0 + 31, 0);
+    put64(p0, v4);
+    put8(p0 + 28, v3 + 1);
+    put32(p0 + 24, (v3 != 0) ? 0U : v2);
+    return;
+}
 
 /* map_service::cutting::segment_count, crates/map_service/src/cutting.rt:167 */
 static void map_service_cutting_segment_count(uint64_t p0, uint64_t p1, uint64_t p2, uint64_t p3)
@@ -1137,6 +1596,121 @@ static void tm_link_decoding_fields_of(uint64_t p0, uint64_t p1, uint64_t p2, ui
     return;
 }
 
+/* sedgechisel::executor::fields::described, crates/sedgechisel/src/executor/fields.rt:14 */
+static void sedgechisel_executor_fields_described(uint64_t p0, uint64_t p1)
+{
+    uint32_t v2, v3, v4, v5;
+    uint64_t v6, v7;
+    v2 = get8(p1 + 20);
+    if (v2 > 1) {
+        put16(p0, 0xff01);
+        put64(p0 + 8, 0);
+        put64(p0 + 16, 0);
+        put64(p0 + 24, 0);
+        put64(p0 + 32, 0);
+        put64(p0 + 40, 0);
+        return;
+    }
+    v3 = get32(p1 + 24);
+    v4 = 0;
+    switch (get8(p1 + 28)) {
+    case 1:
+        break;
+    case 2:
+        v3 = 0;
+        v4 = 1;
+        break;
+    case 3:
+        v3 = 0;
+        v4 = 2;
+        break;
+    case 4:
+        v3 = 0;
+        v4 = 3;
+        break;
+    case 5:
+        v3 = 0;
+        v4 = 4;
+        break;
+    case 6:
+        v3 = 0;
+        v4 = 5;
+        break;
+    case 7:
+        v3 = 0;
+        v4 = 6;
+        break;
+    case 8:
+        v3 = 0;
+        v4 = 7;
+        break;
+    default:
+        put16(p0, 0xff01);
+        put64(p0 + 8, 0);
+        put64(p0 + 16, 0);
+        put64(p0 + 24, 0);
+        put64(p0 + 32, 0);
+        put64(p0 + 40, 0);
+        return;
+    }
+    v5 = get32(p1 + 16);
+    v6 = get64(p1 + 8);
+    v7 = get64(p1);
+    put8(p0 + 16, v2 == 1);
+    put64(p0 + 8, v6);
+    put32(p0 + 32, v5);
+    put64(p0 + 24, v7);
+    put32(p0 + 17, 0);
+    put32(p0 + 20, 0);
+    put32(p0 + 44, v3);
+    put32(p0 + 40, v4);
+    put32(p0 + 36, 0);
+    put16(p0, 0);
+    return;
+}
+
+/* command_log::executor::Executor::moves_on, crates/command_log/src/executor.rt:147 */
+static void command_log_executor_Executor_moves_on(uint64_t p0)
+{
+    uint64_t v2;
+    v2 = p0 + 32;
+    switch ((uint32_t)(uint64_t)get8(v2)) {
+    case 1:
+    case 2:
+        if (get8(p0 + 8) == 1) command_log_executor_Executor_pass(p0, 0);
+        put64(p0 + 32, 3);
+        put32(p0, get32(p0) + 1);
+        return;
+    case 3:
+        put64(v2, 4);
+        return;
+    case 4:
+        put32(p0 + 36, 0);
+        put32(v2, (get8(p0 + 8) != 0) ? 5U : 6U);
+        return;
+    case 5:
+        command_log_executor_Executor_pass(p0, 1);
+        put64(v2, 3);
+        return;
+    default:
+        return;
+    }
+}
+
+/* command_log::executor::Executor::pass, crates/command_log/src/executor.rt:177 */
+static void command_log_executor_Executor_pass(uint64_t p0, uint64_t p1)
+{
+    uint32_t v3;
+    uint64_t v2, v4;
+    put8(p0 + 8, 0);
+    v2 = p0 + 4;
+    v3 = get32(v2) + 1;
+    put32(v2, (v3 != 0) ? v3 : ~0U);
+    v4 = p0 + 16;
+    put64(v4, (get64(v4) << 1) | p1);
+    return;
+}
+
 /* sedgechisel::telemetry_extractor::sedge_tm_extractor_frame, crates/sedgechisel/src/telemetry_extractor.rt:64 */
 static uint32_t sedgechisel_telemetry_extractor_sedge_tm_extractor_frame(uint64_t p0, uint64_t p1, uint64_t p2,
     uint64_t p3, uint64_t p4, uint64_t p5, uint64_t p6)
@@ -1390,7 +1964,7 @@ l11:;
     return;
 }
 
-/* sedge_alert_advice, crates/sedgechisel/src/names.rt:83 */
+/* sedge_alert_advice, crates/sedgechisel/src/names.rt:84 */
 static void sedge_alert_advice_at(uint64_t result, uint32_t alert)
 {
     unsigned char frame_octets[320 + 15];
@@ -1434,7 +2008,7 @@ static void sedge_alert_advice_at(uint64_t result, uint32_t alert)
     return;
 }
 
-/* sedge_alert_name, crates/sedgechisel/src/names.rt:44 */
+/* sedge_alert_name, crates/sedgechisel/src/names.rt:45 */
 static void sedge_alert_name_at(uint64_t result, uint32_t alert)
 {
     unsigned char frame_octets[16 + 15];
@@ -1508,7 +2082,7 @@ l1:;
     return;
 }
 
-/* sedge_alert_shows_broken_condition, crates/sedgechisel/src/names.rt:72 */
+/* sedge_alert_shows_broken_condition, crates/sedgechisel/src/names.rt:73 */
 static uint32_t sedge_alert_shows_broken_condition_at(uint32_t alert)
 {
     return ((alert - 1) & 255) < 4;
@@ -1589,7 +2163,7 @@ static uint32_t sedge_clcw_encode_at(uint64_t word, uint64_t out, uint64_t room)
     return SEDGE_OK;
 }
 
-/* sedge_clcw_fault_name, crates/sedgechisel/src/names.rt:17 */
+/* sedge_clcw_fault_name, crates/sedgechisel/src/names.rt:18 */
 static void sedge_clcw_fault_name_at(uint64_t result, uint32_t fault)
 {
     unsigned char frame_octets[16 + 15];
@@ -1601,7 +2175,7 @@ static void sedge_clcw_fault_name_at(uint64_t result, uint32_t fault)
     v6 = fault - 1;
     if ((v6 & 255) < 5) {
         v5 = (uint64_t)v6 & 255;
-        v3 = get32((v5 << 2) + address(table_sedge_clcw_fault_name_30));
+        v3 = get32((v5 << 2) + address(table_sedge_clcw_fault_name_38));
         v4 = get16((v5 << 1) + address(table_sedge_clcw_fault_name));
         v7 = (uint32_t)(0x6565006900ULL >> (((uint64_t)(v6 << 3) & 248) & 63));
     } else {
@@ -1617,7 +2191,7 @@ static void sedge_clcw_fault_name_at(uint64_t result, uint32_t fault)
     return;
 }
 
-/* sedge_cop_fault_name, crates/sedgechisel/src/names.rt:25 */
+/* sedge_cop_fault_name, crates/sedgechisel/src/names.rt:26 */
 static void sedge_cop_fault_name_at(uint64_t result, uint32_t fault)
 {
     unsigned char frame_octets[16 + 15];
@@ -1700,7 +2274,7 @@ l1:;
     return;
 }
 
-/* sedge_dropped_name, crates/sedgechisel/src/names.rt:132 */
+/* sedge_dropped_name, crates/sedgechisel/src/names.rt:143 */
 static void sedge_dropped_name_at(uint64_t result, uint32_t cause)
 {
     unsigned char frame_octets[16 + 15];
@@ -1715,7 +2289,7 @@ static void sedge_dropped_name_at(uint64_t result, uint32_t cause)
     v7 = cause - 1;
     if ((v7 & 255) < 5) {
         v6 = (uint64_t)v7 & 255;
-        v4 = get64((v6 << 3) + address(table_sedge_dropped_name_31));
+        v4 = get64((v6 << 3) + address(table_sedge_dropped_name_39));
         v3 = get16((v6 << 1) + address(table_sedge_dropped_name));
         v5 = (uint32_t)(0x544e4e4943ULL >> (((uint64_t)(v7 << 3) & 248) & 63));
     }
@@ -1952,6 +2526,222 @@ static uint32_t sedge_gap_check_see_at(uint64_t check, uint32_t apid, uint32_t c
     return SEDGE_OK;
 }
 
+/* sedge_log_command_encode, crates/sedgechisel/src/executor/codecs.rt:94 */
+static uint32_t sedge_log_command_encode_at(uint32_t apid, uint32_t count, uint32_t number, uint64_t content, uint64_t
+    content_count, uint64_t out, uint64_t room, uint64_t total)
+{
+    uint32_t v9, v4;
+    uint64_t v10, v11, v12, v2, v13, v14, v3;
+    if ((apid & 0xffff) > 0x7ff || (count & 0xffff) > 0x3fff || number == 0 || content_count > 0xfff8) return
+        SEDGE_LOG_FIELD_RANGE;
+    v10 = content_count + 14;
+    if (room < v10) return SEDGE_LOG_ROOM;
+    v11 = (out == 0) ? 0x1000ULL : 0ULL;
+    v12 = out + v11;
+    put32(v12 + 6, rotl32(number & 0xff00ff, 24) | (rotl32(number, 8) & 0xff00ff));
+    put16(v12 + 2, (count << 8) | (((count | 0xc000) & 0xff00) >> 8));
+    put16(v12, (apid << 8) | (((apid | 0x1000) & 0xff00) >> 8));
+    v9 = (uint32_t)content_count + 7;
+    put16(v12 + 4, (v9 << 8) | ((v9 & 0xff00) >> 8));
+    v2 = v12 + 10;
+    v13 = (content == 0) ? 0x1000ULL : 0ULL;
+    v14 = content + v13;
+    if (content_count != 0) copy(v2, v14, content_count);
+    v3 = content_count + 10;
+    v4 = command_log_crc_check_after(0, v12, v3);
+    put32(v12 + v3, rotl32(v4 & 0xff00ff, 24) | (rotl32(v4, 8) & 0xff00ff));
+    put64(total, v10);
+    return SEDGE_OK;
+}
+
+/* sedge_log_fault_name, crates/sedgechisel/src/names.rt:133 */
+static void sedge_log_fault_name_at(uint64_t result, uint32_t fault)
+{
+    unsigned char frame_octets[16 + 15];
+    uint32_t v3, v5, v6;
+    uint64_t v2, v4, v7;
+    v2 = aligned(frame_octets);
+    v3 = 0;
+    put16(v2 + 8, 0);
+    put64(v2, 0);
+    v4 = 63;
+    v5 = 0;
+    v6 = fault - 1;
+    if ((v6 & 255) < 12) {
+        v7 = (uint64_t)v6 & 255;
+        v5 = get8(v7 + address(table_sedge_log_fault_name_40));
+        v3 = get8(v7 + address(table_sedge_log_fault_name));
+        v4 = get64((v7 << 3) + address(table_sedge_log_fault_name_41));
+    }
+    put8(result + 9, v5);
+    put8(result + 8, v3);
+    put64(result, v4);
+    put64(result + 10, get64(v2));
+    put16(result + 18, get16(v2 + 8));
+    return;
+}
+
+/* sedge_log_history_after, crates/sedgechisel/src/executor/codecs.rt:158 */
+static uint32_t sedge_log_history_after_at(uint32_t history, uint64_t packet, uint64_t count)
+{
+    uint32_t v5;
+    uint64_t t1, v2, v4;
+    t1 = some(packet);
+    v2 = count - 4;
+    v4 = (v2 > count) ? 0ULL : v2;
+    v5 = command_log_crc_check_after(history, t1 + v4, count - v4);
+    return v5;
+}
+
+/* sedge_log_new_record, crates/sedgechisel/src/executor/codecs.rt:48 */
+static uint32_t sedge_log_new_record_at(uint64_t out, uint64_t room)
+{
+    unsigned char frame_octets[128 + 15];
+    uint32_t v4;
+    uint64_t v2, v7, v5, v6, v8;
+    v2 = aligned(frame_octets);
+    if (room != 50) return SEDGE_WRONG_COUNT;
+    put64(v2 + 32, 0);
+    put64(v2 + 24, 0);
+    put64(v2 + 16, 0);
+    put64(v2 + 8, 0);
+    put8(v2 + 64, 0);
+    put64(v2 + 56, 0);
+    put64(v2 + 48, 0);
+    put64(v2 + 40, 0);
+    command_log_record_spelled(v2 + 40, v2 + 8);
+    v4 = get8(v2 + 64);
+    put8(v2 + 96, v4);
+    v7 = get64(v2 + 56);
+    put64(v2 + 88, v7);
+    v5 = get64(v2 + 48);
+    put64(v2 + 80, v5);
+    v6 = get64(v2 + 40);
+    put64(v2 + 72, v6);
+    put8(v2 + 121, v4);
+    put64(v2 + 113, v7);
+    put64(v2 + 105, v5);
+    put64(v2 + 97, v6);
+    v8 = some(out);
+    put16(v8 + 48, get16(v2 + 120));
+    put64(v8 + 40, get64(v2 + 112));
+    put64(v8 + 32, get64(v2 + 104));
+    put64(v8 + 24, get64(v2 + 96));
+    put64(v8 + 16, v7);
+    put64(v8 + 8, v5);
+    put64(v8, v6);
+    return SEDGE_OK;
+}
+
+/* sedge_log_order_encode, crates/sedgechisel/src/executor/codecs.rt:120 */
+static uint32_t sedge_log_order_encode_at(uint64_t order, uint32_t apid, uint32_t count, uint64_t out, uint64_t room,
+    uint64_t total)
+{
+    uint32_t kind, mark, last, boot, v3;
+    uint64_t v2;
+    kind = get8(order + 12 /* kind */);
+    switch (kind) {
+    case SEDGE_LOG_ORDER_RESTART:
+        if (get32(order + 4 /* last */) != 0 || get32(order + 8 /* mark */) != 0) return SEDGE_DAMAGED;
+        if ((apid & 0xffff) > 0x7ff) return SEDGE_LOG_FIELD_RANGE;
+        mark = 0;
+        last = 0;
+        if ((count & 0xffff) > 0x3fff) return SEDGE_LOG_FIELD_RANGE;
+        break;
+    case SEDGE_LOG_ORDER_REBUILD:
+        if ((apid & 0xffff) > 0x7ff || (count & 0xffff) > 0x3fff) return SEDGE_LOG_FIELD_RANGE;
+        last = get32(order + 4 /* last */);
+        mark = get32(order + 8 /* mark */);
+        break;
+    default:
+        return SEDGE_DAMAGED;
+    }
+    if (room < 23) return SEDGE_LOG_ROOM;
+    boot = get32(order /* boot */);
+    v2 = some(out);
+    put8(v2 + 18, mark);
+    put8(v2 + 17, mark >> 8);
+    put8(v2 + 16, mark >> 16);
+    put8(v2 + 15, mark >> 24);
+    put8(v2 + 14, last);
+    put8(v2 + 13, last >> 8);
+    put8(v2 + 12, last >> 16);
+    put8(v2 + 11, last >> 24);
+    put8(v2 + 10, boot);
+    put8(v2 + 6, kind);
+    put16(v2 + 4, 0x1000);
+    put8(v2 + 9, boot >> 8);
+    put8(v2 + 8, boot >> 16);
+    put8(v2 + 7, boot >> 24);
+    put16(v2 + 2, (count << 8) | (((count | 0xc000) & 0xff00) >> 8));
+    put16(v2, (apid << 8) | (((apid | 0x1000) & 0xff00) >> 8));
+    v3 = command_log_crc_check_after(0, v2, 19);
+    put32(v2 + 19, rotl32(v3 & 0xff00ff, 24) | (rotl32(v3, 8) & 0xff00ff));
+    put64(total, 23);
+    return SEDGE_OK;
+}
+
+/* sedge_log_start, crates/sedgechisel/src/executor.rt:53 */
+static void sedge_log_start_at(uint64_t log, uint64_t first, uint64_t first_count, uint64_t second, uint64_t
+    second_count, uint32_t mark)
+{
+    unsigned char frame_octets[192 + 15];
+    uint32_t mark_now, v7;
+    uint64_t v6, v2;
+    mark_now = mark;
+    v6 = aligned(frame_octets);
+    put64(v6 + 152, 0);
+    put64(v6 + 144, 0);
+    put64(v6 + 136, 0);
+    put64(v6 + 128, 0);
+    put64(v6 + 88, 0);
+    put64(v6 + 96, 0);
+    put64(v6 + 104, 0);
+    put64(v6 + 112, 0);
+    put64(v6 + 120, 0);
+    put64(v6 + 48, 0);
+    put64(v6 + 56, 0);
+    put64(v6 + 64, 0);
+    put64(v6 + 72, 0);
+    put64(v6 + 80, 0);
+    sedgechisel_executor_copy_in(v6 + 88, some(first), first_count);
+    sedgechisel_executor_copy_in(v6 + 48, some(second), second_count);
+    if (get8(v6 + 88) == 1) {
+        put64(v6 + 184, get64(v6 + 120));
+        put64(v6 + 176, get64(v6 + 112));
+        put64(v6 + 168, get64(v6 + 104));
+        put64(v6 + 160, get64(v6 + 96));
+        mark_now = 0;
+        v7 = 2;
+    } else if (get8(v6 + 48) != 1) {
+        put64(v6 + 184, 0);
+        put64(v6 + 176, 0);
+        put64(v6 + 168, 0);
+        put64(v6 + 160, 0);
+        v7 = 0;
+    } else {
+        v2 = v6 + 56;
+        put64(v6 + 184, get64(v2 + 24));
+        put64(v6 + 176, get64(v2 + 16));
+        put64(v6 + 168, get64(v2 + 8));
+        put64(v6 + 160, get64(v2));
+        mark_now = 0;
+        v7 = 1;
+    }
+    put64(v6 + 32, get64(v6 + 184));
+    put64(v6 + 24, get64(v6 + 176));
+    put64(v6 + 16, get64(v6 + 168));
+    put64(v6 + 8, get64(v6 + 160));
+    put32(v6 + 44, mark_now);
+    put32(v6 + 40, v7);
+    sedgechisel_executor_fields_kept(v6 + 128, v6 + 8);
+    put64(log + 24 /* mark, stage */, get64(v6 + 152));
+    put64(log + 16 /* kept.history, kept.begun */, get64(v6 + 144));
+    put64(log + 8 /* kept.boot, kept.last */, get64(v6 + 136));
+    put64(log /* kept, kept.known */, get64(v6 + 128));
+    return;
+}
+
 /* sedge_map_count, crates/sedgechisel/src/cutting.rt:40 */
 static uint32_t sedge_map_count_at(uint64_t octets, uint64_t count, uint64_t limits, uint64_t segments)
 {
@@ -1980,7 +2770,7 @@ static uint32_t sedge_map_count_at(uint64_t octets, uint64_t count, uint64_t lim
     return v5 & 255;
 }
 
-/* sedge_map_fault_name, crates/sedgechisel/src/names.rt:124 */
+/* sedge_map_fault_name, crates/sedgechisel/src/names.rt:125 */
 static void sedge_map_fault_name_at(uint64_t result, uint32_t fault)
 {
     unsigned char frame_octets[32 + 15];
@@ -2168,7 +2958,7 @@ static uint32_t sedge_packet_encode_at(uint64_t packet, uint64_t data, uint64_t 
     return SEDGE_OK;
 }
 
-/* sedge_packet_fault_name, crates/sedgechisel/src/names.rt:104 */
+/* sedge_packet_fault_name, crates/sedgechisel/src/names.rt:105 */
 static void sedge_packet_fault_name_at(uint64_t result, uint32_t fault)
 {
     unsigned char frame_octets[16 + 15];
@@ -2195,8 +2985,8 @@ static void sedge_packet_fault_name_at(uint64_t result, uint32_t fault)
     case 3:
         put8(v2 + 9, 0);
         put16(v2 + 7, 0);
-        put32(v2, get32(address(constant_31 + 10)));
-        put32(v2 + 3, get32(address(constant_31 + 13)));
+        put32(v2, get32(address(constant_43 + 10)));
+        put32(v2 + 3, get32(address(constant_43 + 13)));
         v3 = 0x656c6449;
         v4 = 0x6957;
         v5 = 116;
@@ -2274,7 +3064,7 @@ static uint32_t sedge_tc_decode_at(uint64_t octets, uint64_t count, uint32_t che
     return t1 & 255;
 }
 
-/* sedge_tc_fault_name, crates/sedgechisel/src/names.rt:94 */
+/* sedge_tc_fault_name, crates/sedgechisel/src/names.rt:95 */
 static void sedge_tc_fault_name_at(uint64_t result, uint32_t fault)
 {
     unsigned char frame_octets[16 + 15];
@@ -2549,7 +3339,7 @@ static uint32_t sedge_tm_encode_at(uint64_t frame, uint64_t data, uint64_t data_
     return SEDGE_OK;
 }
 
-/* sedge_tm_fault_name, crates/sedgechisel/src/names.rt:114 */
+/* sedge_tm_fault_name, crates/sedgechisel/src/names.rt:115 */
 static void sedge_tm_fault_name_at(uint64_t result, uint32_t fault)
 {
     unsigned char frame_octets[16 + 15];
@@ -2658,7 +3448,7 @@ static uint32_t sedge_tm_packet_at(uint64_t data, uint64_t data_count, uint64_t 
     return 0;
 }
 
-/* sedge_verdict_name, crates/sedgechisel/src/names.rt:35 */
+/* sedge_verdict_name, crates/sedgechisel/src/names.rt:36 */
 static void sedge_verdict_name_at(uint64_t result, uint32_t verdict)
 {
     unsigned char frame_octets[16 + 15];
@@ -2690,8 +3480,8 @@ static void sedge_version_at(uint64_t result)
     put64(v1 + 17, 0);
     put64(result + 8, get64(v1 + 20));
     put32(result + 16, get32(v1 + 28));
-    put32(v1 + 12, get32(address(constant_51)));
-    put8(v1 + 16, get8(address(constant_51 + 4)));
+    put32(v1 + 12, get32(address(constant_59)));
+    put8(v1 + 16, get8(address(constant_59 + 4)));
     put64(result, get64(v1 + 12));
     return;
 }
@@ -2850,6 +3640,629 @@ l9:;
         put16(v3 + v33, (v34 << 8) | ((v34 & 0xff00) >> 8));
     }
     put64(total, v17);
+    return SEDGE_OK;
+}
+
+/* sedge_log_done, crates/sedgechisel/src/executor.rt:121 */
+static uint32_t sedge_log_done_at(uint64_t log, uint32_t action, uint32_t number)
+{
+    unsigned char frame_octets[128 + 15];
+    uint32_t v6, v7, v8, v9, v10, v11, v12, v13, v14, v5, v2, v19, v16, v17, v18, v20, v21, v22;
+    uint64_t v3, v4, v15;
+    v3 = aligned(frame_octets);
+    v4 = 0;
+    put64(v3 + 80, 0);
+    put64(v3 + 72, 0);
+    put64(v3 + 64, 0);
+    put64(v3 + 56, 0);
+    put64(v3 + 48, 0);
+    put64(v3 + 40, 0);
+    put64(v3 + 8, 0);
+    put64(v3 + 16, 0);
+    put64(v3 + 24, 0);
+    put64(v3 + 32, 0);
+    sedgechisel_executor_fields_described(v3 + 40, log);
+    if (get8(v3 + 40) != 0) return SEDGE_DAMAGED;
+    put64(v3 + 112, get64(v3 + 72));
+    put64(v3 + 104, get64(v3 + 64));
+    put64(v3 + 96, get64(v3 + 56));
+    put64(v3 + 88, get64(v3 + 48));
+    v6 = get8(v3 + 80);
+    put32(v3 + 120, v6);
+    put32(v3 + 124, get32(v3 + 84));
+    v7 = 0;
+    v8 = 0;
+    v9 = 0;
+    v10 = 0;
+    v11 = 0;
+    v12 = 0;
+    v13 = 0;
+    v14 = 0;
+    switch (v6) {
+    case 1:
+    case 3:
+        v9 = 1;
+        v7 = 0;
+        v10 = get32(v3 + 112);
+        v4 = get64(v3 + 104);
+        v11 = get8(v3 + 96);
+        v12 = get32(v3 + 92);
+        v13 = get32(v3 + 88);
+        v8 = 0;
+        v14 = 1;
+        goto l3;
+    case 2:
+    case 4:
+        v14 = 2;
+        v8 = 1;
+        v7 = 0;
+        v10 = get32(v3 + 112);
+        v4 = get64(v3 + 104);
+        v11 = get8(v3 + 96);
+        v12 = get32(v3 + 92);
+        v13 = get32(v3 + 88);
+        v9 = 1;
+        goto l3;
+    case 5:
+        v5 = get32(v3 + 92) + 1;
+        v7 = (v5 != 0) ? v5 : ~0U;
+        v14 = 3;
+        v8 = 0;
+        v9 = 2;
+        v10 = 0;
+        v11 = 0;
+        v12 = 0;
+        break;
+    case 7:
+        v14 = 4;
+        v9 = 3;
+        v12 = 0;
+        v7 = 0;
+        v8 = 0;
+        v10 = 0;
+        v11 = 0;
+        break;
+    default:
+        goto l3;
+    }
+    v13 = 0;
+l3:;
+    if (number != v7 || (action & 255) != v14) return SEDGE_ABSENT;
+    v2 = 3;
+    v15 = 0;
+    v19 = 0;
+    v16 = 0;
+    v17 = 0;
+    v18 = 0;
+    v20 = 0;
+    v21 = 0;
+    switch (v6) {
+    case 1:
+    case 3:
+        v20 = 0;
+        v2 = 1;
+        v18 = get32(v3 + 112);
+        v15 = get64(v3 + 104);
+        v17 = get8(v3 + 96);
+        v16 = get32(v3 + 92);
+        v19 = get32(v3 + 88);
+        v21 = 0;
+        goto l9;
+    case 2:
+    case 4:
+        v21 = 0;
+        v2 = 1;
+        v18 = get32(v3 + 112);
+        v15 = get64(v3 + 104);
+        v17 = get8(v3 + 96);
+        v16 = get32(v3 + 92);
+        v19 = get32(v3 + 88);
+        v20 = 1;
+        goto l9;
+    case 5:
+        v22 = get32(v3 + 92) + 1;
+        v21 = (v22 != 0) ? v22 : ~0U;
+        v2 = 2;
+        v19 = 0;
+        v16 = 0;
+        v17 = 0;
+        v18 = 0;
+        break;
+    case 7:
+        goto l9;
+    default:
+        v21 = 0;
+        v19 = 0;
+        v16 = 0;
+        v17 = 0;
+        v18 = 0;
+        v2 = 0;
+        break;
+    }
+    v20 = 0;
+l9:;
+    if (v9 == v2) {
+        switch (v9) {
+        case 1:
+            if (v8 != v20 || v13 != v19 || v12 != v16 || (v11 & 255) != (v17 & 255) || v4 != v15 || v10 != v18) goto
+                l15;
+            break;
+        case 2:
+            if (number != v21) goto l15;
+            break;
+        default:
+            break;
+        }
+        command_log_executor_Executor_moves_on(v3 + 88);
+    }
+l15:;
+    sedgechisel_executor_fields_kept(v3 + 8, v3 + 88);
+    put64(log + 24 /* mark, stage */, get64(v3 + 32));
+    put64(log + 16 /* kept.history, kept.begun */, get64(v3 + 24));
+    put64(log + 8 /* kept.boot, kept.last */, get64(v3 + 16));
+    put64(log /* kept, kept.known */, get64(v3 + 8));
+    return SEDGE_LOG_NOTHING;
+}
+
+/* sedge_log_next, crates/sedgechisel/src/executor.rt:75 */
+static uint32_t sedge_log_next_at(uint64_t log, uint64_t out, uint64_t room, uint64_t number)
+{
+    unsigned char frame_octets[192 + 15];
+    uint32_t v6, v7, v5, v3, v9;
+    uint64_t v4, v2, v10, v11, v8, v12;
+    v4 = aligned(frame_octets);
+    put64(v4 + 40, 0);
+    put64(v4 + 32, 0);
+    put64(v4 + 24, 0);
+    put64(v4 + 16, 0);
+    put64(v4 + 8, 0);
+    put64(v4, 0);
+    if (room != 50) return SEDGE_WRONG_COUNT;
+    sedgechisel_executor_fields_described(v4, log);
+    if (get8(v4) != 0) return SEDGE_DAMAGED;
+    v2 = v4 + 16;
+    v6 = get32(v4 + 12);
+    v7 = get32(v4 + 8);
+    switch ((uint32_t)(uint64_t)get8(v4 + 40)) {
+    case 1:
+    case 3:
+        put64(v4 + 96, get64(v2 + 16));
+        put64(v4 + 88, get64(v2 + 8));
+        put64(v4 + 80, get64(v2));
+        v5 = SEDGE_LOG_WRITE_FIRST;
+        break;
+    case 2:
+    case 4:
+        put64(v4 + 96, get64(v2 + 16));
+        put64(v4 + 88, get64(v2 + 8));
+        put64(v4 + 80, get64(v2));
+        v5 = SEDGE_LOG_WRITE_SECOND;
+        break;
+    case 5:
+        v3 = v6 + 1;
+        put_own32(number, (v3 != 0) ? v3 : ~0U);
+        return SEDGE_LOG_EXECUTE;
+    case 7:
+        put_own32(number, 0);
+        return SEDGE_LOG_RESTART;
+    default:
+        put_own32(number, 0);
+        return SEDGE_LOG_NOTHING;
+    }
+    put_own32(number, 0);
+    put32(v4 + 52, v6);
+    put32(v4 + 48, v7);
+    put64(v4 + 56, get64(v4 + 80));
+    put64(v4 + 64, get64(v4 + 88));
+    put64(v4 + 72, get64(v4 + 96));
+    put8(v4 + 128, 0);
+    put64(v4 + 120, 0);
+    put64(v4 + 112, 0);
+    put64(v4 + 104, 0);
+    command_log_record_spelled(v4 + 104, v4 + 48);
+    v9 = get8(v4 + 128);
+    put8(v4 + 160, v9);
+    v10 = get64(v4 + 120);
+    put64(v4 + 152, v10);
+    v11 = get64(v4 + 112);
+    put64(v4 + 144, v11);
+    v8 = get64(v4 + 104);
+    put64(v4 + 136, v8);
+    put8(v4 + 185, v9);
+    put64(v4 + 177, v10);
+    put64(v4 + 169, v11);
+    put64(v4 + 161, v8);
+    v12 = some(out);
+    put16(v12 + 48, get16(v4 + 184));
+    put64(v12 + 40, get64(v4 + 176));
+    put64(v12 + 32, get64(v4 + 168));
+    put64(v12 + 24, get64(v4 + 160));
+    put64(v12 + 16, v10);
+    put64(v12 + 8, v11);
+    put64(v12, v8);
+    return v5;
+}
+
+/* sedge_log_obey, crates/sedgechisel/src/executor.rt:169 */
+static uint32_t sedge_log_obey_at(uint64_t log, uint64_t octets, uint64_t count)
+{
+    unsigned char frame_octets[128 + 15];
+    uint32_t v5, v6, v7, t1, v10, v8, v11, v9, v12, v13, v14;
+    uint64_t v3, v2;
+    v3 = aligned(frame_octets);
+    put64(v3 + 80, 0);
+    put64(v3 + 72, 0);
+    put64(v3 + 64, 0);
+    put64(v3 + 56, 0);
+    put64(v3 + 48, 0);
+    put64(v3 + 40, 0);
+    put64(v3 + 8, 0);
+    put64(v3 + 16, 0);
+    put64(v3 + 24, 0);
+    put64(v3 + 32, 0);
+    sedgechisel_executor_fields_described(v3 + 40, log);
+    if (get8(v3 + 40) != 0) return SEDGE_DAMAGED;
+    put64(v3 + 112, get64(v3 + 72));
+    put64(v3 + 104, get64(v3 + 64));
+    put64(v3 + 96, get64(v3 + 56));
+    put64(v3 + 88, get64(v3 + 48));
+    if (count < 23) return SEDGE_LOG_LAYOUT;
+    v2 = some(octets);
+    if ((get8(v2) & 248) != 16 || get8(v2 + 2) < 192 || count != 23 || (((uint64_t)get8(v2 + 4) << 8) |
+        (uint64_t)get8(v2 + 5)) != 16) return SEDGE_LOG_LAYOUT;
+    v5 = get32(v3 + 84);
+    v6 = get8(v3 + 80);
+    v7 = get32(v2 + 19);
+    t1 = command_log_crc_check_after(0, v2, 19);
+    if ((rotl32(v7 & 0xff00ff, 24) | (rotl32(v7, 8) & 0xff00ff)) != t1) return SEDGE_LOG_CHECK;
+    v10 = get32(v2 + 15);
+    v8 = rotl32(v10 & 0xff00ff, 24) | (rotl32(v10, 8) & 0xff00ff);
+    v11 = get32(v2 + 11);
+    v9 = rotl32(v11 & 0xff00ff, 24) | (rotl32(v11, 8) & 0xff00ff);
+    v12 = get32(v2 + 7);
+    v13 = rotl32(v12 & 0xff00ff, 24) | (rotl32(v12, 8) & 0xff00ff);
+    switch (get8(v2 + 6)) {
+    case 1:
+        if ((v8 | v9) != 0) return SEDGE_LOG_CHECK;
+        switch (v6) {
+        case 1:
+        case 2:
+            return SEDGE_LOG_STARTING;
+        case 3:
+        case 4:
+        case 5:
+        case 7:
+            return SEDGE_LOG_BUSY;
+        case 6:
+            v14 = 7;
+            if (v13 != get32(v3 + 88)) return SEDGE_LOG_OTHER_BOOT;
+            break;
+        default:
+            return SEDGE_LOG_LOST;
+        }
+        break;
+    case 2:
+        if (v6 != 0) return SEDGE_LOG_NOT_LOST;
+        if (v8 != v5) return SEDGE_LOG_OTHER_MARK;
+        put64(v3 + 96, 0);
+        put32(v3 + 92, v9);
+        put32(v3 + 88, v13);
+        put64(v3 + 104, 0);
+        put64(v3 + 112, 0);
+        v14 = 3;
+        break;
+    default:
+        return SEDGE_LOG_CHECK;
+    }
+    put32(v3 + 124, 0);
+    put32(v3 + 120, v14);
+    sedgechisel_executor_fields_kept(v3 + 8, v3 + 88);
+    put64(log + 24 /* mark, stage */, get64(v3 + 32));
+    put64(log + 16 /* kept.history, kept.begun */, get64(v3 + 24));
+    put64(log + 8 /* kept.boot, kept.last */, get64(v3 + 16));
+    put64(log /* kept, kept.known */, get64(v3 + 8));
+    return SEDGE_OK;
+}
+
+/* sedge_log_offer, crates/sedgechisel/src/executor.rt:143 */
+static uint32_t sedge_log_offer_at(uint64_t log, uint64_t octets, uint64_t count, uint64_t content)
+{
+    unsigned char frame_octets[128 + 15];
+    uint32_t v6, v8, t1, v3, v5, v9, t2;
+    uint64_t v4, v2, v7;
+    v4 = aligned(frame_octets);
+    put64(v4 + 40, 0);
+    put64(v4 + 120, 3);
+    put64(v4 + 48, 0);
+    put64(v4 + 56, 0);
+    put64(v4 + 64, 0);
+    put64(v4 + 72, 0);
+    put64(v4 + 80, 0);
+    put64(v4 + 8, 0);
+    put64(v4 + 16, 0);
+    put64(v4 + 24, 0);
+    put64(v4 + 32, 0);
+    sedgechisel_executor_fields_described(v4 + 40, log);
+    if (get8(v4 + 40) != 0) return SEDGE_DAMAGED;
+    put64(v4 + 112, get64(v4 + 72));
+    put64(v4 + 104, get64(v4 + 64));
+    put64(v4 + 96, get64(v4 + 56));
+    put64(v4 + 88, get64(v4 + 48));
+    if (count < 14) return SEDGE_LOG_LAYOUT;
+    v2 = some(octets);
+    if ((get8(v2) & 248) != 16 || get8(v2 + 2) < 192 || ((((uint64_t)get8(v2 + 4) << 8) | (uint64_t)get8(v2 + 5)) + 7)
+        != count) return SEDGE_LOG_LAYOUT;
+    v6 = get8(v4 + 80);
+    v7 = count - 4;
+    v8 = get32(v2 + v7);
+    t1 = command_log_crc_check_after(0, v2, v7);
+    if ((rotl32(v8 & 0xff00ff, 24) | (rotl32(v8, 8) & 0xff00ff)) != t1) return SEDGE_LOG_CHECK;
+    v3 = get32(v2 + 6);
+    if (v3 == 0) return SEDGE_LOG_CHECK;
+    switch (v6) {
+    case 1:
+    case 2:
+        return SEDGE_LOG_STARTING;
+    case 3:
+    case 4:
+    case 5:
+    case 7:
+        return SEDGE_LOG_BUSY;
+    case 6:
+        v5 = rotl32(v3 & 0xff00ff, 24) | (rotl32(v3, 8) & 0xff00ff);
+        v9 = get32(v4 + 92);
+        if (v5 <= v9) return SEDGE_LOG_BEHIND;
+        if (v9 < (v5 - 1)) return SEDGE_LOG_AHEAD;
+        put8(v4 + 96, 1);
+        t2 = command_log_crc_check_after(get32(v4 + 112), v2 + count - 4, 4);
+        put32(v4 + 112, t2);
+        sedgechisel_executor_fields_kept(v4 + 8, v4 + 88);
+        put64(log + 24 /* mark, stage */, get64(v4 + 32));
+        put64(log + 16 /* kept.history, kept.begun */, get64(v4 + 24));
+        put64(log + 8 /* kept.boot, kept.last */, get64(v4 + 16));
+        put64(log /* kept, kept.known */, get64(v4 + 8));
+        put64(content + 8 /* count */, count - 14);
+        put64(content /* from */, 10);
+        return SEDGE_OK;
+    default:
+        return SEDGE_LOG_LOST;
+    }
+}
+
+/* sedge_log_status, crates/sedgechisel/src/executor.rt:186 */
+static uint32_t sedge_log_status_at(uint64_t log, uint64_t waiting, uint64_t out, uint64_t room)
+{
+    unsigned char frame_octets[144 + 15];
+    uint32_t v5, v6, v7, v8, v9, v10, v12, v13;
+    uint64_t v4, v2, v3, v11;
+    v4 = aligned(frame_octets);
+    put64(v4 + 40, 0);
+    put64(v4 + 32, 0);
+    put64(v4 + 24, 0);
+    put64(v4 + 16, 0);
+    put64(v4 + 8, 0);
+    put64(v4, 0);
+    if (room != 27) return SEDGE_WRONG_COUNT;
+    sedgechisel_executor_fields_described(v4, log);
+    if (get8(v4) != 0) return SEDGE_DAMAGED;
+    v2 = some(out);
+    v5 = 2;
+    switch ((uint32_t)(uint64_t)get8(v4 + 40)) {
+    case 1:
+    case 2:
+        break;
+    case 3:
+    case 4:
+        v5 = 1;
+        break;
+    case 5:
+    case 6:
+    case 7:
+        v5 = 0;
+        put32(v4 + 76, 0);
+        v6 = get32(v4 + 8);
+        v7 = get32(v4 + 12);
+        v8 = get8(v4 + 16);
+        v3 = get64(v4 + 24);
+        v9 = get32(v4 + 32);
+        v10 = get32(v4 + 36);
+        put64(v4 + 112, 0);
+        put64(v4 + 120, 0);
+        put64(v4 + 125, 0);
+        put32(v4 + 139, get32(v4 + 20));
+        put32(v4 + 136, get32(v4 + 17));
+        v11 = (waiting < 255) ? waiting : 255ULL;
+        goto l5;
+    default:
+        v9 = 0;
+        put32(v4 + 76, 0);
+        v6 = get32(v4 + 44);
+        v3 = 0;
+        put64(v4 + 112, 0);
+        put64(v4 + 120, 0);
+        put64(v4 + 125, 0);
+        put32(v4 + 139, 0);
+        put32(v4 + 136, 0);
+        v11 = (waiting < 255) ? waiting : 255ULL;
+        v5 = 3;
+        v7 = 0;
+        v8 = 0;
+        goto l6;
+    }
+    v6 = 0;
+    put32(v4 + 76, 0);
+    v3 = 0;
+    put64(v4 + 112, 0);
+    put64(v4 + 120, 0);
+    put64(v4 + 125, 0);
+    put32(v4 + 139, 0);
+    put32(v4 + 136, 0);
+    v11 = (waiting < 255) ? waiting : 255ULL;
+    v7 = 0;
+    v8 = 0;
+    v9 = 0;
+l6:;
+    v10 = 0;
+l5:;
+    put32(v4 + 92, get32(v4 + 139));
+    put32(v4 + 89, get32(v4 + 136));
+    put32(v4 + 108, v10);
+    put32(v4 + 104, v9);
+    put64(v4 + 96, v3);
+    put8(v4 + 88, v8);
+    put32(v4 + 84, v7);
+    put32(v4 + 80, v6);
+    command_log_record_front(v4 + 112, v4 + 80);
+    put64(v4 + 67, get64(v4 + 125));
+    put64(v4 + 62, get64(v4 + 120));
+    put64(v4 + 54, get64(v4 + 112));
+    put8(v4 + 75, (uint32_t)v11);
+    put8(v4 + 53, v5);
+    v12 = command_log_crc_check_after(0, v4 + 53, 23);
+    put64(v2, get64(v4 + 53));
+    put64(v2 + 8, get64(v4 + 61));
+    v13 = rotl32(v12 & 0xff00ff, 24) | (rotl32(v12, 8) & 0xff00ff);
+    put32(v2 + 23, v13);
+    put32(v4 + 76, v13);
+    put64(v2 + 16, get64(v4 + 69));
+    return SEDGE_OK;
+}
+
+/* sedge_log_status_decode, crates/sedgechisel/src/executor/codecs.rt:62 */
+static uint32_t sedge_log_status_decode_at(uint64_t octets, uint64_t count, uint64_t status)
+{
+    unsigned char frame_octets[128 + 15];
+    uint32_t v5, v4, v11, v10, v6, v12, v13, v7, v8, v9, v18, v19, t2, new_boot, new_last, new_begun, new_history,
+        new_mark;
+    uint64_t v3, v2, v17, new_known;
+    v3 = aligned(frame_octets);
+    if (count != 27) return SEDGE_LOG_LAYOUT;
+    v2 = 0;
+    put64(v3 + 88, 0);
+    put64(v3 + 80, 0);
+    put64(v3 + 72, 0);
+    put64(v3 + 64, 0);
+    v17 = some(octets);
+    v5 = get8(v17);
+    command_log_record_fields_at(v3 + 64, v17 + 1);
+    v4 = get32(v3 + 64);
+    switch (v5) {
+    case 0:
+        v11 = get8(v3 + 72);
+        v10 = get32(v3 + 68);
+        put32(v3 + 123, get32(v3 + 76));
+        put32(v3 + 120, get32(v3 + 73));
+        v6 = 0;
+        put32(v3 + 60, 0);
+        v2 = get64(v3 + 80);
+        v12 = get32(v3 + 88);
+        v13 = get32(v3 + 92);
+        v7 = get8(v17 + 22);
+        put64(v3 + 96, 0);
+        put64(v3 + 104, 0);
+        put64(v3 + 109, 0);
+        v8 = 0;
+        v9 = v4;
+        goto l3;
+    case 1:
+    case 2:
+        v6 = 0;
+        put32(v3 + 60, 0);
+        v7 = get8(v17 + 22);
+        put64(v3 + 96, 0);
+        put64(v3 + 104, 0);
+        put64(v3 + 109, 0);
+        put32(v3 + 123, 0);
+        put32(v3 + 120, 0);
+        v8 = v5;
+        v9 = 0;
+        v10 = 0;
+        v11 = 0;
+        v12 = 0;
+        v4 = 0;
+        break;
+    default:
+        v9 = 0;
+        put32(v3 + 60, 0);
+        v7 = get8(v17 + 22);
+        v2 = 0;
+        put64(v3 + 96, 0);
+        put64(v3 + 104, 0);
+        put64(v3 + 109, 0);
+        put32(v3 + 123, 0);
+        put32(v3 + 120, 0);
+        v8 = 3;
+        v6 = v4;
+        v10 = 0;
+        v11 = 0;
+        v12 = 0;
+        break;
+    }
+    v13 = 0;
+l3:;
+    put32(v3 + 76, get32(v3 + 123));
+    put32(v3 + 73, get32(v3 + 120));
+    put32(v3 + 92, v13);
+    put32(v3 + 88, v12);
+    put64(v3 + 80, v2);
+    put8(v3 + 72, v11);
+    put32(v3 + 68, v10);
+    put32(v3 + 64, v4);
+    command_log_record_front(v3 + 96, v3 + 64);
+    put64(v3 + 51, get64(v3 + 109));
+    put64(v3 + 46, get64(v3 + 104));
+    put64(v3 + 38, get64(v3 + 96));
+    put8(v3 + 59, v7);
+    put8(v3 + 37, v8);
+    v18 = command_log_crc_check_after(0, v3 + 37, 23);
+    v19 = rotl32(v18 & 0xff00ff, 24) | (rotl32(v18, 8) & 0xff00ff);
+    put32(v3 + 60, v19);
+    put64(v3 + 8, get64(v3 + 37));
+    put64(v3 + 16, get64(v3 + 45));
+    put32(v3 + 31, v19);
+    put64(v3 + 24, get64(v3 + 53));
+    if (get8(v3 + 8) != v5) return SEDGE_LOG_CHECK;
+    if ((get8(v3 + 9) & 255) != (get8(v17 + 1) & 255) || (get8(v3 + 10) & 255) != (get8(v17 + 2) & 255) || (get8(v3 +
+        11) & 255) != (get8(v17 + 3) & 255)) return SEDGE_LOG_CHECK;
+    t2 = core_cmp_slices_groups_equal_i8_31_core_cmp_numbers_U8PartialEq(v3 + 8, 27, v17);
+    if (t2 == 0) return SEDGE_LOG_CHECK;
+    new_known = 0;
+    new_boot = 0;
+    new_last = 0;
+    new_begun = 0;
+    new_history = 0;
+    new_mark = 0;
+    switch (v8) {
+    case 1:
+    case 2:
+        break;
+    case 3:
+        new_boot = 0;
+        new_last = 0;
+        new_begun = 0;
+        new_history = 0;
+        new_mark = v6;
+        break;
+    default:
+        new_mark = 0;
+        new_boot = v9;
+        new_last = v10;
+        new_begun = v11;
+        new_known = v2;
+        new_history = v12;
+        break;
+    }
+    put16(status + 21, 0);
+    put8(status + 20 /* kept.begun */, new_begun);
+    put32(status + 16 /* kept.history */, new_history);
+    put32(status + 12 /* kept.last */, new_last);
+    put32(status + 8 /* kept.boot */, new_boot);
+    put64(status /* kept, kept.known */, new_known);
+    put8(status + 23, 0);
+    put16(status + 30, 0);
+    put8(status + 29 /* waiting */, v7);
+    put8(status + 28 /* kind */, v8);
+    put32(status + 24 /* mark */, new_mark);
     return SEDGE_OK;
 }
 
@@ -4337,12 +5750,12 @@ l3:;
     v31 = (v20 < v13) ? v20 : v13;
     v32 = v20 - v31;
     v28 = v26 + v31;
-    v33 = address(constant_58 + 7) - v13;
+    v33 = address(constant_66 + 7) - v13;
     if ((v26 - v33) < v31) {
         v34 = v31 & 3;
         v35 = 0;
         if (v31 >= 4) {
-            v36 = address(constant_58) - v13;
+            v36 = address(constant_66) - v13;
             v37 = v31 & 4;
             v35 = 0;
             do {
@@ -4351,7 +5764,7 @@ l3:;
             } while (v37 != v35);
             if (v34 == 0) goto l13;
         }
-        v38 = v35 - v13 + address(constant_58 + 7);
+        v38 = v35 - v13 + address(constant_66 + 7);
         v39 = v25 + v35 + out + 6;
         do {
             put8(v39, get8(v38));
@@ -4366,9 +5779,9 @@ l13:;
     if (v29 != 0) copy(v28, v7, v29);
     v40 = v28 + v29;
     if (v30 <= 6) {
-        if ((v40 - address(constant_58)) >= v30) {
+        if ((v40 - address(constant_66)) >= v30) {
             if (v30 == 0) goto l20;
-            copy(v40, address(constant_58), v30);
+            copy(v40, address(constant_66), v30);
         } else {
             v41 = v30 & 3;
             v42 = 0;
@@ -4377,13 +5790,13 @@ l13:;
                 v44 = out + (v25 + v29 + v31);
                 v42 = 0;
                 do {
-                    put32(v44 + v42 + 6, get32(v42 + address(constant_58)));
+                    put32(v44 + v42 + 6, get32(v42 + address(constant_66)));
                     v42 = v42 + 4;
                 } while (v43 != v42);
                 if (v41 == 0) goto l20;
             }
             v45 = 0 - v41;
-            v46 = v42 + address(constant_58);
+            v46 = v42 + address(constant_66);
             v47 = v25 + v42 + v29 + v31 + out + 6;
             do {
                 put8(v47, get8(v46));
@@ -4393,7 +5806,7 @@ l13:;
             } while (v45 != 0);
         }
     } else {
-        if ((v40 - address(constant_58)) <= 3) {
+        if ((v40 - address(constant_66)) <= 3) {
             put32(v40, 0xc0ff07);
         } else {
             put32(v40, 0xc0ff07);
@@ -4902,6 +6315,62 @@ static void put_sedge_limits(uint64_t at, const struct sedge_limits *it)
     put8(at + 8, it->blocking);
 }
 
+typedef char sedge_log_is_laid_out_so[COPIES_COUNTS || (IS(sedge_log, 32, 8) && AT(sedge_log, kept, 0) &&
+    AT(sedge_log, kept.known, 0) && AT(sedge_log, kept.boot, 8) && AT(sedge_log, kept.last, 12) && AT(sedge_log,
+    kept.history, 16) && AT(sedge_log, kept.begun, 20) && AT(sedge_log, mark, 24) && AT(sedge_log, stage, 28)) ? 1 :
+    -1];
+
+static void put_sedge_log(uint64_t at, const struct sedge_log *it)
+{
+    put64(at, it->kept.known);
+    put32(at + 8, it->kept.boot);
+    put32(at + 12, it->kept.last);
+    put32(at + 16, it->kept.history);
+    put8(at + 20, it->kept.begun);
+    put32(at + 24, it->mark);
+    put8(at + 28, it->stage);
+}
+
+static void get_sedge_log(uint64_t at, struct sedge_log *it)
+{
+    it->kept.known = get64(at);
+    it->kept.boot = get32(at + 8);
+    it->kept.last = get32(at + 12);
+    it->kept.history = get32(at + 16);
+    it->kept.begun = (uint8_t)get8(at + 20);
+    it->mark = get32(at + 24);
+    it->stage = (uint8_t)get8(at + 28);
+}
+
+typedef char sedge_board_status_is_laid_out_so[COPIES_COUNTS || (IS(sedge_board_status, 32, 8) &&
+    AT(sedge_board_status, kept, 0) && AT(sedge_board_status, kept.known, 0) && AT(sedge_board_status, kept.boot, 8)
+    && AT(sedge_board_status, kept.last, 12) && AT(sedge_board_status, kept.history, 16) && AT(sedge_board_status,
+    kept.begun, 20) && AT(sedge_board_status, mark, 24) && AT(sedge_board_status, kind, 28) && AT(sedge_board_status,
+    waiting, 29)) ? 1 : -1];
+
+static void get_sedge_board_status(uint64_t at, struct sedge_board_status *it)
+{
+    it->kept.known = get64(at);
+    it->kept.boot = get32(at + 8);
+    it->kept.last = get32(at + 12);
+    it->kept.history = get32(at + 16);
+    it->kept.begun = (uint8_t)get8(at + 20);
+    it->mark = get32(at + 24);
+    it->kind = (uint8_t)get8(at + 28);
+    it->waiting = (uint8_t)get8(at + 29);
+}
+
+typedef char sedge_log_order_is_laid_out_so[COPIES_NUMBERS || (IS(sedge_log_order, 16, 4) && AT(sedge_log_order, boot,
+    0) && AT(sedge_log_order, last, 4) && AT(sedge_log_order, mark, 8) && AT(sedge_log_order, kind, 12)) ? 1 : -1];
+
+static void put_sedge_log_order(uint64_t at, const struct sedge_log_order *it)
+{
+    put32(at, it->boot);
+    put32(at + 4, it->last);
+    put32(at + 8, it->mark);
+    put8(at + 12, it->kind);
+}
+
 /* ---- The calls of the header. ---- */
 
 /* A call that writes is compiled apart from the program: gcc does not see in the code of such a call that it has written
@@ -5328,6 +6797,113 @@ APART uint8_t sedge_map_segment(const uint8_t *octets, size_t count, const struc
     return answer;
 }
 
+APART void sedge_log_start(struct sedge_log *log, const uint8_t *first, size_t first_count, const uint8_t *second,
+    size_t second_count, uint32_t mark)
+{
+    unsigned char log_octets[COPIES_COUNTS ? 32 + 15 : 1];
+    const uint64_t log_at = COPIES_COUNTS ? aligned(log_octets) : address(log);
+    sedge_log_start_at(log_at, address(first), first_count, address(second), second_count, mark);
+    if (COPIES_COUNTS) get_sedge_log(log_at, log);
+}
+
+APART uint8_t sedge_log_next(const struct sedge_log *log, uint8_t *out, size_t room, uint32_t *number)
+{
+    unsigned char log_octets[COPIES_COUNTS ? 32 + 15 : 1];
+    const uint64_t log_at = COPIES_COUNTS ? aligned(log_octets) : address(log);
+    if (COPIES_COUNTS) put_sedge_log(log_at, log);
+    return (uint8_t)sedge_log_next_at(log_at, address(out), room, address(number));
+}
+
+APART uint8_t sedge_log_done(struct sedge_log *log, uint8_t action, uint32_t number)
+{
+    unsigned char log_octets[COPIES_COUNTS ? 32 + 15 : 1];
+    const uint64_t log_at = COPIES_COUNTS ? aligned(log_octets) : address(log);
+    uint8_t answer;
+    if (COPIES_COUNTS) put_sedge_log(log_at, log);
+    answer = (uint8_t)sedge_log_done_at(log_at, action, number);
+    if (COPIES_COUNTS) get_sedge_log(log_at, log);
+    return answer;
+}
+
+APART uint8_t sedge_log_offer(struct sedge_log *log, const uint8_t *octets, size_t count, struct sedge_part *content)
+{
+    unsigned char log_octets[COPIES_COUNTS ? 32 + 15 : 1];
+    const uint64_t log_at = COPIES_COUNTS ? aligned(log_octets) : address(log);
+    unsigned char content_octets[COPIES_COUNTS ? 16 + 15 : 1];
+    const uint64_t content_at = COPIES_COUNTS ? aligned(content_octets) : address(content);
+    uint8_t answer;
+    if (COPIES_COUNTS) put_sedge_log(log_at, log);
+    answer = (uint8_t)sedge_log_offer_at(log_at, address(octets), count, content_at);
+    if (COPIES_COUNTS) get_sedge_log(log_at, log);
+    if (COPIES_COUNTS && answer == 0) get_sedge_part(content_at, content);
+    return answer;
+}
+
+APART uint8_t sedge_log_obey(struct sedge_log *log, const uint8_t *octets, size_t count)
+{
+    unsigned char log_octets[COPIES_COUNTS ? 32 + 15 : 1];
+    const uint64_t log_at = COPIES_COUNTS ? aligned(log_octets) : address(log);
+    uint8_t answer;
+    if (COPIES_COUNTS) put_sedge_log(log_at, log);
+    answer = (uint8_t)sedge_log_obey_at(log_at, address(octets), count);
+    if (COPIES_COUNTS) get_sedge_log(log_at, log);
+    return answer;
+}
+
+APART uint8_t sedge_log_status(const struct sedge_log *log, size_t waiting, uint8_t *out, size_t room)
+{
+    unsigned char log_octets[COPIES_COUNTS ? 32 + 15 : 1];
+    const uint64_t log_at = COPIES_COUNTS ? aligned(log_octets) : address(log);
+    if (COPIES_COUNTS) put_sedge_log(log_at, log);
+    return (uint8_t)sedge_log_status_at(log_at, waiting, address(out), room);
+}
+
+APART uint8_t sedge_log_new_record(uint8_t *out, size_t room)
+{
+    return (uint8_t)sedge_log_new_record_at(address(out), room);
+}
+
+APART uint8_t sedge_log_status_decode(const uint8_t *octets, size_t count, struct sedge_board_status *status)
+{
+    unsigned char status_octets[COPIES_COUNTS ? 32 + 15 : 1];
+    const uint64_t status_at = COPIES_COUNTS ? aligned(status_octets) : address(status);
+    uint8_t answer;
+    answer = (uint8_t)sedge_log_status_decode_at(address(octets), count, status_at);
+    if (COPIES_COUNTS && answer == 0) get_sedge_board_status(status_at, status);
+    return answer;
+}
+
+APART uint8_t sedge_log_command_encode(uint16_t apid, uint16_t count, uint32_t number, const uint8_t *content, size_t
+    content_count, uint8_t *out, size_t room, size_t *total)
+{
+    unsigned char total_octets[COPIES_COUNTS ? 8 + 15 : 1];
+    const uint64_t total_at = COPIES_COUNTS ? aligned(total_octets) : address(total);
+    uint8_t answer;
+    answer = (uint8_t)sedge_log_command_encode_at(apid, count, number, address(content), content_count, address(out),
+        room, total_at);
+    if (COPIES_COUNTS && answer == 0) *total = (size_t)get64(total_at);
+    return answer;
+}
+
+APART uint8_t sedge_log_order_encode(const struct sedge_log_order *order, uint16_t apid, uint16_t count, uint8_t *out,
+    size_t room, size_t *total)
+{
+    unsigned char order_octets[COPIES_NUMBERS ? 16 + 15 : 1];
+    const uint64_t order_at = COPIES_NUMBERS ? aligned(order_octets) : address(order);
+    unsigned char total_octets[COPIES_COUNTS ? 8 + 15 : 1];
+    const uint64_t total_at = COPIES_COUNTS ? aligned(total_octets) : address(total);
+    uint8_t answer;
+    if (COPIES_NUMBERS) put_sedge_log_order(order_at, order);
+    answer = (uint8_t)sedge_log_order_encode_at(order_at, apid, count, address(out), room, total_at);
+    if (COPIES_COUNTS && answer == 0) *total = (size_t)get64(total_at);
+    return answer;
+}
+
+uint32_t sedge_log_history_after(uint32_t history, const uint8_t *packet, size_t count)
+{
+    return sedge_log_history_after_at(history, address(packet), count);
+}
+
 struct sedge_text sedge_clcw_fault_name(uint8_t fault)
 {
     struct sedge_text result = {{0}};
@@ -5388,6 +6964,13 @@ struct sedge_text sedge_dropped_name(uint8_t cause)
 {
     struct sedge_text result = {{0}};
     sedge_dropped_name_at(address(&result), cause);
+    return result;
+}
+
+struct sedge_text sedge_log_fault_name(uint8_t fault)
+{
+    struct sedge_text result = {{0}};
+    sedge_log_fault_name_at(address(&result), fault);
     return result;
 }
 

@@ -55,6 +55,23 @@ pub const SEDGE_POINTER_NO_START: u16 = 2047;
 
 pub const SEDGE_NOT_DROPPED: u8 = 0;
 
+// enum sedge_log_action
+pub const SEDGE_LOG_NOTHING: u8 = 0;
+pub const SEDGE_LOG_WRITE_FIRST: u8 = 1;
+pub const SEDGE_LOG_WRITE_SECOND: u8 = 2;
+pub const SEDGE_LOG_EXECUTE: u8 = 3;
+pub const SEDGE_LOG_RESTART: u8 = 4;
+
+// enum sedge_log_status_kind
+pub const SEDGE_LOG_STATUS_SAYS: u8 = 0;
+pub const SEDGE_LOG_STATUS_CHANGES: u8 = 1;
+pub const SEDGE_LOG_STATUS_STARTS: u8 = 2;
+pub const SEDGE_LOG_STATUS_LOST: u8 = 3;
+
+// enum sedge_log_order_kind
+pub const SEDGE_LOG_ORDER_RESTART: u8 = 1;
+pub const SEDGE_LOG_ORDER_REBUILD: u8 = 2;
+
 // enum sedge_where
 pub const SEDGE_NO_PACKET: u8 = 0;
 pub const SEDGE_IN_MEMORY: u8 = 1;
@@ -103,6 +120,42 @@ impl Part {
     pub fn of(self, octets: &[u8]) -> &[u8] {
         &octets[self.from..][..self.count]
     }
+}
+
+#[repr(C)]
+#[derive(Clone, Copy, Debug, Default)]
+pub struct LogRecord {
+    pub known: u64,
+    pub boot: u32,
+    pub last: u32,
+    pub history: u32,
+    pub begun: u8,
+}
+
+#[repr(C)]
+#[derive(Clone, Copy, Debug, Default)]
+pub struct Log {
+    pub kept: LogRecord,
+    pub mark: u32,
+    pub stage: u8,
+}
+
+#[repr(C)]
+#[derive(Clone, Copy, Debug, Default)]
+pub struct BoardStatus {
+    pub kept: LogRecord,
+    pub mark: u32,
+    pub kind: u8,
+    pub waiting: u8,
+}
+
+#[repr(C)]
+#[derive(Clone, Copy, Debug, Default)]
+pub struct LogOrder {
+    pub boot: u32,
+    pub last: u32,
+    pub mark: u32,
+    pub kind: u8,
 }
 
 #[repr(C)]
@@ -329,6 +382,26 @@ unsafe extern "C" {
         octets: *const u8, count: usize, limits: &Limits, k: usize, flags: &mut u8, data: &mut Part,
     ) -> u8;
 
+    fn sedge_log_start(
+        log: &mut Log, first: *const u8, first_count: usize, second: *const u8, second_count: usize,
+        mark: u32,
+    );
+    fn sedge_log_next(log: &Log, out: *mut u8, room: usize, number: &mut u32) -> u8;
+    pub safe fn sedge_log_done(log: &mut Log, action: u8, number: u32) -> u8;
+    fn sedge_log_offer(log: &mut Log, octets: *const u8, count: usize, content: &mut Part) -> u8;
+    fn sedge_log_obey(log: &mut Log, octets: *const u8, count: usize) -> u8;
+    fn sedge_log_status(log: &Log, waiting: usize, out: *mut u8, room: usize) -> u8;
+    fn sedge_log_new_record(out: *mut u8, room: usize) -> u8;
+    fn sedge_log_status_decode(octets: *const u8, count: usize, status: &mut BoardStatus) -> u8;
+    fn sedge_log_command_encode(
+        apid: u16, count: u16, number: u32, content: *const u8, content_count: usize, out: *mut u8,
+        room: usize, total: &mut usize,
+    ) -> u8;
+    fn sedge_log_order_encode(
+        order: &LogOrder, apid: u16, count: u16, out: *mut u8, room: usize, total: &mut usize,
+    ) -> u8;
+    fn sedge_log_history_after(history: u32, packet: *const u8, count: usize) -> u32;
+
     pub safe fn sedge_clcw_fault_name(fault: u8) -> Text;
     pub safe fn sedge_cop_fault_name(fault: u8) -> Text;
     pub safe fn sedge_verdict_name(verdict: u8) -> Text;
@@ -338,6 +411,7 @@ unsafe extern "C" {
     pub safe fn sedge_tm_fault_name(fault: u8) -> Text;
     pub safe fn sedge_map_fault_name(fault: u8) -> Text;
     pub safe fn sedge_dropped_name(cause: u8) -> Text;
+    pub safe fn sedge_log_fault_name(fault: u8) -> Text;
 
     pub safe fn sedge_alert_shows_broken_condition(alert: u8) -> bool;
     pub safe fn sedge_alert_advice(alert: u8) -> Advice;
@@ -500,4 +574,67 @@ pub fn map_count(octets: &[u8], limits: &Limits, segments: &mut usize) -> u8 {
 pub fn map_segment(octets: &[u8], limits: &Limits, k: usize, flags: &mut u8, data: &mut Part) -> u8 {
     // SAFETY: each pointer to octets and the count after it are those of one slice; the others are references.
     unsafe { sedge_map_segment(octets.as_ptr(), octets.len(), limits, k, flags, data) }
+}
+
+pub fn log_start(log: &mut Log, first: &[u8], second: &[u8], mark: u32) {
+    // SAFETY: each pointer to octets and the count after it are those of one slice; the others are references.
+    unsafe { sedge_log_start(log, first.as_ptr(), first.len(), second.as_ptr(), second.len(), mark) }
+}
+
+pub fn log_next(log: &Log, out: &mut [u8], number: &mut u32) -> u8 {
+    // SAFETY: each pointer to octets and the count after it are those of one slice; the others are references.
+    unsafe { sedge_log_next(log, out.as_mut_ptr(), out.len(), number) }
+}
+
+pub fn log_offer(log: &mut Log, octets: &[u8], content: &mut Part) -> u8 {
+    // SAFETY: each pointer to octets and the count after it are those of one slice; the others are references.
+    unsafe { sedge_log_offer(log, octets.as_ptr(), octets.len(), content) }
+}
+
+pub fn log_obey(log: &mut Log, octets: &[u8]) -> u8 {
+    // SAFETY: each pointer to octets and the count after it are those of one slice; the others are references.
+    unsafe { sedge_log_obey(log, octets.as_ptr(), octets.len()) }
+}
+
+pub fn log_status(log: &Log, waiting: usize, out: &mut [u8]) -> u8 {
+    // SAFETY: each pointer to octets and the count after it are those of one slice; the others are references.
+    unsafe { sedge_log_status(log, waiting, out.as_mut_ptr(), out.len()) }
+}
+
+pub fn log_new_record(out: &mut [u8]) -> u8 {
+    // SAFETY: each pointer to octets and the count after it are those of one slice; the others are references.
+    unsafe { sedge_log_new_record(out.as_mut_ptr(), out.len()) }
+}
+
+pub fn log_status_decode(octets: &[u8], status: &mut BoardStatus) -> u8 {
+    // SAFETY: each pointer to octets and the count after it are those of one slice; the others are references.
+    unsafe { sedge_log_status_decode(octets.as_ptr(), octets.len(), status) }
+}
+
+pub fn log_command_encode(
+    apid: u16, count: u16, number: u32, content: &[u8], out: &mut [u8], total: &mut usize,
+) -> u8 {
+    // SAFETY: each pointer to octets and the count after it are those of one slice; the others are references.
+    unsafe {
+        sedge_log_command_encode(
+            apid,
+            count,
+            number,
+            content.as_ptr(),
+            content.len(),
+            out.as_mut_ptr(),
+            out.len(),
+            total,
+        )
+    }
+}
+
+pub fn log_order_encode(order: &LogOrder, apid: u16, count: u16, out: &mut [u8], total: &mut usize) -> u8 {
+    // SAFETY: each pointer to octets and the count after it are those of one slice; the others are references.
+    unsafe { sedge_log_order_encode(order, apid, count, out.as_mut_ptr(), out.len(), total) }
+}
+
+pub fn log_history_after(history: u32, packet: &[u8]) -> u32 {
+    // SAFETY: each pointer to octets and the count after it are those of one slice; the others are references.
+    unsafe { sedge_log_history_after(history, packet.as_ptr(), packet.len()) }
 }
