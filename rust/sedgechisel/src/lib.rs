@@ -11,6 +11,8 @@
 //!   borrows its data from the octets.
 //! - A machine is a type that is begun by `new` and has a call for each event: [`Farm`], [`Fop`], [`Map`],
 //!   [`TmBuilder`], [`TmExtractor`].
+//! - What a board executes next, once and in order over restarts, is decided by an [`Executor`]; the ground has
+//!   [`BoardStatus`], [`command_packet`], [`LogOrder`] and [`history_after`].
 //! - What is refused is an `Err` of a small enum of faults, with the number and the name that sedgechisel.h has.
 //!
 //! ```
@@ -50,6 +52,7 @@ mod clcw;
 mod farm;
 mod ffi;
 mod fop;
+mod log;
 mod map;
 mod memory;
 #[cfg(feature = "nodes")]
@@ -65,6 +68,10 @@ pub use check::{check, check_append, check_holds, CheckFault};
 pub use clcw::{Clcw, ClcwFault};
 pub use farm::{CopFault, Farm, FarmFields, FarmMode, Verdict};
 pub use fop::{accepted_beyond, Alert, Control, Fop, FopFields, FopState, Next, Reported};
+pub use log::{
+    command_packet, history_after, BoardStatus, Due, Executor, LogAction, LogFault, LogOrder, LogPlace,
+    LogRecord,
+};
 pub use map::{packets, segments, Dropped, Limits, Map, MapFault, Packets, Segments, Taken};
 #[cfg_attr(docsrs, doc(cfg(feature = "nodes")))]
 #[cfg(feature = "nodes")]

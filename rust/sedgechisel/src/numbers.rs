@@ -141,6 +141,7 @@ mod tests {
             TmFault sedge_tm_fault_name,
             MapFault sedge_map_fault_name,
             Dropped sedge_dropped_name,
+            LogFault sedge_log_fault_name,
         }
     }
 }

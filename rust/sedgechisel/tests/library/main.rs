@@ -11,6 +11,7 @@ mod machines;
 mod memory;
 #[cfg(feature = "nodes")]
 mod nodes;
+mod restarts;
 mod shown;
 mod telemetry;
 mod tool;
