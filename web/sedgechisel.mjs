@@ -195,11 +195,17 @@ function callOf(of, name, result, parameters) {
             const placed = parameters.map((it, k) => put(of, given, it, checked[k]));
             const answer = of.exports[name](...text, ...placed.flatMap(([words]) => words));
             for (const [, back] of placed) back?.();
-            return characters > 0 ? textAt(of.memory, text[0], characters) : result === 'bool' ? answer !== 0 : answer;
+            return characters > 0 ? textAt(of.memory, text[0], characters) : returned(result, answer);
         } finally {
             of.places.give(given.room);
         }
     };
+}
+
+// An answer as its type has it: WebAssembly returns 32 bits with a sign.
+function returned(result, answer) {
+    if (result === 'bool') return answer !== 0;
+    return result === 'uint32_t' ? answer >>> 0 : answer;
 }
 
 function textAt(memory, at, characters) {

@@ -32,6 +32,45 @@ function packetsThatAreMissing() {
         [3, 2048, n.SEDGE_PACKET_FIELD_RANGE]);
 }
 
+// A board without a record at its first place executes the next command, and the ground reads its status. The octets
+// are worked out by Python's struct and zlib.
+function commandsOverRestarts() {
+    const place = (octets) => octetsOf(octets + octets), log = {}, content = {}, number = {}, out = new Uint8Array(50);
+    const command = octetsOf('1005C02C000A0000012D010203831D43F2');
+    const started = '000000070000012C00000000000000018A3B0C5D00', passed = '000000070000012D00000000000000034313D20100';
+    const acts = (action, count = 0) => {
+        assert.deepEqual([sedge.sedge_log_next(log, out, number), number.value], [action, count]);
+        assert.equal(sedge.sedge_log_done(log, action, count), n.SEDGE_OK);
+    };
+    sedge.sedge_log_start(log, new Uint8Array(0), place('000000060000012C00000000000000018A3B0C5D00003D9558'), 5);
+    for (const action of [n.SEDGE_LOG_WRITE_FIRST, n.SEDGE_LOG_WRITE_FIRST, n.SEDGE_LOG_WRITE_SECOND]) acts(action);
+    assert.equal(digitsOf(out.subarray(0, 21)), started);
+    assert.equal(sedge.sedge_log_done(log, n.SEDGE_LOG_EXECUTE, 301), n.SEDGE_ABSENT);
+    assert.equal(sedge.sedge_log_offer(log, command, content), n.SEDGE_OK);
+    assert.deepEqual([content.from, content.count], [10, 3]);
+    assert.equal(sedge.sedge_log_offer(log, command, content), n.SEDGE_LOG_BUSY);
+    for (const action of [n.SEDGE_LOG_WRITE_FIRST, n.SEDGE_LOG_WRITE_SECOND]) acts(action);
+    acts(n.SEDGE_LOG_EXECUTE, 301);
+    for (const action of [n.SEDGE_LOG_WRITE_FIRST, n.SEDGE_LOG_WRITE_SECOND]) acts(action);
+    assert.equal(digitsOf(out.subarray(0, 21)), passed);
+    const octets = new Uint8Array(27), status = {}, total = {}, packet = new Uint8Array(23);
+    assert.equal(sedge.sedge_log_status(log, 3, octets), n.SEDGE_OK);
+    assert.equal(digitsOf(octets), `00${passed}0369CFB79E`);
+    assert.equal(sedge.sedge_log_status_decode(octets, status), n.SEDGE_OK);
+    const { boot, last, known, history, begun } = status.kept;
+    assert.deepEqual([status.kind, boot, last, known, history, begun, status.waiting],
+        [n.SEDGE_LOG_STATUS_SAYS, 7, 301, 3n, 0x4313d201, 0, 3]);
+    assert.equal(sedge.sedge_log_history_after(0x8a3b0c5d, command), 0x4313d201);
+    assert.equal(sedge.sedge_log_command_encode(5, 44, 301, Uint8Array.of(1, 2, 3), packet, total), n.SEDGE_OK);
+    assert.equal(digitsOf(packet.subarray(0, total.value)), digitsOf(command));
+    const order = { kind: n.SEDGE_LOG_ORDER_RESTART, boot: 7, last: 0, mark: 0 };
+    assert.equal(sedge.sedge_log_order_encode(order, 6, 45, packet, total), n.SEDGE_OK);
+    assert.equal(digitsOf(packet), '1006C02D001001000000070000000000000000E1CC51F8');
+    assert.equal(sedge.sedge_log_obey(log, packet), n.SEDGE_OK);
+    acts(n.SEDGE_LOG_RESTART);
+    assert.equal(sedge.sedge_log_fault_name(n.SEDGE_LOG_OTHER_BOOT), 'OtherBoot');
+}
+
 function machines() {
     const farm = {}, fop = {}, word = {};
     assert.equal(sedge.sedge_farm_open(farm, 10, 0), n.SEDGE_OK);
@@ -149,5 +188,5 @@ function lines() {
     assert.equal(scriptOf('config maps 18446744073709551615\n').config.maps, DEFAULTS.maps);
 }
 
-for (const test of [codecs, packetsThatAreMissing, machines, alerts, nodes, linked, memory, lines]) test();
+for (const test of [codecs, packetsThatAreMissing, commandsOverRestarts, machines, alerts, nodes, linked, memory, lines]) test();
 console.log('all as wanted');
