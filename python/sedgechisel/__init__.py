@@ -7,6 +7,8 @@
   in telemetry frames (`TmBuilder`, `TmExtractor`). `GapCheck` counts missing packets.
 - Nodes: the ground (`Ground`) and the spacecraft (`Spacecraft`), with their queues, and the simulated link between them
   (`Link`).
+- Commands over restarts: the board's half (`Executor`), and the status, the commands and the orders of the ground
+  (`BoardStatus`, `command_packet`, `restart_order`, `rebuild_order`, `history_after`).
 - Files: `read_frames` reads telemetry frames.
 - Old names, which give a DeprecationWarning and will be removed after 0.3: `Farm.report` (now `control_word`),
   `Fop.report` (now `clcw`), `Ground.report_in` (now `clcw_in`), `Spacecraft.report` (now `telemetry_frame`),
@@ -23,18 +25,24 @@ from ._calls import (
     Next, Packet, PacketKind, Segment, SequenceFlags, State, TakenFrame, TcFrame, TmBuilder, TmExtractor, TmFrame, Verdict,
     accepted_beyond, check, check_append, check_holds, segments, version)
 from ._faults import (
-    CheckFault, ClcwFault, CopFault, Fault, LinkFault, MapFault, PacketFault, SimFault, TcFault, TelemetryFault, TmFault)
+    CheckFault, ClcwFault, CopFault, Fault, LinkFault, LogFault, MapFault, PacketFault, SimFault, TcFault,
+    TelemetryFault, TmFault)
 from ._files import read_frames
 from ._library import Octets
 from ._link import Begun, Link
+from ._log import (
+    Action, ActionKind, BoardStatus, Executor, StatusKind, command_packet, history_after, new_record, rebuild_order,
+    restart_order)
 from ._nodes import (
     Arrived, Config, ConfigFault, Ground, Heard, KeptGround, KeptNumbers, OnMap, Received, Report, Spacecraft)
 
 __version__ = version
 __all__ = [
-    "NO_START", "ONLY_IDLE", "Alert", "Arrived", "Assembled", "Begun", "CheckFault", "Clcw", "ClcwFault", "Command",
-    "Config", "ConfigFault", "Control", "CopFault", "Extracted", "Farm", "Fault", "Flags", "Fop", "GapCheck", "Ground",
-    "Heard", "KeptGround", "KeptNumbers", "Kind", "Link", "LinkFault", "Map", "MapFault", "Mode", "Next", "Octets",
-    "OnMap", "Packet", "PacketFault", "PacketKind", "Received", "Report", "Segment", "SequenceFlags", "SimFault", "Spacecraft",
-    "State", "TakenFrame", "TcFault", "TcFrame", "TelemetryFault", "TmBuilder", "TmExtractor", "TmFault", "TmFrame",
-    "Verdict", "accepted_beyond", "check", "check_append", "check_holds", "read_frames", "segments", "version"]
+    "NO_START", "ONLY_IDLE", "Action", "ActionKind", "Alert", "Arrived", "Assembled", "Begun", "BoardStatus",
+    "CheckFault", "Clcw", "ClcwFault", "Command", "Config", "ConfigFault", "Control", "CopFault", "Executor",
+    "Extracted", "Farm", "Fault", "Flags", "Fop", "GapCheck", "Ground", "Heard", "KeptGround", "KeptNumbers",
+    "Kind", "Link", "LinkFault", "LogFault", "Map", "MapFault", "Mode", "Next", "Octets", "OnMap", "Packet",
+    "PacketFault", "PacketKind", "Received", "Report", "Segment", "SequenceFlags", "SimFault", "Spacecraft",
+    "State", "StatusKind", "TakenFrame", "TcFault", "TcFrame", "TelemetryFault", "TmBuilder", "TmExtractor",
+    "TmFault", "TmFrame", "Verdict", "accepted_beyond", "check", "check_append", "check_holds", "command_packet",
+    "history_after", "new_record", "read_frames", "rebuild_order", "restart_order", "segments", "version"]

@@ -197,6 +197,30 @@ class MapFault(Fault):
     }
 
 
+class LogFault(Fault):
+    """Why a board does not take a packet, a record or a status is not read, or a packet is not written."""
+
+    class Number(Numbers):
+        (LAYOUT, CHECK, STARTING, BUSY, LOST, BEHIND, AHEAD, OTHER_BOOT, NOT_LOST, OTHER_MARK, FIELD_RANGE,
+         ROOM) = range(1, 13)
+
+    _word = staticmethod(word_of("log_fault"))
+    _meanings = {
+        1: "not exactly one packet of this layout, or not as many octets as the layout has",
+        2: "the check does not hold, or a field has a value that no layout gives it",
+        3: "the board has started, and a copy of its record is being repaired",
+        4: "the record is being written, a command is executed, or a restart is due",
+        5: "the board has lost its record",
+        6: "the command's number is that of one that was executed or passed over",
+        7: "the command's number is above the next one",
+        8: "the order is for another boot count",
+        9: "the order brings a record, and the board has its own",
+        10: "the order brings a record after another loss",
+        11: "a field is out of range, or the data are too long",
+        12: "the output is too short for the packet",
+    }
+
+
 class LinkFault(Fault):
     """Why a node refuses a call."""
 

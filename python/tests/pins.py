@@ -6,7 +6,7 @@ import os
 import re
 
 TOP = os.path.dirname(os.path.dirname(os.path.dirname(os.path.realpath(__file__))))
-MODULES = ("_faults", "_calls", "_nodes", "_link")
+MODULES = ("_faults", "_calls", "_nodes", "_link", "_log")
 
 # Calls that only tell how many octets are next, which the package does not ask: it gives room for the most; and the
 # defaults, which the signature of Config has (python/check compares them).
@@ -21,7 +21,7 @@ HANDLES = ("ground", "spacecraft", "sim")
 ENUMS = {"Verdict": "verdict", "Mode": "farm_mode", "Alert": "alert", "Next": "next", "Kind": "tc_kind",
          "Segment": "segment_flags", "Command": "command", "PacketKind": "packet_kind", "Flags": "clcw_flags",
          "State": "fop_state", "Control": "control", "Begun": "begun", "SequenceFlags": "sequence_flags",
-         "Report": "heard_report"}
+         "Report": "heard_report", "ActionKind": "log_action", "StatusKind": "log_status_kind"}
 MEMBERS = {"SEDGE_NO_ALERT": "NONE"}
 
 
@@ -118,11 +118,14 @@ def is_name_of(member, case):
 # The calls of each class have this prefix, and those of no class none.
 PREFIXES = {"Clcw": "clcw", "Farm": "farm", "Fop": "fop", "TcFrame": "tc", "Packet": "packet", "TmFrame": "tm",
             "TmBuilder": "tm_builder", "TmExtractor": "tm_extractor", "Map": "map", "Config": "config",
-            "Ground": "ground", "Spacecraft": "spacecraft", "Link": "sim", "Directives": "directive", "GapCheck": "gap_check"}
+            "Ground": "ground", "Spacecraft": "spacecraft", "Link": "sim", "Directives": "directive", "GapCheck": "gap_check",
+            "Executor": "log"}
 # Methods that make other calls than the one of their own name, and what these are.
 OTHERS = {
     "GapCheck.__init__": "gap_check_open", "Spacecraft._open": "spacecraft_open_kept config_fault",
     "Ground._open": "ground_open_kept config_fault",
+    "Executor.__init__": "log_start", "new_record": "log_new_record", "BoardStatus.decode": "log_status_decode",
+    "command_packet": "log_command_encode", "_order": "log_order_encode", "history_after": "log_history_after",
     "Farm.__init__": "farm_open", "Farm.mode": "farm_state", "Fop.__init__": "fop_open",
     "TmBuilder.__init__": "tm_builder_open", "TmExtractor._taken": "tm_extractor_frame tm_packet",
     "TmExtractor.take_all": "tm_extractor_frames",
@@ -169,6 +172,8 @@ NONE = {"TmFrame.__init__", "TmFrame.ocf", "TmBuilder.waiting", "TmExtractor.__i
 READS = ("_read", "_read_ground", "_read_spacecraft")
 # What a method keeps for itself, wherever it does.
 KEPT = {"room", "longest", "blocking", "kept"}
+# What a method gives by its fields.
+PARTED = {"Executor.done action"}
 # What methods for many frames keep: the channel whose frames they look at.
 CHANNEL = {f"{name} {one}" for name in ("TcFrame.decode_all", "TmExtractor.take_all") for one in ("scid", "vcid")}
 
@@ -245,7 +250,7 @@ def methods_and_their_arguments(it):
         given = (*function.args.args, *function.args.kwonlyargs)
         # (A node gives the fields of its configuration by `_fields_of`, all at once.)
         others = ("self", "cls", *(it.Config._kinds if owner in ("Ground", "Spacecraft") and own == "__init__" else ()))
-        parameters = [one.arg for one in given if one.arg not in others]
+        parameters = [one.arg for one in given if one.arg not in others and f"{name} {one.arg}" not in PARTED]
         octets = [one for one in parameters if one in ("octets", "data", "packet", "packets", "ocf")
                   and name not in ("TmFrame.__init__", "TmFrame.ocf")]
         text = " ".join(ast.unparse(statement) for statement in function.body
