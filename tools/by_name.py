@@ -7,7 +7,7 @@ import typing
 
 from exports import camel, snake, structs
 from items import text_of
-from made import Refused, parameter_rows
+from made import Refused, parameter_rows, parameters
 from meanings import enumerations, meanings
 
 INLINE = re.compile(r"^static inline [\w ]+ \*?sedge_(\w+)\(", re.M)
@@ -183,12 +183,14 @@ def rust_config(text):
     fields = "".join(f"{comment_lines(notes[it], '    ', '/// ')}    pub {it}: {bits[it]},\n" for it in notes)
     numbers = "".join(f"        /// `{it}`.\n        {camel(it)} = {at},\n" for at, it in enumerate(bits, 1))
     names = "".join(f'            "{it}",\n' for it in bits)
+    spans = "".join(f'            "{span}",\n' for _, span, _ in parameters())
     defaults = "".join(f"            {it}: {values[it]},\n" for it in values)
     raw = "".join(f"    pub {it}: {'u64' if bits[it] == 'u64' else 'u32'},\n" for it in bits)
     handed = "".join(f"            {it}: self.{wide[it]},\n" for it in wide)
     made = (
         (r"    Parameter \{\n", numbers, r"    \}\n\}"),
         (r"const NAMES: ", f"[&str; {len(rows)}] = [\n{names}", r"        \];"),
+        (r"const RANGES: ", f"[&str; {len(rows)}] = [\n{spans}", r"        \];"),
         (r"pub struct Config \{\n", fields, r"\}"),
         (r"fn default\(\) -> Self \{\n        Self \{\n", defaults, r"        \}\n    \}"),
         (r"pub struct Raw \{\n", raw, r"\}"),

@@ -1,9 +1,11 @@
-"""What the numbers of the headers' enumerations mean, as the crate for Rust and the package for Python say it too, and
-that each answer is of one enumeration: for tools/bindings."""
+"""What the numbers of the headers' enumerations mean, as the texts for C, the crate for Rust and the package for Python
+say it too, and that each answer is of one enumeration: for tools/bindings."""
+import os
 import re
 import textwrap
 
-from exports import snake
+from exports import camel, snake
+from made import parameters
 
 COLUMNS = 120
 # An enumeration that has another name in Rust and Python, and the first of the numbers that all kinds of calls share.
@@ -167,6 +169,38 @@ def rust_meanings(text, known):
 
     blocks = re.compile(r"^((numbers|reasons|faults)! \{\n(?:    ///.*\n)*    (\w+) \{\n)(?:.*\n)*?\}\n", re.M)
     return blocks.sub(anew, text)
+
+
+# What a text is of a number that its enumeration does not have, where it is not that of a sedge_status.
+UNKNOWN = {it: '"?"' for it in ("status", "link_fault", "parameter")}
+UNKNOWN["sim_fault"] = f'number < {SHARED} ? "?" : sedge_link_fault_text(number)'
+TEXTS = re.compile(r"^(static inline const char \*sedge_(\w+)_text\(uint8_t number\) \{\n).*?^\}", re.M | re.S)
+
+
+def c_text(number, text):
+    """The case of a number, whose text is on several lines where it is long."""
+    head = f"    case {number}: return "
+    lines = textwrap.wrap(text, COLUMNS - len(head) - 4, break_on_hyphens=False)
+    return head + f'\n{" " * len(head)}'.join([*(f'"{it} "' for it in lines[:-1]), f'"{lines[-1]}"']) + ";\n"
+
+
+def c_texts(text, headers):
+    """The header of texts with each text anew: the number, the name, and what they mean."""
+    known, enums = meanings(headers), enumerations(headers)
+
+    def texts(kind):
+        if kind == "parameter":
+            return {k: f"{name}: its range is {span}" for k, (name, span, _) in enumerate(parameters(), 1)}
+        names = {int(number, 0): name for name, number in enums[kind].items()}
+        shared = len(os.path.commonprefix([*names.values()]).rpartition("_")[0]) + 1
+        return {k: f"{camel(names[k][shared:].lower())}: {said}" for k, said in known[kind].items()}
+
+    def anew(it):
+        cases = "".join(c_text(k, f"{k} {said}") for k, said in texts(RENAMED.get(it[2], it[2])).items())
+        rest = UNKNOWN.get(it[2], "sedge_status_text(number)")
+        return f"{it[1]}    switch (number) {{\n{cases}    default: return {rest};\n    }}\n}}"
+
+    return TEXTS.sub(anew, text)
 
 
 def python_text(head, text):

@@ -7,7 +7,8 @@ import { setTimeout } from 'node:timers/promises';
 import { setFlagsFromString } from 'node:v8';
 import { runInNewContext } from 'node:vm';
 import {
-    Clcw, ClcwFault, ConfigFault, CopFault, Ground, Link, LinkFault, SimFault, Spacecraft, TelemetryFault, load,
+    Clcw, ClcwFault, ConfigFault, CopFault, Ground, Link, LinkFault, SimFault, Spacecraft, TcFault, TelemetryFault, TmFault,
+    load,
 } from './index.mjs';
 import { digitsOf, octetsOf } from './link.mjs';
 
@@ -61,7 +62,6 @@ function telemetry() {
     ground.forgetTelemetry();
     assert.deepEqual([ground.telemetry(spacecraft.telemetryFrame()).gap, [...ground.packets()]], [null, [TELEMETRY]]);
     refused(() => spacecraft.telemetry(octetsOf('07FFC0000000CC')), TelemetryFault, 8, 'NotAPacket', 'idle');
-    assert.equal(new TelemetryFault(7).meaning, 'there was no memory');
 }
 
 function directives() {
@@ -238,6 +238,25 @@ function wrongArguments() {
     assert.ok(tried > 400, tried);
 }
 
+// Each fault has the text that a program in C gets for its number; a parameter has its name in JavaScript.
+function texts() {
+    const header = readFileSync(new URL('../c/include/sedgechisel_faults.h', import.meta.url), 'utf8');
+    const kinds = {
+        clcw_fault: ClcwFault, cop_fault: CopFault, tc_fault: TcFault, tm_fault: TmFault, link_fault: LinkFault,
+        sim_fault: SimFault, parameter: ConfigFault,
+    };
+    for (const [call, kind] of Object.entries(kinds)) {
+        const body = header.split(`*sedge_${call}_text(`)[1].split('\n}')[0];
+        const cases = [...body.matchAll(/case (\d+): return "([^]*?)";/g)].filter(([, number]) => number < 252);
+        assert.ok(cases.length > 2, call);
+        for (const [, number, text] of cases) {
+            const named = call === 'parameter' ? text.replace(/_(.)/g, (_, one) => one.toUpperCase()) : text;
+            assert.equal(new kind(Number(number)).message, named.replace(/"\s+"/g, ''));
+        }
+    }
+    for (const number of [7, 8]) assert.equal(new TelemetryFault(number).message, new TmFault(number).message);
+}
+
 // The names that the package for Python has, but for those that it gives up after 0.3.
 function names() {
     const known = { Ground: '_nodes', Spacecraft: '_nodes', Link: '_link', Directives: '_calls' };
@@ -261,6 +280,6 @@ function comments() {
     }
 }
 
-for (const test of [session, telemetry, directives, alerts, fullQueue, configs, words, linked, closed, wrongArguments, names, comments]) test();
+for (const test of [session, telemetry, directives, alerts, fullQueue, configs, words, linked, closed, wrongArguments, texts, names, comments]) test();
 await forgotten();
 console.log('all as wanted');

@@ -93,14 +93,11 @@ export class TmFault extends Fault {
     }
 }
 
-const NO_MEMORY = 6;
-
 /** Why a packet is not queued on board as telemetry, by two of the numbers of a TmFault: 7 (Memory) and 8 (NotAPacket). */
 export class TelemetryFault extends Fault {
     /** @param {number} number */
     constructor(number) {
-        const name = sedge().sedge_tm_fault_name(number);
-        super(number, name, (name === 'Memory' ? meanings.node_status[NO_MEMORY] : meanings.tm_fault[number]) ?? '?');
+        super(number, sedge().sedge_tm_fault_name(number), meanings.tm_fault[number] ?? '?');
     }
 }
 

@@ -544,7 +544,7 @@ enum sedge_tm_fault {
     SEDGE_TM_STATUS = 4,      /* a flag of the data field status is 1, or its identifier is not 11 (4.1.2.7) */
     SEDGE_TM_POINTER = 5,     /* a first header pointer at or after the data field's end (4.1.2.7.6) */
     SEDGE_TM_NO_OCF = 6,      /* the frame declares no operational control field (4.1.2.4) */
-    SEDGE_TM_MEMORY = 7,      /* the caller's memory is too short for what would be kept in it */
+    SEDGE_TM_MEMORY = 7,      /* there is too little memory for what would be kept */
     SEDGE_TM_NOT_A_PACKET = 8, /* not exactly one packet, or an idle packet */
     SEDGE_TM_ROOM = 9,        /* there is too little room for the frame */
     SEDGE_TM_FIELD_RANGE = 10 /* a field out of its range, a pointer after the data, not 4 to 2,036 octets of data, or

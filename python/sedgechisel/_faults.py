@@ -168,7 +168,7 @@ class TmFault(Fault):
         4: "a flag of the data field status is 1, or its identifier is not 11 (4.1.2.7)",
         5: "a first header pointer at or after the data field's end (4.1.2.7.6)",
         6: "the frame declares no operational control field (4.1.2.4)",
-        7: "the caller's memory is too short for what would be kept in it",
+        7: "there is too little memory for what would be kept",
         8: "not exactly one packet, or an idle packet",
         9: "there is too little room for the frame",
         10: "a field out of its range, a pointer after the data, not 4 to 2,036 octets of data, or a length outside 16 "
@@ -180,7 +180,7 @@ class TmFault(Fault):
 class TelemetryFault(TmFault):
     """Why a packet is not queued on board as telemetry, by two of the numbers of a TmFault."""
 
-    _meanings = {7: "there was no memory", 8: TmFault._meanings[8]}
+    _meanings = {it: TmFault._meanings[it] for it in (7, 8)}
 
 
 class MapFault(Fault):

@@ -104,6 +104,8 @@ pub(crate) fn done(answer: u8) {
 #[cfg(test)]
 mod tests {
     use crate::*;
+    use std::string::{String, ToString};
+    use std::vec::Vec;
 
     /// What each alert says is what the library says of it.
     #[test]
@@ -142,6 +144,48 @@ mod tests {
             MapFault sedge_map_fault_name,
             Dropped sedge_dropped_name,
             LogFault sedge_log_fault_name,
+        }
+    }
+
+    /// The texts of a call of the header of texts, each by its number.
+    fn texts(call: &str) -> Vec<String> {
+        let header = include_str!("../c/sedgechisel_faults.h");
+        let (_, after) = header.split_once(&std::format!("*sedge_{call}_text(")).unwrap();
+        let (body, _) = after.split_once("\n}").unwrap();
+        let cases = body.split("return ").skip(1).map(|it| it.split('"').skip(1).step_by(2).collect());
+        cases.filter(|it: &String| it.starts_with(|it: char| it.is_ascii_digit())).collect()
+    }
+
+    /// Each fault has the text that a program in C gets for its number, and there are no others.
+    #[test]
+    fn texts_are_those_of_the_header() {
+        macro_rules! compare {
+            ($($name:ident $call:literal,)*) => {
+                $(let wanted = texts($call);
+                let ours = (0..252).filter_map($name::from_number).map(|it| it.to_string());
+                assert!(wanted.iter().filter(|it| !it.starts_with("25")).eq(&ours.collect::<Vec<_>>()));)*
+            };
+        }
+        compare! {
+            ClcwFault "clcw_fault",
+            CopFault "cop_fault",
+            TcFault "tc_fault",
+            PacketFault "packet_fault",
+            TmFault "tm_fault",
+            MapFault "map_fault",
+        }
+        let status = texts("status");
+        assert!(
+            status.contains(&CheckFault::WrongCount.to_string())
+                && status.contains(&MapFault::Damaged.to_string())
+        );
+        #[cfg(feature = "nodes")]
+        {
+            compare! { LinkFault "link_fault", SimFault "sim_fault", }
+            let ours = (0..=u8::MAX)
+                .filter_map(Parameter::from_number)
+                .map(|it| OpenFault::OutOfRange(it).to_string());
+            assert!(texts("parameter").iter().eq(&ours.collect::<Vec<_>>()));
         }
     }
 }

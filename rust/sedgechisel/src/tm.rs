@@ -13,7 +13,7 @@ faults! {
         Status = 4, "a flag of the data field status is 1, or its identifier is not 11 (4.1.2.7)";
         Pointer = 5, "a first header pointer at or after the data field's end (4.1.2.7.6)";
         NoOcf = 6, "the frame declares no operational control field (4.1.2.4)";
-        Memory = 7, "the caller's memory is too short for what would be kept in it";
+        Memory = 7, "there is too little memory for what would be kept";
         NotAPacket = 8, "not exactly one packet, or an idle packet";
         Room = 9, "there is too little room for the frame";
         FieldRange = 10, "a field out of its range, a pointer after the data, not 4 to 2,036 octets of data, or a \

@@ -64,6 +64,29 @@ impl Parameter {
         ];
         NAMES[self.number() as usize - 1]
     }
+
+    /// The values that it may have, in words.
+    #[must_use]
+    pub const fn range(self) -> &'static str {
+        const RANGES: [&str; 15] = [
+            "0 to 1,023",
+            "0 to 63",
+            "0 to 7",
+            "even, 2 to 254",
+            "1 to width/2",
+            "1 to 255",
+            "1 to 65,535",
+            "1 to 1,016",
+            "7 to 65,542",
+            "any 64 bits",
+            "1 to 64",
+            "1 to 64",
+            "1 to 65,535",
+            "16 to 2,048",
+            "0 to 1",
+        ];
+        RANGES[self.number() as usize - 1]
+    }
 }
 
 /// The managed parameters, with the ranges and the defaults of docs/PROFILE.md. Both ends of a link have the same ones.
@@ -216,7 +239,7 @@ impl From<LinkFault> for OpenFault {
 impl fmt::Display for OpenFault {
     fn fmt(&self, out: &mut fmt::Formatter<'_>) -> fmt::Result {
         match self {
-            Self::OutOfRange(it) => write!(out, "{} {} is out of its range", it.number(), it.name()),
+            Self::OutOfRange(it) => write!(out, "{} {}: its range is {}", it.number(), it.name(), it.range()),
             Self::FarmB => out.write_str("FARM-B is not 0 to 3"),
             Self::Kept => out.write_str("no ground of this configuration gives this record"),
             Self::Memory => fmt::Display::fmt(&LinkFault::Memory, out),

@@ -339,7 +339,7 @@ fn parameters_out_of_their_ranges() {
     let config = Config { limit: 0, blocking: true, ..Config::default() };
     assert_eq!(config.fault(), Some(Parameter::Limit));
     assert_eq!(Ground::new(&config).err(), Some(OpenFault::OutOfRange(Parameter::Limit)));
-    assert_eq!(Spacecraft::new(&config).unwrap_err().to_string(), "6 limit is out of its range");
+    assert_eq!(Spacecraft::new(&config).unwrap_err().to_string(), "6 limit: its range is 1 to 255");
     let wrong = [
         (Config { scid: 1024, ..config }, Parameter::Scid, "scid"),
         (Config { vcid: 64, ..config }, Parameter::Vcid, "vcid"),

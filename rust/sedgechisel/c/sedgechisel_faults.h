@@ -1,0 +1,165 @@
+/* The text of each fault that the calls of sedgechisel.h and sedgechisel_nodes.h return, for a program that shows it:
+ * its number, its name, and what it means. The packages for Python, Rust and JavaScript have the same texts.
+ *
+ *     uint8_t fault = sedge_tc_decode(octets, count, true, &frame, &data);
+ *     if (fault != SEDGE_OK) puts(sedge_tc_fault_text(fault));
+ *
+ * prints, for example, "6 Check: the last two octets are not the check of those before them (4.1.4)".
+ *
+ * There is a call for each enumeration of faults, with its name, and one for the parameter that sedge_config_fault
+ * returns. A number that the enumeration does not have is one that all kinds of calls share, or its text is "?": a call
+ * of the core returns 253 to 255 of sedge_status, which sedge_status_text and the calls for its faults know, and a call
+ * of a node returns 252 to 255 of sedge_node_status, which sedge_link_fault_text knows.
+ *
+ * The texts are constants, and a program has only those of the calls that it makes. tools/bindings generates them from
+ * the notes in the two headers. For C99 and later, and for C++. */
+#ifndef SEDGECHISEL_FAULTS_H
+#define SEDGECHISEL_FAULTS_H
+
+#include <stdint.h>
+
+/* The text of a sedge_status, which all kinds of calls share. */
+static inline const char *sedge_status_text(uint8_t number) {
+    switch (number) {
+    case 253: return "253 Absent: there are not that many segments, or a report says nothing of the units";
+    case 254: return "254 WrongCount: not the number of octets that the call needs";
+    case 255: return "255 Damaged: a struct has a value that no sender, receiver or MAP has, or one out of its enum";
+    default: return "?";
+    }
+}
+
+/* Why a control word is refused: the text of a sedge_clcw_fault. */
+static inline const char *sedge_clcw_fault_text(uint8_t number) {
+    switch (number) {
+    case 1: return "1 Kind: the control word type is not 0 (4.2.1.2)";
+    case 2: return "2 Version: the version number is not 00 (4.2.1.3)";
+    case 3: return "3 Cop: the COP in effect is not 01, COP-1 (4.2.1.5)";
+    case 4: return "4 Spare: a spare bit is not 0";
+    case 5: return "5 Range: a field is too large for its bits, or a flag bit has no name";
+    default: return sedge_status_text(number);
+    }
+}
+
+/* Why the receiver or the sender refuses a call: the text of a sedge_cop_fault. */
+static inline const char *sedge_cop_fault_text(uint8_t number) {
+    switch (number) {
+    case 1: return "1 Width: the window width is not an even number from 2 to 254";
+    case 2: return "2 Window: the sender's window K is not from 1 to half the width";
+    case 3: return "3 Limit: the transmission limit is 0";
+    case 4: return "4 Timer: the timer's value is 0";
+    case 6: return "6 NotOpen: the sender is in its state S6";
+    case 7: return "7 Busy: a unit waits already";
+    case 8: return "8 WrongState: the directive is not allowed in the sender's state";
+    default: return sedge_status_text(number);
+    }
+}
+
+/* Why a telecommand frame is refused: the text of a sedge_tc_fault. */
+static inline const char *sedge_tc_fault_text(uint8_t number) {
+    switch (number) {
+    case 1: return "1 Short: fewer than the 5 octets of the header";
+    case 2: return "2 Version: the version number is not 00 (4.1.2.2)";
+    case 3: return "3 ReservedType: the control command flag without the bypass flag (4.1.2.3)";
+    case 4: return "4 Spare: the spare bits are not 00 (4.1.2.4)";
+    case 5: return "5 Length: the declared total is not the number of octets, or too small (4.1.2.7)";
+    case 6: return "6 Check: the last two octets are not the check of those before them (4.1.4)";
+    case 7: return "7 BypassNumber: a frame with the bypass flag has a number other than 0 (4.1.2.8)";
+    case 8: return "8 EmptyData: no octet in the data field, or a segment header alone";
+    case 9: return "9 Command: the data of a control frame are neither Unlock nor Set V(R) (4.1.3.3)";
+    case 10: return "10 Room: there is too little room for the frame";
+    case 11: return "11 FieldRange: a field out of its range, no data, or more than 1,024 octets";
+    default: return sedge_status_text(number);
+    }
+}
+
+/* Why a space packet is refused: the text of a sedge_packet_fault. */
+static inline const char *sedge_packet_fault_text(uint8_t number) {
+    switch (number) {
+    case 1: return "1 Truncated: fewer than the 6 octets of the header, or fewer than it declares";
+    case 2: return "2 Version: the version number is not 000 (4.1.3.2)";
+    case 3: return "3 IdleWithSecondary: an idle packet with a secondary header (4.1.3.3.3)";
+    case 4: return "4 Room: there is too little room for the packet";
+    case 5: return "5 FieldRange: a field out of its range, no data or more than 65,536 octets of them, or an idle "
+                   "packet with a secondary header";
+    default: return sedge_status_text(number);
+    }
+}
+
+/* Why a telemetry frame, or a packet for one, is refused: the text of a sedge_tm_fault. */
+static inline const char *sedge_tm_fault_text(uint8_t number) {
+    switch (number) {
+    case 1: return "1 Length: not length octets, or a length outside 16 to 2,048";
+    case 2: return "2 Version: the version number is not 00 (4.1.2.2)";
+    case 3: return "3 Check: the last two octets are not the check of those before them (4.1.6)";
+    case 4: return "4 Status: a flag of the data field status is 1, or its identifier is not 11 (4.1.2.7)";
+    case 5: return "5 Pointer: a first header pointer at or after the data field's end (4.1.2.7.6)";
+    case 6: return "6 NoOcf: the frame declares no operational control field (4.1.2.4)";
+    case 7: return "7 Memory: there is too little memory for what would be kept";
+    case 8: return "8 NotAPacket: not exactly one packet, or an idle packet";
+    case 9: return "9 Room: there is too little room for the frame";
+    case 10: return "10 FieldRange: a field out of its range, a pointer after the data, not 4 to 2,036 octets of "
+                    "data, or a length outside 16 to 2,048";
+    default: return sedge_status_text(number);
+    }
+}
+
+/* Why octets are not cut into segments, or a MAP refuses a call: the text of a sedge_map_fault. */
+static inline const char *sedge_map_fault_text(uint8_t number) {
+    switch (number) {
+    case 1: return "1 NotAPacket: they are not exactly one packet, or with blocking not one or more whole packets";
+    case 2: return "2 TooLong: a packet has more octets than max_packet";
+    default: return sedge_status_text(number);
+    }
+}
+
+/* Why a node refuses a call: the text of a sedge_node_status. */
+static inline const char *sedge_link_fault_text(uint8_t number) {
+    switch (number) {
+    case 1: return "1 NotOpen: the sender is in its state Initial (S6)";
+    case 2: return "2 ClosedMap: the MAP is not open";
+    case 3: return "3 NotCommand: the octets are not command packets, or not as many as one call takes";
+    case 4: return "4 TooLong: a packet has more octets than it may have";
+    case 5: return "5 QueueFull: as many units as may wait are waiting";
+    case 6: return "6 Memory: there was no memory";
+    case 10: return "10 NotKnown: nothing is known of how far the session has come";
+    case 252: return "252 Room: the room is too short; nothing was taken out";
+    case 253: return "253 Absent: there is no record at this place, or a report says nothing of the segments";
+    case 254: return "254 OutOfRange: a parameter is out of its range";
+    case 255: return "255 None: the handle holds no node; or a directive or an event is none";
+    default: return "?";
+    }
+}
+
+/* Why an event does not happen on a simulated link: the text of a sedge_sim_fault. */
+static inline const char *sedge_sim_fault_text(uint8_t number) {
+    switch (number) {
+    case 6: return "6 Memory: there was no memory";
+    case 7: return "7 NothingInTransit: no frame is on its way in this direction";
+    case 8: return "8 NotDetectable: the receiver's decoder would accept the octets of the damaged frame";
+    default: return number < 252 ? "?" : sedge_link_fault_text(number);
+    }
+}
+
+/* Which parameter is out of range, and its range: the text of a sedge_parameter. */
+static inline const char *sedge_parameter_text(uint8_t number) {
+    switch (number) {
+    case 1: return "1 scid: its range is 0 to 1,023";
+    case 2: return "2 vcid: its range is 0 to 63";
+    case 3: return "3 tm_vcid: its range is 0 to 7";
+    case 4: return "4 width: its range is even, 2 to 254";
+    case 5: return "5 window: its range is 1 to width/2";
+    case 6: return "6 limit: its range is 1 to 255";
+    case 7: return "7 timer: its range is 1 to 65,535";
+    case 8: return "8 part: its range is 1 to 1,016";
+    case 9: return "9 max_packet: its range is 7 to 65,542";
+    case 10: return "10 maps: its range is any 64 bits";
+    case 11: return "11 ready_slots: its range is 1 to 64";
+    case 12: return "12 bypass_slots: its range is 1 to 64";
+    case 13: return "13 queue_slots: its range is 1 to 65,535";
+    case 14: return "14 frame_length: its range is 16 to 2,048";
+    case 15: return "15 blocking: its range is 0 to 1";
+    default: return "?";
+    }
+}
+
+#endif
