@@ -223,6 +223,11 @@ def python_config(text):
     return begun + mark + with_fields(config, names)
 
 
+def python_parameters(text):
+    """Another module of the package with the fields of the configuration anew."""
+    return with_fields(text, [name for name, *_ in noted_parameters()])
+
+
 def with_fields(text, names):
     """The fields of the configuration as the nodes take them, and the numbers of its faults."""
     given = textwrap.wrap(", ".join(f"{it}: Optional[int] = None".replace(" ", "\0") for it in names), WIDE - 20)

@@ -259,7 +259,7 @@ function texts() {
 
 // The names that the package for Python has, but for those that it gives up after 0.3.
 function names() {
-    const known = { Ground: '_nodes', Spacecraft: '_nodes', Link: '_link', Directives: '_calls' };
+    const known = { Ground: '_nodes', Spacecraft: '_spacecraft', Link: '_link', Directives: '_calls' };
     for (const [name, file] of Object.entries(known)) {
         const text = readFileSync(new URL(`../python/sedgechisel/${file}.py`, import.meta.url), 'utf8');
         const body = text.slice(text.search(new RegExp(`^class ${name}\\(|^class ${name}:`, 'm'))).split(/\n(?=\S)/)[0];

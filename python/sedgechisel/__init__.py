@@ -33,8 +33,8 @@ from ._link import Begun, Link
 from ._log import (
     Action, ActionKind, BoardStatus, Executor, StatusKind, command_packet, history_after, new_record, rebuild_order,
     restart_order)
-from ._nodes import (
-    Arrived, Config, ConfigFault, Ground, Heard, KeptGround, KeptNumbers, OnMap, Received, Report, Spacecraft)
+from ._nodes import Arrived, Config, ConfigFault, Ground, Heard, KeptGround, Received, Report
+from ._spacecraft import KeptNumbers, OnMap, Spacecraft
 
 __version__ = version
 __all__ = [

@@ -8,8 +8,8 @@ from typing import Any, List, Optional, Tuple
 from ._calls import Alert, Clcw, Directives, Mode, State, _directive
 from ._faults import CopFault, LinkFault, SimFault, TelemetryFault
 from ._library import Numbers, Octets, octets_of, within
-from ._nodes import (Config, Handle, Heard, Received, _call, _GroundReading, _Heard, _Raw, _Received,
-                     _SpacecraftReading, OnMap)
+from ._nodes import Config, Handle, Heard, Received, _call, _GroundReading, _Heard, _Raw, _Received
+from ._spacecraft import OnMap, _SpacecraftReading
 
 _REFUSED = 3
 _REFUSED_BY = {1: LinkFault, 2: CopFault, 3: TelemetryFault}

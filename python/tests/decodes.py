@@ -263,7 +263,7 @@ def calls_at_once(it):
                 (it._calls, "_clcw_decode", *(lambda each=each: it.Clcw.decode(each) for each in words)),
                 (it._nodes, "_ground_clcw_in", *(lambda each=each: one.clcw_in(each) for each in tm)),
                 (it._nodes, "_ground_telemetry", *(lambda each=each: one.telemetry(each) for each in no_frames[:2])),
-                (it._nodes, "_spacecraft_receive", *(lambda each=each: board.receive(each) for each in no_frames[::2])),
+                (it._spacecraft, "_spacecraft_receive", *(lambda each=each: board.receive(each) for each in no_frames[::2])),
                 (it._nodes, "_ground_peek", one.peek, other.peek)):
             wanted, meanwhile = [call() for call in calls], []
             first = between(module, name, lambda: meanwhile.append(calls[1]()), calls[0])

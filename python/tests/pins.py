@@ -6,7 +6,7 @@ import os
 import re
 
 TOP = os.path.dirname(os.path.dirname(os.path.dirname(os.path.realpath(__file__))))
-MODULES = ("_faults", "_calls", "_nodes", "_link", "_log")
+MODULES = ("_faults", "_calls", "_nodes", "_spacecraft", "_link", "_log")
 
 # Calls that only tell how many octets are next, which the package does not ask: it gives room for the most; and the
 # defaults, which the signature of Config has (python/check compares them).
