@@ -10,8 +10,7 @@ from made import Refused
 
 # The modules that make up what the package exports by its own name; those of the other names are one each.
 CLASSES = ("nodes", "simulated", "values", "meanings")
-TITLES = {".": "sedgechisel", "./calls": "sedgechisel/calls", "./script": "sedgechisel/script", "./tctool": "sedgechisel/tctool"}
-STATEMENT = re.compile(r"(?:export |declare )*(?:abstract )?(?P<kind>class|interface|type|function|const) (?P<name>\w+)")
+STATEMENT = re.compile(r"(?:export |declare )*(?P<kind>class|interface|type|function|const) (?P<name>\w+)")
 MEMBER = re.compile(r"(?:static |readonly |get |set )*(?P<name>[\w$]+|\[[^]]*\])\??(?P<call>(?:<[^>]*>)?\()?")
 HIDDEN = re.compile(r"#|protected |set |(?:import|export) ")
 
@@ -37,7 +36,8 @@ def declared(text):
             continue
         at = end_of(text, space)
         whole = text[space:at].strip().removesuffix(";")
-        head, _, body = whole.partition("{") if whole.endswith("}") and re.match(r"(?!.*\()[^;]*?\{", whole) else (whole, "", "")
+        has_body = whole.endswith("}") and re.match(r"(?!.*\()[^;]*?\{", whole)
+        head, _, body = whole.partition("{") if has_body else (whole, "", "")
         yield Declared(comment, " ".join(head.split()), body.removesuffix("}"))
         comment = ""
 
@@ -162,7 +162,8 @@ def entry(it, exported):
     made = next((one for one in members if one.text.startswith("constructor(")), None)
     shown = f"({names_of(parameters_of(made.text))})" if made else ""
     lines = item("class", f"{name}{shown}", it._replace(text=it.text.removesuffix(" =").strip()))
-    lines += indented([f"``new {name}{plain(made.text.removeprefix('constructor'))}``", "", *said(made.comment)]) if made else []
+    if made:
+        lines += indented([f"``new {name}{plain(made.text.removeprefix('constructor'))}``", "", *said(made.comment)])
     return lines + indented([line for one in members for line in member(one)])
 
 
@@ -177,8 +178,10 @@ def page(title, modules, exported):
 def pages():
     """Of each module that the package exports the name of its page, and the page."""
     exports, found, exported = json.loads(text_of("web/package.json"))["exports"], {}, set()
-    for name, title in TITLES.items():
-        module = exports[name]["types"].removeprefix("./")
+    for name, about in exports.items():
+        if "types" not in about:
+            continue
+        title, module = name.replace(".", "sedgechisel", 1), about["types"].removeprefix("./")
         names = set(re.findall(r"\w+", " ".join(re.findall(r"^export \{(.*?)\}", text_of(f"web/{module}"), re.M))))
         modules = [f"{it}.d.mts" for it in CLASSES] if names else [module]
         found[title.replace("/", "_")] = page(title, modules, names or None)

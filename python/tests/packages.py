@@ -99,6 +99,10 @@ def wheel(it):
         ran = subprocess.run([*pip, "install", "--no-index", "--quiet", "--find-links", f"{folder}/both", "sedgechisel"],
                              capture_output=True, text=True)
         assert ran.returncode == 0, ran.stdout + ran.stderr
+        where = ("--no-index", "--no-deps", "--only-binary=:all:", "--find-links", f"{folder}/both", "-d", folder)
+        for older, is_taken in (("3.9", True), ("3.8", False)):  # the oldest that is served, and the one before it
+            ran = subprocess.run([*pip, "download", *where, "--python-version", older, "sedgechisel"], capture_output=True)
+            assert (ran.returncode == 0) == is_taken, ran.stdout + ran.stderr
         program = "import sedgechisel; sedgechisel.Link().close(); print(sedgechisel.__version__, sedgechisel.__file__)"
         ran = subprocess.run([python, "-c", program], capture_output=True, text=True, cwd=folder,
                              env={name: value for name, value in os.environ.items() if name != "PYTHONPATH"})
