@@ -5,7 +5,7 @@ import re
 import textwrap
 
 from exports import camel, snake
-from made import parameters
+from made import Refused, parameters
 
 COLUMNS = 120
 # An enumeration that has another name in Rust and Python, and the first of the numbers that all kinds of calls share.
@@ -185,8 +185,12 @@ def c_text(number, text):
 
 
 def c_texts(text, headers):
-    """The header of texts with each text anew: the number, the name, and what they mean."""
+    """The header of texts with each text anew: the number, the name, and what they mean. It has one for each enumeration of
+    faults."""
     known, enums = meanings(headers), enumerations(headers)
+    lost = [it for it in enums if it.endswith("_fault") and f"*sedge_{it}_text(" not in text]
+    if lost:
+        raise Refused(f"sedgechisel_faults.h lacks sedge_{lost[0]}_text")
 
     def texts(kind):
         if kind == "parameter":
