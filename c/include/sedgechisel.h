@@ -5,8 +5,8 @@
  * Nothing here allocates, keeps a state of its own, or calls a function of another library but memcpy, memmove and
  * memset; so each may be called anywhere, from two threads at once too, where they do not share what they write. Each
  * does what its crate's contract says, for every value of its arguments and of the structs behind its pointers: in the
- * proved archive by proof, in portable C as tested. The books are CCSDS 133.0-B-2 (space packets), 132.0-B-3 (telemetry), 232.0-B-4 (telecommand) and 232.1-B-2
- * (COP-1).
+ * proved archive by proof, in portable C as tested. The books are CCSDS 133.0-B-2 (space packets), 132.0-B-3
+ * (telemetry), 232.0-B-4 (telecommand) and 232.1-B-2 (COP-1).
  *
  * What a caller has to ensure, since nothing can check it:
  * - No pointer is null, and each is aligned for its type; this holds of a pointer to no octets too.

@@ -5,9 +5,9 @@
  *
  * A handle holds a node or a link, or none. It begins as {0}, which holds none, and afterwards it is only ever what a
  * call here left in it: it is not copied, and not written by the program. Nothing can check that, so the caller
- * ensures it, and closes a handle before it is let go of. Each call is proved to do what its crate's contract says,
- * for every value of its arguments: the next state and the answer are those of ground_step, spacecraft_step and
- * world_step.
+ * ensures it, and closes a handle before it is discarded. Each call does what its crate's contract says, for every
+ * value of its arguments: the next state and the answer are those of ground_step, spacecraft_step and world_step. In
+ * the proved archive this is proved, in portable C it is tested.
  *
  * What a caller has to ensure besides: no pointer is null, and each is aligned for its type; at a pointer to octets,
  * as many as the number after it says may be read, and written where the pointer is not to const; what is written

@@ -4,8 +4,9 @@
 //! link between two, which need an allocator. The books are CCSDS 133.0-B-2 (space packets), 132.0-B-3 (telemetry),
 //! 232.0-B-4 (telecommand) and 232.1-B-2 (COP-1).
 //!
-//! This crate gives safe types to the library for C, of which each call is proved to do what its contract says. The
-//! crate itself is tested, not proved. Without `nodes` it allocates nothing, keeps no state of its own, and needs no `std`.
+//! This crate gives safe types to the library for C. In the proved library each call is proved to do what its contract
+//! says. The portable C that the crate compiles if it finds no library, and the crate itself, are tested, not proved.
+//! Without `nodes` it allocates nothing, keeps no state of its own, and needs no `std`.
 //!
 //! - A codec is a type with `decode` and `encode`: [`TcFrame`], [`Packet`], [`Clcw`], [`TmFrame`]. What is decoded
 //!   borrows its data from the octets.
