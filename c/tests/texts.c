@@ -19,6 +19,7 @@ static const struct texts ALL[] = {
     {"packet_fault", sedge_packet_fault_text, sedge_packet_fault_name},
     {"tm_fault", sedge_tm_fault_text, sedge_tm_fault_name},
     {"map_fault", sedge_map_fault_text, sedge_map_fault_name},
+    {"log_fault", sedge_log_fault_text, sedge_log_fault_name},
     {"link_fault", sedge_link_fault_text, sedge_link_fault_name},
     {"sim_fault", sedge_sim_fault_text, sedge_sim_fault_name},
     {"parameter", sedge_parameter_text, sedge_parameter_name},

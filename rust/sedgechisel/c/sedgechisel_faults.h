@@ -112,6 +112,25 @@ static inline const char *sedge_map_fault_text(uint8_t number) {
     }
 }
 
+/* Why octets of a board's commands are refused, or the board drops a command or an order: the text of a sedge_log_fault. */
+static inline const char *sedge_log_fault_text(uint8_t number) {
+    switch (number) {
+    case 1: return "1 Layout: not exactly one packet of this layout, or not as many octets as the layout has";
+    case 2: return "2 Check: the check does not hold, or a field has a value that no layout gives it";
+    case 3: return "3 Starting: the board has started, and a copy of its record is being repaired";
+    case 4: return "4 Busy: the record is being written, a command is executed, or a restart is due";
+    case 5: return "5 Lost: the board has lost its record";
+    case 6: return "6 Behind: the command's number is that of one that was executed or passed over";
+    case 7: return "7 Ahead: the command's number is above the next one";
+    case 8: return "8 OtherBoot: the order is for another boot count";
+    case 9: return "9 NotLost: the order brings a record, and the board has its own";
+    case 10: return "10 OtherMark: the order brings a record after another loss";
+    case 11: return "11 FieldRange: a field is out of range, or the data are too long";
+    case 12: return "12 Room: the output is too short for the packet";
+    default: return sedge_status_text(number);
+    }
+}
+
 /* Why a node refuses a call: the text of a sedge_node_status. */
 static inline const char *sedge_link_fault_text(uint8_t number) {
     switch (number) {

@@ -173,6 +173,7 @@ mod tests {
             PacketFault "packet_fault",
             TmFault "tm_fault",
             MapFault "map_fault",
+            LogFault "log_fault",
         }
         let status = texts("status");
         assert!(
