@@ -46,6 +46,11 @@ fn a_command_is_executed_on_board() {
     due.done();
     both(&mut executor, "000000070000012d00000000000000034313d201002f3264dd");
     assert_eq!(executor.offer(&command), Err(LogFault::Behind));
+    let mut out = [0; 14];
+    let later = command_packet(5, 46, 303, &[], &mut out).unwrap();
+    assert_eq!(executor.offer(later), Err(LogFault::Ahead));
+    let other = LogOrder::Restart { boot: 6 }.encode(6, 44).unwrap();
+    assert_eq!(executor.obey(&other), Err(LogFault::OtherBoot));
     assert_eq!(
         executor.status(3)[..],
         octets_of("00000000070000012d00000000000000034313d201000369cfb79e")[..]
