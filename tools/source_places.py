@@ -57,3 +57,12 @@ def place_of(name, crate):
         if found and (kind is None or len(found) == 1):
             return found[0] if modules or len(found) == 1 else None
     return None
+
+
+def rule_at(place):
+    """The rule that a comment right before a function says it is, as `report 6`; None where there is none."""
+    file, _, line = place.rpartition(":")
+    with open(file, encoding="utf-8") as it:
+        before = it.read().split("\n")[int(line) - 2]
+    found = re.match(r"\s*// Rule (\d+): ", before)
+    return f"{os.path.basename(file)[:-3]} {found[1]}" if found else None

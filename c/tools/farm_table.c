@@ -39,6 +39,7 @@ static unsigned flag(uint8_t before, uint8_t after) {
 /* A call was made of this receiver, with this number, and left the other. */
 static void keep(int kind, const struct sedge_farm *before, const struct sedge_farm *after, uint8_t x, int answer) {
     unsigned fits[FIELDS] = {0};
+    note(kind, sedge_farm_state(before) + 1);
     if (answer == SEDGE_DAMAGED || after->width != before->width) fail(kinds[kind].what, "no call of a receiver");
     fits[VR] = bit(after->vr == before->vr, 0) | bit(after->vr == (uint8_t)(before->vr + 1), 1)
                | bit(after->vr == x, 2);
@@ -129,6 +130,7 @@ static const char *answer_of(int answer) {
 int main(void) {
     int kind, state;
     try_all();
+    if (writes_marks(kinds, KINDS)) return fflush(stdout) == 0 ? 0 : 3;
     printf("event,what,before,after,answer");
     write_names(fields, COLUMNS);
     printf(",profile_says\n");

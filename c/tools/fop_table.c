@@ -106,6 +106,7 @@ static void units_set(unsigned *fits, const struct sedge_fop *a, const struct se
 static void keep(int kind, const struct sedge_fop *a, const struct sedge_fop *b, uint16_t x, uint8_t value,
                  int answer) {
     unsigned fits[FIELDS] = {0};
+    note(kind, a->state);
     if (b->room != a->room) fail(kinds[kind].what, "another receiver");
     units_set(fits, a, b, x, value);
     fits[CONTROL] = control_set(a, b);
@@ -279,6 +280,7 @@ static void write_answer(int answer) {
 int main(void) {
     int kind, state;
     try_all();
+    if (writes_marks(kinds, KINDS)) return fflush(stdout) == 0 ? 0 : 3;
     printf("event,what,before,after,answer");
     write_names(fields, COLUMNS);
     printf(",rule,profile_says\n");

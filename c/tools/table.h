@@ -5,7 +5,7 @@
 #include <stdio.h>
 #include <stdlib.h>
 
-enum { FIELDS = 10, WORDS = 8, STATES = 6, UNSEEN = -1 };
+enum { FIELDS = 10, WORDS = 8, STATES = 6, KINDS_AT_MOST = 50, UNSEEN = -1 };
 
 /* An event of the book, or of the profile alone where it has no number there. */
 struct kind {
@@ -65,6 +65,41 @@ static inline void write_names(const struct field *fields, int count) {
     int k;
     for (k = 0; k < count; k++) printf(",%s", fields[k].name);
 }
+
+/* With the copy of the library in which tools/c_rules.py marks the branches: which of them each kind took. */
+#ifdef MARKED
+#include MARKED
+static unsigned char took[MARKS][KINDS_AT_MOST][STATES];
+
+static inline void note(int kind, int state) {
+    for (; many > 0; is_passed[passed[many]] = 0) took[passed[--many]][kind][state - 1] = 1;
+}
+
+/* Writes a line for each branch, and each kind in a state that took it: its number, the subject and the rule. */
+static inline bool writes_marks(const struct kind *kinds, int count) {
+    int k, kind, state;
+    for (k = 0; k < MARKS; k++)
+        for (kind = 0; kind < count; kind++)
+            for (state = 0; state < STATES; state++) {
+                const struct kind *it = &kinds[kind];
+                if (!took[k][kind][state]) continue;
+                if (it->subject[0] == '\0') printf("%d,E,%s\n", k, it->event + 1);
+                else printf("%d,%s,%d\n", k, it->subject, it->rules[state]);
+            }
+    return true;
+}
+#else
+static inline void note(int kind, int state) {
+    (void)kind;
+    (void)state;
+}
+
+static inline bool writes_marks(const struct kind *kinds, int count) {
+    (void)kinds;
+    (void)count;
+    return false;
+}
+#endif
 
 /* What docs/PROFILE.md says of the kind in a state. */
 static inline const char *profile_says(const struct kind *kind, int state) {
