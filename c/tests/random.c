@@ -10,7 +10,7 @@
 #include <sys/mman.h>
 #include <unistd.h>
 
-enum { MOST = 4096, REGIONS = 4, KINDS = 13 };
+enum { MOST = 4096, REGIONS = 4, KINDS = 15 };
 
 static int failures;
 
@@ -460,10 +460,85 @@ static void cuttings(void) {
     WANT(sedge_map_segment(octets, count, limits, segments, &flags, &data) == answer && flags == 99 && data.from == 99);
 }
 
+/* Any state of a board's commands, mostly one that a board has: whether it is one. */
+static int make_log(struct sedge_log *log) {
+    if (below(8) != 0) {
+        log->stage = (uint8_t)(1 + below(8));
+        log->kept.begun = (uint8_t)below(2);
+    }
+    return log->stage >= 1 && log->stage <= 8 && log->kept.begun <= 1;
+}
+
+/* What is due on board, its status, and octets that are no packet or the next command. */
+static void boards(void) {
+    struct sedge_log *log = ANY(struct sedge_log), kept;
+    int is_whole = make_log(log);
+    size_t room = below(3) == 0 ? below(60) : 50, count = 14 + below(90), total = 0;
+    uint8_t *out = room_of(room), *octets, answer;
+    uint32_t number = 99;
+    struct sedge_part content = {11, 22};
+    kept = *log;
+    answer = sedge_log_next(log, out, room, &number);
+    WANT(room != 50 ? answer == SEDGE_WRONG_COUNT : is_whole ? answer <= SEDGE_LOG_RESTART : answer == SEDGE_DAMAGED);
+    WANT(answer == SEDGE_LOG_WRITE_FIRST || answer == SEDGE_LOG_WRITE_SECOND || is_kept(out));
+    WANT(answer <= SEDGE_LOG_RESTART ? (number != 0) == (answer == SEDGE_LOG_EXECUTE) : number == 99);
+    WANT(sedge_log_done(log, 5, number) == (is_whole ? SEDGE_ABSENT : SEDGE_DAMAGED));
+    WANT(memcmp(log, &kept, sizeof kept) == 0);
+    if (answer <= SEDGE_LOG_RESTART) {
+        WANT(sedge_log_done(log, answer, number) == SEDGE_OK && log->stage >= 1 && log->stage <= 8);
+    }
+    room = below(3) == 0 ? below(40) : 27;
+    out = room_of(room);
+    answer = sedge_log_status(log, below(300), out, room);
+    WANT(answer == (room != 27 ? SEDGE_WRONG_COUNT : is_whole ? SEDGE_OK : SEDGE_DAMAGED));
+    WANT(answer == SEDGE_OK || is_kept(out));
+    octets = octets_of(0, count);
+    if (below(4) != 0) {
+        const uint32_t next = log->kept.last + 1 + (below(4) == 0);
+        answer = sedge_log_command_encode(5, 6, next, out, 0, octets, count, &total);
+        WANT(answer == (next == 0 ? SEDGE_LOG_FIELD_RANGE : SEDGE_OK));
+        count = next == 0 ? count : total;
+    }
+    kept = *log;
+    answer = sedge_log_offer(log, octets, count, &content);
+    WANT(answer == SEDGE_OK ? content.from == 10 && content.count == count - 14 : content.from == 11);
+    WANT(answer == SEDGE_OK ? log->kept.begun == 1 && log->stage == 4 : memcmp(log, &kept, sizeof kept) == 0);
+    WANT(is_whole ? answer <= SEDGE_LOG_AHEAD : answer == SEDGE_DAMAGED);
+}
+
+/* Places and statuses of any octets, and packets that are written for a board and taken by it. */
+static void commands(void) {
+    struct sedge_log *log = ANY(struct sedge_log);
+    struct sedge_log_order order = {below(9), below(9), below(9), (uint8_t)below(4)};
+    struct sedge_board_status status = {{0, 0, 0, 0, 0}, 0, 99, 0};
+    size_t count = below(3) == 0 ? any_count() : 50, room = below(60), total = 99;
+    uint8_t *octets = octets_of(0, count), *out = room_of(room), answer;
+    sedge_log_start(log, octets, count, octets, count, order.mark);
+    WANT(log->stage == 1 && log->mark == order.mark); /* none of these has a check that holds */
+    answer = sedge_log_status_decode(octets, count, &status);
+    WANT(answer == (count == 27 ? SEDGE_LOG_CHECK : SEDGE_LOG_LAYOUT) && status.kind == 99);
+    answer = sedge_log_order_encode(&order, (uint16_t)below(2100), 7, out, room, &total);
+    WANT(answer == SEDGE_OK ? total == 23 && is_kept(out + 23) : total == 99 && is_kept(out));
+    if (answer == SEDGE_OK) {
+        answer = sedge_log_obey(log, out, 23);
+        WANT(answer == (order.kind == SEDGE_LOG_ORDER_RESTART ? SEDGE_LOG_LOST : SEDGE_OK));
+        WANT(answer == SEDGE_LOG_LOST || (log->stage == 4 && log->kept.last == order.last));
+    }
+    total = 99;
+    out = room_of(room);
+    answer = sedge_log_command_encode((uint16_t)below(2100), 7, below(9), octets, count, out, room, &total);
+    WANT(answer == SEDGE_OK ? total == count + 14 && is_kept(out + total) : total == 99 && is_kept(out));
+    WANT(answer == SEDGE_OK || answer == SEDGE_LOG_FIELD_RANGE || answer == SEDGE_LOG_ROOM);
+    if (answer == SEDGE_OK) {
+        const uint32_t history = sedge_log_history_after(below(9), out, total);
+        WANT(sedge_log_history_after(history, out, 0) == history);
+    }
+}
+
 int main(int count, char **words) {
     static void (*const kinds[KINDS])(void) = {checks, control_words, receivers, senders, telecommand_frames,
                                                packets, counts_of_packets, telemetry_frames, builders, extractors,
-                                               many_frames, maps, cuttings};
+                                               many_frames, maps, cuttings, boards, commands};
     if (count != 2 || make_regions() != 0) return 2;
     for (unsigned long left = strtoul(words[1], NULL, 10); left > 0; left--) kinds[below(KINDS)]();
     printf(failures ? "%d failed\n" : "all as wanted\n", failures);
