@@ -85,6 +85,35 @@ static size_t gaps(uint16_t apid, uint16_t count) {
     return sedge_gap_check_see(&check, apid, count, &missing) == SEDGE_OK ? USED(missing) : USED(check.last[0]);
 }
 
+static size_t told(const struct sedge_log *log) {
+    uint8_t octets[27];
+    struct sedge_board_status status;
+    if (sedge_log_status(log, 3, octets, 27) != SEDGE_OK) return 0;
+    if (sedge_log_status_decode(octets, 27, &status) != SEDGE_OK) return USED(octets[0]);
+    return USED(octets[26]) + USED(status.kept.boot) + USED(status.mark) + USED(status.kind) + USED(status.waiting);
+}
+
+static size_t board(const uint8_t *data, size_t count) {
+    const struct sedge_log_order order = {1, 0, 0, SEDGE_LOG_ORDER_RESTART};
+    struct sedge_log log;
+    struct sedge_part content;
+    uint8_t place[50], octets[50], packet[64];
+    uint32_t number;
+    size_t total, sum = 0;
+    uint8_t action;
+    if (sedge_log_new_record(place, 50) != SEDGE_OK) return 0;
+    sedge_log_start(&log, place, 50, place, 50, 7);
+    while ((action = sedge_log_next(&log, octets, 50, &number)) != SEDGE_LOG_NOTHING && action < SEDGE_LOG_EXECUTE)
+        if (sedge_log_done(&log, action, number) == SEDGE_OK) sum += USED(octets[0]) + USED(log.stage);
+    sum += USED(number) + told(&log);
+    if (sedge_log_command_encode(5, 6, 1, data, count, packet, sizeof packet, &total) != SEDGE_OK) return sum;
+    sum += USED(total) + USED(packet[0]) + USED(log.kept.last);
+    if (sedge_log_offer(&log, packet, total, &content) == SEDGE_OK) sum += USED(content.from) + USED(content.count);
+    if (sedge_log_order_encode(&order, 5, 6, packet, sizeof packet, &total) == SEDGE_OK)
+        sum += USED(total) + USED(packet[0]) + (size_t)sedge_log_obey(&log, packet, total);
+    return sum + USED(log.kept.history) + USED(log.mark);
+}
+
 static size_t built(const uint8_t *packet, size_t count) {
     const uint8_t ocf[4] = {1, 0, 0, 0};
     struct sedge_tm_builder builder;
@@ -258,7 +287,7 @@ int main(int argc, char **argv) {
     size_t sum = 0;
     (void)argv;
     sum += words(packet, 4, 3) + sender(&word, 1) + frames(frame, sizeof frame) + of_packets(packet, sizeof packet);
-    sum += gaps(5, 6) + built(packet, sizeof packet) + telemetry(frame, sizeof frame);
+    sum += gaps(5, 6) + board(packet, sizeof packet) + built(packet, sizeof packet) + telemetry(frame, sizeof frame);
     sum += extracted(&its, packet, sizeof packet) + segments(packet, sizeof packet, &limits);
     sum += nodes(packet, sizeof packet);
     return sum > 0 ? 0 : 1;
