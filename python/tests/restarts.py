@@ -1,4 +1,5 @@
 """Commands that are executed once and in order on board, over restarts: octets worked out by struct and zlib."""
+import random
 import struct
 import zlib
 
@@ -156,4 +157,85 @@ def longest(it):
     writes(it, lost, place(most, most, 0, 0, 0))
 
 
-TESTS = (a_command_on_board, the_rule_of_actions, a_lost_record, commands_from_the_ground)
+class Session:
+    """A board that restarts at any moment, also in the middle of an action, and a ground that sends each number once or
+    several times, also out of turn and damaged."""
+
+    def __init__(self, it, chance):
+        self.it, self.chance = it, chance
+        self.places, self.sent, self.brought = [it.new_record(), it.new_record()], {}, 0
+        self.executed, self.whole, self.told = [], set(), 0
+        self.restarts()
+
+    def restarts(self):
+        self.board = self.it.Executor(*self.places, self.chance.randrange(2**32))
+
+    def step(self):
+        action = self.board.next()
+        if action.kind is self.it.ActionKind.NOTHING:
+            self.receives(self.hears())
+        elif self.chance.random() < 0.06:
+            self.breaks_off(action)
+            self.restarts()
+        else:
+            self.does(action)
+            self.board.done(action)
+            self.hears()
+
+    def does(self, action):
+        if action.kind is self.it.ActionKind.EXECUTE:
+            assert action.content == self.sent[action.number][10:-4]
+            self.executed.append(action.number)
+            self.whole.add(action.number)
+        else:
+            self.places[action.kind - 1] = action.octets
+
+    def breaks_off(self, action):
+        if action.kind is self.it.ActionKind.EXECUTE:
+            self.executed += [action.number] * self.chance.randrange(2)
+        else:
+            place, done = action.kind - 1, self.chance.randrange(51)
+            self.places[place] = action.octets[:done] + self.places[place][done:]
+            if self.chance.random() < 0.1:
+                self.places[1 - place] = bytes(50)
+
+    def hears(self):
+        """What the status states is so: the history is that of the packets up to the last, and of the begun one."""
+        status = self.it.BoardStatus.decode(self.board.status())
+        if status.kind is self.it.StatusKind.SAYS:
+            history = 0
+            for number in range(self.brought + 1, status.last + status.begun + 1):
+                history = zlib.crc32(self.sent[number][-4:], history)
+            assert status.history == history
+            known = {status.last - k for k in range(64) if status.known >> k & 1}
+            assert known <= self.whole
+            self.told += 1
+        return status
+
+    def receives(self, status):
+        if status.kind is self.it.StatusKind.LOST:
+            self.brought = max(self.sent, default=0)
+            self.board.obey(self.it.rebuild_order(6, 1, status.mark, status.boot, self.brought))
+            return
+        number = max(1, status.last + self.chance.choice((-1, 0, 1, 1, 1, 2)))
+        octets = self.sent.setdefault(number, command(number, self.chance.randbytes(self.chance.randrange(9))))
+        octets = octets[:-1] + bytes([octets[-1] ^ (self.chance.random() < 0.1)])
+        try:
+            assert self.board.offer(octets) == octets[10:-4] and number == status.last + 1
+        except self.it.LogFault:
+            assert number != status.last + 1 or octets != self.sent[number]
+
+
+def random_sessions(it):
+    """Whatever happens, commands are executed in order and at most once, and each status states what is so."""
+    chance, executed, told = random.Random(5), 0, 0
+    for _ in range(200):
+        session = Session(it, chance)
+        for _ in range(300):
+            session.step()
+        assert session.executed == sorted({*session.executed})
+        executed, told = executed + len(session.executed), told + session.told
+    assert executed > 2000 and told > 10000, (executed, told)
+
+
+TESTS = (a_command_on_board, the_rule_of_actions, a_lost_record, commands_from_the_ground, random_sessions)
