@@ -7,14 +7,12 @@ import subprocess
 import sys
 
 sys.dont_write_bytecode = True
+sys.path.append("python/sedgechisel")
+from _ladder import ON_BOARD, Picture, flags_of, session  # noqa: E402
 from items import text_of  # noqa: E402
 from meanings import on_board  # noqa: E402
 
 PACKETS = [f"1005C0{k:02X}0000{0xAA + k:02X}" for k in range(4)]
-# The lines that happen on board.
-ON_BOARD = {name.lower().replace("_", "") for name in on_board(text_of("c/include/sedgechisel_nodes.h"))}
-# Where the ends stand in a ladder.
-GROUND, CRAFT = 300, 600
 
 
 def tool(words, octets):
@@ -32,34 +30,13 @@ def play(script):
 
 def frame_name(octets):
     """A telecommand frame as `tctool tc` shows it: 'AD 0', 'BD', 'BC unlock'."""
-    [line] = tool(["tc", "--check"], bytes.fromhex(octets))
+    [line] = tool(["tc", "--check"], octets)
     words = line.split()
     fields = dict(it.split("=") for it in words if "=" in it)
     return " ".join([words[1], *([fields["n"]] if "n" in fields else []), *(it for it in words[2:] if "=" not in it)])
 
 
-def flags_of(word):
-    """The flags and the value of a report (CCSDS 232.0-B-4, 4.2.1)."""
-    _, _, flags, value = bytes.fromhex(word)
-    names = [name for bit, name in ((0x20, "lockout"), (0x10, "wait"), (0x08, "retransmit")) if flags & bit]
-    return names, value
-
-
-class Picture:
-    def __init__(self, width, height, title):
-        self.width, self.height, self.title, self.shapes, self.words = width, height, title, [], []
-
-    def add(self, name, text=None, **fields):
-        shown = {key.replace("_", "-"): f"{it:.0f}" if isinstance(it, float) else str(it) for key, it in fields.items()}
-        words = "".join(f' {key}="{html.escape(it)}"' for key, it in shown.items())
-        if text is None:
-            self.shapes.append(f"<{name}{words}/>")
-        else:
-            self.words.append(f"<{name}{words}>{html.escape(text)}</{name}>")
-
-    def text(self, x, y, text, anchor="middle", **more):
-        self.add("text", text, x=x, y=y, text_anchor=anchor, **more)
-
+class Drawn(Picture):
     def box(self, x, y, width, lines):
         """A box with its upper edge's middle at x and y, and its lines; the first is its name."""
         height = 12 + 17 * len(lines)
@@ -68,75 +45,18 @@ class Picture:
             self.text(x, y + 20 + 17 * k, line, **({"class": "name"} if k == 0 else {}))
         return height
 
-    def arrow(self, x0, y0, x1, y1, bend=0, colour="#345", tip=True):
-        """An arrow, bent to its left by this number of units; returns its middle."""
-        length = max(((x1 - x0) ** 2 + (y1 - y0) ** 2) ** 0.5, 1)
-        x, y = (x0 + x1) / 2 + bend * (y1 - y0) / length, (y0 + y1) / 2 - bend * (x1 - x0) / length
-        path = f"M {x0:.0f} {y0:.0f} Q {x:.0f} {y:.0f} {x1:.0f} {y1:.0f}"
-        self.add("path", d=path, fill="none", stroke=colour, **({"marker_end": "url(#tip)"} if tip else {}))
-        return (x0 + 2 * x + x1) / 4, (y0 + 2 * y + y1) / 4
-
     def write(self, file):
-        """Words come after all shapes, so that no line runs through them."""
-        style = "text { font: 13px monospace; fill: #123; paint-order: stroke; stroke: #fff; stroke-width: 6px; stroke-linejoin: round } .name { font-weight: bold }"
-        tip = '<marker id="tip" markerWidth="9" markerHeight="9" refX="8" refY="4" orient="auto"><path d="M0 0 L9 4 L0 8 z" fill="#345"/></marker>'
-        head = f'<svg xmlns="http://www.w3.org/2000/svg" viewBox="0 0 {self.width} {self.height}" width="{self.width}" height="{self.height}" role="img">'
-        back = f'<rect width="{self.width}" height="{self.height}" fill="#fff"/>'
-        lines = [head, f"<title>{html.escape(self.title)}</title>", f"<style>{style}</style>", f"<defs>{tip}</defs>", back, *self.shapes, *self.words, "</svg>"]
-        with open(file, "w", encoding="utf-8") as it:
-            it.write("\n".join(lines) + "\n")
+        put(file, self.svg())
 
 
-def arrives(picture, ways, words, answer, y):
-    """The first frame on its way arrives, or is lost."""
-    is_up = words[0] == "up"
-    begun, label = ways[words[0]].pop(0)
-    start, end = (GROUND, CRAFT) if is_up else (CRAFT, GROUND)
-    told, anchor = (end + 10, "start") if is_up else (end - 10, "end")
-    if words[1] == "lose":
-        x, at = (start + end) / 2, (begun + y) / 2
-        picture.arrow(start, begun, x, at, colour="#a22", tip=False)
-        picture.text(x, at + 5, "\N{MULTIPLICATION X}", style="fill:#a22;font-size:18px")
-        picture.text(told, y + 4, f"{label} is lost", anchor)
-        return
-    x, at = picture.arrow(start, begun, end, y)
-    picture.text(x, at - 4, f"{label} damaged" if words[1] == "damage" else label)
-    picture.text(told, y + 4, answer, anchor)
-
-
-def rung(picture, ways, asked, answer, y):
-    """A line of a script with its answer; `ways` has what is on its way up and down."""
-    words = asked.split()
-    if answer.startswith("sent "):
-        ways["up"].append((y, frame_name(answer.split()[1])))
-        picture.text(GROUND - 10, y + 4, f"send {ways['up'][-1][1]}", "end")
-    elif words[0] == "report":
-        names, value = flags_of(answer.split()[1])
-        ways["down"].append((y, " ".join([f"value {value}", *names])))
-        picture.text(CRAFT + 10, y + 4, answer, "start")
-    elif words[0] in ways and not answer.startswith("refused"):
-        arrives(picture, ways, words, answer, y)
-    elif words[0] in ON_BOARD:
-        picture.text(CRAFT + 10, y + 4, f"{words[0]}: {answer}", "start")
-    elif words[0] == "show":
-        picture.text(picture.width / 2, y + 8, answer)
-    else:
-        shown = asked if len(asked) < 30 else f"{asked[:27]}.."
-        picture.text(GROUND - 10, y + 4, f"{shown}: {answer}", "end")
+def put(file, text):
+    with open(file, "w", encoding="utf-8") as it:
+        it.write(text)
 
 
 def ladder(script, file):
     """What went up and down in a script, row by row."""
-    with open(script, encoding="utf-8") as it:
-        events = play(it.read())
-    picture = Picture(900, 80 + 26 * len(events), f"The ladder of {os.path.basename(script)}")
-    for x, end in ((GROUND, "ground"), (CRAFT, "spacecraft")):
-        picture.text(x, 24, end, **{"class": "name"})
-        picture.add("line", x1=x, y1=34, x2=x, y2=picture.height - 20, stroke="#9ab", stroke_width=2)
-    ways = {"up": [], "down": []}
-    for row, (asked, answer) in enumerate(events):
-        rung(picture, ways, asked, answer, 54 + 26 * row)
-    picture.write(file)
+    put(file, session(os.path.basename(script), play(text_of(script)), frame_name))
 
 
 def way(file):
@@ -148,7 +68,7 @@ def way(file):
     fields = dict(it.split("=") for it in told.split() if "=" in it)
     header = f"{64 * int(fields['seg']) + int(fields['map']):02X}"
     assert octets[8:-4] == f"{int(fields['n']):02X}{header}{fields['data']}" and fields["data"] == PACKETS[0]
-    picture = Picture(940, 560, "The way of a packet up, and of the report down")
+    picture = Drawn(940, 560, "The way of a packet up, and of the report down")
     picture.text(235, 26, "the ground (nodes::Ground)", **{"class": "name"})
     picture.text(705, 26, "the spacecraft (nodes::Spacecraft)", **{"class": "name"})
     columns = (
@@ -180,7 +100,7 @@ def way(file):
 
 def way_down(picture, word, heard, records):
     """The way of a report down, from FARM-1 to FOP-1."""
-    picture.box(705, 452, 400, ("telemetry frame (TmBuilder)", f"control word {word}: value {flags_of(word)[1]}", "tm_link, clcw"))
+    picture.box(705, 452, 400, ("telemetry frame (TmBuilder)", f"control word {word}: value {flags_of(bytes.fromhex(word))[1]}", "tm_link, clcw"))
     picture.arrow(905, 260, 917, 260, tip=False)
     picture.arrow(917, 260, 917, 484, tip=False)
     picture.arrow(917, 484, 905, 484)
@@ -215,7 +135,7 @@ def move(picture, start, end, labels, bend):
 
 def states(file, title, size, places, moves, notes):
     """States, and the moves between them that were seen: from, to, and what was said."""
-    picture = Picture(*size, title)
+    picture = Drawn(*size, title)
     drawn = {}
     for start, end, label in moves:
         seen = drawn.setdefault((start, end), [])
@@ -248,7 +168,7 @@ AGAIN = "terminate; {}; send; up deliver"
 def farm_move(setup, event):
     """The receiver's state before and after the last line, by its reports, and what that line was answered."""
     def state(word):
-        names, _ = flags_of(word.split()[1])
+        names, _ = flags_of(bytes.fromhex(word.split()[1]))
         return "Lockout" if "lockout" in names else "Wait" if "wait" in names else "Open"
 
     *front, last = event.split("; ")
@@ -288,7 +208,7 @@ def fop_move(setup, event):
     if last == "down deliver":
         reports = [said for asked, said in whole if asked == "report"]
         gone = [asked for asked, _ in whole if asked.startswith("down ")]
-        names, _ = flags_of(reports[len(gone) - 1].split()[1])
+        names, _ = flags_of(bytes.fromhex(reports[len(gone) - 1].split()[1]))
         label = " and ".join(names) or "no flags"
     if "alert" in answer:
         label = answer.split("alert ")[1]
@@ -344,6 +264,7 @@ def draw_fop(file, moves, ends):
 
 
 def main(folder):
+    assert ON_BOARD == {name.lower().replace("_", "") for name in on_board(text_of("c/include/sedgechisel_nodes.h"))}
     os.makedirs(folder, exist_ok=True)
     way(f"{folder}/way.svg")
     farm(f"{folder}/farm.svg")
