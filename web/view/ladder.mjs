@@ -3,7 +3,7 @@
 // machine's state. Only the rows that are seen are drawn, and some around them.
 import { onBoard } from '../calls.mjs';
 import { numbers as n } from '../sedgechisel.mjs';
-import { arrowHint, FARM_MODES, rowHint } from './hints.mjs';
+import { arrowHint, rowHint, turnsOf } from './hints.mjs';
 import { frameName, reportName } from './words.mjs';
 
 const ROW = 26, TOP = 54, AROUND = 20, MOST_ACROSS = 100, MOST_ROWS = 1000;
@@ -116,7 +116,7 @@ export class Ladder {
 
     frame(step, k) {
         const group = shape('g', { class: 'frame', 'data-gone': k }, ...this.arrow(step, TOP + ROW * k));
-        group.append(shape('title', {}, arrowHint(this.calls, step, this.made)));
+        group.append(shape('title', {}, arrowHint(this.player, step, this.made)));
         return group;
     }
 
@@ -128,24 +128,17 @@ export class Ladder {
         const part = (x, kind, of, most, down) => shape('rect', { class: `used ${kind}`, x, y: y + down, height: 3,
             width: of === 0 ? 0 : Math.max(3, Math.round(18 * Math.min(1, of / Math.max(most, 1)))) });
         const { ready_slots: slots } = this.player.config;
-        return shape('g', { 'data-step': k }, shape('rect', place, shape('title', {}, rowHint(step, this.made, this.player.config))),
+        return shape('g', { 'data-step': k }, shape('rect', place, shape('title', {}, rowHint(this.player, step, this.made))),
             end(this.ground, `fop${fop.state}`), end(this.craft, `farm${farm.state}`),
             part(this.ground + 5, 'window', fop.sent, fop.window, 17), part(this.ground + 5, 'timer', fop.ticks, fop.timer, 21),
             part(this.craft + 5, 'buffer', farm.ready, slots, 19));
     }
 
-    // The states of both machines where they become others: S1 to S3 at the ground, Open to Lockout on board.
-    turns({ before: { fop, farm }, after: { fop: nextFop, farm: nextFarm } }, y) {
-        const found = [];
-        if (fop.state !== nextFop.state) {
-            const name = `S${fop.state} \u2192 S${nextFop.state}`;
-            found.push(text(this.ground + 28, y + 14, [name], 'start', `turn fop${nextFop.state}`));
-        }
-        if (farm.state !== nextFarm.state) {
-            const name = `${FARM_MODES[farm.state]} \u2192 ${FARM_MODES[nextFarm.state]}`;
-            found.push(text(this.craft - 9, y + 14, [name], 'end', `turn farm${nextFarm.state}`));
-        }
-        return found;
+    // The states of both machines where they become others.
+    turns(step, y) {
+        const { fop, farm } = turnsOf(step), { after } = step;
+        return [fop && text(this.ground + 28, y + 14, [fop], 'start', `turn fop${after.fop.state}`),
+            farm && text(this.craft - 9, y + 14, [farm], 'end', `turn farm${after.farm.state}`)].filter(Boolean);
     }
 
     // How many letters fit into a width.
@@ -186,12 +179,16 @@ export class Ladder {
     // What is said beside the ends: of a line of the script and its answer.
     told({ line, answer, event, reply, sent, gone }, y) {
         const [word] = line.split(' '), isLost = reply.kind === n.SEDGE_REPLY_LOST;
-        if (event.kind === 0) return text(this.width / 2, y + 4, fit([answer], this.most(this.width)), 'middle', 'told');
+        if (event.kind === 0) {
+            return text(this.width / 2, y + 8, fit([answer], this.most(this.width)), 'middle', 'told');
+        }
         if (gone) {
             const { isUp, label } = this.way(gone);
             return this.beside(isUp, y, [isLost ? `${label} is lost` : answer]);
         }
-        if (word === 'send' && sent) return this.beside(false, y, [`send ${frameName(sent.frame)}`]);
+        if (word === 'send' && sent) {
+            return this.beside(false, y, [`send ${frameName(sent.frame)}${sent.again === undefined ? '' : ' again'}`]);
+        }
         return this.beside(onBoard.includes(event.kind), y, word === 'report' ? [answer] : [line, answer]);
     }
 

@@ -148,7 +148,7 @@ export class Page {
         this.shown = player.script;
         this.list.show(player);
         this.ladder.show(player, row);
-        showMachines(at('fop'), at('farm'), last, this.made);
+        showMachines(at('fop'), at('farm'), player, this.made);
         showTransit(at('transit'), this.calls, player.inTransit(last));
         showPromises(at('promises'), promisesOf(this.calls, last));
         this.tell(player.at, last);

@@ -1,6 +1,7 @@
 // What stands beside the ladder: both machines, the rows of their tables, what is on its way, what is promised, and
 // octets that are read.
 import { numbers as n } from '../sedgechisel.mjs';
+import { againWords, clcwWords } from './hints.mjs';
 import { frameName, frameWords, reportName, reportWords } from './words.mjs';
 
 const FOP_STATES = [
@@ -54,11 +55,12 @@ function worded(title, words) {
     return make('p', '', make('b', 'event', title), ` ${words}`);
 }
 
-// The event of FOP-1, and the rule of the profile; where there is no rule, what the profile says of the event.
-function fopRow(row, { fop, rules }) {
+// The event of FOP-1 and the rule of the profile, with what led to them; where there is no rule, what the profile says
+// of the event.
+function fopRow(row, causes, { fop, rules }) {
     const [book, here] = fop[row?.event] ?? [], rule = rules[row?.part]?.[row.rule - 1];
     if (!row) return make('p', 'none', 'No event of the sender.');
-    return make('div', 'row', book ? worded(row.event, book) : '',
+    return make('div', 'row', causes.map((it) => make('p', 'cause', it)), book ? worded(row.event, book) : '',
         rule ? worded(`Rule ${row.rule} of ${row.part}`, rule) : here ? worded('Here', here) : '');
 }
 
@@ -69,8 +71,10 @@ function farmRow(row, state, { farm, cells }) {
     return make('div', 'row', worded(row.event, farm[row.event][0]), pairs('cells', shown));
 }
 
-export function showMachines(fop, farm, { after, before = after, rows = {} }, made) {
-    fop.replaceChildren(...machine(FOP_STATES, FOP, before.fop, after.fop), fopRow(rows.fop, made));
+export function showMachines(fop, farm, player, made) {
+    const { after, before = after, rows = {}, sent, gone } = player.last;
+    const causes = [...againWords(player, sent), ...clcwWords(player, gone)];
+    fop.replaceChildren(...machine(FOP_STATES, FOP, before.fop, after.fop), fopRow(rows.fop, causes, made));
     const taken = farmRow(rows.farm, before.farm.state, made);
     farm.replaceChildren(...machine(FARM_STATES, FARM, before.farm, after.farm), taken);
 }

@@ -94,13 +94,22 @@ export class Player {
         const reply = isNone ? {} : link.reply, took = this.transit(event, reply, final);
         const records = link.note({ event, reply, gone: took.gone }), read = this.read(link);
         const rows = machines.step(event, reply, took.sent?.frame, took.gone?.word, read.outstanding);
-        const after = machines.now();
+        const after = machines.now(), marked = this.marking(before.fop, after.fop, rows.fop ?? {});
         this.compare(after, read.state);
-        return { line, event, answer, reply, before, after, rows, records, read, ...took };
+        if (rows.fop?.part === 'a pull' && took.sent && [1, 3].includes(rows.fop.rule)) took.sent.again = marked;
+        return { line, event, answer, reply, before, after, rows, records, read, marked, ...took };
+    }
+
+    // The place of the step for which frames are sent again: the last in the session that marked units of the sent
+    // queue, or by which a control command is due again.
+    marking(before, after, { part, rule }) {
+        if (after.due > before.due || (part === 'a tick' && rule === 3)) return this.steps.length;
+        return part === 'the directives' && rule <= n.SEDGE_INIT_SET_VR ? undefined : this.final.marked;
     }
 
     // What is in transit after an event, as the places in its way of the first frame and of the one after the last; the
-    // frame that it sent; and the one that is gone. `from` is the step of a frame, and `left` that of its end.
+    // frame that it sent; and the one that is gone. `from` is the step of a frame, `left` that of its end, and `again`
+    // that for which it is sent again.
     transit(event, reply, { up, down }) {
         const from = this.steps.length, { kind, report: word } = reply, isGone = kind !== undefined;
         if (kind === n.SEDGE_REPLY_SENT) {

@@ -102,6 +102,24 @@ function checkPromises(player) {
     return JSON.stringify(found);
 }
 
+// A frame of Type-AD is sent again if N(S) was sent before, and then because of a CLCW with the retransmit flag or of
+// the timer, which came after it was sent last.
+function checkAgain({ steps }) {
+    const sentAt = new Map();
+    steps.forEach(({ sent, before, rows }, k) => {
+        if (rows.fop?.part === 'the directives' && rows.fop.rule <= n.SEDGE_INIT_SET_VR) sentAt.clear();
+        if (!sent?.frame || sent.frame.kind === n.SEDGE_TC_BD) return;
+        const name = sent.frame.kind === n.SEDGE_TC_AD ? sent.frame.n : 'BC', cause = steps[sent.again];
+        const isNew = name === before.fop.vs || !sentAt.has(name);
+        assert.equal(cause === undefined, isNew, `${k}: ${name}`);
+        if (cause) {
+            assert.ok(cause.gone ? cause.gone.word.flags & n.SEDGE_CLCW_RETRANSMIT : cause.line === 'tick');
+            assert.ok(sent.again < k && sent.again > sentAt.get(name), `${k}: ${name}`);
+        }
+        sentAt.set(name, k);
+    });
+}
+
 // The records that a step has are those of the link.
 function checkRecords({ link, final }) {
     const count = (record, map) => Link.prototype.count.call(link, record, map);
@@ -186,6 +204,7 @@ function plays(file) {
     assert.equal(player.at, player.events.length);
     player.steps.forEach(checkRows);
     player.steps.forEach(checkFop);
+    checkAgain(player);
     player.steps.forEach((step, k) => checkTransit(player, step, player.steps[k - 1] ?? player.begin));
     const steps = [...player.steps], lines = player.text.split('\n');
     steps.forEach((step, k) => assert.equal(lines[player.lines[k]], step.line));
