@@ -77,6 +77,15 @@ export class Ladder {
         return this.part(Math.max(0, this.count - MOST_ROWS), this.count);
     }
 
+    // Draws them to be printed, until `show` draws those that are seen.
+    drawWhole() {
+        const svg = this.whole();
+        svg.style.top = 0;
+        this.canvas.style.height = `${svg.getAttribute('height')}px`;
+        this.canvas.replaceChildren(svg);
+        this.drawn = [0, this.count];
+    }
+
     part(from, to) {
         const top = from === 0 ? 0 : TOP + ROW * (from - 0.5), end = TOP + ROW * (to - 0.5);
         const height = to === this.count ? this.heightOf(to) - top : end - top, bottom = top + height - 12;

@@ -3,7 +3,7 @@
 import { make } from './panels.mjs';
 import { placeOf } from './script.mjs';
 
-const ROW = 17, AROUND = 2600, INDENT = 58, LONGEST = 2000;
+const ROW = 17, AROUND = 2600, INDENT = 58, LONGEST = 2000, MOST_PRINTED = 2000;
 
 // A text in parts that are no longer than the most, each with what breaks it from the next: a space goes for a `br`.
 export function broken(text, most) {
@@ -62,6 +62,13 @@ export class List {
         const first = Math.max(0, placeOf(tops, scrollTop - AROUND) - 1);
         this.drawn = [first, Math.min(count, placeOf(tops, scrollTop + clientHeight + AROUND))];
         this.list.replaceChildren(...Array.from({ length: this.drawn[1] - first }, (_, k) => this.line(first + k)));
+    }
+
+    // Draws all lines to be printed, or those around the last one where they are too many, until `show` draws again.
+    drawWhole() {
+        if (this.count > MOST_PRINTED) return;
+        this.drawn = [0, this.count];
+        this.list.replaceChildren(...this.rows.slice(0, this.count).map((_, k) => this.line(k)));
     }
 
     line(k) {

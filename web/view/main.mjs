@@ -80,6 +80,8 @@ function bindScript(page) {
     at('events').addEventListener('click', ({ target }) => target.dataset.line && page.insert(target.dataset.line));
     for (const name of ['kind', 'pasted']) at(name).addEventListener('input', () => page.decode());
     addEventListener('resize', () => page.resized());
+    addEventListener('beforeprint', () => page.draws((it) => it.drawWhole()));
+    addEventListener('afterprint', () => page.draws((it) => it.show(page.player)));
 }
 
 // Opens a file as a script, and plays it.

@@ -286,8 +286,11 @@ export class Page {
 
     // Draws again where there is another width.
     resized() {
-        if (at('scripts').hidden || this.player.script === undefined || at('ladder').clientWidth === this.ladder.from) return;
-        this.list.show(this.player);
-        this.ladder.show(this.player);
+        if (at('ladder').clientWidth !== this.ladder.from) this.draws((it) => it.show(this.player));
+    }
+
+    // Does something to both drawings, if they are seen.
+    draws(act) {
+        if (!at('scripts').hidden && this.player.script !== undefined) [this.list, this.ladder].forEach(act);
     }
 }
