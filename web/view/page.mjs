@@ -33,7 +33,7 @@ export class Page {
     }
 
     complain(words) {
-        at('fault').textContent = words === undefined ? '' : cut(words, 3 * LONG);
+        at('fault').textContent = at('fault').title = words === undefined ? '' : cut(words, 3 * LONG);
         at('fault').hidden = words === undefined;
     }
 
