@@ -93,7 +93,10 @@ async function typing() {
     is(at('fault').hidden, false, 'the complaint after Back');
     has(at('fault').textContent, 'What is shown is the script before', 'the complaint after Back');
     await own(`${OWN}${'submit 4 '.repeat(20000)}\n`);
-    is(at('fault').textContent.length < 300 && at('fault').getClientRects().length, 1, 'a long complaint is a line');
+    const { lineHeight, paddingTop, paddingBottom } = getComputedStyle(at('fault')), inner = at('fault').clientHeight
+        - parseFloat(paddingTop) - parseFloat(paddingBottom);
+    is([inner > 0, inner < 1.5 * parseFloat(lineHeight), at('fault').title.length < 300], [true, true, true],
+        'a long complaint is a line');
     await own();
     is(at('fault').hidden, true, 'no complaint about a good script');
 }
@@ -171,8 +174,58 @@ async function states() {
     is(turns().includes('Lockout \u2192 Open'), true, 'the end of the lockout');
     const hint = [...at('ladder').querySelectorAll('.frame title')].map((it) => it.textContent).find((it) => it.includes('Octets'));
     for (const it of ['AD 100', 'Octets 00', 'MAP 4: packet of APID 5', 'Receiver: E5', 'In Open: ']) has(hint, it, 'a hint');
+    await goTo('#example=lost_frame&play', 'an example', () => at('last').textContent.includes('show'));
+    const titles = [...at('ladder').querySelectorAll('.frame title')].map((it) => it.textContent);
+    const why = titles.filter((it) => it.startsWith('AD 2')).map((it) => it.match(/^Sent again.*$/m)?.[0]);
+    is(why, [undefined, 'Sent again because of line 20: value 1 retransmit arrived.'], 'why AD 2 is sent again');
     await goTo('#example=full_buffer&play', 'a Wait', () => turns().includes('Open \u2192 Wait') && turns().includes('S1 \u2192 S3'));
-    is(at('ladder').querySelectorAll('.used.timer').length > 5, true, 'the timer is drawn');
+    for (const it of ['window', 'timer', 'buffer']) {
+        const widths = [...at('ladder').querySelectorAll(`.used.${it}`)].map((bar) => Number(bar.getAttribute('width')));
+        is([new Set(widths).size > 1, Math.min(...widths) >= 0, Math.max(...widths) <= 18], [true, true, true], it);
+    }
+    colours();
+}
+
+// Each end of a row has the colour that the legend has for its state.
+function colours() {
+    const shown = (it, name) => getComputedStyle(it)[name];
+    const keys = [...at('states').querySelectorAll('i')];
+    const legend = Object.fromEntries(keys.map((it) => [it.className, shown(it, 'backgroundColor')]));
+    is(new Set(Object.values(legend)).size >= 9, true, 'the colours of the legend differ');
+    for (const [state, of] of [['fop1', 'fop1'], ['fop3', 'fop3'], ['farm0', 'fop1'], ['farm1', 'fop3']]) {
+        const parts = [...at('ladder').querySelectorAll(`.band.${state}`)];
+        is([parts.length > 0, parts.every((it) => shown(it, 'fill') === legend[of])], [true, true], `the colour of ${state}`);
+    }
+}
+
+// The guided scenarios: each has remarks, and ends with all acknowledged and so many packets delivered.
+async function scenarios() {
+    const counts = { lost_frame: 3, lost_clcw: 2, lockout: 1, full_buffer: 2, outage_and_resume: 1, board_restart: 1 };
+    for (const [name, count] of Object.entries(counts)) {
+        await goTo(`#example=${name}&play`, name, () => at('last').textContent.includes('show'));
+        is(at('text').value.match(/^# [A-Z]/gm).length >= 2, true, `the remarks of ${name}`);
+        for (const it of [`delivered=${count}`, 'state=S1', 'outstanding=0']) has(at('last').textContent, it, name);
+        await goTo(`#example=${name}&line=1`, name, () => at('first').getAttribute('aria-disabled') === 'true');
+        is(at('lines').querySelectorAll('.remark').length > 0, true, `a remark of ${name} is in sight`);
+    }
+    await goTo('#example=board_restart&play', 'a restart', () => at('last').textContent.includes('show'));
+    for (const it of ['Open \u2192 Lockout', 'S1 \u2192 S6', 'Lockout \u2192 Open']) is(turns().includes(it), true, it);
+    const told = [...at('ladder').querySelectorAll('.told')].map((it) => it.textContent);
+    is(told.includes('AD 3 discarded'), true, 'an old frame is discarded');
+}
+
+// 6: parameters are chosen by sliders. A frame of 128 octets takes 0.128 s at 8,000 bit/s, and the longest round trip
+// 9.128 s, which is 72 frames (docs/CHOOSING.md).
+async function choosing() {
+    at('to-choosing').click();
+    const numbers = { rate: '8000', octets: '128', trip: '8', loss: '5', packets: '100' };
+    for (const [name, value] of Object.entries(numbers)) type(`choose-${name}`, value);
+    await until('the windows have run', () => 'done' in at('choosing').dataset);
+    is(at('chosen').textContent, 'window=72  timer=11  limit=4', 'the parameters');
+    has(at('why').textContent, 'A frame takes 0.128 s; the longest round trip is 9.128 s, or 72 frames.', 'why');
+    is(['circle', '.curve'].map((it) => at('times').querySelectorAll(it).length), [8, 1], 'dots and a curve');
+    has(location.hash, 'loss=5', 'the address');
+    at('to-scripts').click();
 }
 
 async function whatIf() {
@@ -268,6 +321,14 @@ async function names() {
     is(at('play').getAttribute('aria-pressed'), 'false', 'Play is not pressed');
     const print = [...document.styleSheets[0].cssRules].find((it) => it.conditionText === 'print').cssText;
     for (const it of ['nav', '#events', '#ladder']) has(print, it, 'the rules of print');
+    await own(OWN + 'tick\n'.repeat(293));
+    const drawn = () => [at('ladder').querySelectorAll('[data-step]').length, at('lines').children.length];
+    is(drawn().every((it) => it < 250), true, 'what is drawn before printing');
+    dispatchEvent(new Event('beforeprint'));
+    is(drawn(), [300, 300], 'what is printed');
+    dispatchEvent(new Event('afterprint'));
+    is(drawn().every((it) => it < 250), true, 'what is drawn after printing');
+    await own();
 }
 
 async function still() {
@@ -295,7 +356,9 @@ const ACTS = {
     'the files Script, SVG and PNG': files,
     'the states on the ladder, and hints': states,
     'what if a frame is lost': whatIf,
+    'guided scenarios': scenarios,
     'a script of 50,000 lines': large,
+    'parameters chosen by sliders': choosing,
     'contrast': contrasts,
     'names, pressed buttons and print': names,
     'no scrollbar, and panels that stay': still,
