@@ -14,7 +14,10 @@
  * No function writes a parameter: what a parameter x becomes is x_now. A variable has the name of the field that it is
  * read from, or new_ and the name of the field that it is written to; others are v2 on, or t1 on. Parameters without a
  * name in the source are p0 on. Numbers that a call answers, and those of fields, have their names in the headers.
- * Nothing here is static that a program writes, and nothing is allocated. */
+ * Nothing here is static that a program writes, and nothing is allocated.
+ *
+ * A comment next to a branch of FOP-1 or FARM-1 names the rules of docs/PROFILE.md that take it, as report 5, or the
+ * events of FARM-1's table, as E3. They were found by running all rules in all states (tools/c_rules.py). */
 #include "sedgechisel.h"
 
 #include <limits.h>
@@ -2315,29 +2318,29 @@ static uint32_t sedge_farm_ad_at(uint64_t farm, uint32_t n, uint32_t buffer_free
     if (width == 0 || (width & 1) != 0 || (get8(farm + 5 /* farm_b */) & 255) > 3) return SEDGE_DAMAGED;
     if (lockout == 1) return SEDGE_DISCARDED;
     vr = get8(farm + 1 /* vr */);
-    if ((n & 255) != (vr & 255)) {
+    if ((n & 255) != (vr & 255)) { /* E3 to E5 */
         v4 = n - vr;
         v2 = width >> 1;
-        if ((v4 & 255) < v2) {
+        if ((v4 & 255) < v2) { /* E3 */
             if (wait != 1) {
                 put8(farm + 4 /* retransmit */, 1);
                 return SEDGE_AHEAD;
             }
             return SEDGE_DISCARDED;
         }
-        if ((v4 & 255) <= (~v2 & 255)) {
+        if ((v4 & 255) <= (~v2 & 255)) { /* E5 */
             put8(farm + 2 /* lockout */, 1);
             return SEDGE_OUTSIDE;
         }
-        return (wait == 1) ? SEDGE_DISCARDED : SEDGE_BEHIND;
+        return (wait == 1) ? SEDGE_DISCARDED : SEDGE_BEHIND; /* E4 */
     }
     if (wait == 1) return SEDGE_DISCARDED;
-    if ((buffer_free & 1) != 0) {
+    if ((buffer_free & 1) != 0) { /* E1 */
         put8(farm + 4 /* retransmit */, 0);
         put8(farm + 1 /* vr */, n + 1);
         return SEDGE_ACCEPTED;
     }
-    put16(farm + 3 /* wait, retransmit */, 257);
+    put16(farm + 3 /* wait, retransmit */, 257); /* E2 */
     return SEDGE_NO_BUFFER;
 }
 
@@ -4747,9 +4750,9 @@ static uint32_t sedge_fop_clcw_at(uint64_t fop, uint32_t vcid, uint64_t word, ui
     new_control = SEDGE_CONTROL_UNLOCK_DUE;
     control = get8(fop + 14 /* control */);
     switch (control) {
-    case SEDGE_CONTROL_SET_VR_DUE:
+    case SEDGE_CONTROL_SET_VR_DUE: /* report 14, 15 */
         break;
-    case SEDGE_CONTROL_SET_VR_SENT:
+    case SEDGE_CONTROL_SET_VR_SENT: /* report 14, 15 */
         new_control = SEDGE_CONTROL_UNLOCK_SENT;
         break;
     default:
@@ -4780,31 +4783,31 @@ static uint32_t sedge_fop_clcw_at(uint64_t fop, uint32_t vcid, uint64_t word, ui
     ticks = get16(fop + 2 /* ticks */);
     switch (state) {
     case SEDGE_FOP_S2:
-    case SEDGE_FOP_S3:
+    case SEDGE_FOP_S3: /* report 1 to 8 */
         if (new_control != SEDGE_CONTROL_IDLE) return SEDGE_DAMAGED;
         v2 = sent & 255;
         if (v2 != (v19 & 255) || v2 == 0 || (ticks & 0xffff) == 0) return SEDGE_DAMAGED;
         break;
-    case SEDGE_FOP_S4:
+    case SEDGE_FOP_S4: /* report 9 to 13 */
         if ((sent & 255) != (v19 & 255) || ((sent | new_control) & 255) != 0 || (ticks & 0xffff) == 0) return
             SEDGE_DAMAGED;
         v3 = 0;
         flags = get8(word + 2 /* flags */);
-        if ((flags & 32) != 0) {
+        if ((flags & 32) != 0) { /* report 9 */
             v22 = SEDGE_ALERT_LOCKOUT;
             goto l30;
         }
-        if (get8(word + 4 /* value */) != (vs & 255)) {
+        if (get8(word + 4 /* value */) != (vs & 255)) { /* report 10 */
             v22 = SEDGE_ALERT_NNR;
             goto l30;
         }
-        if ((flags & 8) != 0) {
+        if ((flags & 8) != 0) { /* report 11 */
             v22 = SEDGE_ALERT_SYNCH;
             goto l30;
         }
-        if ((flags & 16) == 0) goto l7;
-        goto l31;
-    case SEDGE_FOP_S5:
+        if ((flags & 16) == 0) goto l7; /* report 13 */
+        goto l31; /* report 12 */
+    case SEDGE_FOP_S5: /* report 14, 15 */
         if ((sent & 255) != (v19 & 255) || (sent & 255) != 0) return SEDGE_DAMAGED;
         switch (new_control) {
         case SEDGE_CONTROL_UNLOCK_DUE:
@@ -4816,29 +4819,29 @@ static uint32_t sedge_fop_clcw_at(uint64_t fop, uint32_t vcid, uint64_t word, ui
         default:
             return SEDGE_DAMAGED;
         }
-    case SEDGE_FOP_S6:
+    case SEDGE_FOP_S6: /* report 16 */
         if (((sent | new_control) & 255) != 0 || (waiting & 1) != 0 || (ticks & 0xffff) != 0) return SEDGE_DAMAGED;
         goto l6;
-    default:
+    default: /* report 1 to 8 */
         if (new_control != SEDGE_CONTROL_IDLE || (sent & 255) != (v19 & 255) || ((uint32_t)((sent & 255) == 0) ^
             (uint32_t)((ticks & 0xffff) != 0)) == 0) return SEDGE_DAMAGED;
         break;
     }
-    v3 = 0;
+    v3 = 0; /* report 1 to 8 */
     flags_2 = get8(word + 2 /* flags */);
-    if ((flags_2 & 32) != 0) {
+    if ((flags_2 & 32) != 0) { /* report 1 */
         v22 = SEDGE_ALERT_LOCKOUT;
         goto l30;
     }
-    value = get8(word + 4 /* value */);
+    value = get8(word + 4 /* value */); /* report 2 to 8 */
     v10 = value - nn;
-    if ((v19 & 255) < (v10 & 255)) {
+    if ((v19 & 255) < (v10 & 255)) { /* report 2 */
         v22 = SEDGE_ALERT_NNR;
         goto l30;
     }
-    if ((flags_2 & 24) != 16) {
-        if ((flags_2 & 8) == 0) {
-            if ((nn & 255) == (value & 255)) {
+    if ((flags_2 & 24) != 16) { /* report 4 to 8 */
+        if ((flags_2 & 8) == 0) { /* report 5, 6 */
+            if ((nn & 255) == (value & 255)) { /* report 5 */
                 if ((v5 & 255) == 0) {
                     state = SEDGE_FOP_S1;
                     goto l26;
@@ -4846,7 +4849,7 @@ static uint32_t sedge_fop_clcw_at(uint64_t fop, uint32_t vcid, uint64_t word, ui
                 v22 = SEDGE_ALERT_SYNCH;
                 goto l30;
             }
-            put8(released, v10);
+            put8(released, v10); /* report 6 */
             sent = nn - value + sent;
             v23 = sent & 255;
             v24 = due & 255;
@@ -4864,13 +4867,13 @@ static uint32_t sedge_fop_clcw_at(uint64_t fop, uint32_t vcid, uint64_t word, ui
             nn = value;
             goto l5;
         }
-        v8 = value & 255;
-        if (v8 == (vs & 255)) {
+        v8 = value & 255; /* report 4, 7, 8 */
+        if (v8 == (vs & 255)) { /* report 4 */
             v22 = SEDGE_ALERT_SYNCH;
             goto l30;
         }
-        v25 = flags_2 & 16;
-        if ((nn & 255) == v8) {
+        v25 = flags_2 & 16; /* report 7, 8 */
+        if ((nn & 255) == v8) { /* report 8 */
             v26 = limit & 255;
             if (v26 == 1) {
                 v22 = SEDGE_ALERT_LIMIT;
@@ -4888,7 +4891,7 @@ static uint32_t sedge_fop_clcw_at(uint64_t fop, uint32_t vcid, uint64_t word, ui
             state = SEDGE_FOP_S2;
             goto l26;
         }
-        count = 1;
+        count = 1; /* report 7 */
         if ((limit & 255) == 1) {
             v22 = SEDGE_ALERT_LIMIT;
             v3 = v10;
@@ -4910,9 +4913,9 @@ static uint32_t sedge_fop_clcw_at(uint64_t fop, uint32_t vcid, uint64_t word, ui
         nn = value;
         goto l26;
     }
-l31:;
+l31:; /* report 3, 12 */
     v22 = SEDGE_ALERT_CLCW;
-l30:;
+l30:; /* report 1 to 5, 7 to 12 */
     put8(released, v3);
     new_vr = 0;
     state = SEDGE_FOP_S6;
@@ -4921,49 +4924,49 @@ l30:;
     sent = 0;
     waiting = 0;
     goto l3;
-l28:;
+l28:; /* report 7, 8 */
     put8(released, v10);
     new_vr = 0;
     state = SEDGE_FOP_S2;
     new_control = SEDGE_CONTROL_IDLE;
     ticks = timer;
     goto l2;
-l26:;
+l26:; /* report 5, 7, 8 */
     put8(released, v10);
     new_vr = 0;
     new_control = SEDGE_CONTROL_IDLE;
     if ((ticks & 0xffff) != 0) goto l2;
-    new_control = SEDGE_CONTROL_IDLE;
+    new_control = SEDGE_CONTROL_IDLE; /* report 5 */
     goto l5;
-l8:;
-    if ((get8(word + 2 /* flags */) & 56) != 0 || get8(word + 4 /* value */) != (vs & 255)) goto l6;
-l7:;
+l8:; /* report 14, 15 */
+    if ((get8(word + 2 /* flags */) & 56) != 0 || get8(word + 4 /* value */) != (vs & 255)) goto l6; /* report 15 */
+l7:; /* report 13, 14 */
     new_vr = 0;
     put8(released, 0);
     state = SEDGE_FOP_S1;
     new_control = SEDGE_CONTROL_IDLE;
     sent = 0;
     goto l5;
-l6:;
+l6:; /* report 15, 16 */
     new_vr = 0;
     put8(released, 0);
     switch (new_control) {
-    case SEDGE_CONTROL_UNLOCK_DUE:
+    case SEDGE_CONTROL_UNLOCK_DUE: /* report 15 */
         new_control = (v9 != 0) ? 1U : 3U;
         if (v6 != 0) goto l4;
         break;
-    case SEDGE_CONTROL_UNLOCK_SENT:
+    case SEDGE_CONTROL_UNLOCK_SENT: /* report 15 */
         new_control = (v9 != 0) ? 2U : 4U;
         if (v6 != 0) goto l4;
         break;
-    default:
+    default: /* report 16 */
         break;
     }
-    if ((ticks & 0xffff) != 0) goto l2;
-l5:;
+    if ((ticks & 0xffff) != 0) goto l2; /* report 15 */
+l5:; /* report 5, 6, 13 to 16 */
     v22 = SEDGE_NO_ALERT;
     goto l3;
-l4:;
+l4:; /* report 15 */
     if ((ticks & 0xffff) != 0) {
         new_vr = vr;
         v22 = SEDGE_NO_ALERT;
@@ -4974,7 +4977,7 @@ l4:;
 l3:;
     ticks = 0;
     goto l1;
-l2:;
+l2:; /* report 5 to 8, 15 */
     v22 = SEDGE_NO_ALERT;
 l1:;
     put16(fop /* timer */, timer);
@@ -5007,42 +5010,42 @@ static uint32_t sedge_fop_directive_at(uint64_t fop, uint32_t directive, uint32_
     v7 = 0;
     v8 = 0;
     switch (directive & 255) {
-    case SEDGE_INIT_WITHOUT_CHECK:
+    case SEDGE_INIT_WITHOUT_CHECK: /* directive 1 */
         break;
-    case SEDGE_INIT_WITH_CHECK:
+    case SEDGE_INIT_WITH_CHECK: /* directive 2 */
         v7 = 0;
         v8 = 1;
         v6 = 0;
         break;
-    case SEDGE_INIT_UNLOCK:
+    case SEDGE_INIT_UNLOCK: /* directive 3 */
         v7 = 0;
         v8 = 2;
         v6 = 0;
         break;
-    case SEDGE_INIT_SET_VR:
+    case SEDGE_INIT_SET_VR: /* directive 4 */
         if (v4 == 0) return SEDGE_DAMAGED;
         v8 = 3;
         v7 = v5;
         break;
-    case SEDGE_TERMINATE:
+    case SEDGE_TERMINATE: /* directive 5 */
         v7 = 0;
         v8 = 4;
         v6 = 0;
         break;
-    case SEDGE_SET_VS:
+    case SEDGE_SET_VS: /* directive 6 */
         if (v4 == 0) return SEDGE_DAMAGED;
         v8 = 5;
         v7 = v5;
         break;
-    case SEDGE_SET_WINDOW:
+    case SEDGE_SET_WINDOW: /* directive 7 */
         v8 = 6;
         v7 = v5;
         break;
-    case SEDGE_SET_LIMIT:
+    case SEDGE_SET_LIMIT: /* directive 8 */
         v8 = 7;
         v7 = v5;
         break;
-    case SEDGE_SET_TIMER:
+    case SEDGE_SET_TIMER: /* directive 9 */
         v8 = 8;
         v7 = 0;
         v6 = value;
@@ -5123,7 +5126,7 @@ static uint32_t sedge_fop_directive_at(uint64_t fop, uint32_t directive, uint32_
         break;
     }
     switch (v8) {
-    case 4:
+    case 4: /* directive 5 */
         if ((v2 & 255) == 5) return SEDGE_COP_WRONG_STATE;
         new_waiting = 0;
         new_state = SEDGE_FOP_S6;
@@ -5133,28 +5136,28 @@ static uint32_t sedge_fop_directive_at(uint64_t fop, uint32_t directive, uint32_
         new_due = 0;
         new_ticks = 0;
         goto l23;
-    case 6:
+    case 6: /* directive 7 */
         v23 = vs;
         v24 = nn;
         window = v7;
         if (((v7 - 1) & 255) < (room & 255)) goto l30;
         return SEDGE_COP_WINDOW;
-    case 7:
+    case 7: /* directive 8 */
         v23 = vs;
         v24 = nn;
         limit = v7;
         if ((v7 & 255) != 0) goto l30;
         return SEDGE_COP_LIMIT;
-    case 8:
+    case 8: /* directive 9 */
         v23 = vs;
         v24 = nn;
         timer = v6;
         if ((v6 & 0xffff) != 0) goto l30;
         return SEDGE_COP_TIMER;
-    default:
+    default: /* directive 1 to 4, 6 */
         break;
     }
-    v26 = 5;
+    v26 = 5; /* directive 1 to 4, 6 */
     if ((v2 & 255) != 5) return SEDGE_COP_WRONG_STATE;
     new_waiting = 0;
     new_state = SEDGE_FOP_S6;
@@ -5170,7 +5173,7 @@ static uint32_t sedge_fop_directive_at(uint64_t fop, uint32_t directive, uint32_
     new_due = 0;
     new_ticks = 0;
     switch (v8) {
-    case 1:
+    case 1: /* directive 2 */
         count = 1;
         new_waiting = 0;
         new_state = SEDGE_FOP_S4;
@@ -5181,26 +5184,26 @@ static uint32_t sedge_fop_directive_at(uint64_t fop, uint32_t directive, uint32_
         new_due = 0;
         new_ticks = timer;
         goto l23;
-    case 2:
+    case 2: /* directive 3 */
         new_control = SEDGE_CONTROL_UNLOCK_DUE;
         new_waiting = 0;
         new_state = SEDGE_FOP_S5;
         new_vr = 0;
         goto l24;
-    case 3:
+    case 3: /* directive 4 */
         goto l29;
     case 4:
         goto l23;
-    case 5:
+    case 5: /* directive 6 */
         break;
-    default:
+    default: /* directive 1 */
         new_waiting = 0;
         new_state = SEDGE_FOP_S1;
         new_vr = 0;
         new_control = SEDGE_CONTROL_IDLE;
         goto l24;
     }
-l30:;
+l30:; /* directive 6 to 9 */
     new_state = state;
     new_waiting = waiting;
     new_vr = v31;
@@ -5211,7 +5214,7 @@ l30:;
     new_due = due;
     new_ticks = ticks;
     switch (v31) {
-    case 1:
+    case 1: /* directive 7 to 9 */
         if (v10 != 0) {
             new_control = SEDGE_CONTROL_UNLOCK_DUE;
             new_vr = 0;
@@ -5227,7 +5230,7 @@ l30:;
         v27 = count;
         v30 = vr;
         break;
-    case 2:
+    case 2: /* directive 7 to 9 */
         new_control = (v10 != 0) ? 2U : 4U;
         new_state = state;
         new_waiting = waiting;
@@ -5236,7 +5239,7 @@ l30:;
     default:
         goto l23;
     }
-l29:;
+l29:; /* directive 4, 7 to 9 */
     new_control = SEDGE_CONTROL_SET_VR_DUE;
     new_state = v26;
     new_vr = v30;
@@ -5247,14 +5250,14 @@ l29:;
     count = v27;
     new_ticks = ticks;
     goto l23;
-l25:;
+l25:; /* directive 7 to 9 */
     vs = v23;
     nn = v24;
     new_sent = sent;
     new_due = due;
     new_ticks = ticks;
     goto l23;
-l24:;
+l24:; /* directive 1, 3 */
     nn = vs;
     new_sent = 0;
     new_due = 0;
@@ -5292,9 +5295,9 @@ static uint32_t sedge_fop_next_at(uint64_t fop, uint64_t number)
     v8 = 0;
     control = get8(fop + 14 /* control */);
     switch (control) {
-    case SEDGE_CONTROL_SET_VR_DUE:
+    case SEDGE_CONTROL_SET_VR_DUE: /* pull 1 */
         break;
-    case SEDGE_CONTROL_SET_VR_SENT:
+    case SEDGE_CONTROL_SET_VR_SENT: /* pull 5 */
         v5 = 2;
         break;
     default:
@@ -5325,22 +5328,22 @@ static uint32_t sedge_fop_next_at(uint64_t fop, uint64_t number)
     ticks = get16(fop + 2 /* ticks */);
     switch (state) {
     case SEDGE_FOP_S2:
-    case SEDGE_FOP_S3:
+    case SEDGE_FOP_S3: /* pull 3 to 5 */
         if (v5 != 0) return SEDGE_DAMAGED;
         v21 = sent & 255;
         if (v21 != (v18 & 255) || v21 == 0 || (ticks & 0xffff) == 0) return SEDGE_DAMAGED;
-        if ((v4 & 255) > 1) goto l12;
+        if ((v4 & 255) > 1) goto l12; /* pull 5 */
         goto l13;
-    case SEDGE_FOP_S4:
+    case SEDGE_FOP_S4: /* pull 5 */
         if ((sent & 255) != (v18 & 255) || ((sent | v5) & 255) != 0 || (ticks & 0xffff) == 0) return SEDGE_DAMAGED;
         break;
-    case SEDGE_FOP_S5:
+    case SEDGE_FOP_S5: /* pull 1, 5 */
         if ((sent & 255) != (v18 & 255) || (sent & 255) != 0) return SEDGE_DAMAGED;
         switch (v5) {
-        case 1:
+        case 1: /* pull 1 */
             if ((v8 | (uint32_t)((vr & 255) == (vs & 255))) != 0) goto l4;
             return SEDGE_DAMAGED;
-        case 2:
+        case 2: /* pull 5 */
             if ((~v8 & (uint32_t)((vr & 255) != (vs & 255))) != 0 || (ticks & 0xffff) == 0) return SEDGE_DAMAGED;
             v22 = SEDGE_NEXT_NOTHING;
             put8(number, 0);
@@ -5349,10 +5352,10 @@ static uint32_t sedge_fop_next_at(uint64_t fop, uint64_t number)
         default:
             return SEDGE_DAMAGED;
         }
-    case SEDGE_FOP_S6:
+    case SEDGE_FOP_S6: /* pull 5 */
         if (((sent | v5) & 255) != 0 || (waiting & 1) != 0 || (ticks & 0xffff) != 0) return SEDGE_DAMAGED;
         break;
-    default:
+    default: /* pull 3 to 5 */
         if (v5 != 0 || (sent & 255) != (v18 & 255)) return SEDGE_DAMAGED;
         if (((uint32_t)((sent & 255) == 0) ^ (uint32_t)((ticks & 0xffff) != 0)) != 0) goto l13;
         return SEDGE_DAMAGED;
@@ -5365,8 +5368,8 @@ static uint32_t sedge_fop_next_at(uint64_t fop, uint64_t number)
     new_vr = 0;
     if (v5 == 0) goto l2;
     goto l3;
-l13:;
-    if ((due & 255) != 0) {
+l13:; /* pull 3 to 5 */
+    if ((due & 255) != 0) { /* pull 3 */
         put8(number, sent + nn - due);
         due = due - 1;
         v22 = SEDGE_NEXT_AGAIN;
@@ -5375,7 +5378,7 @@ l13:;
         new_ticks = timer;
         goto l1;
     }
-    if ((sent & 255) < (window & 255) && (waiting & 1) != 0) {
+    if ((sent & 255) < (window & 255) && (waiting & 1) != 0) { /* pull 4 */
         put8(number, vs);
         count = ((sent & 255) != 0) ? count : 1U;
         vs = vs + 1;
@@ -5388,22 +5391,22 @@ l13:;
         new_ticks = timer;
         goto l1;
     }
-l12:;
+l12:; /* pull 5 */
     v22 = SEDGE_NEXT_NOTHING;
     put8(number, 0);
     v20 = (ticks & 0xffff) != 0;
     new_control = SEDGE_CONTROL_IDLE;
     new_vr = 0;
     goto l2;
-l4:;
+l4:; /* pull 1 */
     put8(number, (v8 != 0) ? 0U : vr);
     v20 = 1;
     v22 = (v8 != 0) ? 1U : 2U;
     ticks = timer;
-l3:;
+l3:; /* pull 1, 5 */
     new_control = (v8 != 0) ? 2U : 4U;
     new_vr = vr;
-l2:;
+l2:; /* pull 1, 5 */
     new_ticks = (v20 != 0) ? ticks : 0U;
 l1:;
     put16(fop /* timer */, timer);
@@ -5437,9 +5440,9 @@ static uint32_t sedge_fop_submit_at(uint64_t fop)
     new_control = SEDGE_CONTROL_UNLOCK_DUE;
     control = get8(fop + 14 /* control */);
     switch (control) {
-    case SEDGE_CONTROL_SET_VR_DUE:
+    case SEDGE_CONTROL_SET_VR_DUE: /* submission 2, 3 */
         break;
-    case SEDGE_CONTROL_SET_VR_SENT:
+    case SEDGE_CONTROL_SET_VR_SENT: /* submission 2, 3 */
         new_control = SEDGE_CONTROL_UNLOCK_SENT;
         break;
     default:
@@ -5463,16 +5466,16 @@ static uint32_t sedge_fop_submit_at(uint64_t fop)
     ticks = get16(fop + 2 /* ticks */);
     switch (state) {
     case SEDGE_FOP_S2:
-    case SEDGE_FOP_S3:
+    case SEDGE_FOP_S3: /* submission 2, 3 */
         if (new_control != SEDGE_CONTROL_IDLE) return SEDGE_DAMAGED;
         v2 = sent & 255;
         if (v2 != (v12 & 255) || v2 == 0 || (ticks & 0xffff) == 0) return SEDGE_DAMAGED;
         break;
-    case SEDGE_FOP_S4:
+    case SEDGE_FOP_S4: /* submission 2, 3 */
         if ((sent & 255) != (v12 & 255) || ((sent | new_control) & 255) != 0 || (ticks & 0xffff) == 0) return
             SEDGE_DAMAGED;
         break;
-    case SEDGE_FOP_S5:
+    case SEDGE_FOP_S5: /* submission 2, 3 */
         if ((sent & 255) != (v12 & 255) || (sent & 255) != 0) return SEDGE_DAMAGED;
         switch (new_control) {
         case SEDGE_CONTROL_UNLOCK_DUE:
@@ -5485,16 +5488,16 @@ static uint32_t sedge_fop_submit_at(uint64_t fop)
             return SEDGE_DAMAGED;
         }
         break;
-    case SEDGE_FOP_S6:
+    case SEDGE_FOP_S6: /* submission 1 */
         return ((((sent | new_control) & 255) != 0) ? ~0U : (((waiting & 1) != 0) ? ~0U : (((ticks & 0xffff) != 0) ?
             ~0U : 6U))) & 255;
-    default:
+    default: /* submission 2, 3 */
         if (new_control != SEDGE_CONTROL_IDLE || (sent & 255) != (v12 & 255) || ((uint32_t)((sent & 255) == 0) ^
             (uint32_t)((ticks & 0xffff) != 0)) == 0) return SEDGE_DAMAGED;
         break;
     }
-    if ((waiting & 1) != 0) return SEDGE_COP_BUSY;
-    new_vr = new_control;
+    if ((waiting & 1) != 0) return SEDGE_COP_BUSY; /* submission 2 */
+    new_vr = new_control; /* submission 3 */
     switch (new_control) {
     case SEDGE_CONTROL_UNLOCK_DUE:
         new_control = (v6 != 0) ? 1U : 3U;
@@ -5514,7 +5517,7 @@ static uint32_t sedge_fop_submit_at(uint64_t fop)
         goto l14;
     }
     new_vr = vr;
-l14:;
+l14:; /* submission 3 */
     put8(fop + 15 /* vr */, new_vr);
     put8(fop + 14 /* control */, new_control);
     put8(fop + 8 /* waiting */, 1);
@@ -5611,10 +5614,10 @@ l9:;
     v19 = 1;
     if ((ticks & 0xffff) != 1) {
         timer = ticks - 1;
-    } else {
+    } else { /* tick 1 to 4 */
         new_vr = 0;
         v14 = SEDGE_ALERT_TIMER;
-        if ((v3 & 255) == 3 || (limit & 255) <= count) {
+        if ((v3 & 255) == 3 || (limit & 255) <= count) { /* tick 4 */
             state = SEDGE_FOP_S6;
             new_control = SEDGE_CONTROL_IDLE;
             due = 0;
@@ -5624,18 +5627,18 @@ l9:;
             goto l1;
         }
         switch (state) {
-        case SEDGE_FOP_S3:
+        case SEDGE_FOP_S3: /* tick 2 */
             v19 = 1;
             count = count + 1;
             break;
         case SEDGE_FOP_S4:
             UNREACHABLE;
-        case SEDGE_FOP_S5:
+        case SEDGE_FOP_S5: /* tick 3 */
             v19 = 1;
             count = count + 1;
             if (new_control == SEDGE_CONTROL_UNLOCK_SENT) goto l6;
             break;
-        default:
+        default: /* tick 1 */
             v19 = 1;
             count = count + 1;
             due = sent;

@@ -2848,7 +2848,7 @@ l1:;
     return;
 }
 
-/* cop1::sender::Sender::move_on, crates/cop1/src/sender/report.rt:90 */
+/* cop1::sender::Sender::move_on, crates/cop1/src/sender/report.rt:90: report 6 */
 static void cop1_sender_Sender_move_on(uint64_t p0, uint64_t p1, uint32_t p2)
 {
     uint32_t v4, v5, v2, v6;
@@ -2872,7 +2872,7 @@ static void cop1_sender_Sender_move_on(uint64_t p0, uint64_t p1, uint32_t p2)
     return;
 }
 
-/* cop1::sender::Sender::ask_for_others, crates/cop1/src/sender/report.rt:112 */
+/* cop1::sender::Sender::ask_for_others, crates/cop1/src/sender/report.rt:112: report 7 */
 static void cop1_sender_Sender_ask_for_others(uint64_t p0, uint64_t p1, uint32_t p2, uint32_t p3)
 {
     uint32_t v4, v5, v7, v8, v9, v10, v2, v11;
@@ -2920,7 +2920,7 @@ static void cop1_sender_Sender_ask_for_others(uint64_t p0, uint64_t p1, uint32_t
     return;
 }
 
-/* cop1::sender::Sender::ask_for_all, crates/cop1/src/sender/report.rt:127 */
+/* cop1::sender::Sender::ask_for_all, crates/cop1/src/sender/report.rt:127: report 8 */
 static void cop1_sender_Sender_ask_for_all(uint64_t p0, uint64_t p1, uint32_t p2)
 {
     uint32_t v3, v4, v5, v2, v6;
