@@ -20,26 +20,39 @@ def solved(points, columns):
     return [rows[at][size] / rows[at][at] for at in range(size)]
 
 
+def total_of(factors, columns, numbers):
+    return factors[0] + sum(factor * numbers[it] for factor, it in zip(factors[1:], columns))
+
+
 def rounded_up(factors):
     """To three digits, and a constant to a whole number."""
     constant, *others = factors
     return [math.ceil(constant - 1e-6), *(math.ceil(it * 100 - 1e-6) / 100 for it in others)]
 
 
+def binding(points):
+    """The points that a sum may just meet: those that no other point with numbers as small has as large a count as."""
+    found = []
+    for numbers, count in sorted(set(points), key=lambda point: (-point[1], point[0])):
+        if not any(all(a <= b for a, b in zip(other, numbers)) for other, _ in found):
+            found.append((numbers, count))
+    return found
+
+
 def fit(points):
     """The factors of a constant and of each column for points ((numbers), count); none is below 0."""
-    width = len(points[0][0])
+    width, met = len(points[0][0]), binding(points)
     columns = [it for it in range(width) if any(point[0][it] for point in points)]
     best = None
     for many in range(len(columns) + 1):
         for used in itertools.combinations(columns, many):
-            for chosen in itertools.combinations(points, many + 1):
+            for chosen in itertools.combinations(met, many + 1):
                 factors = solved(chosen, used)
                 if factors is None or min(factors) < -1e-6:
                     continue
-                sums = [factors[0] + sum(f * point[0][it] for f, it in zip(factors[1:], used)) for point in points]
-                if any(total < point[1] - 1e-6 for total, point in zip(sums, points)):
+                if any(total_of(factors, used, numbers) < count - 1e-6 for numbers, count in met):
                     continue
+                sums = [total_of(factors, used, numbers) for numbers, _ in points]
                 above = sum((total - point[1]) / max(point[1], 20) for total, point in zip(sums, points))
                 if best is None or above < best[0] - 1e-9:
                     best = above, rounded_up(factors), used

@@ -109,7 +109,8 @@ static void goes_up(void) {
             TIMED("sedge_ground_submit", count, p, 0, segments,
                   want(sedge_ground_submit(&ground, 4, octets, count) == SEDGE_NODE_OK));
             sent_up(turn == 1 ? segments - 1 : segments, part, length);
-            TIMED("sedge_ground_read", 0, 0, 0, 0, want(sedge_ground_read(&ground, &read) == SEDGE_NODE_OK));
+            TIMED("sedge_ground_read", 0, 0, 0, turn == 1 ? segments - 1 : segments,
+                  want(sedge_ground_read(&ground, &read) == SEDGE_NODE_OK));
             if (turn == 1) {
                 TIMED("sedge_spacecraft_close", 0, 0, 0, 0, sedge_spacecraft_close(&board));
                 continue;
