@@ -1,0 +1,4 @@
+pub mod Passing
+pub mod Commands
+pub mod Reading
+pub mod Fates

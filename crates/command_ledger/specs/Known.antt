@@ -1,0 +1,41 @@
+-- What a record of the board says to the ground, and what is kept of it.
+use Rattle.std.specs.Prelude.{ℕ, ◌+◌, ◌-◌, ◌*◌, min, max, Bool, ◌&&◌, ◌||◌, ◌==◌}
+use Rattle.std.specs.Prelude.{nat_lt, nat_le, if◌then◌else◌, Option, Some, None}
+use Rattle.std.specs.Int.{bit_at}
+use Rattle.command_log.specs.declared.record.Record.{Record}
+use Rattle.command_log.specs.Record.{no_commands}
+use Rattle.command_ledger.specs.declared.known.Standing.{Standing}
+use Rattle.command_ledger.specs.declared.known.Rebuild.{Rebuild}
+
+-- the highest number whose packet the board's history has: the one that is begun, or the last
+abbrev pub reach : Record → ℕ
+reach kept = if kept.begun then min (kept.last + 1) 4294967295 else kept.last
+
+abbrev pub progress : Record → ℕ
+progress kept = kept.last * 2 + (if kept.begun then 1 else 0)
+
+-- whether a record is later than the one that is known
+abbrev pub is_news : Record → Record → Bool
+is_news board kept =
+    nat_lt board.boot kept.boot
+    || ((board.boot == kept.boot) && nat_lt (progress board) (progress kept))
+
+-- whether a record says that the command was executed, whole
+abbrev pub is_marked : Record → ℕ → Bool
+is_marked kept n =
+    nat_le n kept.last
+    && (nat_lt (kept.last - n) 64 && (bit_at kept.known (kept.last - n) == 1))
+
+abbrev pub obeyed_order : Standing → Record → Option Rebuild → Standing
+obeyed_order s kept None = s
+obeyed_order s kept (Some o) =
+    if nat_le o.boot kept.boot then record s {
+      board = no_commands o.boot o.last;
+      doubt = max s.doubt o.last;
+      order = None;
+    }
+    else s
+
+-- what was known, or what the order has brought, if the record shows that the board obeyed it
+abbrev pub obeyed : Standing → Record → Standing
+obeyed s kept = obeyed_order s kept s.order

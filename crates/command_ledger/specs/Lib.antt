@@ -1,0 +1,10 @@
+pub mod Faults
+pub mod Waiting
+pub mod Known
+pub mod State
+pub mod Fields
+pub mod Entries
+pub mod Store
+pub mod Ledger
+pub mod LedgerFields
+pub mod Fates

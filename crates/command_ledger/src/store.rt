@@ -1,0 +1,47 @@
+// A store that is read.
+
+ghost use Rattle.std.specs.Prelude.{◌≡◌, ◌≤◌, ◌+◌, IfOk, OnOk, OnErr, length};
+ghost use Rattle.command_ledger.specs.State.{new_state};
+ghost use Rattle.command_ledger.specs.Store.{next_entry, next_len, after_some, reading, read_on};
+
+use crate::entry::{entry_in, entry_len};
+use crate::state::State;
+use std::alloc::{AllocError, Global};
+
+// Takes the next entry into the state. Returns how many octets it has, and 0 if there is none.
+fn read_next(alloc: Global, state: &mut State, octets: &[u8]) -> Result<usize, AllocError>
+    ensures len { IfOk result (λ n. n ≡ next_len state.old octets.now) }
+    ensures within { IfOk result (λ n. n ≤ length octets.now) }
+    ensures state { OnOk result (state.new ≡ after_some state.old (next_entry state.old octets.now)) }
+{
+    let len = entry_len(octets);
+    if len == 0 {
+        return Ok(0);
+    }
+    let (octets, _) = octets.split_at(len);
+    let Some(entry) = entry_in(octets) else {
+        return Ok(0);
+    };
+    if !state.follows(&entry) {
+        return Ok(0);
+    }
+    state.apply(alloc, &entry)?;
+    Ok(len)
+}
+
+/// Reads the entries, up to octets that are no entry that may follow. Returns how many octets it has read.
+pub(crate) fn read(alloc: Global, octets: &[u8]) -> Result<(State, usize), AllocError>
+    ensures { IfOk result (λ r. reading r.0 r.1 ≡ read_on (length octets.now) (reading new_state 0) octets.now) }
+{
+    let mut state = State::new(alloc);
+    let mut good = 0;
+    for _entry in 0..octets.len() {
+        let (_, rest) = octets.split_at(good);
+        let len = read_next(alloc, &mut state, rest)?;
+        if len == 0 {
+            return Ok((state, good));
+        }
+        good += len;
+    }
+    Ok((state, good))
+}
