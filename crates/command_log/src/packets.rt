@@ -34,8 +34,8 @@ pub enum Order {
 }
 
 /// Writes the command packet at the beginning of `out`, and returns how many octets it has: 14 and those of
-/// the mission. The octets after it stay. Refuses by 11 `FieldRange` an APID above 2,047, a count above 16,383, the
-/// number 0 and more than 65,528 octets of the mission, and then by 12 `Room` an output that is too short.
+/// the mission. The octets after it stay. Refuses by 11 `FieldRange` an APID above 2,047, a count above
+/// 16,383, the number 0 and more than 65,528 octets of the mission; then by 12 `Room` an output too short.
 /// Faults: 11 FieldRange, then 12 Room. Cost: n.
 pub fn encode_command(command: &Command, out: &mut [u8]) -> Result<usize, LogFault>
     ensures answer { result ≡ command_answer (command_view command.now) (length out.old) }
@@ -166,8 +166,8 @@ fn is_framed(octets: &[u8], least: usize) -> bool
 }
 
 /// Writes the order as a packet at the beginning of `out`, and returns how many octets it has: 23. The octets
-/// after it stay. Refuses by 11 `FieldRange` an APID above 2,047 and a count above 16,383, and then by 12 `Room` an
-/// output that is too short.
+/// after it stay. Refuses by 11 `FieldRange` an APID above 2,047 and a count above 16,383, and then by 12
+/// `Room` an output that is too short.
 /// Faults: 11 FieldRange, then 12 Room.
 pub fn encode_order(apid: u16, count: u16, order: &Order, out: &mut [u8]) -> Result<usize, LogFault>
     ensures answer { result ≡ count_written (order_fits apid count) 23 (length out.old) faults.FieldRange faults.Room }
@@ -196,8 +196,8 @@ fn order_front(order: &Order) -> [u8; 13]
     ]
 }
 
-/// Reads the octets as an order. Refuses by 1 `Layout` octets that are not exactly one such packet, and then
-/// by 2 `Check` a check that does not hold, a kind that is not valid and, in a restart, a field that is not 0.
+/// Reads the octets as an order. Refuses by 1 `Layout` octets that are not exactly one such packet, and by 2
+/// `Check` a check that does not hold, a kind that is not valid and, in a restart, a field that is not 0.
 /// Faults: 1 Layout, then 2 Check.
 pub fn decode_order(octets: &[u8]) -> Result<Order, LogFault>
     ensures { result ≡ order_at octets.now }
