@@ -36,6 +36,8 @@ static unsigned char is_passed[MARKS];
 static int passed[MARKS], many;
 #define MARK(it) (void)(is_passed[it] || (is_passed[it] = 1, passed[many++] = (it)))
 """
+# How long such a program runs at most: a second or two, but for one that goes on for ever.
+SECONDS = 100
 # A blank in a comment, at which no line is broken.
 BLANK = "\xa0"
 
@@ -155,7 +157,7 @@ def rules_taken(text, bodies, count):
         for table in TABLES:
             program, words = os.path.join(room, table), ("cc", "-std=gnu99", "-O1", "-w", "-Ic/include")
             subprocess.run([*words, f'-DMARKED="{marked}"', f"c/tools/{table}_table.c", "-o", program], check=True)
-            ran = subprocess.run([program], stdout=subprocess.PIPE, text=True, check=True).stdout
+            ran = subprocess.run([program], stdout=subprocess.PIPE, text=True, check=True, timeout=SECONDS).stdout
             for line in ran.splitlines():
                 mark, subject, rule = line.split(",")
                 found.setdefault((subject, int(mark)), set()).add(int(rule))
