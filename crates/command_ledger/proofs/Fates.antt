@@ -1,4 +1,4 @@
--- What is told of a command comes from a record.
+-- What is reported of a command comes from a record.
 use Rattle.std.proofs.Common.{◌≡◌, ℕ, zero, suc, ◌+◌, ◌-◌, ◌<◌, ◌≤◌, min, max, inl, inr, List, [], ◌∷◌, ◌++◌}
 use Rattle.std.proofs.Common.{Some, None, refl, subst, arith, eqb-true, ltb-true, Bool, true, false}
 use Rattle.std.proofs.lemmas.Bool.{leb-true}
@@ -20,7 +20,7 @@ both : (a b : Bool) → (a && b) ≡ true → (a ≡ true) × (b ≡ true)
 both true b e = (refl, e)
 both false b e = absurd cc
 
--- a command among those that are told
+-- a command among those that are reported
 pub record IsTold (kept : Record) (doubt n : ℕ) (cs : List Waiting) (tag : ℕ) (as_executed : Bool) : Type 0 where
   pub place : ℕ
   pub command : Waiting
@@ -79,7 +79,7 @@ told_unknown kept doubt n (c ∷ cs) tag (inl e) =
       why = λ t. absurd cc;
     }
 
--- what is among so many of the commands is among them all, and its place is below that many
+-- a command among the first n is among all commands, and its index is below n
 get_take : (n : ℕ) (cs : List Waiting) (i : ℕ) (c : Waiting) → slice_get (take n cs) i ≡ Some c
     → (slice_get cs i ≡ Some c) × (i < n)
 get_take zero [] i c e = absurd cc
@@ -97,41 +97,19 @@ among_both t (x ∷ xs) ys (inr h) =
       | inr there ↦ inr there
     ]
 
--- what is told beside the fates is none
-no_fate_restarted : (b : Bool) (boot tag : ℕ) (ts : List Tell)
-    → IsAmong (Executed tag) (option_to_list (if b then None else Some (Restarted boot)) ++ ts)
-    → IsAmong (Executed tag) ts
-no_fate_restarted true boot tag ts h = h
-no_fate_restarted false boot tag ts (inl e) = absurd cc
-no_fate_restarted false boot tag ts (inr h) = h
-
-no_fate_foreign : (b : Bool) (first last tag : ℕ) (ts : List Tell)
-    → IsAmong (Executed tag) (option_to_list (if b then None else Some (Foreign first last)) ++ ts)
-    → IsAmong (Executed tag) ts
-no_fate_foreign true first last tag ts h = h
-no_fate_foreign false first last tag ts (inl e) = absurd cc
-no_fate_foreign false first last tag ts (inr h) = h
-
-no_loss_restarted : (b : Bool) (boot tag : ℕ) (ts : List Tell)
-    → IsAmong (Unknown tag) (option_to_list (if b then None else Some (Restarted boot)) ++ ts)
-    → IsAmong (Unknown tag) ts
-no_loss_restarted true boot tag ts h = h
-no_loss_restarted false boot tag ts (inl e) = absurd cc
-no_loss_restarted false boot tag ts (inr h) = h
-
-no_loss_foreign : (b : Bool) (first last tag : ℕ) (ts : List Tell)
-    → IsAmong (Unknown tag) (option_to_list (if b then None else Some (Foreign first last)) ++ ts)
-    → IsAmong (Unknown tag) ts
-no_loss_foreign true first last tag ts h = h
-no_loss_foreign false first last tag ts (inl e) = absurd cc
-no_loss_foreign false first last tag ts (inr h) = h
+-- the reports before the fates are not fates
+not_first : (t x : Tell) (b : Bool) (ts : List Tell) → (t ≡ x → ⊥)
+    → IsAmong t (option_to_list (if b then None else Some x) ++ ts) → IsAmong t ts
+not_first t x true ts other h = h
+not_first t x false ts other (inl e) = absurd (other e)
+not_first t x false ts other (inr h) = h
 
 reached : (doubt : ℕ) (kept : Record) (begun : Bool) (n : ℕ) → kept.last < 2 ^ 32 → n ≤ kept.last
     → max doubt (if begun then min (kept.last + 1) 4294967295 else kept.last) < n → ⊥
 reached doubt kept true n range low above = omega arith
 reached doubt kept false n range low above = omega arith
 
--- a record that does not agree leaves all numbers up to its last in doubt
+-- a record that does not agree leaves all numbers up to its last one in doubt
 must_agree : (agree : Bool) (known : Standing) (kept : Record) (n : ℕ) → kept.last < 2 ^ 32 → n ≤ kept.last
     → doubt_after agree known kept < n → agree ≡ true
 must_agree true known kept n range low above = refl
@@ -157,8 +135,10 @@ heard_executed s known kept agree tag range h =
     ⊎ ((place : ℕ) × IsWaiting s place tag × IsKnown kept (s.standing.below + 1 + place) × (agree ≡ true))) [
       | inl before ↦ inl before
       | inr new ↦
-          let one = no_fate_restarted (s.standing.board.boot == kept.boot) kept.boot tag some new in
-          let two = no_fate_foreign agree (min (reach known.board + 1) 4294967295) (reach kept) tag told one in
+          let same = s.standing.board.boot == kept.boot in
+          let one = not_first (Executed tag) (Restarted kept.boot) same some (λ e. cc) new in
+          let first = min (reach known.board + 1) 4294967295 in
+          let two = not_first (Executed tag) (Foreign first (reach kept)) agree told (λ e. cc) one in
           let t = told_executed kept doubt (s.standing.below + 1) (take count s.commands) tag two in
           let there = get_take count s.commands t.place t.command t.there in
           let n : ℕ = s.standing.below + 1 + t.place in
@@ -184,8 +164,10 @@ heard_unknown s known kept agree tag h =
     IsAmong (Unknown tag) s.tells ⊎ IsPassed s kept tag) [
       | inl before ↦ inl before
       | inr new ↦
-          let one = no_loss_restarted (s.standing.board.boot == kept.boot) kept.boot tag some new in
-          let two = no_loss_foreign agree (min (reach known.board + 1) 4294967295) (reach kept) tag told one in
+          let same = s.standing.board.boot == kept.boot in
+          let one = not_first (Unknown tag) (Restarted kept.boot) same some (λ e. cc) new in
+          let first = min (reach known.board + 1) 4294967295 in
+          let two = not_first (Unknown tag) (Foreign first (reach kept)) agree told (λ e. cc) one in
           let t = told_unknown kept doubt (s.standing.below + 1) (take count s.commands) tag two in
           let there = get_take count s.commands t.place t.command t.there in
           let few : t.place < min (kept.last - s.standing.below) (length s.commands) = there.1 in
@@ -200,14 +182,6 @@ among_rest : (t : Tell) (xs : List Tell) → IsAmong t (drop 1 xs) → IsAmong t
 among_rest t [] h = h
 among_rest t (x ∷ xs) h = inr h
 
-no_fate_lost : (tag mark : ℕ) → IsAmong (Executed tag) (RecordLost mark ∷ []) → ⊥
-no_fate_lost tag mark (inl e) = absurd cc
-no_fate_lost tag mark (inr h) = h
-
-no_loss_lost : (tag mark : ℕ) → IsAmong (Unknown tag) (RecordLost mark ∷ []) → ⊥
-no_loss_lost tag mark (inl e) = absurd cc
-no_loss_lost tag mark (inr h) = h
-
 executed : (s : State) (e : Entry) (tag : ℕ) → ((kept : Record) → e ≡ Hears kept → kept.last < 2 ^ 32)
     → IsAmong (Executed tag) (after_entry s e).tells → IsAmong (Executed tag) s.tells ⊎ IsHeard IsSaid s e tag
 executed s (Gives t m packet) tag range h = inl h
@@ -218,7 +192,7 @@ executed s (Loses mark) tag range h =
     elim (among_both (Executed tag) s.tells (RecordLost mark ∷ []) h) as (λ _.
     IsAmong (Executed tag) s.tells ⊎ IsHeard IsSaid s (Loses mark) tag) [
       | inl before ↦ inl before
-      | inr new ↦ absurd (no_fate_lost tag mark new)
+      | inr new ↦ absurd (not_first (Executed tag) (RecordLost mark) false [] (λ e. cc) new)
     ]
 executed s (Hears kept) tag range h =
     let known = obeyed s.standing kept in
@@ -239,7 +213,7 @@ unknown s (Loses mark) tag h =
     elim (among_both (Unknown tag) s.tells (RecordLost mark ∷ []) h) as (λ _.
     IsAmong (Unknown tag) s.tells ⊎ IsHeard IsPassed s (Loses mark) tag) [
       | inl before ↦ inl before
-      | inr new ↦ absurd (no_loss_lost tag mark new)
+      | inr new ↦ absurd (not_first (Unknown tag) (RecordLost mark) false [] (λ e. cc) new)
     ]
 unknown s (Hears kept) tag h =
     let known = obeyed s.standing kept in

@@ -1,5 +1,5 @@
--- An entry of the store in octets: 4 of how many it has, 1 of its kind, its content, and 4 of the
--- check of all these.
+-- An entry of the store in octets: its length (4 octets), its kind (1), its content, and the check
+-- of all these (4).
 use Rattle.std.specs.Prelude.{ℕ, ◌+◌, ◌-◌, List, [], ◌∷◌, ◌++◌, length, take, drop}
 use Rattle.std.specs.Prelude.{slice_index, replicate}
 use Rattle.std.specs.Prelude.{◌≤◌, ⊤, Bool, ◌&&◌, ◌==◌, nat_le, if◌then◌else◌, Option, Some, None}
@@ -12,7 +12,7 @@ use Rattle.command_ledger.specs.declared.entry.Written.{Written}
 use Rattle.command_ledger.specs.declared.entry.Written.TheVariants as written
 use Rattle.command_ledger.specs.State.{Entry, Gives, Hears, Loses, Rebuilds, Tells, Stands}
 
--- an entry without where its octets lie in memory
+-- an entry, without the address of its octets
 abbrev pub entry_view : Written → Entry
 entry_view (written.Gives tag on_map packet) = Gives tag on_map packet.now
 entry_view (written.Hears kept) = Hears kept
@@ -21,7 +21,7 @@ entry_view (written.Rebuilds order) = Rebuilds order
 entry_view written.Tells = Tells
 entry_view (written.Stands standing) = Stands standing
 
--- ---- as it is written
+-- ---- written
 
 abbrev pub entry_octets : (kind : ℕ) → List ℕ → List ℕ
 entry_octets kind content = sealed (big_bytes 4 (length content + 9) ++ kind ∷ content)
@@ -54,7 +54,7 @@ spelling (Rebuilds order) = entry_octets 4 (rebuild_octets order)
 spelling Tells = entry_octets 5 []
 spelling (Stands standing) = entry_octets 6 (standing_octets standing)
 
--- no packet is longer than a packet can be
+-- its packet is not longer than a packet can be
 abbrev pub IsShort : Entry → Type 0
 IsShort (Gives tag on_map packet) = length packet ≤ 65542
 IsShort (Hears kept) = ⊤
@@ -63,7 +63,7 @@ IsShort (Rebuilds order) = ⊤
 IsShort Tells = ⊤
 IsShort (Stands standing) = ⊤
 
--- ---- as it is read
+-- ---- read
 
 abbrev pub rebuild_in : List ℕ → Rebuild
 rebuild_in octets =
@@ -93,7 +93,7 @@ standing_in octets =
 abbrev pub gives_in : List ℕ → Entry
 gives_in content = Gives (big_number 8 content) (slice_index content 8) (drop 9 content)
 
--- the entry of this kind with this content, if one has so many octets
+-- the entry of this kind with this content, if such an entry has this length
 abbrev pub entry_with : (kind : ℕ) → List ℕ → Option Entry
 entry_with kind content =
     if (kind == 1) && nat_le 9 (length content) then Some (gives_in content)
@@ -103,11 +103,11 @@ entry_with kind content =
     else if (kind == 5) && (length content == 0) then Some Tells
     else if (kind == 6) && (length content == 48) then Some (Stands (standing_in content)) else None
 
--- the entry that these octets are, whose check holds
+-- the entry that these octets form, if their check holds
 abbrev pub entry_in : List ℕ → Option Entry
 entry_in octets = entry_with (slice_index octets 4) (take (length octets - 9) (drop 5 octets))
 
--- how many octets the entry has with which these begin: whole, and its check holds; else 0
+-- the length of the entry with which these octets begin, if it is whole and its check holds; else 0
 abbrev pub entry_len : List ℕ → ℕ
 entry_len octets =
     let long = big_number 4 octets in

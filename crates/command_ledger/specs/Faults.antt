@@ -1,4 +1,4 @@
--- The refusals of a ledger: a row each.
+-- The refusals of a ledger, one row each.
 use Rattle.std.specs.Prelude.{ℕ, List, codes}
 use Rattle.command_ledger.specs.declared.fault.LedgerFault.{LedgerFault}
 use Rattle.command_ledger.specs.declared.fault.LedgerFault.TheVariants.{Layout, Check, FieldRange}

@@ -1,4 +1,4 @@
--- How the fields of a state stand for it.
+-- The state that the fields represent.
 use Rattle.std.specs.Prelude.{◌+◌, ◌<◌, ◌^◌, length}
 use Rattle.command_ledger.specs.declared.state.State.TheInside.{Inside}
 use Rattle.command_ledger.specs.State.{State}
@@ -12,6 +12,6 @@ state_of s =
       live = s.live;
     }
 
--- no number is above the last one
+-- no number is above the greatest one
 abbrev pub IsSound : Inside → Type 0
 IsSound s = s.standing.below + length s.commands.items < 2 ^ 32

@@ -1,4 +1,4 @@
--- What a record of the board says to the ground, and what is kept of it.
+-- What a record of the board shows the ground, and what the ground keeps of it.
 use Rattle.std.specs.Prelude.{ℕ, ◌+◌, ◌-◌, ◌*◌, min, max, Bool, ◌&&◌, ◌||◌, ◌==◌}
 use Rattle.std.specs.Prelude.{nat_lt, nat_le, if◌then◌else◌, Option, Some, None}
 use Rattle.std.specs.Int.{bit_at}
@@ -7,20 +7,21 @@ use Rattle.command_log.specs.Record.{no_commands}
 use Rattle.command_ledger.specs.declared.known.Standing.{Standing}
 use Rattle.command_ledger.specs.declared.known.Rebuild.{Rebuild}
 
--- the highest number whose packet the board's history has: the one that is begun, or the last
+-- the highest number whose packet is part of the board's history: the one that is begun, or the
+-- last
 abbrev pub reach : Record → ℕ
 reach kept = if kept.begun then min (kept.last + 1) 4294967295 else kept.last
 
 abbrev pub progress : Record → ℕ
 progress kept = kept.last * 2 + (if kept.begun then 1 else 0)
 
--- whether a record is later than the one that is known
+-- whether a record is later than the last known one
 abbrev pub is_news : Record → Record → Bool
 is_news board kept =
     nat_lt board.boot kept.boot
     || ((board.boot == kept.boot) && nat_lt (progress board) (progress kept))
 
--- whether a record says that the command was executed, whole
+-- whether a record shows that the command was executed, whole
 abbrev pub is_marked : Record → ℕ → Bool
 is_marked kept n =
     nat_le n kept.last
@@ -36,6 +37,7 @@ obeyed_order s kept (Some o) =
     }
     else s
 
--- what was known, or what the order has brought, if the record shows that the board obeyed it
+-- the knowledge before the record or, if the record shows that the board obeyed the order, after
+-- the order
 abbrev pub obeyed : Standing → Record → Standing
 obeyed s kept = obeyed_order s kept s.order

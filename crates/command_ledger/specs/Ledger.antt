@@ -1,4 +1,4 @@
--- A ledger, and what each call does to it.
+-- A ledger, and the effect of each call on it.
 use Rattle.std.specs.Prelude.{ℕ, ◌+◌, ◌-◌, ◌/◌, ◌^◌, min, max, List, [], ◌∷◌, ◌++◌, length}
 use Rattle.std.specs.Prelude.{Bool, true, false, not, ◌&&◌, ◌||◌, ◌==◌, nat_lt, nat_le}
 use Rattle.std.specs.Prelude.{if◌then◌else◌}
@@ -27,13 +27,13 @@ use Rattle.command_ledger.specs.Store.{Reading}
 pub record LedgerState : Type 0 where
   pub max_packet : ℕ
   pub state : State
-  -- the octets that are to be appended to the store
+  -- the octets that must be appended to the store
   pub unstored : List ℕ
-  -- whether they are to be there before anything is told
+  -- whether they must be there before anything is reported
   pub due : Bool
   -- the highest number whose command is in the store
   pub safe : ℕ
-  -- how many octets the store has
+  -- the length of the store
   pub stored : ℕ
 
 abbrev pub opened : (max_packet : ℕ) → Reading → LedgerState
@@ -47,7 +47,7 @@ opened max_packet r =
       stored = r.good;
     }
 
--- nothing waits for what is told
+-- whether the entry must be in the store before anything is reported
 abbrev pub is_due : Entry → Bool
 is_due (Gives tag on_map packet) = true
 is_due (Hears kept) = true
@@ -70,7 +70,7 @@ abbrev pub next_command : LedgerState → (apid count : ℕ) → List ℕ → Co
 next_command l apid count content =
     record { apid = apid; count = count; number = highest l.state + 1; content = content }
 
--- why no command is given
+-- why a command is refused
 abbrev pub give_fault : LedgerState → (on_map apid count long : ℕ) → Option LedgerFault
 give_fault l on_map apid count long =
     if nat_le 64 on_map || (nat_le 2048 apid || (nat_le 16384 count || nat_lt 65528 long))
@@ -82,8 +82,7 @@ abbrev pub given : LedgerState → (tag on_map apid count : ℕ) → List ℕ �
 given l tag on_map apid count content =
     appended l (Gives tag on_map (command_octets (next_command l apid count content)))
 
--- the MAP and the packet of a number: of a command that is stored and has no fate, while the board
--- has a record
+-- the command with this number, if it is stored and has no fate, and the board has a record
 abbrev pub packet_of : LedgerState → ℕ → Option Waiting
 packet_of l number =
     if l.state.standing.is_lost
@@ -92,7 +91,7 @@ packet_of l number =
 
 -- ---- a status
 
--- why octets are no status
+-- why octets do not form a status
 abbrev pub status_fault : LogFault → LedgerFault
 status_fault log_faults.Layout = faults.Layout
 status_fault fault = faults.Check
@@ -101,7 +100,7 @@ abbrev pub has_told : Option ℕ → ℕ → Bool
 has_told None mark = false
 has_told (Some told) mark = told == mark
 
--- what a status says that was not known
+-- the entry for what a status shows that was not known
 abbrev pub news : LedgerState → Status → Option Entry
 news l (statuses.Says kept) =
     if is_news l.state.standing.board kept then Some (Hears kept) else None
@@ -149,14 +148,14 @@ order_of_mark (Some o) None = None
 order_of_mark (Some o) (Some mark) =
     if o.mark == mark then Some (orders.Rebuild o.mark o.boot o.last) else None
 
--- the order that may go up
+-- the order that may be sent
 abbrev pub order_of : LedgerState → Option Order
 order_of l =
     if l.state.standing.is_lost && not l.due
     then order_of_mark l.state.standing.order l.state.standing.mark
     else None
 
--- ---- what the program does next
+-- ---- the program's next action
 
 pub data NextView : Type 0 where
   Nothing : NextView
@@ -183,11 +182,11 @@ next_of l =
 abbrev pub is_at_rest : LedgerState → Bool
 is_at_rest l = (length l.unstored == 0) && (not l.due && is_none (slice_get l.state.tells 0))
 
--- a fresh store has less than half of the octets: 57, and those of the commands
+-- a fresh store has less than half as many octets: 57, and those of the commands
 abbrev pub is_worth : LedgerState → Bool
 is_worth l = is_at_rest l && nat_lt l.state.live (l.stored / 2 - 57)
 
--- all that was to be appended is in the store
+-- everything that had to be appended is in the store
 abbrev pub all_stored : LedgerState → LedgerState
 all_stored l =
     record l {

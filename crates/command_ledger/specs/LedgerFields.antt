@@ -1,4 +1,4 @@
--- How the fields of a ledger stand for it.
+-- The ledger that the fields represent.
 use Rattle.command_ledger.specs.declared.ledger.Ledger.TheInside.{Inside}
 use Rattle.command_ledger.specs.Ledger.{LedgerState}
 

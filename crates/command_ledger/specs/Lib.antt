@@ -5,6 +5,8 @@ pub mod State
 pub mod Fields
 pub mod Entries
 pub mod Store
+pub mod Kept
+pub mod Numbers
 pub mod Ledger
 pub mod LedgerFields
 pub mod Fates

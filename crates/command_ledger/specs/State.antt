@@ -1,5 +1,5 @@
--- The commands that have no fate, what is known of the board, and what is to be told: what each
--- entry of the store does to them.
+-- The commands without a fate, the knowledge of the board, and the reports that are due: the effect
+-- of each entry of the store on them.
 use Rattle.std.specs.Prelude.{ℕ, ◌+◌, ◌-◌, min, max, List, [], ◌∷◌, ◌++◌, length, take, drop}
 use Rattle.std.specs.Prelude.{Bool, true, false, ◌&&◌, ◌==◌, nat_lt, nat_le, if◌then◌else◌}
 use Rattle.std.specs.Prelude.{Option, Some, None, option_to_list}
@@ -17,9 +17,9 @@ use Rattle.command_ledger.specs.Known.{reach, is_marked, obeyed}
 
 pub record State : Type 0 where
   pub standing : Standing
-  -- in the order of their numbers, the first of them one more than the standing's `below`
+  -- in the order of their numbers; the first number is one more than the standing's `below`
   pub commands : List Waiting
-  -- what is to be told, the first of it first
+  -- the reports that are due, in order
   pub tells : List Tell
   -- how many octets of the store give these commands
   pub live : ℕ
@@ -38,40 +38,40 @@ new_standing =
 abbrev pub new_state : State
 new_state = record { standing = new_standing; commands = []; tells = []; live = 0 }
 
--- the highest number that was given, or that another ground's command has had on board
+-- the highest number that was given, or that a command of another ground had on board
 abbrev pub highest : State → ℕ
 highest s = s.standing.below + length s.commands
 
--- what is written in the store
+-- an entry of the store
 pub data Entry : Type 0 where
   -- a command was given
   Gives : (tag on_map : ℕ) → (packet : List ℕ) → Entry
-  -- the board said a later record
+  -- the board sent a later record
   Hears : (kept : Record) → Entry
-  -- the board said that it has lost its record, and this mark
+  -- the board reported that it has lost its record; the mark of the loss
   Loses : (mark : ℕ) → Entry
-  -- an order was given that brings a record
+  -- an order that brings a record was made
   Rebuilds : (order : Rebuild) → Entry
-  -- what was to be told first is told
+  -- the first report that was due has been made
   Tells : Entry
-  -- in a fresh store: all that stands, but for the commands, which follow
+  -- in a fresh store: everything except the commands, which follow
   Stands : (standing : Standing) → Entry
 
 -- ---- a record of the board
 
--- the history of a board that takes these commands too
+-- the history of a board that has also taken these commands
 abbrev pub history_over : ℕ → List Waiting → ℕ
 history_over history [] = history
 history_over history (c ∷ cs) = history_over (history_after history c.packet) cs
 
--- whether the board's commands, from those that are known up to its reach, are these
+-- whether the board's commands after those already known, up to its reach, are these
 abbrev pub agrees : (below : ℕ) → List Waiting → (board kept : Record) → Bool
 agrees below commands board kept =
     nat_le (reach kept) (below + length commands)
     && (history_over board.history (drop (reach board - below) (take (reach kept - below) commands))
     == kept.history)
 
--- what becomes of a number that the board has passed
+-- the fate of a command that the board has passed
 abbrev pub fate : Record → (doubt number tag : ℕ) → Tell
 fate kept doubt number tag =
     if nat_lt doubt number && is_marked kept number then Executed tag else Unknown tag
@@ -97,7 +97,7 @@ foreign agree board kept =
 abbrev pub doubt_after : Bool → Standing → Record → ℕ
 doubt_after agree known kept = if agree then known.doubt else max known.doubt (reach kept)
 
--- what is kept once a record is believed
+-- the knowledge after a record is accepted
 abbrev pub heard_standing : (below : ℕ) → Bool → Standing → Record → Standing
 heard_standing below agree known kept =
     record {
@@ -109,7 +109,7 @@ heard_standing below agree known kept =
       order = known.order;
     }
 
--- how many of so many commands the board has passed
+-- how many of this many commands the board has passed
 abbrev pub passed : (below many : ℕ) → Record → ℕ
 passed below many kept = min (kept.last - below) many
 
@@ -117,7 +117,7 @@ abbrev pub below_after : (below many : ℕ) → Record → ℕ
 below_after below many kept =
     if nat_lt (below + many) (reach kept) then reach kept else below + passed below many kept
 
--- a record that agrees, or not, with what was known
+-- the state after a record that agrees, or does not, with what was known
 abbrev pub heard : State → Standing → Record → Bool → State
 heard s known kept agree =
     let doubt = doubt_after agree known kept in
@@ -165,7 +165,7 @@ after_entry s Tells = record s { tells = drop 1 s.tells }
 after_entry s (Stands standing) =
     record { standing = standing; commands = []; tells = []; live = 0 }
 
--- whether an entry may come after those before it: a command has the next number
+-- whether an entry may follow those before it: a command must have the next number
 abbrev pub follows : State → Entry → Bool
 follows s (Gives tag on_map packet) =
     nat_lt (highest s) 4294967295

@@ -1,5 +1,5 @@
--- A store that is read: its entries, one after another, up to octets that are no entry that may
--- follow.
+-- Reading a store: its entries, one after another, until the octets no longer form an entry that
+-- may follow.
 use Rattle.std.specs.Prelude.{ℕ, zero, suc, ◌+◌, List, take, drop, if◌then◌else◌, ◌==◌}
 use Rattle.std.specs.Prelude.{Option, Some, None, is_some}
 use Rattle.command_ledger.specs.State.{State, Entry, after_entry, follows}
@@ -9,7 +9,7 @@ abbrev pub following : State → Option Entry → Option Entry
 following s None = None
 following s (Some e) = if follows s e then Some e else None
 
--- the entry that is next
+-- the next entry
 abbrev pub next_entry : State → List ℕ → Option Entry
 next_entry s octets =
     if entry_len octets == 0 then None else following s (entry_in (take (entry_len octets) octets))
@@ -21,7 +21,7 @@ abbrev pub after_some : State → Option Entry → State
 after_some s None = s
 after_some s (Some e) = after_entry s e
 
--- what the entries make of a state, and how many octets they have
+-- the state after the entries, and how many octets they have
 pub record Reading : Type 0 where
   pub state : State
   pub good : ℕ
@@ -29,7 +29,7 @@ pub record Reading : Type 0 where
 abbrev pub reading : State → ℕ → Reading
 reading s good = record { state = s; good = good }
 
--- the reading goes on, for at most so many entries
+-- continues the reading, for at most this many entries
 abbrev pub read_on : (most : ℕ) → Reading → List ℕ → Reading
 read_on zero r octets = r
 read_on (suc n) r octets =

@@ -1,4 +1,4 @@
--- A command that has no fate.
+-- A command without a fate.
 use Rattle.std.specs.Prelude.{ℕ, ◌≤◌, List, length}
 use Rattle.std.specs.Borrow.{Bor}
 use Rattle.command_ledger.specs.declared.given.Given.TheInside.{Inside}
@@ -11,7 +11,7 @@ pub record Waiting : Type 0 where
 abbrev pub waiting : (tag on_map : ℕ) → List ℕ → Waiting
 waiting tag on_map packet = record { tag = tag; on_map = on_map; packet = packet }
 
--- how the fields stand for it
+-- the command that the fields represent
 abbrev pub waiting_of : Inside → Waiting
 waiting_of c = waiting c.tag c.map c.packet.items
 
@@ -19,7 +19,7 @@ waiting_of c = waiting c.tag c.map c.packet.items
 abbrev pub IsShort : Inside → Type 0
 IsShort c = length c.packet.items ≤ 65542
 
--- its MAP, and its packet; the same lent
+-- its MAP and its packet; then the same, lent
 abbrev pub sent_as : Waiting → ℕ × List ℕ
 sent_as c = (c.on_map, c.packet)
 

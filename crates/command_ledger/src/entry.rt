@@ -1,30 +1,28 @@
 // The entries of the store, in octets.
 
 ghost use Rattle.std.specs.Prelude.{◌≡◌, ◌≤◌, ◌<◌, ◌+◌, ◌++◌, length, IfOk, option_map};
-ghost use Rattle.command_log.specs.Check.{holds_check};
-ghost use Rattle.command_log.specs.Layout.{front_octets, fields_of};
 ghost use Rattle.command_ledger.specs.Entries.{entry_view, entry_octets, rebuild_octets, mark_octets, order_octets, standing_octets, spelling, IsShort};
 ghost use Rattle.command_ledger.specs.Entries.{rebuild_in, mark_in, order_in, standing_in, gives_in, entry_with, entry_in, entry_len};
 
 use crate::known::{Rebuild, Standing};
 use byteorder::{BigEndian, ByteOrder};
-use command_log::{Record, check};
+use command_log::{Record, check, check_holds, decode_fields, encode_fields};
 use std::alloc::{AllocError, Global};
 
-/// What is written in the store.
+/// An entry of the store.
 #[derive(Clone, Copy)]
 pub(crate) enum Written<'a> {
     /// A command was given.
     Gives { tag: u64, map: u8, packet: &'a [u8] },
-    /// The board has said a later record.
+    /// The board has sent a later record.
     Hears(Record),
-    /// The board has said that it has lost its record, and this mark.
+    /// The board has reported that it has lost its record; the mark of the loss.
     Loses(u32),
-    /// An order was given that brings a record.
+    /// An order that brings a record was made.
     Rebuilds(Rebuild),
-    /// What was to be told first is told.
+    /// The first report that was due has been made.
     Tells,
-    /// In a fresh store: all that stands, but for the commands, which follow.
+    /// In a fresh store: everything except the commands, which follow.
     Stands(Standing),
 }
 
@@ -60,24 +58,12 @@ pub(crate) fn spelling(alloc: Global, entry: &Written) -> Result<Vec<u8>, AllocE
             let front = [t[0], t[1], t[2], t[3], t[4], t[5], t[6], t[7], *map];
             spelled(alloc, 1, &front, packet)
         }
-        Written::Hears(kept) => spelled_alone(alloc, 2, &record_octets(kept)),
+        Written::Hears(kept) => spelled_alone(alloc, 2, &encode_fields(kept)),
         Written::Loses(mark) => spelled_alone(alloc, 3, &mark.to_be_bytes()),
         Written::Rebuilds(order) => spelled_alone(alloc, 4, &rebuild_octets(order)),
         Written::Tells => spelled_alone(alloc, 5, &[]),
         Written::Stands(standing) => spelled_alone(alloc, 6, &standing_octets(standing)),
     }
-}
-
-fn record_octets(kept: &Record) -> [u8; 21]
-    ensures { result ≡ front_octets kept.now }
-{
-    let mut octets = [0; 21];
-    octets[..4].copy_from_slice(&kept.boot.to_be_bytes());
-    octets[4..8].copy_from_slice(&kept.last.to_be_bytes());
-    octets[8..16].copy_from_slice(&kept.known.to_be_bytes());
-    octets[16..20].copy_from_slice(&kept.history.to_be_bytes());
-    octets[20] = kept.begun as u8;
-    octets
 }
 
 fn rebuild_octets(order: &Rebuild) -> [u8; 12]
@@ -117,7 +103,7 @@ fn standing_octets(standing: &Standing) -> [u8; 48]
 {
     let mut octets = [0; 48];
     octets[..4].copy_from_slice(&standing.below.to_be_bytes());
-    octets[4..25].copy_from_slice(&record_octets(&standing.board));
+    octets[4..25].copy_from_slice(&encode_fields(&standing.board));
     octets[25..29].copy_from_slice(&standing.doubt.to_be_bytes());
     octets[29..34].copy_from_slice(&mark_octets(standing.mark));
     octets[34] = standing.is_lost as u8;
@@ -125,15 +111,8 @@ fn standing_octets(standing: &Standing) -> [u8; 48]
     octets
 }
 
-fn check_holds(octets: &[u8]) -> bool
-    requires { 4 ≤ length octets.now }
-    ensures { result ≡ holds_check octets.now }
-{
-    let (front, tail) = octets.split_at(octets.len() - 4);
-    BigEndian::read_u32(tail) == check(front)
-}
-
-/// How many octets the entry has with which these begin: whole, and its check holds. 0 where there is none.
+/// Returns the length of the entry with which these octets begin, if it is whole and its check holds;
+/// otherwise 0.
 pub(crate) fn entry_len(octets: &[u8]) -> usize
     ensures { result ≡ entry_len octets.now }
 {
@@ -147,7 +126,7 @@ pub(crate) fn entry_len(octets: &[u8]) -> usize
     len
 }
 
-/// The entry that these octets are, if they are one.
+/// Returns the entry that these octets form, if they form one.
 pub(crate) fn entry_in(octets: &[u8]) -> Option<Written<'_>>
     requires { 9 ≤ length octets.now }
     ensures { option_map entry_view result ≡ entry_in octets.now }
@@ -160,7 +139,7 @@ fn entry_with(kind: u8, content: &[u8]) -> Option<Written<'_>>
 {
     match (kind, content.len()) {
         (1, 9..) => Some(gives_in(content)),
-        (2, 21) => Some(Written::Hears(record_in(content))),
+        (2, 21) => Some(Written::Hears(decode_fields(content))),
         (3, 4) => Some(Written::Loses(BigEndian::read_u32(content))),
         (4, 12) => Some(Written::Rebuilds(rebuild_in(content))),
         (5, 0) => Some(Written::Tells),
@@ -177,19 +156,6 @@ fn gives_in(content: &[u8]) -> Written<'_>
         tag: BigEndian::read_u64(content),
         map: content[8],
         packet: &content[9..],
-    }
-}
-
-fn record_in(octets: &[u8]) -> Record
-    requires { 21 ≤ length octets.now }
-    ensures { result ≡ fields_of octets.now }
-{
-    Record {
-        boot: BigEndian::read_u32(octets),
-        last: BigEndian::read_u32(&octets[4..]),
-        begun: octets[20] == 1,
-        known: BigEndian::read_u64(&octets[8..]),
-        history: BigEndian::read_u32(&octets[16..]),
     }
 }
 
@@ -214,7 +180,7 @@ fn standing_in(octets: &[u8]) -> Standing
     let (_, order) = octets.split_at(35);
     Standing {
         below: BigEndian::read_u32(octets),
-        board: record_in(board),
+        board: decode_fields(board),
         doubt: BigEndian::read_u32(doubt),
         mark: mark_in(mark),
         is_lost: octets[34] == 1,

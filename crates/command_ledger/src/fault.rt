@@ -1,44 +1,44 @@
-// Why a call of the ledger is refused.
+// The refusals of the ledger.
 
 ghost use Rattle.std.specs.Prelude.{◌≡◌};
 
 use std::error::Error;
 use std::fmt::{self, Display, Formatter, Write};
 
-/// Why a call was refused. It has changed nothing then.
+/// Why a call was refused. A refused call has changed nothing.
 #[derive(Clone, Copy, Debug, PartialEq, Eq)]
 pub enum LedgerFault {
-    /// The octets are not as many as a status has.
+    /// The number of octets is not that of a status.
     Layout = 1,
-    /// The check of the status does not hold, or a field has a value that no layout gives it.
+    /// The check of the status does not hold, or a field has a value that the layout does not allow.
     Check = 2,
-    /// The MAP, the APID or the count is out of its range, or the data are too long for a packet.
+    /// The MAP, the APID or the count is out of range, or the data are too long for a packet.
     FieldRange = 3,
-    /// The packet would be longer than the greatest that was set.
+    /// The packet would be longer than the configured maximum.
     TooLong = 4,
-    /// All numbers are given.
+    /// All numbers have been given.
     NoNumber = 5,
     /// The board has not lost its record.
     NotLost = 6,
-    /// All boot counts that a record can be brought with are used.
+    /// No boot count is left for an order that brings a record.
     NoBoot = 7,
-    /// Something is to be stored or told first.
+    /// Something must be stored or reported first.
     Owing = 8,
-    /// There is no memory.
+    /// Out of memory.
     Memory = 9,
 }
 
 impl LedgerFault {
     ghost use Rattle.command_ledger.specs.Faults.{fault_row};
 
-    /// The fault's number, from 1.
+    /// Returns the fault's number, from 1.
     pub fn number(self) -> u8
         ensures { result ≡ (fault_row self).0 }
     {
         self as u8
     }
 
-    /// The fault's name, as it is written here.
+    /// Returns the fault's name, as it is written here.
     pub fn name(self) -> &'static str
         ensures { result.now ≡ (fault_row self).1 }
     {

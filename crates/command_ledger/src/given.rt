@@ -1,4 +1,4 @@
-// A command that was given and has no fate.
+// A command without a fate.
 
 use std::alloc::{AllocError, Global};
 use std::marker::Model;

@@ -13,24 +13,24 @@ pub(crate) struct Rebuild {
     pub(crate) last: u32,
 }
 
-/// All that is kept beside the commands.
+/// All that is kept, except the commands.
 #[derive(Clone, Copy, Debug, PartialEq, Eq)]
 pub(crate) struct Standing {
-    /// Each number up to this one has its fate.
+    /// Every command up to this number has its fate.
     pub(crate) below: u32,
     /// The last record that was believed.
     pub(crate) board: Record,
-    /// Of the numbers up to this one nothing is known.
+    /// Nothing is known of the commands up to this number.
     pub(crate) doubt: u32,
-    /// The mark of the loss that was told last.
+    /// The mark of the loss that was reported last.
     pub(crate) mark: Option<u32>,
     /// Whether the board has no record, as far as is known.
     pub(crate) is_lost: bool,
-    /// The order that was given last, and that no record has shown yet.
+    /// The last order, until a record shows that the board obeyed it.
     pub(crate) order: Option<Rebuild>,
 }
 
-/// The highest number whose packet the board's history has.
+/// The highest number whose packet is part of the board's history.
 pub(crate) fn reach(kept: &Record) -> u32
     ensures { result ≡ reach kept.now }
 {
@@ -47,21 +47,21 @@ fn progress(kept: &Record) -> u64
     u64::from(kept.last) * 2 + u64::from(kept.begun)
 }
 
-/// Whether the record is later than the one that is known.
+/// Whether the record is later than the last known one.
 pub(crate) fn is_news(board: &Record, kept: &Record) -> bool
     ensures { result ≡ is_news board.now kept.now }
 {
     board.boot < kept.boot || board.boot == kept.boot && progress(board) < progress(kept)
 }
 
-/// Whether the record says that the command was executed.
+/// Whether the record shows that the command was executed.
 pub(crate) fn is_marked(kept: &Record, number: u32) -> bool
     ensures { result ≡ is_marked kept.now number }
 {
     number <= kept.last && kept.last - number < 64 && (kept.known >> (kept.last - number)) % 2 == 1
 }
 
-/// What was known, or what an order has brought, if the record shows that the board obeyed it.
+/// The knowledge before the record or, if the record shows that the board obeyed the order, after the order.
 pub(crate) fn obeyed(known: &Standing, kept: &Record) -> Standing
     ensures { result ≡ obeyed known.now kept.now }
 {

@@ -1,4 +1,4 @@
-// The ledger, and its store.
+// The ledger and its store.
 
 ghost use Rattle.std.specs.Prelude.{◌≡◌, ◌≤◌, true, IfOk, IsOkUnless, vec_len};
 ghost use Rattle.command_log.specs.Packets.{command_view, command_fits, command_octets};
@@ -16,19 +16,19 @@ use command_log::{Command, LogFault, Order, Record, Status, decode_status, encod
 use std::alloc::{AllocError, Global};
 use std::marker::Model;
 
-/// What the program does next. It does this whole, and then calls `stored` or `told`.
+/// The program's next action. The program completes it, and then calls `stored` or `told`.
 #[derive(Clone, Copy, Debug, PartialEq, Eq)]
 pub enum Next<'a> {
     /// Nothing.
     Nothing,
     /// Append these octets to the store.
     Store(&'a [u8]),
-    /// Tell whoever gave the commands.
+    /// Report this to the user who gave the commands.
     Tell(Tell),
 }
 
-/// The commands that the ground has given and that have no fate yet, in the order of their numbers, and what
-/// is known of the board. All of it is kept in a store, octets that are only appended.
+/// The commands without a fate, in the order of their numbers, and the ground's knowledge of the board. A
+/// store keeps all of this: octets to which the program only appends.
 #[derive(Drop)]
 pub struct Ledger {
     alloc: Global,
@@ -64,9 +64,9 @@ impl Ledger {
     ghost use Rattle.command_ledger.specs.Ledger.{opened, appended, appended_if, give_fault, given, packet_of, news, has_told, order_of, rebuild_of};
     ghost use Rattle.command_ledger.specs.Ledger.{next_view, next_of, all_stored, is_worth, is_at_rest, fresh_octets, Says};
 
-    /// Opens a ledger at the octets of its store, none for a new one. Returns how many of them are good:
-    /// after those there may be an entry that was cut off, and the program cuts the store there before it
-    /// appends. No packet is longer than `max_packet`.
+    /// Opens a ledger from the octets of its store; a new store has none. Also returns how many of the octets
+    /// are good. An entry that was cut off may follow them: the program truncates the store to this length
+    /// before it appends. `max_packet` is the maximum length of a packet.
     /// Faults: 9 Memory. Memory: yes. Cost: n.
     pub fn open(
         alloc: Global,
@@ -128,9 +128,10 @@ impl Ledger {
         None
     }
 
-    /// Gives a command after all others, and returns its number. `tag` is the caller's own; `apid` and
-    /// `count` are those of its packet. The first that applies: 3 FieldRange (a MAP above 63, an APID above
-    /// 2,047, a count above 16,383, more than 65,528 octets), 4 TooLong, 5 NoNumber, 9 Memory.
+    /// Adds a command after all others, and returns its number. `tag` is the caller's own; `apid` and `count`
+    /// are the packet's APID and sequence count. Refuses by the first that applies: 3 FieldRange (a MAP above
+    /// 63, an APID above 2,047, a count above 16,383, more than 65,528 octets), 4 TooLong, 5 NoNumber, 9
+    /// Memory.
     /// Faults: 3 FieldRange, 4 TooLong, 5 NoNumber, 9 Memory. Memory: yes. Cost: n.
     pub fn command(
         &mut self,
@@ -166,8 +167,8 @@ impl Ledger {
         Ok(number)
     }
 
-    /// The MAP and the packet of a number, to go up. `None` unless the command is in the store and has no
-    /// fate, and while the board has no record.
+    /// Returns the MAP and the packet of the command with this number, to be sent. Returns `None` unless the
+    /// command is in the store and has no fate, and while the board has no record.
     pub fn packet(&self, number: u32) -> Option<(u8, &[u8])>
         ensures { option_map goes_up result ≡ option_map sent_as (packet_of self.now number) }
     {
@@ -179,22 +180,23 @@ impl Ledger {
         Some((command.map(), command.packet()))
     }
 
-    /// Every number up to this one has its fate.
+    /// Returns the number up to which every command has its fate.
     pub fn below(&self) -> u32
         ensures { result ≡ self.now.state.standing.below }
     {
         self.state.standing().below
     }
 
-    /// The highest number that was given, or that another ground's command has had on board.
+    /// Returns the highest number that was given, or that a command of another ground had on board.
     pub fn highest(&self) -> u32
         ensures { result ≡ highest self.now.state }
     {
         self.state.highest()
     }
 
-    /// Takes the octets of a status. What says no more than is known, or is being written, changes nothing.
-    /// Refuses by 1 `Layout` octets that are not 27, and then by 2 `Check` octets that spell no status.
+    /// Takes the octets of a status. A status that contains nothing new, or that the board made while it
+    /// wrote its record, changes nothing. Refuses by 1 `Layout` if there are not 27 octets, and then by 2
+    /// `Check` if they do not spell a status.
     /// Faults: 1 Layout, then 2 Check, 9 Memory. Memory: yes. Cost: n.
     pub fn hears(&mut self, octets: &[u8]) -> Result<(), LedgerFault>
         ensures taken { (status : Status) (waiting : ℕ) → IsStatusInRange status → waiting < 2 ^ 8
@@ -205,6 +207,9 @@ impl Ledger {
             × (octets.now ≡ status_octets status waiting)
             × (self.new ≡ appended_if self.old (news self.old status))) }
         ensures layout { (length octets.now ≡ 27 → ⊥) → result ≡ Err LedgerFault.Layout }
+        ensures check { length octets.now ≡ 27
+            → ((status : Status) (waiting : ℕ) → octets.now ≡ status_octets status waiting → ⊥)
+            → result ≡ Err LedgerFault.Check }
         ensures err { OnErr result (self.new ≡ self.old) }
     {
         match decode_status(octets) {
@@ -256,7 +261,7 @@ impl Ledger {
         }
     }
 
-    /// The order to restart, for the boot count that is known.
+    /// Returns the order to restart, for the last known boot count.
     pub fn restart_board(&self) -> Order
         ensures { result ≡ orders.Restart self.now.state.standing.board.boot }
     {
@@ -265,9 +270,9 @@ impl Ledger {
         }
     }
 
-    /// Gives the order that brings a record to the board that has lost its own, which a person decides.
-    /// Nothing is known then of the numbers that may have gone up and have no fate. `order` returns it once
-    /// it is stored.
+    /// Makes the order that brings a record to a board that has lost its own; an operator decides this.
+    /// Nothing is known then of the commands that may have been sent and have no fate. `order` returns the
+    /// order once it is stored.
     /// Faults: 6 NotLost, then 7 NoBoot, 9 Memory. Memory: yes.
     pub fn rebuild(&mut self) -> Result<(), LedgerFault>
         ensures refused { IfErr (rebuild_of self.old) (λ f. result ≡ Err f) }
@@ -303,8 +308,8 @@ impl Ledger {
         Ok(Some(Rebuild { mark, boot, last }))
     }
 
-    /// The order that brings a record, to go up while the board has none. `None` unless `rebuild` was called
-    /// since the loss, and it is stored.
+    /// Returns the order that brings a record, to be sent while the board has none. Returns `None` unless
+    /// `rebuild` was called since the loss, and the order is stored.
     pub fn order(&self) -> Option<Order>
         ensures { result ≡ order_of self.now }
     {
@@ -322,7 +327,7 @@ impl Ledger {
         }
     }
 
-    /// Returns what the program does now.
+    /// Returns the program's next action.
     pub fn next(&self) -> Next<'_>
         ensures { next_view result ≡ next_of self.now }
     {
@@ -336,7 +341,8 @@ impl Ledger {
         }
     }
 
-    /// So many octets, all those of `Next::Store`, are in the store. Changes nothing if they are not as many.
+    /// Notes that all octets of `Next::Store` are in the store; `count` is their number. Changes nothing if
+    /// it is another number.
     pub fn stored(&mut self, count: usize)
         ensures { self.new ≡ (if count == length self.old.unstored then all_stored self.old else self.old) }
     {
@@ -349,7 +355,7 @@ impl Ledger {
         self.stored = self.stored.saturating_add(count as u64);
     }
 
-    /// This was told. Changes nothing if it is not what `next` returns.
+    /// Notes that this was reported. Changes nothing if `next` does not return it.
     /// Faults: 9 Memory. Memory: yes.
     pub fn told(&mut self, tell: Tell) -> Result<(), LedgerFault>
         ensures ok { next_of self.old ≡ Says tell → OnOk result (self.new ≡ appended self.old Tells) }
@@ -366,8 +372,8 @@ impl Ledger {
         self.append(&Written::Tells)
     }
 
-    /// Whether a fresh store would have less than half of the octets of this one. False while anything is to
-    /// be stored or told.
+    /// Returns whether a fresh store would have less than half as many octets as this one. Returns false
+    /// while anything is left to be stored or reported.
     pub fn is_worth(&self) -> bool
         ensures { result ≡ is_worth self.now }
     {
@@ -380,8 +386,8 @@ impl Ledger {
         self.unstored.is_empty() && !self.due && self.state.tell().is_none()
     }
 
-    /// The octets of a fresh store of the same state. The program writes them beside the store, puts them in
-    /// its place, and then calls `renewed`.
+    /// Returns the octets of a fresh store of the same state. The program writes them to a new file, replaces
+    /// the store with it, and then calls `renewed`.
     /// Faults: 8 Owing, then 9 Memory. Memory: yes. Cost: n.
     pub fn fresh(&self) -> Result<Vec<u8>, LedgerFault>
         ensures owing { is_at_rest self.now ≡ false → result ≡ Err LedgerFault.Owing }
@@ -397,7 +403,7 @@ impl Ledger {
         }
     }
 
-    /// The store has so many octets now, those of `fresh` at its begin.
+    /// Notes that the store now has this many octets, which begin with those of `fresh`.
     pub fn renewed(&mut self, count: usize)
         ensures { self.new ≡ record self.old { stored = count } }
     {

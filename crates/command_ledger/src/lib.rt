@@ -1,5 +1,5 @@
-//! The commands that the ground has given and that have no fate yet, and the store that keeps them over
-//! restarts of the ground. It does no input or output.
+//! The ground's commands without a fate, and the store that keeps them over restarts of the ground. This
+//! crate does no input or output.
 #![tactic(auto)]
 
 mod entry;
@@ -14,6 +14,6 @@ mod store;
 mod tests;
 
 pub use fault::LedgerFault;
-pub use laws::law_of_fates;
+pub use laws::{law_of_fates, law_of_numbers, law_of_store};
 pub use ledger::{Ledger, Next};
 pub use state::Tell;

@@ -1,4 +1,4 @@
-// The commands that have no fate, what is known of the board, and what is to be told.
+// The commands without a fate, the knowledge of the board, and the reports that are due.
 
 ghost use Rattle.std.specs.Prelude.{◌≡◌, ℕ, ◌+◌, ◌-◌, ◌<◌, ◌≤◌, ◌^◌, ◌++◌, length, take, drop, option_to_list};
 ghost use Rattle.std.specs.VecDeque.{deque_len, deque_capacity};
@@ -12,20 +12,20 @@ use std::alloc::{AllocError, Global};
 use std::collections::VecDeque;
 use std::marker::Model;
 
-/// What the ledger tells whoever gave the commands.
+/// What the ledger reports to the user who gave the commands.
 #[derive(Clone, Copy, Debug, PartialEq, Eq)]
 pub enum Tell {
     /// The command with this tag was executed, whole.
     Executed(u64),
-    /// Nothing is known of the command with this tag: its execution may have begun. It is not executed any
-    /// more.
+    /// Nothing is known of the command with this tag: its execution may have begun. It is not executed later.
     Unknown(u64),
-    /// The board has another boot count.
+    /// The board has this new boot count.
     Restarted(u32),
-    /// The board has lost its record, with this mark of the loss. It executes nothing until a record is
-    /// brought.
+    /// The board has lost its record; the mark of the loss. The board executes nothing until an order brings
+    /// a record.
     RecordLost(u32),
-    /// The board has passed these numbers, and their commands are not those of this ledger.
+    /// The board has passed these numbers, from the first to the last, and their commands are not this
+    /// ledger's.
     Foreign(u32, u32),
 }
 
@@ -82,8 +82,8 @@ fn fate(kept: &Record, doubt: u32, number: u32, tag: u64) -> Tell
     }
 }
 
-// Moves so many commands, the first of them with the number after `below`, to what is told. Returns how many
-// octets of the store give the others.
+// Moves the first `count` commands to the reports; the first of them has the number after `below`. Returns
+// how many octets of the store give the remaining commands.
 fn pass(
     commands: &mut VecDeque<Given>,
     tells: &mut VecDeque<Tell>,
@@ -143,7 +143,7 @@ fn foreign(agree: bool, board: &Record, kept: &Record) -> Option<Tell>
     }
 }
 
-// What is kept once the record is believed.
+// The knowledge after this record is accepted.
 fn heard_standing(below: u32, agree: bool, known: &Standing, kept: &Record) -> Standing
     ensures { result ≡ heard_standing below agree known.now kept.now }
 {
@@ -161,7 +161,7 @@ fn heard_standing(below: u32, agree: bool, known: &Standing, kept: &Record) -> S
     }
 }
 
-// Every number up to this one has its fate then.
+// The number up to which every command then has its fate.
 fn below_after(below: u32, many: usize, count: usize, kept: &Record) -> u32
     requires few { below + many < 2 ^ 32 }
     requires count { count ≡ passed below many kept.now }
@@ -211,21 +211,21 @@ impl State {
         self.standing.below + self.commands.len() as u32
     }
 
-    // What is to be told first.
+    // The first report that is due.
     pub(crate) fn tell(&self) -> Option<Tell>
         ensures { result ≡ slice_get self.now.tells 0 }
     {
         self.tells.front().copied()
     }
 
-    // How many commands have no fate.
+    // The number of commands without a fate.
     pub(crate) fn len(&self) -> usize
         ensures { result ≡ length self.now.commands }
     {
         self.commands.len()
     }
 
-    // The command at this place of the list.
+    // The command at this index of the list.
     pub(crate) fn get(&self, index: usize) -> Option<&Given>
         ensures value { option_copied result ≡ slice_get self.now.commands index }
         ensures variant { IsSome result ↔ (index < length self.now.commands) }
@@ -253,7 +253,7 @@ impl State {
         passed.min(self.commands.len())
     }
 
-    // A command has the next number.
+    // Adds a command, with the next number.
     pub(crate) fn give(
         &mut self,
         alloc: Global,
@@ -273,7 +273,7 @@ impl State {
         Ok(())
     }
 
-    // The board has said a later record.
+    // Takes a later record of the board.
     pub(crate) fn hear(&mut self, kept: &Record) -> Result<(), AllocError>
         ensures ok { OnOk result (self.new ≡ hears self.old kept.now) }
         ensures err { OnErr result (self.new ≡ self.old) }
@@ -300,7 +300,7 @@ impl State {
         Ok(())
     }
 
-    // The board has said that it has lost its record.
+    // Takes the loss of the board's record.
     pub(crate) fn lose(&mut self, mark: u32) -> Result<(), AllocError>
         ensures ok { OnOk result (self.new ≡ loses self.old mark) }
         ensures err { OnErr result (self.new ≡ self.old) }
@@ -312,21 +312,21 @@ impl State {
         Ok(())
     }
 
-    // An order is given that brings a record.
+    // Keeps an order that brings a record.
     pub(crate) fn rebuild(&mut self, order: Rebuild)
         ensures { self.new ≡ after_entry self.old (Rebuilds order) }
     {
         self.standing.order = Some(order);
     }
 
-    // What was to be told first is told.
+    // Removes the first report, which was made.
     pub(crate) fn told(&mut self)
         ensures { self.new ≡ after_entry self.old Tells }
     {
         let _told = self.tells.pop_front();
     }
 
-    // All that stands in a fresh store, but for the commands.
+    // Takes all that a fresh store contains before the commands.
     pub(crate) fn stand(&mut self, standing: Standing)
         ensures { self.new ≡ after_entry self.old (Stands standing) }
     {
@@ -336,7 +336,7 @@ impl State {
         self.live = 0;
     }
 
-    /// Whether the entry may come after those before it.
+    /// Whether the entry may follow those before it.
     pub(crate) fn follows(&self, entry: &Written) -> bool
         ensures { result ≡ follows self.now (entry_view entry.now) }
     {
@@ -360,7 +360,7 @@ impl State {
         }
     }
 
-    /// Does to the state what the entry says.
+    /// Applies the entry to the state.
     pub(crate) fn apply(&mut self, alloc: Global, entry: &Written) -> Result<(), AllocError>
         requires { follows self.old (entry_view entry.now) ≡ true }
         ensures ok { OnOk result (self.new ≡ after_entry self.old (entry_view entry.now)) }

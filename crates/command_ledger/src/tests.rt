@@ -1,4 +1,4 @@
-// Octets that were worked by Python's struct and zlib, and what becomes of one command.
+// Octets worked out by Python's struct and zlib, and the fate of one command.
 
 use crate::*;
 use command_log::Order;
@@ -58,7 +58,7 @@ const BROUGHT: [u8; 27] = [
 
 const TAG: u64 = 0x1122_3344_5566_7788;
 
-// A comparison that is proved once, and not at each place.
+// A comparison that is proved once, not at each place.
 fn equal<A: PartialEq + Debug>(rt: &impl Abort, left: &A, right: &A) {
     assert_eq!(*rt; *left, *right);
 }
@@ -99,7 +99,7 @@ fn goes_up(rt: &impl Abort, ledger: &Ledger, number: u32, wanted: Option<(u8, &[
     equal(rt, &ledger.packet(number), &wanted);
 }
 
-// A ledger whose one command is in the store.
+// A ledger whose only command is in the store.
 fn with_command(rt: &impl Abort, alloc: Global) -> Ledger {
     let mut ledger = opened(rt, alloc, &[], 0);
     gives(rt, &mut ledger, Ok(1));

@@ -28,3 +28,6 @@ pub returns-in-Err-clause-taken : goal.returns-in-Err-clause-taken
 returns-in-Err-clause-taken c status waiting range low e =
     absurd (never_read c.decode_status.result c.in-Err.fault status waiting c.in-Err.is
     (c.decode_status.ensures.only status waiting range low e))
+
+pub returns-in-Ok-clause-check : goal.returns-in-Ok-clause-check
+returns-in-Ok-clause-check c long none = absurd (none c.in-Ok.status c.in-Ok.field-0-1 c.in-Ok.ensures.found)
