@@ -46,7 +46,7 @@ use Rattle.tc_link.proofs.Upward.{eases_keep, bypass_eases}
 use Rattle.tc_link.proofs.Downward.{apart, words_apart, words_say}
 use Rattle.tc_link.proofs.Promised.{holds_so}
 
--- ---- the session goes on
+-- ---- the session continues
 
 session_to : (c : Config) (w new : World)
     → ((early : Bool) (d : Directive) (base : ℕ) → In early c d base w → In early c d base new) → InSession c w
@@ -74,12 +74,12 @@ module _ (c : Config) (w : World) (x : ExtractorState) (packets : List (List ℕ
     session = λ is. session_to c w (with_telemetry w x packets) heard_in (h.session is);
   }
 
--- where a Type-BD frame arrived
+-- a Type-BD frame arrived
 module _ (c : Config) (w : World) (h : Holding c w) (u : SegmentView) (kept : Bool) where
   abbrev bypassed : World
   bypassed = with_bypass w u kept
 
-  -- the session, with the same beginning
+  -- the session continues, with the same beginning
   bypassed_in : (early : Bool) (d : Directive) (base : ℕ) → In early c d base w → In early c d base bypassed
   bypassed_in early d base g =
       run_to g (eases_keep early c d base w h.sound g (bypass_outcome w.spacecraft u kept).after
@@ -107,7 +107,7 @@ module _ (c : Config) (w : World) (h : Holding c w) where
       → Holding c (record w { ground_node = (ground_take_telemetry w.ground_node packets).after })
   take_holds packets = taken_beside w (Holding c) packets h (λ left. telemetry_holds c w w.ground_node.extractor left h)
 
-  -- no session goes on with these nodes
+  -- these nodes are on the link, without a session
   nodes_hold : (ground_node : GroundState) (spacecraft : SpacecraftState) → GroundNodeSteady c ground_node
       → GroundFits ground_node → SpacecraftSteady c spacecraft → Holding c (with_nodes w ground_node spacecraft)
   nodes_hold ground_node spacecraft steady fits board = record {
@@ -142,7 +142,7 @@ module _ (c : Config) (w : World) (h : Holding c w) where
   abbrev Hears_well : GroundOutcome Heard → Type 0
   Hears_well o = Holding c (heard w o)
 
-  -- ---- a report, beside such telemetry
+  -- ---- a CLCW, in addition to such telemetry
 
   used_holds : (x : ExtractorState) (packets : List (List ℕ)) (report : Clcw) → Holding c
       (with_nodes w (after_report (apart w.ground_node x packets) (clcw_step w.ground_node.fop report))
@@ -214,13 +214,13 @@ past_holds w p =
     subst (Holding p.config) p.led
     (link_run_holds p.config p.steps (new_world p.config) p.numbers (new_holds p.config p.ranges))
 
--- ---- a session that goes on
+-- ---- a session that continues
 
 idle_of_opening : (w new : World) → new.session.opening ≡ w.session.opening → IsIdle w → IsIdle new
 idle_of_opening w new same idle =
     ap (λ (o : Option Opening). option_map (λ (x : Opening). x.idle) o) same ∙ idle
 
--- it is still the one that began so
+-- it is still the session that began so
 pub session_still : (w : World) (s : LinkStep) → LeavesSession w s
     → opened (link_step w s).session ≡ opened w.session
 session_still w s goes = beside_so w (λ new. opened new.session ≡ opened w.session) s goes (record {
@@ -234,7 +234,7 @@ pub still_opening : (w : World) (s : LinkStep) → LeavesSession w s
     → (link_step w s).session.opening ≡ w.session.opening
 still_opening w s goes = ap (λ (o : Option Opening × ℕ). o.0) (session_still w s goes)
 
--- and so it had an idle start
+-- so it had an idle start
 pub still_idle : (w : World) (s : LinkStep) → IsIdle w → LeavesSession w s → IsIdle (link_step w s)
 still_idle w s idle goes = idle_of_opening w (link_step w s) (still_opening w s goes) idle
 
@@ -242,7 +242,7 @@ pub run_idle : (w : World) (steps : List LinkStep) → IsIdle w → SessionLasts
 run_idle w [] idle lasts = idle
 run_idle w (s ∷ steps) idle lasts = run_idle (link_step w s) steps (still_idle w s idle lasts.0) lasts.1
 
--- with the number from which it counts
+-- the session, with the number from which it counts
 pub record CountsAs (c : Config) (base : ℕ) (w : World) : Type 0 where
   pub session : InSession c w
   pub base_is : session.base ≡ base
@@ -286,7 +286,7 @@ module _ (c : Config) (w : World) (h : Holding c w) where
     passes = λ u kept. counts_to c base w (with_bypass w u kept) (bypassed_in c w h u kept) t;
   })
 
-  -- V(S) and NN(R) change with the records alone
+  -- V(S) and NN(R) change only with the records
   pub moves_still : (s : LinkStep) → IsLinkStep s → IsIdle w → LeavesSession w s → LeavesNumbers w s
       → MovesWithRecords w (link_step w s)
   moves_still s fits idle goes quiet = beside_so w (MovesWithRecords w) s goes (record {

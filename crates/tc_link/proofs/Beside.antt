@@ -1,4 +1,5 @@
--- What octets leave the receiver as it was, and what a step of the link may do while a session goes on.
+-- Which octets leave the receiver as it was, and what a step of the link may do while a session
+-- continues.
 use Rattle.tc_link.proofs.Common.{◌≡◌, ℕ, Bool, true, false, List, [], ◌∷◌, Result, Ok, Err, refl, sym, subst}
 use Rattle.tc_link.proofs.Common.{◌==◌, cond_both, On, TcFault, TmFault, Clcw, ClcwFault, SegmentView, BodyView, Ad, Bd}
 use Rattle.tc_link.proofs.Common.{Ahead, NoBuffer, Outside, ahead_by, ◌/◌, ◌≢◌}
@@ -30,7 +31,7 @@ use Rattle.tc_link.specs.AnyPast.{is_flag}
 use Rattle.tc_link.specs.Beside.{IsUnused, BringsNone, LeavesSession}
 use Rattle.tc_link.proofs.Downward.{apart}
 
--- The receiver as it was but for FARM-B.
+-- The receiver as it was except for FARM-B.
 
 pub record Left (f g : FarmState) : Type 0 where
   pub vr : g.vr ≡ f.vr
@@ -70,8 +71,8 @@ same_flag false = refl
 pub same_left : (f : FarmState) → is_left f f ≡ true
 same_left f = rw (eq-eqb f.vr f.vr refl, same_mode f.state, same_flag f.retransmit) refl
 
--- what holds at each place of the table, by its row for the expected number, which is 0 ahead, and for one ahead,
--- behind and outside
+-- A property holds at each place of the table if it holds in four rows: those of the expected number, which is 0
+-- ahead, and of numbers ahead, behind and outside.
 pub at_place : (P : (Bool → FarmMode → Verdict) → Type 0) (h d : ℕ) → (d ≡ 0 → P (ad_verdict (place_at 127 0)))
     → P (ad_verdict (place_at 127 1)) → P (ad_verdict (place_at 127 255)) → P (ad_verdict (place_at 1 2))
     → P (ad_verdict (place_at h d))
@@ -80,7 +81,7 @@ at_place P h d expected ahead behind outside =
     cond_both (nat_lt d h) _ _ (λ p. P (ad_verdict p)) (λ t. ahead) (λ g.
     cond_both (nat_le (256 - h) d) _ _ (λ p. P (ad_verdict p)) (λ t. behind) (λ k. outside)))
 
--- the states in which a verdict comes
+-- the states in which a verdict is given
 abbrev ComesIn : FarmMode → Verdict → Type 0
 ComesIn mode NoBuffer = mode ≡ Open
 ComesIn mode Outside = mode ≢ Lockout
@@ -114,7 +115,7 @@ comes_in f n free =
     at_place (λ (v : Bool → FarmMode → Verdict). ComesIn f.state (v free f.state)) (f.width / 2) (ahead_by n f.vr)
     (λ none. expected_in free f.state) (ahead_in free f.state) (behind_in free f.state) (outside_in free f.state)
 
--- a verdict that leaves the receiver so leaves it as it was
+-- a verdict that changes only FARM-B leaves the receiver as it was
 verdict_left : (f : FarmState) (v : Verdict) → ComesIn f.state v → Left f (after_verdict f v) → after_verdict f v ≡ f
 verdict_left f Accepted comes left = absurd (omega (arith, left.vr))
 verdict_left f NoBuffer comes left = absurd (let no : Open ≡ Wait = sym comes ∙ left.state in cc)
@@ -139,24 +140,24 @@ set_left f x Open is left =
 set_left f x Wait is left = absurd (let no : Wait ≡ Open = sym is ∙ left.state in cc)
 set_left f x Lockout is left = refl
 
--- one that hands data on moves V(R)
+-- a verdict that passes data on changes V(R)
 accepts_more : (f : FarmState) (v : Verdict) → is_accepted v ≡ true → Left f (after_verdict f v) → ⊥
 accepts_more f Accepted is left = omega (arith, left.vr)
 accepts_more f _ is left = absurd cc
 
--- so a control command that does counts in FARM-B alone
+-- so a control command that leaves the receiver so changes only FARM-B
 control_left : (f : FarmState) (command : Command) → Left f (farm_step f (command_event command))
     → farm_step f (command_event command) ≡ after_type_b f
 control_left f Unlock left = unlock_left f f.state refl left
 control_left f (SetVr x) left = set_left f x f.state refl left
 
--- What a step of the link may do while a session goes on.
+-- What a step of the link may do while a session continues.
 
--- with another extractor, and other packets of telemetry
+-- the world with another extractor, and other packets of telemetry
 abbrev pub with_telemetry : World → ExtractorState → List (List ℕ) → World
 with_telemetry w extractor packets = record w { ground_node = apart w.ground_node extractor packets }
 
--- where a Type-BD frame arrived
+-- the world after a Type-BD frame arrived
 abbrev pub with_bypass : World → SegmentView → Bool → World
 with_bypass w u kept = record w { spacecraft = (bypass_outcome w.spacecraft u kept).after }
 
@@ -167,7 +168,7 @@ pub record AtEachStepBeside (w : World) (s : LinkStep) (P : World → Type 0) : 
   pub passes : (u : SegmentView) (kept : Bool) → P (with_bypass w u kept)
 
 module _ (w : World) (P : World → Type 0) where
-  -- where telemetry is taken, nothing else is another
+  -- when telemetry is taken, nothing else changes
   pub taken_beside : (packets : List (List ℕ)) → P w
       → ((left : List (List ℕ)) → P (with_telemetry w w.ground_node.extractor left))
       → P (record w { ground_node = (ground_take_telemetry w.ground_node packets).after })
@@ -180,7 +181,7 @@ module _ (w : World) (P : World → Type 0) where
     abbrev Received_so : SpacecraftState → Type 0
     Received_so after = Left w.spacecraft.farm after.farm → P (record w { spacecraft = after })
 
-    -- the receiver alone takes a step, to this
+    -- only the receiver takes a step, to this state
     with_farm : (f g : FarmState) → f ≡ g → P (record w { spacecraft = record w.spacecraft { farm = g } })
         → P (record w { spacecraft = record w.spacecraft { farm = f } })
     with_farm f g to =
@@ -199,7 +200,7 @@ module _ (w : World) (P : World → Type 0) where
     bypass_so u true left = passes u true
     bypass_so u false left = passes u false
 
-    -- a segment, of which a frame that is not kept makes no use
+    -- a segment, which a frame that is not kept does not use
     no_segment : SegmentView
     no_segment = record { header = record { flags = Alone; map = 0 }; payload = [] }
 

@@ -1,4 +1,4 @@
--- Packets that go past the sequence control.
+-- Bypass packets.
 use Rattle.tc_link.proofs.Common.{◌≡◌, ℕ, Bool, true, false, refl, arith, ◌∙◌, Clcw, SegmentView, Directive, CopFault}
 use Rattle.tc_link.proofs.Common.{Alert, InitUnlock, directive_step, FopState, FopOutcome, clcw_step, retransmits}
 use Rattle.tc_link.proofs.Common.{tick_step, heard_active, obeyed, begun, ticked, GroundState, refill_step, with_fop}
@@ -44,7 +44,7 @@ use Rattle.tc_link.proofs.AnyPast.{link_step_holds, past_holds}
 use Rattle.tc_link.proofs.Readable.{moved, marked_fits, Goes, reads_back}
 use Rattle.tc_link.proofs.Invariant.{Holding}
 
--- The bypass queue of the sender changes by a packet that is accepted and one that is sent alone.
+-- The sender's bypass queue changes only by a packet that is accepted, and by one that is sent.
 
 module _ (s : FopState SegmentView) where
   -- the same packets are queued
@@ -92,9 +92,9 @@ module _ (s : GroundState) where
     uses = λ x report. refilled_same _ ∙ report_same s.fop report;
   })
 
--- Packets that go past the sequence control.
+-- Bypass packets.
 
--- What some of a list, in order, are of another.
+-- When some elements of a list, in order, are some elements of another list.
 
 module _ {A : Type 0} where
   pub some_all : (xs : List A) → AreSomeOf xs xs
@@ -110,7 +110,7 @@ module _ {A : Type 0} where
   some_append (one p) q = one (some_append p q)
   some_append (without p) q = without (some_append p q)
 
-  -- some of some of a list are some of it
+  -- some of some of a list are some of the list
   pub some_trans : {ys zs : List A} → AreSomeOf ys zs → {xs : List A} → AreSomeOf xs ys → AreSomeOf xs zs
   some_trans none p = p
   some_trans (one q) (one p) = one (some_trans q p)
@@ -122,7 +122,7 @@ module _ {A : Type 0} where
   some_drop (suc n) [] = none
   some_drop (suc n) (x ∷ xs) = without (some_drop n xs)
 
-  -- the last of both, and the first
+  -- the last elements of a list are some of it, and so are the first ones
   pub some_later : (xs ys : List A) → AreSomeOf ys (xs ++ ys)
   some_later [] ys = some_all ys
   some_later (x ∷ xs) ys = without (some_later xs ys)
@@ -131,9 +131,10 @@ module _ {A : Type 0} where
   some_first [] ys = some_none ys
   some_first (x ∷ xs) ys = one (some_first xs ys)
 
--- Each step passes bypass packets on, or drops some: none comes twice, or before one that was accepted before it.
+-- Each step passes bypass packets on, or drops some. None is delivered twice, or before one that was accepted
+-- earlier.
 
--- the packets in octets, and in those on a way
+-- the packets in octets, and in the octets in transit
 abbrev in_octets : List ℕ → List PacketOn
 in_octets octets = in_frame packet_in (command.frame_at On octets)
 
@@ -168,7 +169,7 @@ module _ (s : SpacecraftState) where
 
 -- ---- each step
 
--- from a world to the next one, where these were accepted and those taken
+-- from a world to the next one, if these packets were accepted and those taken
 record Passes (w : World) (taken accepted : List PacketOn) (new : World) : Type 0 where
   some : AreSomeOf (taken ++ bypass_held new) (bypass_held w ++ accepted)
 
@@ -176,11 +177,11 @@ module _ (c : Config) (w : World) (h : Holding c w) where
   abbrev Passes_on : Event → WorldOutcome → Type 0
   Passes_on e o = Passes w (bypass_taken_by e o.answer) (bypass_accepted_by e o.answer) o.after
 
-  -- none is accepted, and none taken
+  -- none is accepted, and none is taken
   with_none : (new : World) → AreSomeOf (bypass_held new) (bypass_held w) → Passes w [] [] new
   with_none new some = record { some = subst (AreSomeOf (bypass_held new)) (sym (append-nil (bypass_held w))) some }
 
-  -- fewer are held at each place
+  -- fewer packets are held at each place
   fewer : (new : World) → AreSomeOf new.spacecraft.bypass w.spacecraft.bypass → AreSomeOf (bypass_up new) (bypass_up w)
       → AreSomeOf (bypass_queued new) (bypass_queued w) → Passes w [] [] new
   fewer new board up queued = with_none new (some_append board (some_append up queued))
@@ -195,7 +196,7 @@ module _ (c : Config) (w : World) (h : Holding c w) where
       fewer new (rw board (some_all w.spacecraft.bypass)) (rw up (some_all (bypass_up w)))
       (rw queued (some_all (bypass_queued w)))
 
-  -- ---- the first frame on its way up is there no more
+  -- ---- the first frame in transit on the uplink leaves it
 
   module _ (b : List ℕ) (bs : List (List ℕ)) (is : w.up ≡ b ∷ bs) where
     up_is : bypass_up w ≡ in_octets b ++ in_all bs
@@ -218,7 +219,7 @@ module _ (c : Config) (w : World) (h : Holding c w) where
   Pulls o = Passes w [] [] (world_after_pull w (with_fop w.ground_node o.after)
       (frame_to_send w.ground_node.config o.answer)).after
 
-  -- what is read of the frame that is sent
+  -- what is read from the frame that is sent
   reads : (f : BodyView) → Goes f → in_octets (spelling On (frame_of w.ground_node.config f)) ≡ packet_in f
   reads f goes =
       let octets : List ℕ = spelling On (frame_of w.ground_node.config f) in
@@ -232,7 +233,7 @@ module _ (c : Config) (w : World) (h : Holding c w) where
       ∙ ap (λ (ps : List PacketOn). bypass_up w ++ ps)
       (append-nil (in_octets (spelling On (frame_of w.ground_node.config f))) ∙ reads f goes)
 
-  -- with what is left in the queue the same packets are there
+  -- with what is left in the queue, the same packets are held
   sends : (f : BodyView) → Goes f → (new : World) → new.spacecraft ≡ w.spacecraft
       → new.up ≡ w.up ++ spelling On (frame_of w.ground_node.config f) ∷ []
       → packet_in f ++ bypass_queued new ≡ bypass_queued w → Passes w [] [] new
@@ -301,7 +302,7 @@ module _ (c : Config) (w : World) (h : Holding c w) where
 
   -- ---- all events
 
-  -- no other event passes any on
+  -- no other event passes a packet on
   others : (e : Event) → e ≢ events.Send → e ≢ events.UpDeliver → (TakesBypass e → ⊥)
       → ((m : ℕ) (octets : Bor (List ℕ)) → e ≢ events.Bypass m octets) → Passes w [] [] (world_step w e).after
   others e not_sent not_come not_taken not_given =

@@ -1,4 +1,4 @@
--- The words that many of these proofs use.
+-- The names that many of these proofs use.
 pub use Rattle.simulated_link.proofs.Common.{◌≡◌, ℕ, ◌+◌, ◌≤◌, inl, inr, Bool, true, false, List, [], ◌∷◌, map, Some}
 pub use Rattle.simulated_link.proofs.Common.{None, sym, subst, arith, IfSome, refl, ap, ◌∙◌, option_map, ◌++◌}
 pub use Rattle.simulated_link.proofs.Common.{option_to_list, Option, Result, Ok, Err, if◌then◌else◌, append-nil, ◌<◌}
@@ -85,7 +85,7 @@ pub use Rattle.simulated_link.specs.declared.fault.SimFault.{SimFault}
 pub use Rattle.simulated_link.specs.declared.fault.SimFault.TheVariants.{NotDetectable}
 pub use Rattle.simulated_link.specs.declared.session_start.Opening.{Opening}
 
--- The ground with what a directive, a submission or a report leaves of the submissions, before its sender goes on.
+-- The ground, with the submissions that a directive, a submission or a CLCW leaves, before its sender continues.
 
 abbrev pub obeying : GroundState → Directive → GroundState
 obeying s d = record s { fates = after_obeying s.fates d }
@@ -96,7 +96,7 @@ submitting s m octets = record s {
   fates = with_submission (length (segments_on s m octets)) s.fates;
 }
 
--- In S6 the sender is closed, and in no other state.
+-- The sender is closed in S6, and in no other state.
 
 pub closed_not : {A : Type 0} (m : FopMode) → m ≡ S6 → is_closed m ≡ false → A
 closed_not m off on = absurd (let no : true ≡ false = rw off at on in cc)

@@ -1,4 +1,4 @@
--- Two nodes that are configured alike are as two with one configuration.
+-- Two nodes that are configured alike behave as two with one configuration.
 use Rattle.tc_link.proofs.Common.{◌≡◌, ℕ, Bool, true, false, List, [], ◌∷◌, Option, Some, None, Result, Ok, Err, refl}
 use Rattle.tc_link.proofs.Common.{ap, subst, ◌∙◌, ◌==◌, if◌then◌else◌, length, Clcw, ClcwFault, SegmentView, BodyView}
 use Rattle.tc_link.proofs.Common.{Ad, Bd, Bc, TcFault, On, Verdict, CopFault, Alert, FopState, PulledUnit, Config}
@@ -34,13 +34,13 @@ use Rattle.tc_link.specs.Configured.{made_of, seen_on_board, ground_with, ground
 use Rattle.tc_link.specs.Configured.{spacecraft_outcome_with, IsSpacecraftAs, AlikeIsAsOne}
 use Rattle.tc_link.proofs.Refilled.{refilled_keeps}
 
--- what is so in both branches
+-- what holds in both branches
 either : {A B : Type 0} (f : A → B) (t : Bool) {x y : A} {u v : B} → u ≡ f x → v ≡ f y
     → (if t then u else v) ≡ f (if t then x else y)
 either f true same other = same
 either f false same other = other
 
--- ---- the ground reads neither of the slots on board
+-- ---- the ground reads neither number of slots on board
 
 module _ (g b : Config) where
   abbrev c : Config
@@ -78,7 +78,7 @@ module _ (g b : Config) where
       (λ waiting pending on off. refl)
   directed_own s d (Err fault) f = refl
 
-  -- it is set, and begins
+  -- V(S) is set, and a session begins
   resumed_as : (s : GroundState) (value : ℕ)
       → after_resuming (ground_with g s) value ≡ ground_with g (after_resuming (ground_with c s) value)
   resumed_as s value =
@@ -152,7 +152,7 @@ module _ (g b : Config) where
   ground_as s TakeTelemetry = taken_as s s.telemetry
   ground_as s ForgetTelemetry = refl
 
--- ---- the spacecraft reads nothing of what the sender and cutting keep to
+-- ---- the spacecraft reads nothing that belongs to the sender or to cutting
 
 module _ (g b : Config) where
   abbrev d : Config

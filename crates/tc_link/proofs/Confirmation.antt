@@ -1,5 +1,5 @@
--- The receiver doesn't enter Lockout, and a confirmation is exact, in a session that had an idle start,
--- by check, Unlock or Set V(R).
+-- In a session that had an idle start by CLCW check, Unlock or Set V(R), the receiver does not enter
+-- Lockout, and a confirmation is exact.
 use Rattle.tc_link.proofs.Common.{◌≡◌, ◌≢◌, ℕ, inl, inr, Bool, true, false, List, []}
 use Rattle.tc_link.proofs.Common.{◌∷◌, Some, refl, sym, subst, ◌∙◌}
 use Rattle.tc_link.proofs.Common.{On, BodyView}
@@ -35,7 +35,7 @@ released s _ = refl
 
 -- ---- frames before the confirmation
 
--- a directive confirms no session
+-- a directive does not confirm a session
 unconfirmed_by : (w : World) (e : Directive) (r : Result (Option Alert) CopFault) → w.session.confirmed ≡ false
     → (session_after_directive w e r).confirmed ≡ false
 unconfirmed_by w e (Err fault) not_yet = not_yet
@@ -88,7 +88,7 @@ module _ (c : Config) (d : Directive) (base : ℕ) (w : World) (k : Sound c w) w
 
   -- ---- the event that confirms
 
-  -- only a report confirms
+  -- only a CLCW confirms
   stays_unconfirmed : (e : Event) → (BringsReport e → ⊥) → w.session.confirmed ≡ false
       → (world_step w e).after.session.confirmed ≡ false
   stays_unconfirmed e not_told not_yet =

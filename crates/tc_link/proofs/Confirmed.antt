@@ -48,7 +48,7 @@ use Rattle.tc_link.proofs.Resumed.{set_idle}
 use Rattle.tc_link.proofs.Sound.{all_append, Sound, Commanded}
 use Rattle.tc_link.proofs.Upward.{own_arrives}
 
--- ---- reports that come: the last one confirms, and so does each after one that does
+-- ---- CLCWs that arrive: the last one confirms, and so does each one after one that does
 
 abbrev EndsGood : ℕ → List Clcw → Type 0
 EndsGood x [] = ⊥
@@ -65,7 +65,7 @@ all_push_good : (x : ℕ) (rs : List Clcw) (r : Clcw) (l : Type 0) → Good x r 
 all_push_good x [] r l good all = (good, tt)
 all_push_good x (a ∷ rs) r l good all = (all.0, all_push_good x rs r l good all.1)
 
--- ---- events that answer no alert
+-- ---- events that are answered without an alert
 
 none_told : (e : Event) → IsBefore e → MayAlert e → ⊥
 none_told events.DownDeliver is may = is.2 refl
@@ -94,15 +94,15 @@ or_true : (b : Bool) → (b || true) ≡ true
 or_true true = refl
 or_true false = refl
 
--- ---- an initiation with this command, and this number: what the receiver has to be, and stays until it comes
+-- ---- an initiation with this command and number, and the receiver until the command arrives
 
 module _ (c : Config) (x : ℕ) (cmd : Command) (May : FarmState → Type 0)
     (may_keep : (s t : FarmState) → Keeps s t → May s → May t)
     (may_confirm : (s : SpacecraftState) → FlagsAgree s.farm → May s.farm
     → WouldConfirm x (body_outcome s (Bc cmd)).after.farm × May (body_outcome s (Bc cmd)).after.farm) where
-  -- ---- until the report is made
+  -- ---- until the CLCW is made
 
-  -- a frame past the sequence control, whose command can be this one alone
+  -- a Type-BD frame, or a Type-BC frame with this command
   abbrev IsB : BodyView → Type 0
   IsB (Ad n u) = ⊥
   IsB (Bd u) = Unit {0}
@@ -111,16 +111,16 @@ module _ (c : Config) (x : ℕ) (cmd : Command) (May : FarmState → Type 0)
   abbrev IsTypeB : List ℕ → Type 0
   IsTypeB b = (f : BodyView) × (frame_at On b ≡ Ok (frame_of c f)) × IsB f
 
-  -- the command comes first
+  -- the command is the first frame in transit on the uplink
   abbrev Fronted : List (List ℕ) → Type 0
   Fronted [] = ⊥
   Fronted (b ∷ bs) = frame_at On b ≡ Ok (frame_of c (Bc cmd))
 
-  -- the receiver confirms, or will once the command has come
+  -- the receiver confirms, or will once the command has arrived
   abbrev Coming : FarmState → List (List ℕ) → Control → Type 0
   Coming s up control = WouldConfirm x s ⊎ (Fronted up ⊎ ((up ≡ []) × IsNowDue control))
 
-  -- what the sender is until it is answered
+  -- the sender's state until it is answered
   record Asks (f : FopState SegmentView) : Type 0 where
     state : IsBeginning f.state
     vs : f.vs ≡ x
@@ -142,7 +142,7 @@ module _ (c : Config) (x : ℕ) (cmd : Command) (May : FarmState → Type 0)
     ups : AllByRecursion IsTypeB w.up
     coming : Coming w.spacecraft.farm w.up w.ground_node.fop.control
 
-  -- and no command is due
+  -- no command is due either
   abbrev TriesOn : World → Type 0
   TriesOn w = Trying w × (IsNowDue w.ground_node.fop.control → ⊥)
 
@@ -311,7 +311,7 @@ module _ (c : Config) (x : ℕ) (cmd : Command) (May : FarmState → Type 0)
         k.1,
       )
 
-  -- the command, or another frame past the sequence control where the receiver confirms already
+  -- the command arrives, or another Type-B frame if the receiver confirms already
   module _ (w : World) (g : HasOctetPast w) (t : Trying w) where
     abbrev farm : FarmState
     farm = w.spacecraft.farm
@@ -378,7 +378,7 @@ module _ (c : Config) (x : ℕ) (cmd : Command) (May : FarmState → Type 0)
   flies w g t =
       arrives Flying taken (λ n v h q. arrives_first v h q.0.0.0 n q.0.0.1 v.up refl q.0.1) w g (t, refl)
 
-  -- ---- the reports
+  -- ---- the CLCWs
 
   record IsConfirmed (w : World) : Type 0 where
     state : w.ground_node.fop.state ≡ S1
@@ -387,7 +387,7 @@ module _ (c : Config) (x : ℕ) (cmd : Command) (May : FarmState → Type 0)
     sent : w.ground_node.fop.sent ≡ []
     confirmed : w.session.confirmed ≡ true
 
-  -- it waits in S5 or S4, or is confirmed; and what is to be heard
+  -- the sender waits in S5 or S4, or is confirmed; and the CLCWs still to be heard
   abbrev Stage : List Clcw → World → Type 0
   Stage rs w = (Asks w.ground_node.fop × EndsGood x rs
       × ((w.ground_node.fop.state ≡ S5) ⊎ ((w.ground_node.fop.state ≡ S4) × AllGood x rs (Unit {0}))))
@@ -440,7 +440,7 @@ module _ (c : Config) (x : ℕ) (cmd : Command) (May : FarmState → Type 0)
       none_first [] none front = front
       none_first (b ∷ bs) none front = absurd (omega (arith, none))
 
-  -- ---- a report is heard
+  -- ---- a CLCW is heard
 
   module _ (s : FopState SegmentView) (r : Clcw) (vs : s.vs ≡ x) where
     equal : Good x r → (r.value == s.vs) ≡ true
@@ -473,7 +473,7 @@ module _ (c : Config) (x : ℕ) (cmd : Command) (May : FarmState → Type 0)
     abbrev Heard : WorldOutcome → Type 0
     Heard o = (alert_in o.answer ≡ None) × Hears rs o.after
 
-    -- the sender goes on as this one
+    -- the sender continues as this one
     module _ (b : List ℕ) (bs : List (List ℕ)) (rest : Reporting c bs rs) (x' : Extracted) where
       abbrev ground_with : FopOutcome SegmentView (Option Alert) → GroundState
       ground_with o = with_fop (acknowledging (after_extraction w.ground_node x') o) o.after
@@ -514,7 +514,7 @@ module _ (c : Config) (x : ℕ) (cmd : Command) (May : FarmState → Type 0)
       abbrev Leads : FopOutcome SegmentView (Option Alert) → Type 0
       Leads o = (o.answer ≡ None) × Hears rs (After o)
 
-      -- in S5 the report confirms, or nothing changes
+      -- in S5 the CLCW confirms, or nothing changes
       five : Asks f → EndsGood x (r ∷ rs) → f.state ≡ S5 → Leads (report_in f r S5)
       five a ends is =
           cond_both (confirms f r) (goes_on (record f { state = S1; ticks = None; control = Idle })) (goes_on f) Leads
@@ -569,7 +569,7 @@ module _ (c : Config) (x : ℕ) (cmd : Command) (May : FarmState → Type 0)
   how_many (b ∷ bs) (r ∷ rs) telling = ap suc (how_many bs rs telling.1)
   how_many _ _ telling = elim telling [ ]
 
-  -- no alert comes, and then this holds
+  -- no alert is raised, and then this holds
   abbrev Well : (World → Type 0) → World → List Event → Type 0
   Well P w es = (AlertsIn w es → ⊥) × HasOctetPast (world_run w es) × P (world_run w es)
 
@@ -657,7 +657,7 @@ module _ (w : World) (g : HasOctetPast w) (off : w.ground_node.fop.state ≡ S6)
   abbrev began : Directive → FopState SegmentView → World
   began d f = (world_after_directive w d (directive_outcome w.ground_node d (obeys f))).after
 
-  -- with this command due, or none where the receiver confirms
+  -- with this command due, or none if the receiver confirms already
   begins_trying : (d : Directive) (f : FopState SegmentView) (x : ℕ) (cmd : Command) (May : FarmState → Type 0)
       (keeps : (s t : FarmState) → Keeps s t → May s → May t)
       (confirms : (s : SpacecraftState) → FlagsAgree s.farm → May s.farm

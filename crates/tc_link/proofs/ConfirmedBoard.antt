@@ -1,4 +1,4 @@
--- What a release, a frame past the sequence control and a control command do to what a receiver would report.
+-- How a buffer release, a Type-BD frame and a control command change what a receiver would report.
 use Rattle.tc_link.proofs.Common.{◌≡◌, ℕ, Bool, true, false, refl, ◌∙◌, SegmentView, FarmState, Open, Wait}
 use Rattle.tc_link.proofs.Common.{FarmMode, state_of, after_unlock, after_set_vr, after_release, SpacecraftState}
 use Rattle.tc_link.proofs.Common.{bypass_outcome, World, world_step}
@@ -10,7 +10,7 @@ use Rattle.tc_link.proofs.ProgressSender.{open_flags}
 
 -- ---- the receiver
 
--- a release, or a frame past the sequence control that is no command: no flag comes up
+-- after a buffer release or a Type-BD frame, no further flag is set
 pub record Keeps (s t : FarmState) : Type 0 where
   pub vr : t.vr ≡ s.vr
   pub lockout : t.lockout ≡ s.lockout
@@ -45,7 +45,7 @@ would_keep x s t k is = (k.lockout ∙ is.0, k.wait is.1, k.retransmit ∙ is.2,
 
 -- ---- a command that arrives
 
--- no flag stands, where the state is so
+-- no flag is set, if the state is this one
 flags_off : (lockout wait : Bool) → Wait ≡ state_of lockout wait → lockout ≡ false
 flags_off false wait e = refl
 flags_off true wait e = absurd cc

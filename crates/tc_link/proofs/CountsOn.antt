@@ -1,4 +1,4 @@
--- V(S) and NN(R) count on from the beginning of a session.
+-- V(S) and NN(R) count from the beginning of a session.
 use Rattle.tc_link.proofs.Common.{Config, World}
 use Rattle.tc_link.proofs.Common.{world_step, ◌≡◌, ℕ, ◌+◌, ◌/◌, ◌%◌, ◌≤◌, true, List, []}
 use Rattle.tc_link.proofs.Common.{◌∷◌, sym, subst, arith, AllByRecursion}
@@ -8,7 +8,7 @@ use Rattle.tc_link.proofs.Common.{IsIdle}
 use Rattle.tc_link.proofs.Common.{SegmentView}
 use Rattle.tc_link.proofs.Common.{Option, CopFault, Alert, directive_step}
 use Rattle.tc_link.proofs.Common.{FopState, FopOutcome, begun, obeyed, is_initiation, directive_outcome, closed_is}
-use Rattle.tc_link.proofs.Common.{obeying}
+use Rattle.tc_link.proofs.Common.{obeying, GroundState}
 use Rattle.simulated_link.specs.World.{Session}
 use Rattle.tc_link.specs.AnyPast.{LinkStep}
 use Rattle.tc_link.specs.AnyPast.{IsLinkStep}
@@ -26,24 +26,24 @@ use Rattle.tc_link.proofs.OneLink.{sent_count, steps}
 begun_equal : (f : FopState SegmentView) (d : Directive) → is_initiation d ≡ true → (begun f d).nn ≡ (begun f d).vs
 begun_equal f d is = grind arith
 
-module _ (w : World) where
+module _ (g : GroundState) where
   abbrev StartsEqual : Directive → FopOutcome SegmentView (Result (Option Alert) CopFault) → Type 0
-  StartsEqual d o = is_initiation d ≡ true → is_closed w.ground_node.fop.state ≡ true
-      → (directive_outcome w.ground_node d o).after.fop.nn ≡ (directive_outcome w.ground_node d o).after.fop.vs
+  StartsEqual d o = is_initiation d ≡ true → is_closed g.fop.state ≡ true
+      → (directive_outcome g d o).after.fop.nn ≡ (directive_outcome g d o).after.fop.vs
 
-  starts_equal : (d : Directive) → StartsEqual d (directive_step w.ground_node.fop d)
+  pub starts_equal : (d : Directive) → StartsEqual d (directive_step g.fop d)
   starts_equal =
-      let s = w.ground_node.fop in
+      let s = g.fop in
       obeyed s StartsEqual (record {
         refused = λ d fault on is off. absurd (on is (closed_is s.state off));
         begins = λ d is off so closed.
-            let same = with_same (obeying w.ground_node d) (begun s d) in same.1 ∙ begun_equal s d is ∙ sym same.0;
+            let same = with_same (obeying g d) (begun s d) in same.1 ∙ begun_equal s d is ∙ sym same.0;
         terminated = λ is off. absurd cc;
         numbers = λ x same is off. absurd cc;
         sets = λ d k n ticks plain most is off. absurd (cc (plain, is));
       })
 
--- V(S) and NN(R) count on
+-- V(S) and NN(R) count from `base`
 record Counts (base : ℕ) (w : World) : Type 0 where
   vs : w.ground_node.fop.vs ≡ (base + length w.session.sent) % 256
   nn : w.ground_node.fop.nn ≡ (base + w.session.acknowledged) % 256
@@ -56,7 +56,7 @@ counts_on base old new t moves vs nn = record {
 }
 
 module _ (c : Config) (base : ℕ) where
-  -- as many as were sent and are not acknowledged are fewer than 256
+  -- fewer than 256 segments were sent and are not acknowledged
   all_of : (w : World) (h : Holding c w) → IsIdle w → Counts base w → CountsFrom base w
   all_of w h idle t =
       let p = has_plain_history c w h.sound (h.session idle) in
@@ -91,7 +91,7 @@ keeps_what_is_known w e since r b lasts quiet fits numbers idle =
     let s = begun_session w e at in
     let equal =
     subst (λ (x : World). x.ground_node.fop.nn ≡ x.ground_node.fop.vs) (sym at.is)
-    (starts_equal at.start at.directive at.initiates at.closed) in
+    (starts_equal at.start.ground_node at.directive at.initiates at.closed) in
     let small = h.sound.ground_node.fop.vs_octet in
     let sent : length start.session.sent ≡ 0 = ap (λ (s : Session). length s.sent) s in
     let acked : start.session.acknowledged ≡ 0 = ap (λ (s : Session). s.acknowledged) s in

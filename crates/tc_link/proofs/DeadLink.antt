@@ -1,4 +1,4 @@
--- On a dead link each run of the timer takes a transmission, until an alert comes.
+-- On a dead link each run of the timer uses up a transmission, until an alert is raised.
 use Rattle.tc_link.proofs.Common.{◌≡◌, ◌<◌, ◌≤◌, ◌⊎◌, inl, inr, ℕ, zero, suc, ◌+◌, ◌-◌, false, List, [], ◌∷◌}
 use Rattle.tc_link.proofs.Common.{length, Option, Some, refl, ap, sym, subst, ◌∙◌, arith, length-append, cond_both}
 use Rattle.tc_link.proofs.Common.{nat_lt, SegmentView, Alert, FopState, FopOutcome, FopMode, S1, S2, S3, S4, S5, S6}
@@ -24,11 +24,11 @@ use Rattle.tc_link.proofs.ProgressSure.{IsBeginning, beginning, pull_stays, comm
 
 -- ---- the sender
 
--- it waits for an answer
+-- the sender waits for an answer
 abbrev Unanswered : FopState SegmentView → Type 0
 Unanswered f = IsBeginning f.state ⊎ (IsActive f.state × (1 ≤ length f.sent))
 
--- and fewer transmissions are left than this
+-- the sender waits, and fewer transmissions than this are left
 record Fails (n : ℕ) (f : FopState SegmentView) : Type 0 where
   waits : Unanswered f
   left : f.limit < f.count + n
@@ -44,7 +44,7 @@ module _ (s : FopState SegmentView) where
   pull_pulled five due = command_pulled s (inr (sym pull_state ∙ five)) s.control refl due
 
   module _ (n : ℕ) where
-    -- the sender is active, and as many units are sent
+    -- the sender is Active, with as many units sent
     as_many : (f : FopState SegmentView) → IsActive f.state → 1 ≤ length f.sent → f.limit ≡ s.limit
         → f.count ≡ s.count → s.limit < s.count + n → Fails n f
     as_many f active sent limit count left =
@@ -85,12 +85,12 @@ timer_runs f k waits is_pulled = elim waits [
   | inr held ↦ elim k.running [ inl none ↦ absurd (omega (arith, ap length none, held.1)) | inr runs ↦ runs ]
 ]
 
--- so many rounds are left, and after the last one an alert has come
+-- so many rounds are left, and after the last one an alert is raised
 abbrev Left : ℕ → FopState SegmentView → Type 0
 Left zero f = ⊥
 Left (suc n) f = Fails (suc n) f
 
--- the timer ends: an alert comes, or one round less is left
+-- the timer ends: an alert is raised, or one round fewer is left
 module _ (n : ℕ) (s : FopState SegmentView) (k : Fails (suc n) s) where
   abbrev AlertsOr : FopOutcome SegmentView (Option Alert) → Type 0
   AlertsOr o = IsSome o.answer ⊎ Left n o.after
@@ -194,11 +194,11 @@ module _ (n : ℕ) where
       ends_ticks FailsNow LeftNow runs ends w g k.0 f.ticks refl
       (timer_runs f (known w g).sender k.0.waits k.1)
 
-  -- what comes once all is sent
+  -- what follows once all is sent
   rest : (w : World) → HasOctetPast w → Waits w → Ends LeftNow w (followed_by all_lost timer_ends w)
   rest w g k = ends_then Waits LeftNow all_lost timer_ends w (loses w g k) run_out
 
--- all is sent: this holds then, where each pull keeps it and the first one brings the other
+-- once all is sent, a property holds if each pull keeps it and the first pull brings it about
 module _ (P : FopState SegmentView → Type 0) (keeps : (s : FopState SegmentView) → P s → P (pull_step s).after)
     (same : (s : GroundState) (f : FopState SegmentView) → P f → P (with_fop s f).fop) where
   abbrev Sends : ℕ → ℕ → World → Type 0

@@ -1,5 +1,5 @@
--- Telemetry that is sent, arrives or doesn't keeps what holds in a session: before the confirmation, and once it is
--- settled.
+-- Telemetry that is sent, arrives or does not arrive keeps what holds in a session, before the confirmation and
+-- once it is settled.
 use Rattle.tc_link.proofs.Common.{◌≡◌, ℕ, ◌+◌, ◌*◌, ◌/◌, ◌<◌, ◌≤◌, ◌⊎◌, inl, inr, Bool, true, false, List, [], ◌∷◌}
 use Rattle.tc_link.proofs.Common.{◌++◌, length, option_to_list, Ok, refl, ap, sym, subst, ◌∙◌, arith, length-append}
 use Rattle.tc_link.proofs.Common.{◌||◌, eq-eqb, Clcw, SegmentView, ahead_by, Directive, InitWithCheck, asks, clcw_step}
@@ -36,9 +36,9 @@ use Rattle.tc_link.proofs.Refilled.{refilled_keeps, held_again, held_same_where}
 use Rattle.tc_link.proofs.Sound.{Sound}
 use Rattle.simulated_link.proofs.Unchanged.{with_heard}
 
--- Telemetry that is sent, arrives or doesn't in a session.
+-- Telemetry in a session: it is sent, arrives, or does not arrive.
 
--- ---- octets that tell a report lead to its use
+-- ---- octets that carry a CLCW lead to its use
 
 abbrev pub used : GroundState → Extracted → Clcw → GroundOutcome Heard
 used s x report = record {
@@ -56,16 +56,16 @@ used_is c s octets report is t =
     ap (own_frame_outcome s x) t.word ∙ rw (eq-eqb report.vcid s.config.vcid (rw is t.own)) refl
     )
 
--- a report that came by itself
+-- the ground after a CLCW by itself is used
 abbrev pub used_word : GroundState → Clcw → GroundOutcome HeardClcw
 used_word s report = record {
   answer = record { report = Used; alert = (clcw_step s.fop report).answer };
   after = after_report s (clcw_step s.fop report);
 }
 
--- ---- a report leads to another sender
+-- ---- a CLCW leads to another sender
 
--- it acknowledges `gone` units more, or none
+-- the CLCW acknowledges `gone` more units, or none
 pub record Moves (base : ℕ) (s : FopState SegmentView) (a v gone : ℕ) (f : FopState SegmentView) : Type 0 where
   pub gone_is : (gone ≡ 0) ⊎ (a + gone ≡ v)
   pub nn_is : ahead_by f.nn s.nn ≡ gone
@@ -74,7 +74,7 @@ pub record Moves (base : ℕ) (s : FopState SegmentView) (a v gone : ℕ) (f : F
       → Held (is_closed s.state) base s.vs s.nn s.sent (option_to_list s.waiting ++ pending) a n units
       → Held (is_closed f.state) base f.vs f.nn f.sent (option_to_list f.waiting ++ pending) (a + gone) n units
 
--- the first report is no longer on its way, and the session may be at another stage
+-- the first CLCW is no longer in transit, and the session may be at another stage
 pub heard_keeps : (early to : Bool) (c : Config) (d : Directive) (base : ℕ) (w : World) (g : In early c d base w)
     (x : Extracted) (bs : List (List ℕ)) (rs : List Clcw) (v : ℕ) (vs : List ℕ)
     (o : FopOutcome SegmentView (Option Alert)) (gone : ℕ) → g.plain.down ≡ v ∷ vs → Reporting c bs rs
@@ -116,9 +116,9 @@ heard_keeps early to c d base w g x bs rs v vs o gone also rest count up moves s
       stage = stage;
     })
 
--- ---- a report by itself does what its telemetry frame does, but for telemetry
+-- ---- a CLCW by itself does what its telemetry frame does, except for telemetry
 
--- with another extractor, and other packets of telemetry
+-- the ground with another extractor, and other packets of telemetry
 abbrev pub apart : GroundState → ExtractorState → List (List ℕ) → GroundState
 apart s extractor packets = record s { extractor = extractor; telemetry = packets }
 
@@ -196,12 +196,12 @@ module _ (c : Config) (w : World) (k : Sound c w) where
         ≡ alert_in (world_step w events.DownDeliver).answer
     words_alert = (words_on w.down t.reports t.reporting).2
 
--- telemetry is nothing to a session
+-- telemetry does not affect a session
 pub next_apart : {early : Bool} {c : Config} {d : Directive} {base : ℕ} {p : PlainLink} (w : World) {new : World}
     → Next early c d base p new → Next early c d base p (with_telemetry_of w new)
 next_apart w {new} n = beside n (with_telemetry_of w new) n.ran (assumption n.linked) n.stage
 
--- ---- a report is lost, or is sent
+-- ---- a CLCW is lost, or is sent
 
 abbrev Told : {early : Bool} {c : Config} {d : Directive} {base : ℕ} {w : World} → In early c d base w → List Clcw
     → List ℕ → Type 0
@@ -313,7 +313,7 @@ module _ (early : Bool) (c : Config) (d : Directive) (base : ℕ) (w : World) (k
           stage = one_more early c d base w k g;
         }
 
--- Before the confirmation: telemetry that arrives keeps what holds, or confirms.
+-- Before the confirmation: telemetry that arrives keeps what holds, or confirms the session.
 
 confirms_not : (d : Directive) (old new : FopMode) → IsEarly d new → is_confirmation old new ≡ false
 confirms_not d old S4 early = refl
@@ -326,7 +326,7 @@ confirms_now : (was : Bool) (old new : FopMode) → new ≡ S1 → is_initialisi
 confirms_now true old new is waits_for = refl
 confirms_now false old new is waits_for = rw is waits_for
 
--- the session is just confirmed
+-- the session has just been confirmed
 pub record Confirmed (c : Config) (d : Directive) (base : ℕ) (p : PlainLink) (w : World) : Type 0 where
   pub late : Next false c d base p w
   pub exact : (w.spacecraft.farm.vr ≡ w.ground_node.fop.vs) × (w.ground_node.fop.nn ≡ w.ground_node.fop.vs)
@@ -386,7 +386,7 @@ module _ (c : Config) (d : Directive) (base : ℕ) (w : World) (k : Sound c w) (
     vs_of : is_closed w.ground_node.fop.state ≡ false → w.ground_node.fop.vs ≡ base
     vs_of on = omega (arith, (holds_on g.linked on).vs_is, g.stage.none_sent, g.linked.base_octet)
 
-    -- the report confirms
+    -- the CLCW confirms
     goes_late : (f : FopState SegmentView) → is_closed w.ground_node.fop.state ≡ false
         → is_initialising w.ground_node.fop.state ≡ true → f.state ≡ S1 → f.vs ≡ w.ground_node.fop.vs
         → f.nn ≡ w.ground_node.fop.nn → f.sent ≡ w.ground_node.fop.sent → f.waiting ≡ w.ground_node.fop.waiting
@@ -467,7 +467,7 @@ module _ (c : Config) (d : Directive) (base : ℕ) (w : World) (k : Sound c w) (
   early_down_deliver =
       down_early w.down g.reports g.plain.down refl refl g.linked.reporting g.linked.counted g.linked.rises
 
-  -- and a report by itself
+  -- the same for a CLCW by itself
   pub early_down_clcw : Next true c d base g.plain (world_step w events.DownClcw).after
       ⊎ Confirmed c d base g.plain (world_step w events.DownClcw).after
   early_down_clcw =
@@ -480,7 +480,7 @@ module _ (c : Config) (d : Directive) (base : ℕ) (w : World) (k : Sound c w) (
 
 -- Telemetry that arrives once a session is settled keeps what holds.
 
--- ---- what a report leads to
+-- ---- what a CLCW leads to
 
 pub record Goes (base : ℕ) (checked : Type 0) (s : FopState SegmentView) (rank a v gone : ℕ) (f : FopState SegmentView)
     : Type 0 where
@@ -520,7 +520,7 @@ was_confirmed true old new late is = refl
 was_confirmed false old new late is = sym (confirms_no_more old new late) ∙ is
 
 module _ (c : Config) (d : Directive) (base : ℕ) (w : World) (k : Sound c w) (g : Late c d base w) where
-  -- the sender is another
+  -- the sender changes
   heard_so : (r : Clcw) (rs : List Clcw) (v : ℕ) (vs : List ℕ) (rank : ℕ) (f : FopState SegmentView) (gone : ℕ)
       → DownIs base (r ∷ rs) (v ∷ vs)
       → (IsChecked d → Ranks rank rs vs (2 * g.plain.r + bit w.spacecraft.farm.retransmit))
@@ -547,12 +547,12 @@ module _ (c : Config) (d : Directive) (base : ℕ) (w : World) (k : Sound c w) (
             assumption (ranks, m);
       }
 
-  -- what is known of a report as it comes, where the sender is on
+  -- what is known of a CLCW when it arrives, while the sender is on
   abbrev pub Comes : Clcw → ℕ → Type 0
   Comes r v = is_closed w.ground_node.fop.state ≡ false
       → ReportComes base (c.width / 2) (IsChecked d) w.ground_node.fop g.plain.a g.plain.n r v
 
-  -- one that stands first
+  -- the CLCW is the first in transit
   pub coming : (r : Clcw) (rs : List Clcw) (v : ℕ) (vs : List ℕ) → DownIs base (r ∷ rs) (v ∷ vs)
       → Rises g.plain.a (v ∷ vs) g.plain.r
       → (IsChecked d
@@ -651,7 +651,7 @@ module _ (c : Config) (d : Directive) (base : ℕ) (w : World) (k : Sound c w) (
       deliver_keeps w.down g.reports g.plain.down refl g.linked.reporting g.linked.counted g.stage.down_is
       g.linked.rises (λ t. (g.stage.calm t).ranks)
 
-  -- and a report by itself
+  -- the same for a CLCW by itself
   pub late_down_clcw : Next false c d base g.plain (world_step w events.DownClcw).after
   late_down_clcw =
       let t : HasReports c w.down = record { reports = g.reports; reporting = g.linked.reporting } in

@@ -1,4 +1,4 @@
--- No alert of a session that had an idle start, by check, Unlock or Set V(R), is a false one.
+-- In a session that had an idle start by CLCW check, Unlock or Set V(R), no alert is a false one.
 use Rattle.tc_link.proofs.Common.{◌≡◌, ℕ, ◌+◌, ◌/◌, inl, inr, true, false, List, []}
 use Rattle.tc_link.proofs.Common.{◌∷◌, Some, refl, ap, sym, subst, ◌∙◌}
 use Rattle.tc_link.proofs.Common.{Clcw, SegmentView}
@@ -65,7 +65,7 @@ module _ (s : FopState SegmentView) where
     sets = λ d k n ticks plain most alert is. absurd cc;
   })
 
--- ---- a report
+-- ---- a CLCW
 
 allowed_cause : (w : World) (r : Clcw) (alert : Alert) → IsAllowed (asks r) w.ground_node.fop.limit (Some alert)
     → (asks r ≡ true → FirstAsks w.ground_node.config w.down) → HasCause w events.DownDeliver alert
@@ -78,7 +78,7 @@ module _ (c : Config) (d : Directive) (base : ℕ) (w : World) (k : Sound c w) (
   first_asks b bs r is tells asking =
       rw (is, k.ground_node.config) (subst AsksAgain (sym (report_told c b r tells)) asking)
 
-  -- what is answered to telemetry is what the sender answers to its report
+  -- the alert in the answer to telemetry is the sender's answer to its CLCW
   heard_alert_is : (b : List ℕ) (bs : List (List ℕ)) (r : Clcw) → Tells c b r
       → alert_in (down_deliver_step w (b ∷ bs)).answer ≡ (clcw_step w.ground_node.fop r).answer
   heard_alert_is b bs r tells =
@@ -170,7 +170,7 @@ module _ (c : Config) (d : Directive) (base : ℕ) (w : World) (k : Sound c w) (
         g.linked.rises (λ t. (g.stage.calm t).ranks) alert e
   ]
 
-  -- a report by itself has the cause that its frame has
+  -- a CLCW by itself has the cause that its frame has
   word_cause : (alert : Alert) → HasCause w events.DownDeliver alert → HasCause w events.DownClcw alert
   word_cause Timer is = absurd (cc is)
   word_cause Terminated is = absurd (cc is)

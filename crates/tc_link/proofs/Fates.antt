@@ -1,4 +1,4 @@
--- The ground's account of the submissions of a session is that of the records.
+-- What the ground counts about the submissions of a session is what the records show.
 use Rattle.tc_link.proofs.Common.{◌≡◌, ℕ, ◌+◌, ◌%◌, ◌/◌, ◌<◌, ◌≤◌, ◌⊎◌, inl, inr, true, false, List, [], ◌∷◌, ◌++◌}
 use Rattle.tc_link.proofs.Common.{length, map, Option, Some, None, Result, Ok, refl, ap, sym, subst, ◌∙◌, arith}
 use Rattle.tc_link.proofs.Common.{length-append, length-map, AllByRecursion, SegmentView, CopFault, Alert, Directive}
@@ -73,9 +73,9 @@ module _ (c : Config) where
   counts_with [] p = refl
   counts_with (q ∷ ps) p = ap (λ (ns : List ℕ). length (segments q) ∷ ns) (counts_with ps p)
 
--- ---- the ground's account
+-- ---- the ground's bookkeeping
 
--- the ground's account is of these submissions, of whose segments so many are acknowledged
+-- the ground's bookkeeping is about these submissions; so many of their segments are acknowledged
 pub record Accounts (c : Config) (fates : Fates) (submissions : List PacketOn) (a : ℕ) : Type 0 where
   pub left : fates.left ≡ left_after a (counts c submissions)
   pub acknowledged : fates.acknowledged ≡ whole_within a (counts c submissions) % 2 ^ 64
@@ -83,10 +83,10 @@ pub record Accounts (c : Config) (fates : Fates) (submissions : List PacketOn) (
 abbrev pub AccountsAt : Config → World → Type 0
 AccountsAt c w = Accounts c w.ground_node.fates w.session.submissions w.session.acknowledged
 
-new_accounts : (c : Config) → Accounts c (new_fates true) [] 0
+pub new_accounts : (c : Config) → Accounts c (new_fates true) [] 0
 new_accounts c = record { left = refl; acknowledged = refl }
 
-with_accounts : (c : Config) (fates : Fates) (ps : List PacketOn) (p : PacketOn) (a n : ℕ)
+pub with_accounts : (c : Config) (fates : Fates) (ps : List PacketOn) (p : PacketOn) (a n : ℕ)
     → a ≤ length (flat_map (segments c) ps) → n ≡ length (segments c p) → Accounts c fates ps a
     → Accounts c (with_submission n fates) (ps ++ p ∷ []) a
 with_accounts c fates ps p a n le is k =
@@ -104,7 +104,7 @@ with_accounts c fates ps p a n le is k =
           ∙ ap (whole_within a) (sym (counts_with c ps p)));
     }
 
-with_acknowledged : (c : Config) (fates : Fates) (ps : List PacketOn) (a k b : ℕ) (alert : Option Alert)
+pub with_acknowledged : (c : Config) (fates : Fates) (ps : List PacketOn) (a k b : ℕ) (alert : Option Alert)
     → b ≡ a + k → Accounts c fates ps a → Accounts c (beside_alert alert (after_acknowledging k fates)) ps b
 with_acknowledged c fates ps a k b alert is t =
     let left : left_after k fates.left ≡ left_after b (counts c ps) =
@@ -116,6 +116,23 @@ with_acknowledged c fates ps a k b alert is t =
       acknowledged = omega (arith, t.acknowledged, more, whole_more a k b (counts c ps) is);
     }
 
+-- so many segments more than those acknowledged
+pub whole_so : (c : Config) (fates : Fates) (ps : List PacketOn) (a j m : ℕ) → Accounts c fates ps a → m ≡ a + j
+    → whole_with j fates ≡ whole_within m (counts c ps) % 2 ^ 64
+whole_so c fates ps a j m k is =
+    omega (arith, k.acknowledged, ap (whole_within j) k.left, whole_more a j m (counts c ps) is)
+
+pub submitted_so : (c : Config) (fates : Fates) (ps : List PacketOn) (a : ℕ) → Accounts c fates ps a
+    → submissions_of fates ≡ length ps % 2 ^ 64
+submitted_so c fates ps a k =
+    omega (
+      arith,
+      k.acknowledged,
+      ap length k.left,
+      (fewer_left a (counts c ps)).0,
+      length-map ps (λ (p : PacketOn). length (segments c p)),
+    )
+
 -- ---- the ground
 
 pub refilled_fates : (s : GroundState) → (refill_step s).fates ≡ s.fates
@@ -124,7 +141,8 @@ refilled_fates s = refilled_keeps (λ t. t.fates ≡ s.fates) s (λ waiting pend
 pub with_fates : (s : GroundState) (f : FopState SegmentView) → (with_fop s f).fates ≡ s.fates
 with_fates s f = refilled_fates (record s { fop = f })
 
--- a report acknowledges as many segments as NN(R) moves; telemetry without one leaves the account
+-- a CLCW acknowledges as many segments as NN(R) moves; telemetry without a CLCW leaves the
+-- bookkeeping
 abbrev Acknowledges : GroundState → GroundState → Type 0
 Acknowledges s t =
     ((t.fates ≡ s.fates) × (t.fop.nn ≡ s.fop.nn))
@@ -143,9 +161,9 @@ with_report s o =
           ∙ ap (λ (n : ℕ). beside_alert o.answer (after_acknowledging (moved_by n s.fop.nn) s.fates)) (sym nn),
     )
 
--- ---- a directive that begins no session, and sets no number
+-- ---- a directive that begins no session, and sets no V(S)
 
-counts_on : (d : Directive) → is_initiation d ≡ false → ((x : ℕ) → d ≢ SetVs x) → kept_after d ≡ None
+pub counts_on : (d : Directive) → is_initiation d ≡ false → ((x : ℕ) → d ≢ SetVs x) → kept_after d ≡ None
 counts_on (SetVs x) plain other = absurd (other x refl)
 counts_on _ plain other = cc plain
 
@@ -239,7 +257,7 @@ module _ (w : World) (kept : w.ground_node.fates.kept ≡ true) where
   abbrev StillKept : WorldOutcome → Type 0
   StillKept o = shows_one (alert_in o.answer) ≡ false → o.after.ground_node.fates.kept ≡ true
 
-  -- a report is heard, in its frame or by itself
+  -- a CLCW is heard, in its frame or by itself
   word_kept : (s : GroundState) → s.fates.kept ≡ true → (r : Result Clcw ClcwFault)
       → let o = report_outcome s r in shows_one o.answer.alert ≡ false → o.after.fates.kept ≡ true
   word_kept s is (Err fault) = λ none. is
@@ -260,7 +278,7 @@ module _ (w : World) (kept : w.ground_node.fates.kept ≡ true) where
       (clcw_at frame.ocf))
       (λ t none. kept)
 
-  -- it brings none
+  -- an event that brings no CLCW
   other_kept : (e : Event) → BeginsNoSession w e → SetsNoNumber w e → (BringsReport e → ⊥)
       → (world_step w e).after.ground_node.fates.kept ≡ true
   other_kept e goes quiet silent =
@@ -296,19 +314,19 @@ module _ (w : World) (kept : w.ground_node.fates.kept ≡ true) where
 begun_kept : (d : Directive) → is_initiation d ≡ true → (fates : Fates) → after_obeying fates d ≡ new_fates true
 begun_kept d is fates = rw is refl
 
-module _ (w : World) where
+module _ (g : GroundState) where
   abbrev StartsAccount : Directive → FopOutcome SegmentView (Result (Option Alert) CopFault) → Type 0
-  StartsAccount d o = is_initiation d ≡ true → is_closed w.ground_node.fop.state ≡ true
-      → (directive_outcome w.ground_node d o).after.fates ≡ new_fates true
+  StartsAccount d o = is_initiation d ≡ true → is_closed g.fop.state ≡ true
+      → (directive_outcome g d o).after.fates ≡ new_fates true
 
-  starts_account : (d : Directive) → StartsAccount d (directive_step w.ground_node.fop d)
+  pub starts_account : (d : Directive) → StartsAccount d (directive_step g.fop d)
   starts_account =
-      let s = w.ground_node.fop in
+      let s = g.fop in
       obeyed s StartsAccount (record {
         refused = λ d fault on is off. absurd (on is (closed_is s.state off));
         begins = λ d is off so closed.
-            with_fates (record w.ground_node { fates = after_obeying w.ground_node.fates d }) (begun s d)
-            ∙ begun_kept d is w.ground_node.fates;
+            with_fates (record g { fates = after_obeying g.fates d }) (begun s d)
+            ∙ begun_kept d is g.fates;
         terminated = λ is off. absurd cc;
         numbers = λ x same is off. absurd cc;
         sets = λ d k n ticks plain most is off. absurd (cc (plain, is));
@@ -326,7 +344,7 @@ module _ (c : Config) where
       h.sound.ground_node.config in
       omega (arith, p.is.acknowledged, p.is.order.0, p.is.order.1, p.is.order.2, ap length units)
 
-  -- the session goes on, and the account with it
+  -- the session continues, and the bookkeeping with it
   pub record Goes (o : Option Opening) (base : ℕ) (w : World) : Type 0 where
     pub holds : Holding c w
     pub idle : IsIdle w
@@ -357,7 +375,7 @@ module _ (c : Config) where
         accounts = accounts_still w h g.idle g.accounts s lasts.0 quiet.0;
       }) steps fits.1 lasts.1 quiet.1
 
-  -- and the ground knows what is on board, while no alert shows a broken condition
+  -- the ground knows what is on board, while no alert shows a broken condition
   still_kept : (w : World) → w.ground_node.fates.kept ≡ true → (s : LinkStep) → LeavesSession w s
       → LeavesNumbers w s → ShowsNothing w s → (link_step w s).ground_node.fates.kept ≡ true
   still_kept w kept s goes quiet none = beside_so w (λ (x : World). x.ground_node.fates.kept ≡ true) s goes (record {
@@ -394,7 +412,7 @@ module _ (c : Config) where
         ])
       ]
 
-  -- ---- what is read of it
+  -- ---- what is read from it
 
   module _ (w : World) (h : Holding c w) (idle : IsIdle w) (k : AccountsAt c w) where
     abbrev history : HasPlainHistory w
@@ -405,32 +423,20 @@ module _ (c : Config) where
         ap (λ (x : Config). map (λ (p : PacketOn). length (segments_of x.part p.on_map p.octets)) w.session.submissions)
         h.sound.ground_node.config
 
-    -- with so many segments more than those acknowledged
+    -- so many segments more than those acknowledged
     whole_is : (j m : ℕ) → m ≡ w.session.acknowledged + j → whole_with j w.ground_node.fates ≡ whole_first w m
     whole_is j m is =
-        omega (
-          arith,
-          k.acknowledged,
-          ap (whole_within j) k.left,
-          whole_more w.session.acknowledged j m (counts c w.session.submissions) is,
-          ap (whole_within m) counts_are,
-        )
+        whole_so c w.ground_node.fates w.session.submissions w.session.acknowledged j m k is
+        ∙ ap (λ (ns : List ℕ). whole_within m ns % 2 ^ 64) (sym counts_are)
 
     submitted_is : submissions_of w.ground_node.fates ≡ length w.session.submissions % 2 ^ 64
-    submitted_is =
-        omega (
-          arith,
-          k.acknowledged,
-          ap length k.left,
-          (fewer_left w.session.acknowledged (counts c w.session.submissions)).0,
-          length-map w.session.submissions (λ (p : PacketOn). length (segments c p)),
-        )
+    submitted_is = submitted_so c w.ground_node.fates w.session.submissions w.session.acknowledged k
 
     module _ (base : ℕ) (t : CountsFrom base w) where
       half : w.ground_node.config.width / 2 ≤ 127
       half = let it : c.width / 2 ≤ 127 = omega (arith, h.sound.ranges.width) in rw h.sound.ground_node.config it
 
-      -- V(S) is above NN(R) by those that were sent and are not acknowledged
+      -- V(S) - NN(R) is the number of segments that were sent and are not acknowledged
       sent_is : length w.session.sent ≡ w.session.acknowledged + sent_beyond w.ground_node
       sent_is =
           let p = history in
@@ -496,7 +502,7 @@ module _ (w : World) where
   begun_on f (InitSetVr x) is = refl
   begun_on f _ is = absurd cc
 
-  -- it is not in S6 then
+  -- the sender is not in S6 then
   starts_on : (d : Directive) → StartsOn d (directive_step w.ground_node.fop d)
   starts_on =
       let s = w.ground_node.fop in
@@ -518,7 +524,7 @@ pub record Since (c : Config) (w now : World) (e : Event) : Type 0 where
 
 begun_fates : (w : World) (e : Event) → (at : BeganAt w e) → (world_step w e).after.ground_node.fates ≡ new_fates true
 begun_fates w e at = subst (λ (x : World). x.ground_node.fates ≡ new_fates true) (sym at.is)
-    (starts_account at.start at.directive at.initiates at.closed)
+    (starts_account at.start.ground_node at.directive at.initiates at.closed)
 
 pub since_begun : (w : World) (e : Event) (since : List LinkStep) → (r : HasAnyPast w) → BeginsSession w e
     → SessionLasts (world_step w e).after since → SetsNone (world_step w e).after since → IsEvent e
@@ -583,7 +589,7 @@ module _ (c : Config) (w now : World) (e : Event) (t : Since c w now e) where
       on_board c now on.holds on.idle on.accounts (world_step w e).after.ground_node.fop.vs t.counts
       (promised_so c now on.holds on.idle).says settled_now
 
--- and it is kept while no alert shows a broken condition
+-- this is kept while no alert shows a broken condition
 pub kept_since : (w : World) (e : Event) (since : List LinkStep) → HasAnyPast w → BeginsSession w e
     → SessionLasts (world_step w e).after since → SetsNone (world_step w e).after since
     → ShowsNone (world_step w e).after since → (link_run (world_step w e).after since).ground_node.fates.kept ≡ true

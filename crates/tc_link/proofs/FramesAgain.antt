@@ -1,4 +1,4 @@
--- Octets that reach the spacecraft again at once change FARM-B and the packets past the sequence control alone.
+-- Octets that reach the spacecraft again at once change only FARM-B and the bypass packets.
 use Rattle.tc_link.proofs.Common.{◌≡◌, ◌∙◌, ℕ, suc, zero, ◌+◌, ◌-◌, ◌%◌, ◌/◌, ◌<◌, ◌≤◌, ◌==◌, nat_lt, Bool, true, false}
 use Rattle.tc_link.proofs.Common.{List, ◌∷◌, replicate, Result, Ok, Err, refl, sym, ap, subst, arith, cond_both}
 use Rattle.tc_link.proofs.Common.{eqb-true, ltb-true, ahead_by, TcFault, On, SegmentView, BodyView}
@@ -24,7 +24,7 @@ use Rattle.tc_link.specs.FramesAgain.{EachGoesOnAgain, EachGoesOnUnchanged, Each
 use Rattle.tc_link.proofs.Beside.{same_left, at_place}
 use Rattle.tc_link.proofs.ProgressNumbers.{known}
 
--- ---- a frame of Type-AD
+-- ---- a Type-AD frame
 
 -- the last number below lies in the negative window
 last_behind : (h d : ℕ) (free : Bool) → 1 ≤ h → h ≤ 127 → d ≡ 255 → ad_verdict (place_at h d) free Open ≡ Behind
@@ -45,7 +45,7 @@ locks_on : (free : Bool) → ad_verdict (place_at 127 0) free Lockout ≡ Discar
 locks_on true = refl
 locks_on false = refl
 
--- a frame of this number does nothing to the receiver, and no data are handed on
+-- a frame with this number does nothing to the receiver, and no data are passed on
 record DoesNothing (g : FarmState) (n : ℕ) (free : Bool) : Type 0 where
   pub accepts : is_accepted (verdict_of g n free) ≡ false
   pub same : after_verdict g (verdict_of g n free) ≡ g
@@ -55,7 +55,7 @@ nothing_by : (g : FarmState) (n : ℕ) (free : Bool) (v : Verdict) → verdict_o
 nothing_by g n free v is accepts same =
     record { accepts = ap is_accepted is ∙ accepts; same = ap (after_verdict g) is ∙ same }
 
--- by the place of its number, the state, and whether a buffer is free, then and now
+-- the place of its number, the receiver's state, and whether a buffer is free, then and now
 module _ (f : FarmState) (n : ℕ) (free : Bool) where
   -- the receiver's row for the number
   abbrev row : Bool → FarmMode → Verdict
@@ -67,7 +67,7 @@ module _ (f : FarmState) (n : ℕ) (free : Bool) where
   in_mode : (mode : FarmMode) → f.state ≡ mode → verdict_of f n free ≡ row free mode
   in_mode mode is = ap (row free) is
 
-  -- the frame that is accepted is behind then
+  -- the frame that was accepted is then behind
   abbrev NextBehind : Type 0
   NextBehind = ahead_by n f.vr ≡ 0
       → ad_verdict (place_at (f.width / 2) (ahead_by n ((f.vr + 1) % 256))) free Open ≡ Behind
@@ -116,7 +116,7 @@ module _ (f : FarmState) (n : ℕ) (free : Bool) where
       (f.width / 2) (ahead_by n f.vr) (expected_again first f.state refl next) (ahead_again first f.state refl)
       (behind_again first f.state refl) (outside_again first f.state refl) (λ free mode. refl)
 
--- what is kept to by each receiver of a configuration in its ranges
+-- what holds of each receiver with a configuration in its ranges
 record IsFit (f : FarmState) : Type 0 where
   pub vr : f.vr < 256
   pub least : 2 ≤ f.width
@@ -146,7 +146,7 @@ module _ (s : SpacecraftState) (fit : IsFit s.farm) (n : ℕ) (u : SegmentView) 
       (λ x. absurd (let no : true ≡ false = sym x ∙ nothing.accepts in cc))
       (λ x. ap (λ (g : FarmState). record t { farm = g }) nothing.same)
 
--- ---- a frame of Type-B
+-- ---- a Type-B frame
 
 unlock_again : (f : FarmState) (mode : FarmMode) → f.state ≡ mode → let g : FarmState = after_unlock f mode in
     after_unlock g g.state ≡ after_type_b g
@@ -173,7 +173,7 @@ control_again f (SetVr x) = set_again f x f.state refl
 
 -- ---- octets
 
--- these octets come to this spacecraft as octets that have just come
+-- these octets reach this spacecraft as octets that have just come
 abbrev IsAgain : SpacecraftState → Result FrameView TcFault → Type 0
 IsAgain t r = (frame_outcome t r).after ≡ received_again t r
 
@@ -190,7 +190,7 @@ control_so f t command same =
     (subst (λ (g : FarmState). farm_step g (command_event command) ≡ after_type_b g) (sym same)
     (control_again f command))
 
--- once, and so again while the receiver has not changed since
+-- the octets come once, and the same holds again while the receiver has not changed since
 body_later : (s t : SpacecraftState) → IsFit s.farm → (f : BodyView) → t.farm ≡ (body_outcome s f).after.farm
     → (body_outcome t f).after ≡ again_by t f
 body_later s t fit (Ad n u) same = sequence_again s fit n u t same
@@ -241,7 +241,7 @@ frame_next t (Ok frame) is =
     own_or_not next frame.body (is_own_frame next.config frame)
     (body_next t frame.body (own_part t frame.body (is_own_frame t.config frame) own is))) (λ none. is)
 
--- ---- so the receiver is left, but for FARM-B
+-- ---- so the receiver is left as it was, except for FARM-B
 
 bypass_left : (t : SpacecraftState) (u : SegmentView) (kept : Bool)
     → is_left t.farm (bypass_outcome t u kept).after.farm ≡ true
@@ -263,7 +263,7 @@ left_again : (t : SpacecraftState) (r : Result FrameView TcFault) → IsAgain t 
     → is_left t.farm (frame_outcome t r).after.farm ≡ true
 left_again t r is = subst (λ (x : SpacecraftState). is_left t.farm x.farm ≡ true) (sym is) (again_left t r)
 
--- ---- the session goes on, however often they come
+-- ---- the session continues, however often they come
 
 lasts_again : (octets : List ℕ) (more : ℕ) (w : World) → IsAgain w.spacecraft (frame_at On octets)
     → SessionLasts w (replicate more (Receives octets))
@@ -303,7 +303,7 @@ each_goes_on_unchanged w v octets past config same =
     let r : Result FrameView TcFault = frame_at On octets in
     left_again v.spacecraft r (frame_later w.spacecraft v.spacecraft (fit_after w past) config r same)
 
--- ---- by what octets are answered
+-- ---- the answers to octets
 
 module _ (s : SpacecraftState) where
   abbrev Left_so : SpacecraftOutcome Received → Type 0

@@ -1,4 +1,4 @@
--- The reports on their way are the spacecraft's and can be read, and a session begins by an idle start.
+-- The CLCWs in transit are the spacecraft's and can be read, and a session begins by an idle start.
 use Rattle.tc_link.proofs.Common.{◌≡◌, ℕ, ◌+◌, ◌*◌, ◌/◌, ◌%◌, ◌<◌, Bool, true, false, eqb, Ok, refl, arith, eq-eqb}
 use Rattle.tc_link.proofs.Common.{Clcw, flags_number, FarmState, locks, waits, asks, report_of, ◌≤◌, max, List, [], ◌∷◌}
 use Rattle.tc_link.proofs.Common.{◌++◌, length, replicate, ap, length-append, cond_both, length-take-le, BuilderState}
@@ -32,7 +32,7 @@ use Rattle.tc_link.proofs.Linked.{zeros_run, zeros_rise, zeros_count}
 use Rattle.tc_link.proofs.Sound.{Sound, Commanded}
 use Rattle.tc_link.proofs.Refilled.{session_refilled}
 
--- Reports are read from the octets that are sent.
+-- CLCWs are read from the octets that are sent.
 
 -- What a receiver reports is read from its octets.
 
@@ -67,7 +67,7 @@ pub report_reads : (s : FarmState) (vcid : ℕ) → s.farm_b < 4
     → clcw_at (spelling (report_of s vcid)) ≡ Ok (report_of s vcid)
 report_reads s vcid farm_b = read_again (report_of s vcid) refl (flags_read s.lockout s.wait s.retransmit).0 farm_b
 
--- A telemetry frame that is sent is read with its report.
+-- A telemetry frame that is sent is read with its CLCW.
 
 pub data_length : (s : BuilderState) → s.idle_left ≤ 6 → length (data_built s) ≡ data_size s
 data_length s least =
@@ -113,7 +113,7 @@ module _ (c : Config) (w : World) (k : Sound c w) where
     own = ap (λ x. x.vcid) k.spacecraft.config;
   }
 
-  -- the frame that is sent is the last on its way
+  -- the frame that is sent is the last in transit
   pub reporting_now : (reports : List Clcw) → Reporting c w.down reports
       → Reporting c (w.down ++ telemetry_writing.spelling (spacecraft_report w.spacecraft).answer ∷ [])
       (reports ++ report_of w.spacecraft.farm w.spacecraft.config.vcid ∷ [])
@@ -121,7 +121,7 @@ module _ (c : Config) (w : World) (k : Sound c w) where
       reporting_push c (telemetry_writing.spelling (spacecraft_report w.spacecraft).answer)
       (report_of w.spacecraft.farm w.spacecraft.config.vcid) w.down reports tells_now so
 
--- Each frame on its way down is one of the spacecraft's, with a report.
+-- Each frame in transit on the downlink is one of the spacecraft's, with a CLCW.
 
 pub record HasReports (c : Config) (down : List (List ℕ)) : Type 0 where
   pub reports : List Clcw
@@ -143,7 +143,7 @@ module _ (c : Config) (w : World) (k : Sound c w) (t : HasReports c w.down) wher
   }
   step_reports e = down_after w (HasReports c) e (λ is. cc is) t (λ gone. first_gone)
 
--- What the reports on their way say at an idle start: what the receiver would now.
+-- What the CLCWs in transit show at an idle start: what the receiver would report now.
 
 abbrev pub Says : Clcw → Clcw → Type 0
 Says now r = (r.value ≡ now.value) × (flags_number r.flags ≡ flags_number now.flags)
@@ -172,7 +172,7 @@ module _ (now : Clcw) (c : Config) (total : ℕ) (size : total ≡ c.frame_lengt
       (says_so b r rest.0 both.0, all_say bs rs rest.1 both.1)
   all_say _ _ rest is = elim rest [ ]
 
--- ---- what they say
+-- ---- what they show
 
 module _ (s : SpacecraftState) where
   says_flags : (r : Clcw) → Says (report_of s.farm s.config.vcid) r
@@ -192,7 +192,7 @@ module _ (s : SpacecraftState) where
       let f = says_flags r say.0 in
       ((f.0 ∙ would.0, f.1 ∙ would.1, f.2 ∙ would.2, f.3 ∙ would.3), all_confirm base rs say.1 would)
 
-  -- one that confirms is followed by such alone
+  -- only CLCWs that confirm follow one that does
   pub all_last : (base : ℕ) (rs : List Clcw) → AllSay (report_of s.farm s.config.vcid) rs
       → Lasts base rs (WouldConfirm base s.farm)
   all_last base [] say = tt
@@ -210,7 +210,7 @@ module _ (s : SpacecraftState) where
       let f = says_flags r say.0 in
       (f.0, f.2, f.3, λ t. f.2 ∙ agree (sym f.1 ∙ t), all_same rs agree say.1)
 
-  -- each is the number 0 of a plain link
+  -- each has the number 0 of a plain link
   pub all_zeros : (base : ℕ) (rs : List Clcw) → base < 256 → s.farm.vr ≡ base
       → AllSay (report_of s.farm s.config.vcid) rs → DownIs base rs (zeros rs)
   all_zeros base [] octet is say = tt
@@ -249,7 +249,7 @@ pub record InSession (c : Config) (w : World) : Type 0 where
   pub base : ℕ
   pub session : Begun c directive base w ⊎ Late c directive base w
 
--- whether it is confirmed or not
+-- this holds whether the session is confirmed or not
 pub in_session : {A : Type 0} {c : Config} {w : World} (s : InSession c w)
     → ((early : Bool) → In early c s.directive s.base w → A) → A
 in_session s each = elim s.session [ inl g ↦ each true g | inr g ↦ each false g ]
@@ -271,7 +271,7 @@ module _ (c : Config) (w : World) (k : Sound c w) (t : HasReports c w.down) wher
     idle : w.ground_node.fop.control ≡ Idle
     idle = let it : Commanded S6 w.ground_node.fop.control = rw off at k.ground_node.fop.commanded in it
 
-    -- the reports on their way are as many of 0
+    -- the CLCWs in transit are as many zeros
     session_from : (early front : Bool) (d : Directive) (base : ℕ) (f : FopState SegmentView) → base < 256
         → is_idle w ≡ true → f.vs ≡ base → f.nn ≡ base → f.sent ≡ [] → f.waiting ≡ None → is_closed f.state ≡ false
         → Stage early d base f.state f.control w.spacecraft.farm false front t.reports 0 0 0 (zeros t.reports)
@@ -309,7 +309,7 @@ module _ (c : Config) (w : World) (k : Sound c w) (t : HasReports c w.down) wher
         } in
         session_refilled early c d base (begun_with d f) session
 
-    -- where it has to be confirmed
+    -- the session must be confirmed
     checked_begins : (d : Directive) (base : ℕ) (f : FopState SegmentView) → base < 256 → IsChecked d
         → is_idle w ≡ true → IsEarly d f.state → is_closed f.state ≡ false → f.vs ≡ base
         → f.nn ≡ base → f.sent ≡ [] → f.waiting ≡ None → ControlFits d base f.control

@@ -1,4 +1,4 @@
--- In a session that had an idle start packets are delivered in order.
+-- In a session that had an idle start, packets are delivered in order.
 use Rattle.tc_link.proofs.Common.{◌≡◌, ◌≢◌, ℕ, ◌+◌, ◌-◌, ◌/◌, ◌%◌, ◌≤◌, max, inl, inr, Bool, true, false, cond, eqb}
 use Rattle.tc_link.proofs.Common.{List, [], ◌∷◌, ◌++◌, length, take, drop, map, filter, Some, None, refl, ap, sym}
 use Rattle.tc_link.proofs.Common.{subst, ◌∙◌, append_assoc, arith, length-append, length-drop, nat_lt, AllByRecursion}
@@ -25,7 +25,7 @@ use Rattle.tc_link.proofs.Linked.{rises_to}
 use Rattle.tc_link.proofs.InTransit.{units_in, values_in, reports_of}
 use Rattle.tc_link.proofs.Sound.{Sound}
 
--- ---- packets that were given are assembled, whatever came before
+-- ---- submitted packets are assembled, whatever came before
 
 module _ (c : Config) (m : ℕ) (one : 1 ≤ c.part) where
   abbrev bounds : Limits
@@ -64,9 +64,9 @@ module _ (c : Config) (m : ℕ) (one : 1 ≤ c.part) where
       (append_assoc (assembled bounds m before) (cond (eqb p.on_map m) (packets_in p.octets) []) (packets ps)
       ∙ ap (λ (xs : List (List ℕ)). assembled bounds m before ++ xs) (cond_first (eqb p.on_map m) p ps))
 
--- ---- what the records say
+-- ---- what the records show
 
--- not before the confirmation
+-- nothing before the confirmation
 pub unsettled : {Reached : PlainLink → Type 0} (c : Config) (d : Directive) (base : ℕ) (w : World)
     → SessionBy true Reached c d base w → IsSettled w → ⊥
 unsettled c d base w g settled = elim settled [
@@ -126,7 +126,7 @@ module _ (early : Bool) {Reached : PlainLink → Type 0} (c : Config) (d : Direc
     ])
   ]
 
-  -- a number between those of what is acknowledged and what was sent
+  -- a number between the number acknowledged and the number sent
   pub said_is : (half_most : c.width / 2 ≤ 127) → Ends → (value v : ℕ) → value ≡ (base + v) % 256
       → p.a ≤ v → v ≤ p.r → said_by w value ≡ Some (v - p.a)
   said_is half_most ends value v is low high =
@@ -185,7 +185,7 @@ module _ (early : Bool) {Reached : PlainLink → Type 0} (c : Config) (d : Direc
           ∙ ap (drop (length (assembled lim m old))) begins.1
           ∙ drop-append_seam (assembled lim m old) begins.0
 
-      -- the units that were accepted give what is delivered
+      -- the accepted units yield what is delivered
       pub delivered_so : assembled lim m (old ++ new) ≡ assembled lim m old ++ delivered w m
       delivered_so = begins.1 ∙ ap (λ ps. assembled lim m old ++ ps) (sym delivered_is)
 
@@ -229,7 +229,7 @@ module _ (early : Bool) {Reached : PlainLink → Type 0} (c : Config) (d : Direc
     sent_length =
         ap length l.sent_is ∙ length-map (take p.n p.units) segment_octets ∙ length-take-le p.n p.units l.n_most
 
-    -- the first of those that were sent were accepted
+    -- the first units that were sent were accepted
     first_accepted : (i : ℕ) → i ≤ p.r → take i w.session.sent ≡ take i (accepted w)
     first_accepted i most =
         let sent_i : take i w.session.sent ≡ map segment_octets (take i p.units) =
@@ -256,7 +256,7 @@ module _ (early : Bool) {Reached : PlainLink → Type 0} (c : Config) (d : Direc
       complete = λ on nothing m. all_delivered m (all_accepted on nothing);
     }
 
-    -- the records, what is on its way and the nodes' numbers are those of its plain link
+    -- the records, what is in transit and the nodes' numbers are those of the plain link
     pub is_history : IsHistory w base p
     is_history =
         let own = sym k.ground_node.config in

@@ -1,4 +1,4 @@
--- Where the numbers on their way lie in a session that had an idle start.
+-- Where the numbers in transit lie in a session that had an idle start.
 use Rattle.tc_link.proofs.Common.{◌≡◌, ◌≢◌, ℕ, ◌+◌, ◌-◌, ◌/◌, ◌%◌, ◌<◌, ◌≤◌, inl, inr, max, Bool, true, false, List, []}
 use Rattle.tc_link.proofs.Common.{◌∷◌, ◌++◌, length, take, map, Some, refl, ap, sym, subst, ◌∙◌, arith, AllByRecursion}
 use Rattle.tc_link.proofs.Common.{length-take-le, length-map, Clcw, On, Command, Unlock, SetVr, SegmentView, BodyView}
@@ -17,7 +17,7 @@ use Rattle.tc_link.proofs.Linked.{early_off, In, Begun, Late, Carries, Tells, Re
 use Rattle.tc_link.proofs.Linked.{DownIs, Fits, rises_to}
 use Rattle.tc_link.proofs.Sound.{Sound}
 
--- ---- what octets on their way tell
+-- ---- what octets in transit show
 
 abbrev pub numbers : List (List ℕ) → List ℕ
 numbers bs = flat_map (λ octets. in_frame number_in (frame_at On octets)) bs
@@ -92,7 +92,7 @@ rising_in base nn a low r last most (c ∷ cs) (v ∷ vs) nn_is last_is le near 
           (rising_in base nn a v r last most cs vs nn_is last_is (omega (arith, le, up.0)) near small down.1 up.1),
     )
 
--- ---- what is on its way, as the plain link has it
+-- ---- what is in transit, as on the plain link
 
 same_units : (m n : ℕ) (s u : SegmentView) (xs ys : List (ℕ × SegmentView)) → m ≡ n → s ≡ u → xs ≡ ys
     → (m, s) ∷ xs ≡ (n, u) ∷ ys
@@ -153,7 +153,7 @@ vr_known : (early : Bool) (c : Config) (d : Directive) (base : ℕ) (w : World) 
 vr_known true c d base w g i lt = absurd (omega (arith, g.stage.none_sent, lt))
 vr_known false c d base w g i lt = g.stage.vr_is
 
--- the reports are known once the session is settled
+-- the CLCWs are known once the session is settled
 down_known : (early : Bool) (c : Config) (d : Directive) (base : ℕ) (w : World) (g : In early c d base w)
     → IsActive w.ground_node.fop.state
     → (w.spacecraft.farm.vr ≡ (base + g.plain.r) % 256) × DownIs base g.reports g.plain.down

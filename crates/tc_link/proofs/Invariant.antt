@@ -21,7 +21,7 @@ use Rattle.tc_link.proofs.Downward.{early_down_clcw}
 use Rattle.tc_link.proofs.Linked.{In, Begun, Late, Next, run_to, stays, beside}
 use Rattle.tc_link.proofs.Sound.{step_sound, new_sound, given_keeps, Sound}
 
--- ---- such an event leaves the session's opening as it is, and another begins one
+-- ---- an event that begins no session leaves its opening as it is; an initiation sets another
 
 -- what a session keeps from its beginning to its end
 abbrev pub opened : Session → Option Opening × ℕ
@@ -54,7 +54,7 @@ module _ (w : World) where
   pub opening_stays : (e : Event) → BeginsNoSession w e → (world_step w e).after.session.opening ≡ w.session.opening
   opening_stays e goes = ap (λ (o : Option Opening × ℕ). o.0) (session_stays e goes)
 
-  -- and so it had an idle start
+  -- so it had an idle start
   pub idle_goes : (e : Event) → IsIdle w → BeginsNoSession w e → IsIdle (world_step w e).after
   idle_goes e idle goes =
       ap (λ (o : Option Opening × ℕ). option_map (λ (x : Opening). x.idle) o.0) (session_stays e goes) ∙ idle
@@ -76,7 +76,7 @@ module _ (w : World) where
 
 module _ (early : Bool) (c : Config) (d : Directive) (base : ℕ) (w : World) (k : Sound c w) (g : In early c d base w)
   where
-    -- no report comes, and no frame is sent up or arrives there
+    -- no CLCW arrives, and no frame is sent on the uplink or arrives there
     others : (e : Event) → IsEvent e → BeginsNoSession w e → (BringsReport e → ⊥) → e ≢ events.Send
         → e ≢ events.UpDeliver → Next early c d base g.plain (world_step w e).after
     others e fits goes not_told not_sent not_come = stepped w (Next early c d base g.plain) e (record {
@@ -100,7 +100,7 @@ module _ (early : Bool) (c : Config) (d : Directive) (base : ℕ) (w : World) (k
       hears = λ b bs is told. absurd (not_told told);
     })
 
-    -- where it is known what telemetry leads to that arrives
+    -- if it is known what telemetry that arrives leads to
     module _ (P : World → Type 0) (goes_so : (new : World) → Next early c d base g.plain new → P new)
         (heard : P (down_deliver_step w w.down).after) (word : P (world_step w events.DownClcw).after) where
       step_so : (e : Event) → IsEvent e → BeginsNoSession w e → P (world_step w e).after
@@ -157,7 +157,7 @@ module _ (c : Config) (w : World) (h : Holding c w) where
   some_true : (b : Bool) → Some b ≡ Some true → b ≡ true
   some_true b e = cc
 
-  -- one begins
+  -- a session begins
   session_begins : (d : Directive) → is_initiation d ≡ true → is_closed w.ground_node.fop.state ≡ true
       → IsDirective d → IsIdle (world_step w (events.Directive d)).after
       → InSession c (world_step w (events.Directive d)).after
@@ -184,7 +184,7 @@ module _ (c : Config) (w : World) (h : Holding c w) where
     session = session_goes e goes fits;
   }
 
-  -- one begins with a directive, or none does
+  -- a directive begins a session, or none begins
   directive_holds : (d : Directive) → IsDirective d → Holding c (directed w d)
   directive_holds d fits = elim (cases_Bool (is_initiation d)) [
     | inl is ↦ (elim (cases_Bool (is_closed w.ground_node.fop.state)) [
@@ -226,13 +226,13 @@ reached_holds w r =
     subst (Holding r.config) r.led (run_holds r.config r.events (new_world r.config) r.octets
     (new_holds r.config r.ranges))
 
--- ---- a session begins with an event
+-- ---- an event begins a session
 
 pub can_off : (s : GroundState) (value : ℕ) → can_resume s value ≡ true → s.fop.state ≡ S6
 can_off s value can =
     let k = resumed_known s value can in closed_is s.fop.state (known_off s value k.0 k.1)
 
--- it is an initiation, or ends with one
+-- the event is an initiation, or its last step is one
 pub record BeganAt (w : World) (e : Event) : Type 0 where
   pub start : World
   pub directive : Directive

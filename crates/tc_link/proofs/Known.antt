@@ -1,4 +1,4 @@
--- V(S) and NN(R) change with the records of the session alone.
+-- V(S) and NN(R) change only with the records of the session.
 use Rattle.tc_link.proofs.Common.{◌≡◌, ℕ, Bool, List, [], ◌∷◌, Option, Result, refl}
 use Rattle.tc_link.proofs.Common.{ap, subst, ◌∙◌, SegmentView, CopFault, Alert, ◌≢◌}
 use Rattle.tc_link.proofs.Common.{Directive, directive_step, Config, Event}
@@ -32,14 +32,14 @@ Same f t = (t.vs ≡ f.vs) × (t.nn ≡ f.nn)
 pub with_same : (s : GroundState) (f : FopState SegmentView) → Same f (with_fop s f).fop
 with_same s f = refilled_keeps (λ t. Same f t.fop) (record s { fop = f }) (λ waiting pending on closed. (refl, refl))
 
--- an alert leaves both
+-- an alert leaves both numbers
 alert_same : (f : FopState SegmentView) → Same f (after_alert f)
 alert_same f = (refl, refl)
 
 again_same : (f : FopState SegmentView) (again : Bool) → (retransmits f again).vs ≡ f.vs
 again_same f again = grind arith
 
--- a report leaves V(S)
+-- a CLCW leaves V(S)
 heard_same : (f : FopState SegmentView) (r : Clcw) → (clcw_step f r).after.vs ≡ f.vs
 heard_same f r =
     let over = (alert_same f).0 in
@@ -48,7 +48,7 @@ heard_same f r =
     heard_active f r (λ o. o.after.vs ≡ f.vs) (assumption (over, later_over, again_same f)) in
     reported f r (λ o. o.after.vs ≡ f.vs) (assumption (active, over))
 
-tick_same : (f : FopState SegmentView) → Same f (tick_step f).after
+pub tick_same : (f : FopState SegmentView) → Same f (tick_step f).after
 tick_same f = ticked f (λ o. Same f o.after) (assumption (alert_same (after_stop f)))
 
 -- ---- one event
@@ -97,7 +97,7 @@ module _ (early : Bool) (c : Config) (d : Directive) (base : ℕ) (w : World) (k
     Sends o = MovesWithRecords w (world_after_pull w (with_fop w.ground_node o.after)
         (frame_to_send w.ground_node.config o.answer)).after
 
-    -- the records but for what is sent
+    -- the records, except for what is sent
     abbrev sent_so : FopState SegmentView → List (List ℕ) → List (List ℕ) → World
     sent_so f up field = record w {
       ground_node = with_fop w.ground_node f;
@@ -142,11 +142,11 @@ module _ (c : Config) (w : World) (k : Sound c w) (s : InSession c w) where
   pub octet : IsOctet w
   octet = in_session s (λ early g. g.linked.nn_octet)
 
-  -- the ground is this, and these are the records
+  -- the ground is this one, and these are the records
   abbrev Moves : GroundState → Session → Type 0
   Moves t session = t.fop.nn < 256 → MovesWithRecords w (record w { ground_node = t; session = session })
 
-  -- a report comes, or none
+  -- a CLCW arrives, or none
   heard_so : (t : GroundState) → t.fop.vs ≡ w.ground_node.fop.vs
       → Moves t (session_after_report w.session w.ground_node t)
   heard_so t same octet_after = record { vs = rw same refl; nn = omega (arith, octet, octet_after) }

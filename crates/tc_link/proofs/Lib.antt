@@ -48,3 +48,8 @@ pub mod SeenGround
 pub mod Seen
 pub mod Resumable
 pub mod Shown
+pub mod GroundSession
+pub mod Gaps
+pub mod GroundCounts
+pub mod SentOnce
+pub mod Separate

@@ -1,4 +1,4 @@
--- What is on its way, what a report does, and how the nodes, the records and a plain link hold together in a session
+-- What is in transit, what a CLCW does, and how the nodes, the records and a plain link agree in a session
 -- that had an idle start: before it is confirmed, before it is settled, and after.
 use Rattle.tc_link.proofs.Common.{◌≡◌, ℕ, ◌+◌, ◌*◌, ◌%◌, ◌<◌, ◌≤◌, max, Bool, true, false, List, [], ◌∷◌, ◌++◌, Some}
 use Rattle.tc_link.proofs.Common.{refl, arith, slice_get, Clcw, Command, Unlock, SetVr, SegmentView, BodyView, Ad, Bd}
@@ -21,15 +21,16 @@ use Rattle.cop1.specs.FopWords.{after_gone}
 use Rattle.tc_link.specs.PlainLink.{none, reports as tells}
 use Rattle.tc_link.proofs.Lists.{get_append, units-marked, units-drop}
 
--- What is on its way, beside what a plain link has on its way.
+-- What is in transit, compared with what a plain link has in transit.
 
--- the control command of a session that a directive begins and that counts from `base` on
+-- the control command of a session that a directive begins, counting from `base`
 abbrev pub CommandFits : Directive → ℕ → Command → Type 0
 CommandFits InitUnlock base Unlock = Unit {0}
 CommandFits (InitSetVr x) base (SetVr y) = y ≡ base
 CommandFits _ base _ = ⊥
 
--- the frames are the pairs; control frames stand before the first of them alone, where `front` says so
+-- the frames are the pairs; control frames come only before the first of them, and only if `front` is
+-- set
 abbrev pub UpIs : Directive → ℕ → Bool → List BodyView → List (ℕ × SegmentView) → Type 0
 UpIs d base front [] [] = Unit {0}
 UpIs d base front (Bd s ∷ fs) qs = UpIs d base front fs qs
@@ -42,7 +43,7 @@ DownIs base [] [] = Unit {0}
 DownIs base (c ∷ cs) (v ∷ vs) = (c.value ≡ (base + v) % 256) × DownIs base cs vs
 DownIs base _ _ = ⊥
 
--- each pair was sent, and none before it takes the receiver past its window
+-- each pair was sent, and none before it takes the receiver beyond its window
 abbrev pub Fits : (h n : ℕ) → List SegmentView → ℕ → List (ℕ × SegmentView) → Type 0
 Fits h n units r [] = Unit {0}
 Fits h n units r (q ∷ qs) =
@@ -52,8 +53,8 @@ abbrev pub bit : Bool → ℕ
 bit true = 1
 bit false = 0
 
--- A report's rank is twice its value, and one more where it asks for repetition. The ranks rise, no report is locked,
--- and one that waits asks for repetition.
+-- A CLCW's rank is twice its value, and one more if it requests retransmission. The ranks rise, no CLCW has the
+-- lockout flag, and one with the wait flag requests retransmission.
 abbrev pub Ranks : ℕ → List Clcw → List ℕ → ℕ → Type 0
 Ranks low [] [] high = low ≤ high
 Ranks low (c ∷ cs) (v ∷ vs) high =
@@ -160,9 +161,9 @@ ranks_to low high [] [] up = up
 ranks_to low high (d ∷ ds) (w ∷ ws) up = omega (arith, up.2, ranks_to (2 * w + bit (asks d)) high ds ws up.3)
 ranks_to low high _ _ up = elim up [ ]
 
--- What a report does at the sender, where its value lies between the numbers of what is acknowledged and what was sent.
+-- What a CLCW does at the sender, if its value lies between the numbers of what is acknowledged and what was sent.
 
--- 1 where the sender was asked to repeat
+-- 1 if the sender was asked to retransmit
 abbrev pub asked : FopMode → ℕ
 asked S2 = 1
 asked S3 = 1
@@ -178,18 +179,18 @@ active_late S4 active = active
 active_late S5 active = active
 active_late _ active = tt
 
--- the alerts that a report may lead to
+-- the alerts that a CLCW may lead to
 abbrev pub IsAllowed : Bool → ℕ → Option Alert → Type 0
 IsAllowed asking limit None = Unit {0}
 IsAllowed asking limit (Some Limit) = (asking ≡ true) × (limit ≡ 1)
 IsAllowed asking limit (Some _) = ⊥
 
--- what is kept of the queues, where the sender is off and where it is on
+-- what is kept of the queues, while the sender is off and while it is on
 abbrev pub HeldBy : {A : Type 0} → Bool → FopState SegmentView → ℕ → FopOutcome SegmentView A → Type 0
 HeldBy true s gone o = (o.after.sent ≡ []) × (o.after.waiting ≡ None)
 HeldBy false s gone o = (units_of o.after.sent ≡ drop gone (units_of s.sent)) × (o.after.waiting ≡ s.waiting)
 
--- where an outcome leads, which acknowledges `gone` units
+-- the state to which an outcome leads that acknowledges `gone` units
 pub record Leads (base : ℕ) (checked : Type 0) (s : FopState SegmentView) (asking : Bool) (rank a gone : ℕ)
     (o : FopOutcome SegmentView (Option Alert)) : Type 0 where
   pub vs_is : o.after.vs ≡ s.vs
@@ -199,7 +200,7 @@ pub record Leads (base : ℕ) (checked : Type 0) (s : FopState SegmentView) (ask
   pub rank_is : checked → 2 * (a + gone) + asked o.after.state ≤ rank
   pub allowed : checked → IsAllowed asking s.limit o.answer
 
--- what is known as a report comes
+-- what is known when a CLCW arrives
 pub record ReportComes (base h : ℕ) (checked : Type 0) (s : FopState SegmentView) (a n : ℕ) (c : Clcw) (v : ℕ) : Type 0
   where
     pub value_is : c.value ≡ (base + v) % 256
@@ -260,7 +261,7 @@ module _ (base h : ℕ) (checked : Type 0) (s : FopState SegmentView) (a n : ℕ
   again_led asking false =
       same_led (record s { state = S2 }) refl refl tt refl refl refl (λ t. rw asking (omega (arith, k.low)))
 
-  -- a report that acknowledges
+  -- a CLCW that acknowledges
   gone_is : a + ahead_by c.value s.nn ≡ v
   gone_is = omega (arith, k.value_is, k.nn_is, k.low, k.high, k.n_a, k.half_most)
 
@@ -322,24 +323,24 @@ module _ (base h : ℕ) (checked : Type 0) (s : FopState SegmentView) (a n : ℕ
     all_again = again_led;
   })
 
--- Before a session that is begun by check, Unlock or Set V(R) is confirmed.
+-- Before a session that is begun by CLCW check, Unlock or Set V(R) is confirmed.
 
--- ---- reports that confirm
+-- ---- CLCWs that confirm
 
--- a report that confirms
+-- a CLCW that confirms
 abbrev pub Good : ℕ → Clcw → Type 0
 Good base c = (locks c ≡ false) × (waits c ≡ false) × (asks c ≡ false) × (c.value ≡ base)
 
--- a receiver that would now report so
+-- a receiver that would now make such a CLCW
 abbrev pub WouldConfirm : ℕ → FarmState → Type 0
 WouldConfirm base s = (s.lockout ≡ false) × (s.wait ≡ false) × (s.retransmit ≡ false) × (s.vr ≡ base)
 
--- each report confirms, and at their end this is so
+-- each CLCW confirms, and at their end this holds
 abbrev pub AllGood : ℕ → List Clcw → Type 0 → Type 0
 AllGood base [] last = last
 AllGood base (c ∷ cs) last = Good base c × AllGood base cs last
 
--- from a report that confirms on, each one does
+-- from a CLCW that confirms on, each one does
 abbrev pub Lasts : ℕ → List Clcw → Type 0 → Type 0
 Lasts base [] last = Unit {0}
 Lasts base (c ∷ cs) last = (Good base c → AllGood base cs last) × Lasts base cs last
@@ -367,7 +368,7 @@ pub last_good : (base : ℕ) (cs : List Clcw) (l : Type 0) → AllGood base cs l
 last_good base [] l all = all
 last_good base (c ∷ cs) l all = last_good base cs l all.1
 
--- ---- a plain link with as many reports of 0
+-- ---- a plain link with as many CLCWs of 0
 
 abbrev pub zeros : List Clcw → List ℕ
 zeros [] = []
@@ -394,7 +395,7 @@ pub zeros_count : (cs : List Clcw) → length cs ≡ length (zeros cs)
 zeros_count [] = refl
 zeros_count (c ∷ cs) = omega (arith, zeros_count cs)
 
--- where each report confirms, 0 is the number of each
+-- if each CLCW confirms, 0 is the number of each
 pub good_down : (base low : ℕ) (cs : List Clcw) (vs : List ℕ) (l : Type 0) → base < 256 → length cs ≡ length vs
     → Rises low vs 0 → AllGood base cs l → DownIs base cs vs
 good_down base low [] [] l most count up all = tt
@@ -419,7 +420,7 @@ good_ranks base low rank _ _ l least count up all = absurd cc
 
 -- ---- what holds before the confirmation
 
--- where a session waits for it, or has ended before
+-- a session waits for the confirmation, or has ended before it
 abbrev pub IsEarly : Directive → FopMode → Type 0
 IsEarly d S4 = d ≡ InitWithCheck
 IsEarly d S5 = d ≡ InitWithCheck → ⊥
@@ -437,7 +438,8 @@ ControlFits d base Idle = Unit {0}
 ControlFits d base (Due command) = CommandFits d base command
 ControlFits d base (Sent command) = CommandFits d base command
 
--- each report has the receiver's lockout flag, retransmit flag and V(R), and one that waits asks for repetition
+-- each CLCW has the receiver's lockout flag, retransmit flag and V(R), and one with the wait flag requests
+-- retransmission
 abbrev pub AllSame : List Clcw → (lockout retransmit : Bool) (vr : ℕ) → Type 0
 AllSame [] lockout retransmit vr = Unit {0}
 AllSame (c ∷ cs) lockout retransmit vr =
@@ -462,17 +464,17 @@ pub record Unsettled (d : Directive) (base : ℕ) (m : FopMode) (control : Contr
   pub lasts : Lasts base reports (WouldConfirm base farm)
   pub same : d ≡ InitWithCheck → AllSame reports farm.lockout farm.retransmit farm.vr
 
--- How the nodes, what is on its way, the records and a plain link hold together in a session that had an
--- idle start, before it is settled and after.
+-- How the nodes, what is in transit, the records and a plain link agree in a session that had an idle
+-- start. This covers the time before it is settled, and after.
 
--- ---- octets on their way
+-- ---- octets in transit
 
 abbrev pub Carries : Config → List (List ℕ) → List BodyView → Type 0
 Carries c [] [] = Unit {0}
 Carries c (b ∷ bs) (f ∷ fs) = (command.frame_at On b ≡ Ok (frame_of c f)) × Carries c bs fs
 Carries c _ _ = ⊥
 
--- octets of a telemetry frame with this report
+-- octets of a telemetry frame with this CLCW
 pub record Tells (c : Config) (octets : List ℕ) (report : Clcw) : Type 0 where
   pub frame : telemetry.FrameView
   pub reads : telemetry_reading.frame_at c.frame_length octets ≡ Ok frame
@@ -495,7 +497,7 @@ pub record IsGiven (c : Config) (p : PacketOn) : Type 0 where
 abbrev pub units_of_all : Config → List PacketOn → List SegmentView
 units_of_all c ps = flat_map (λ (p : PacketOn). segments_of c.part p.on_map p.octets) ps
 
--- ---- what the sender holds where it is on
+-- ---- what the sender holds while it is on
 
 pub record Holds (base vs nn : ℕ) (sent : List (SentUnit SegmentView)) (rest : List SegmentView) (a n : ℕ)
     (units : List SegmentView) : Type 0 where
@@ -504,7 +506,7 @@ pub record Holds (base vs nn : ℕ) (sent : List (SentUnit SegmentView)) (rest :
   pub sent_is : units_of sent ≡ drop a (take n units)
   pub rest_is : rest ≡ drop n units
 
--- where it is off V(S) and NN(R) are still the session's, or they were set since, and are one
+-- while the sender is off, V(S) and NN(R) are still the session's, or were set since, and are equal
 abbrev pub Kept : (base vs nn a n : ℕ) → Type 0
 Kept base vs nn a n = ((vs ≡ (base + n) % 256) × (nn ≡ (base + a) % 256)) ⊎ (vs ≡ nn)
 
@@ -544,7 +546,7 @@ pub record Linked (c : Config) (d : Directive) (base : ℕ) (w : World) (p : Pla
   pub fits : Fits (c.width / 2) p.n p.units p.r p.up
   pub rises : Rises p.a p.down p.r
 
--- where the sender is on
+-- while the sender is on
 pub holds_on : {c : Config} {d : Directive} {base : ℕ} {w : World} {p : PlainLink} {front : Bool}
     {frames : List BodyView} {reports : List Clcw} → Linked c d base w p front frames reports
     → is_closed w.ground_node.fop.state ≡ false
@@ -554,9 +556,9 @@ holds_on {base = base} {w = w} {p = p} l on =
     let f = w.ground_node.fop in
     let it : Held false base f.vs f.nn f.sent (unsent_segments w.ground_node) p.a p.n p.units = rw on at l.held in it
 
--- ---- once it is confirmed, or begun without a check
+-- ---- once it is confirmed, or begun without check
 
--- no false alarm is on its way
+-- nothing in transit leads to a false alarm
 pub record Calm (m : FopMode) (farm : FarmState) (front : Bool) (reports : List Clcw) (a r n : ℕ) (down : List ℕ) :
     Type 0 where
   pub unlocked : farm.lockout ≡ false
@@ -583,7 +585,7 @@ Stage true d base m control farm confirmed front reports a r n down =
 Stage false d base m control farm confirmed front reports a r n down =
     Settled d base m farm confirmed front reports a r n down
 
--- a plain link that is reached so stands beside the world
+-- a plain link that is reached this way corresponds to the world
 pub record SessionBy (early : Bool) (Reached : PlainLink → Type 0) (c : Config) (d : Directive) (base : ℕ) (w : World) :
     Type 0 where
   pub plain : PlainLink
@@ -595,7 +597,7 @@ pub record SessionBy (early : Bool) (Reached : PlainLink → Type 0) (c : Config
   pub stage : Stage early d base w.ground_node.fop.state w.ground_node.fop.control w.spacecraft.farm w.session.confirmed
       front reports plain.a plain.r plain.n plain.down
 
--- one that a run leads to
+-- a plain link that a run leads to
 abbrev pub In : Bool → Config → Directive → ℕ → World → Type 0
 In early c d base w = SessionBy early (PlainRun new_link) c d base w
 
@@ -605,18 +607,18 @@ Begun c d base w = In true c d base w
 abbrev pub Late : Config → Directive → ℕ → World → Type 0
 Late c d base w = In false c d base w
 
--- one that is a step from this one, or is this one
+-- a plain link that is a step from this one, or is this one
 abbrev pub Next : Bool → Config → Directive → ℕ → PlainLink → World → Type 0
 Next early c d base p w = SessionBy early (AtMostOneStep p) c d base w
 
--- its stage with another sender
+-- the stage of the session, with another sender
 abbrev pub WithSender : {early : Bool} {Reached : PlainLink → Type 0} {c : Config} {d : Directive} {base : ℕ}
     {w : World} → SessionBy early Reached c d base w → FopMode → Control → Type 0
 WithSender {early} {Reached} {c} {d} {base} {w} g m control =
     Stage early d base m control w.spacecraft.farm w.session.confirmed g.front g.reports g.plain.a g.plain.r g.plain.n
     g.plain.down
 
--- with another receiver
+-- the stage of the session, with another receiver
 abbrev pub WithReceiver : {early : Bool} {Reached : PlainLink → Type 0} {c : Config} {d : Directive} {base : ℕ}
     {w : World} → SessionBy early Reached c d base w → FarmState → Type 0
 WithReceiver {early} {Reached} {c} {d} {base} {w} g farm =

@@ -1,11 +1,12 @@
--- What the proofs need of lists.
+-- What the proofs need about lists.
 use Rattle.tc_link.proofs.Common.{◌≡◌, ℕ, zero, suc, ◌+◌, List, [], ◌∷◌, ◌++◌, take, drop, Some, ap, arith, slice_get}
 use Rattle.tc_link.proofs.Common.{Bool, true, false, map, refl, if◌then◌else◌, SentUnit, oldest_marked}
-use Rattle.tc_link.proofs.Common.{without_oldest_mark, unmarked_unit, marked_unit, units_of}
+use Rattle.tc_link.proofs.Common.{without_oldest_mark, unmarked_unit, marked_unit, units_of, sym, ◌∙◌}
 use Rattle.std.proofs.Common.{add-one, zero-add}
+use Rattle.std.proofs.Math.Seq.{drop-nil}
 
 module _ {A : Type 0} where
-  -- the rest of a list from n on, taken apart
+  -- the rest of a list from n on, split into head and tail
   pub drop_cons_get : (xs : List A) (n : ℕ) (u : A) (us : List A) → drop n xs ≡ u ∷ us → slice_get xs n ≡ Some u
   drop_cons_get (x ∷ xs) (suc n) u us e = drop_cons_get xs n u us e
   drop_cons_get [] (suc n) u us e = cc
@@ -39,6 +40,11 @@ module _ {A : Type 0} where
   get_take [] (suc n) j u e = cc
   get_take xs zero j u e = cc
 
+  pub drop_on : (a k : ℕ) (xs : List A) → drop k (drop a xs) ≡ drop (a + k) xs
+  drop_on zero k xs = rw zero-add refl
+  drop_on (suc a) k [] = drop-nil k ∙ sym (drop-nil (suc a + k))
+  drop_on (suc a) k (x ∷ xs) = let same : suc a + k ≡ suc (a + k) = omega arith in rw same (drop_on a k xs)
+
 -- The sent queue as the list of its units.
 
 module _ {U : Type 0} where
@@ -63,7 +69,7 @@ module _ {U : Type 0} where
   units-without [] = refl
   units-without (x ∷ xs) = units-put_back x.marked x xs (without_oldest_mark xs) (units-without xs)
 
-  -- the oldest marked unit stands at its place
+  -- the oldest marked unit is at its place
   abbrev pub Stands : ℕ → List (SentUnit U) → ℕ × U → Type 0
   Stands k xs x = (j : ℕ) × (x.0 ≡ k + j) × (slice_get (units_of xs) j ≡ Some x.1)
 

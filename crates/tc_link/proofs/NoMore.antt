@@ -1,4 +1,5 @@
--- In S6, whatever comes beside the session, no more segments are accepted than Type-AD frames are on their way up.
+-- In S6, whatever happens that leaves the session as it is, no more segments are accepted than Type-AD frames are
+-- in transit on the uplink.
 use Rattle.tc_link.proofs.Common.{◌≡◌, ap, arith, refl, List, [], ◌∷◌, drop, map, segment_octets, SegmentView, S6}
 use Rattle.tc_link.proofs.Common.{World, Config, AllByRecursion}
 use Rattle.nodes.proofs.Arrivals.{bypass_same}

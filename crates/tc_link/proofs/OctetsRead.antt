@@ -1,4 +1,4 @@
--- What is read of octets that arrive from anywhere: each number in a control frame, and each report's, is an octet.
+-- What is read from octets that arrive from anywhere: the numbers of control frames and of CLCWs are octets.
 use Rattle.tc_link.proofs.Common.{◌<◌, ◌+◌, ◌-◌, ℕ, zero, suc, Bool, List, [], ◌∷◌, length, Result, Ok, Err, arith}
 use Rattle.tc_link.proofs.Common.{cond_both, On, TcFault, TmFault, SegmentView, BodyView, Ad, Bd, Bc, Command, Unlock}
 use Rattle.tc_link.proofs.Common.{SetVr, drop}

@@ -1,4 +1,4 @@
--- The plain link of a session is one link, since the records and what is on its way leave no choice.
+-- The plain link of a session is unique, since the records and what is in transit determine it.
 use Rattle.tc_link.proofs.Common.{false, inl, inr, Config, Event, GoesOnByAStep, IsEvent, World, IsSettled}
 use Rattle.tc_link.proofs.Common.{BeginsNoSession, world_step, ◌≡◌, ℕ, ◌+◌, ◌/◌, ◌%◌, ◌≤◌, Bool, true, List, []}
 use Rattle.tc_link.proofs.Common.{◌∷◌, map, refl, sym, subst, arith, AllByRecursion}
@@ -25,9 +25,9 @@ use Rattle.tc_link.proofs.Sound.{Sound}
 use Rattle.tc_link.proofs.Promised.{goes_on_by_a_step}
 use Rattle.tc_link.proofs.AnyPast.{link_step_holds, past_holds, still_idle}
 
--- ---- what is on its way
+-- ---- what is in transit
 
--- the pairs on their way up lie less than 256 apart
+-- the numbers of the pairs in transit on the uplink lie less than 256 apart
 up_is_one : (b c h : ℕ) (p q : PlainLink) → b % 256 ≡ c % 256 → p.r ≡ q.r → p.n ≡ q.n → p.n ≤ p.r + h → h ≤ 127
     → (xs ys : List (ℕ × SegmentView)) → map (numbered b) xs ≡ map (numbered c) ys
     → AllByRecursion (IsNear p h) xs → AllByRecursion (IsNear q h) ys → xs ≡ ys
@@ -42,7 +42,7 @@ up_is_one b c h p q base r n most small (x ∷ xs) (y ∷ ys) is near_x near_y =
     grind (arith, place, unit, others)
 up_is_one b c h p q base r n most small _ _ is near_x near_y = absurd cc
 
--- and so do the numbers on their way down
+-- so do the numbers in transit on the downlink
 down_is_one : (b c a high low least : ℕ) → b % 256 ≡ c % 256 → high ≤ a + 127 → a ≤ low → a ≤ least
     → (vs us : List ℕ) → map (number_of b) vs ≡ map (number_of c) us → Rises low vs high → Rises least us high → vs ≡ us
 down_is_one b c a high low least base small above over [] [] is up rises = refl
@@ -116,7 +116,7 @@ each_has_one_link w ranges = (one_link w ranges, λ nothing base plain h. unsent
 
 -- ---- from one moment to the next
 
--- a settled session stays so
+-- a settled session stays settled
 pub settled_goes : (c : Config) (w : World) (k : Sound c w) (s : InSession c w) (e : Event) → IsEvent e → IsSettled w
     → BeginsNoSession w e → IsSettled (world_step w e).after
 settled_goes c w k s e fits settled goes = elim s.session [
@@ -152,7 +152,7 @@ module _ (c : Config) where
       let step : AtMostOneStep p t.after = subst (λ (x : PlainLink). AtMostOneStep x t.after) old.0 t.step in
       (subst (AtMostOneStep p) new.0 step, sym old.1 ∙ new.1)
 
-  -- what happens beside the session leaves its history
+  -- what leaves the session as it is leaves its history
   stays : (w new : World) → Holding c w → IsSettled w
       → ((b : ℕ) (p : PlainLink) → IsHistory new b p → IsHistory w b p) → HistoriesAre AtMostOneStep w new
   stays w new h settled back b d p q was is =

@@ -1,4 +1,4 @@
--- Telemetry after an outage: at most the first packet is another.
+-- Telemetry after an outage: at most the first packet is a wrong one.
 use Rattle.tc_link.proofs.Common.{◌≡◌, ◌≤◌, ℕ, zero, suc, Bool, true, false, List, [], ◌∷◌, ◌++◌, length, drop, refl}
 use Rattle.tc_link.proofs.Common.{sym, ap, subst, ◌∙◌, arith, append_assoc, length-append, append-nil, AllByRecursion}
 use Rattle.tc_link.proofs.Common.{all_extracted, state_after, ExtractorState, extract_step, held_by, choice, Config}
@@ -16,7 +16,7 @@ use Rattle.tc_link.specs.Telemetry.{Downlink, DownlinkStep, Happens, TakeTelemet
 use Rattle.tc_link.specs.Telemetry.{after_event, after_taking, downlink_run, packets_down, came_by, sent_by}
 use Rattle.tc_link.proofs.Telemetry.{choice_none, arrived_some, Laid, new_downlink_laid, chosen, run_laid, in_range}
 
--- ---- what comes to be sent, and what comes or is lost, stands after what there was
+-- ---- what is sent, arrives or is lost later comes after what was there before
 
 record Grown (old new : Downlink) : Type 0 where
   came : List Bool

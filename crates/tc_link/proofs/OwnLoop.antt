@@ -1,4 +1,4 @@
--- A loop of one's own is a link: its nodes, what is on its way and its answers are those of the world.
+-- A loop of your own is a link: its nodes, what is in transit and its answers are those of the world.
 use Rattle.tc_link.proofs.Common.{◌≡◌, ℕ, Bool, true, false, List, [], ◌∷◌, Option, Some, None, Result, Ok, Err}
 use Rattle.tc_link.proofs.Common.{refl, ap, sym, subst, ◌∙◌, if◌then◌else◌, AllByRecursion, Config, IsEvent}
 use Rattle.tc_link.proofs.Common.{Event, World, WorldOutcome, new_world, world_step, run_answers, world_after_pull}
@@ -46,7 +46,7 @@ module _ (w : World) where
   abbrev l : Loop
   l = without_records w
 
-  -- ---- calls whose answer decides what is left
+  -- ---- calls whose answer determines the state they leave
 
   resumed_same : (value : ℕ) (o : Option ℕ)
       → on_ground l reply_to_resuming (resumed_from w.ground_node value o)
@@ -59,7 +59,7 @@ module _ (w : World) where
   pulled_same next None = refl
   pulled_same next (Some frame) = refl
 
-  -- ---- what is on its way
+  -- ---- what is in transit
 
   up_same : (way : List (List ℕ))
       → first_of l way (λ octets left. comes_up (with_up l left) octets) ≡ of_world (up_deliver_step w way)
@@ -217,7 +217,7 @@ answered_as c d h (downlink.Happens event) seen =
     ap (λ (o : LoopOutcome). OfEvent o.answer) (event_same d.world c h event seen)
 answered_as c d h downlink.TakeTelemetry seen = refl
 
--- it leads on as a step of the link
+-- the loop takes a step as the link does
 leads_as : (c : Config) (d : Downlink) → Holding c d.world → (s : DownlinkStep) → IsDownlinkStep s
     → ((downlink_step d s).world ≡ link_step d.world (as_link_step s)) × IsLinkStep (as_link_step s)
 leads_as c d h (downlink.Happens event) fits = (refl, fits)

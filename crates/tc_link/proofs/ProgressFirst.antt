@@ -1,4 +1,4 @@
--- What an exchange does to both nodes, from any moment: an alert comes, or the link is ready.
+-- What an exchange does to both nodes, from any moment: an alert is raised, or the link is ready.
 use Rattle.tc_link.proofs.Common.{◌≡◌, ◌≢◌, ◌<◌, ◌≤◌, ℕ, ◌+◌, false, List, ◌∷◌, ◌++◌, length, refl, ap, ◌∙◌, arith}
 use Rattle.tc_link.proofs.Common.{length-append, length-map, option_to_list, Clcw, SegmentView, ahead_by, FopState}
 use Rattle.tc_link.proofs.Common.{IsActive, units_of, extract_step, GroundState, with_fop, is_closed, unsent_segments}
@@ -35,11 +35,11 @@ use Rattle.tc_link.proofs.ProgressSender.{report_holds, active_report, tick_end,
 use Rattle.tc_link.proofs.Refilled.{refilled_keeps}
 use Rattle.tc_link.proofs.IdleStart.{tells_now, flags_are}
 
--- What the events of an exchange do to the ground, and the numbers that are known of it.
+-- What the events of an exchange do to the ground, and the numbers that are known then.
 
 -- ---- the wait queue is refilled
 
--- a sender is as another but for its wait queue
+-- two senders are the same except for the wait queue
 pub record IsAs (f g : FopState SegmentView) : Type 0 where
   pub state : f.state ≡ g.state
   pub vs : f.vs ≡ g.vs
@@ -77,7 +77,7 @@ size_is s =
     let units : length (units_of s.fop.sent) ≡ length s.fop.sent = length-map s.fop.sent (λ u. u.unit) in
     omega (arith, units, length-append (units_of s.fop.sent) (unsent_segments s))
 
--- it is Active, and holds so much at most, with this window
+-- the ground is Active, and holds at most this many, with this window
 pub record IsBounded (most k : ℕ) (s : GroundState) : Type 0 where
   pub active : IsActive s.fop.state
   pub holds : size s ≤ most
@@ -96,7 +96,7 @@ bounded most k s f b less =
       window = same.window ∙ less.window ∙ b.window;
     }
 
--- ---- the numbers, where it is Active
+-- ---- the numbers, while the sender is Active
 
 pub record HasNumbers (w : World) : Type 0 where
   pub numbered : ahead_by w.ground_node.fop.vs w.ground_node.fop.nn ≡ length w.ground_node.fop.sent
@@ -111,12 +111,12 @@ has_numbers w g active =
     let numbered = k.sender.numbered (active_on w.ground_node.fop.state active) in
     assumption (numbered, k.sender, k.receiver)
 
--- units are sent where the numbers differ
+-- units are sent if the numbers differ
 pub some_sent : (w : World) → HasNumbers w → w.ground_node.fop.nn ≢ w.ground_node.fop.vs
     → 1 ≤ length w.ground_node.fop.sent
 some_sent w n apart = omega (arith, n.numbered, n.vs, n.nn, apart)
 
--- ---- a report is heard
+-- ---- a CLCW is heard
 
 pub heard_is : (w : World) (b : List ℕ) (bs : List (List ℕ)) (r : Clcw) → w.down ≡ b ∷ bs
     → (t : Tells w.ground_node.config b r)
@@ -126,7 +126,7 @@ heard_is w b bs r is t =
     ap (down_deliver_step w) is
     ∙ ap (world_after_telemetry w bs) (used_is w.ground_node.config w.ground_node b r refl t)
 
--- whatever report is the oldest on its way
+-- whatever CLCW is the oldest in transit
 pub oldest_heard : (P : WorldOutcome → Type 0) (w : World) → HasOctetPast w → (b : List ℕ) (bs : List (List ℕ))
     → w.down ≡ b ∷ bs
     → ((r : Clcw) (x : Extracted) → P (world_after_telemetry w bs (used w.ground_node x r)))
@@ -145,7 +145,7 @@ alerted (Some x) is = refl
 
 -- ---- frames arrive on board, and packets are taken there
 
--- so much holds with so many frames on their way up, and so many packets are ready
+-- so much holds with so many frames in transit on the uplink, and so many packets are ready
 abbrev pub Taken : (ℕ → World → Type 0) → ℕ → ℕ → World → Type 0
 Taken P n m w = P n w × (length w.spacecraft.ready ≡ m)
 
@@ -168,7 +168,7 @@ module _ (P : ℕ → World → Type 0) (taken : (n : ℕ) (w : World) → P n w
       (λ n v h q. ends_then (Taken P (suc n) zero) (P n) all_taken next_arrived v (takes (suc n) v h q)
       (λ u i t. ends_once (P n) u events.UpDeliver tt i (inr (arrived n u i t)))) (length w.up) w g p
 
--- whatever holds of the ground stays so
+-- what holds of the ground stays so
 module _ (P : GroundState → Type 0) where
   abbrev pub Arrived : ℕ → World → Type 0
   Arrived n w = P w.ground_node × (length w.up ≡ n)
@@ -184,7 +184,7 @@ module _ (P : GroundState → Type 0) where
   pub ground_takes : (w : World) → HasOctetPast w → Arrived zero w → Ends (Taken Arrived zero zero) w (all_taken w)
   ground_takes = takes Arrived (λ n v q. q) zero
 
--- ---- the timer runs_out out
+-- ---- the timer runs out
 
 module _ (P Q : World → Type 0)
     (goes : (w : World) (left : ℕ) → P w
@@ -210,10 +210,10 @@ module _ (P Q : World → Type 0)
   ends_ticks w g p (Some zero) is on = absurd (omega (arith, on))
   ends_ticks w g p (Some (suc n)) is on = ends_repeat Runs events.Tick tt runs_out (suc n) w g (p, is)
 
--- An exchange from any moment: an alert comes, or the link is ready: nothing is on its way, NN(R) is V(R), and all
--- that is not acknowledged is to be sent again.
+-- An exchange from any moment. An alert is raised, or the link is ready: nothing is in transit, NN(R) is V(R), and
+-- all that is not acknowledged must be retransmitted.
 
--- nothing is on its way, and the receiver is open and expects the number NN(R)
+-- nothing is in transit, and the receiver is open and expects the number NN(R)
 pub record Quiet (w : World) : Type 0 where
   pub state : (w.ground_node.fop.state ≡ S1) ⊎ (w.ground_node.fop.state ≡ S2)
   pub asked : w.ground_node.fop.state ≡ S2 → 1 ≤ length w.ground_node.fop.sent
@@ -223,12 +223,12 @@ pub record Quiet (w : World) : Type 0 where
   pub vr : w.spacecraft.farm.vr ≡ w.ground_node.fop.nn
   pub asks : w.spacecraft.farm.retransmit ≡ true → 1 ≤ length w.ground_node.fop.sent
 
--- and what was sent, and is not acknowledged, is to be sent again
+-- what was sent and is not acknowledged must be retransmitted
 pub record Ready (w : World) : Type 0 where
   pub quiet : Quiet w
   pub marked : are_marked w.ground_node.fop.sent ≡ true
 
--- in S1 and S2 the sender waits where not all is marked
+-- in S1 and S2 the sender waits if not all units are marked
 pub awaits_so : (w : World) → Quiet w
     → awaits w.ground_node.fop.state (are_marked w.ground_node.fop.sent) ≡ not (are_marked w.ground_node.fop.sent)
 awaits_so w q = elim q.state [ inl one ↦ rw one refl | inr two ↦ rw two refl ]
@@ -251,9 +251,9 @@ module _ (most k : ℕ) where
   abbrev Waits : World → Type 0
   Waits = Taken (Arrived (IsBounded most k)) zero zero
 
-  -- ---- the spacecraft reports; it does not wait
+  -- ---- the spacecraft makes a CLCW, and does not wait
 
-  -- reports are on their way, as many as this before the one that was made last
+  -- CLCWs are in transit, so many of them before the one that was made last
   record ToHear (n : ℕ) (w : World) : Type 0 where
     bounds : Bounded w
     up : w.up ≡ []
@@ -293,7 +293,7 @@ module _ (most k : ℕ) where
         },
       ))
 
-  -- ---- the reports are heard
+  -- ---- the CLCWs are heard
 
   abbrev pub Heard : World → Type 0
   Heard w = Quiet w × Bounded w
@@ -396,7 +396,7 @@ module _ (most k : ℕ) where
   abbrev pub ReadyWith : World → Type 0
   ReadyWith w = Ready w × Bounded w
 
-  -- the sender is another, with as many units sent
+  -- the sender changes, with as many units sent
   quiet_with : (w : World) (f : FopState SegmentView) → Quiet w → f.state ≡ w.ground_node.fop.state
       → f.nn ≡ w.ground_node.fop.nn → length f.sent ≡ length w.ground_node.fop.sent
       → Quiet (record w { ground_node = with_fop w.ground_node f })
@@ -476,7 +476,7 @@ module _ (most k : ℕ) where
 
 -- The transmission count in an exchange, in any session.
 
--- ---- units may be sent again: the count is below the limit, or all that was sent is to be sent again already
+-- ---- units may be retransmitted: the count is below the limit, or all units sent are due already
 
 abbrev pub IsBelow : FopState SegmentView → Type 0
 IsBelow s = s.count < s.limit
@@ -484,7 +484,8 @@ IsBelow s = s.count < s.limit
 abbrev pub IsFine : FopState SegmentView → Type 0
 IsFine s = IsBelow s ⊎ (are_marked s.sent ≡ true)
 
--- they still may, where they may be sent more than once; and the limit stays, where no directive sets it
+-- they may still be retransmitted, if they may be sent more than once; the limit stays, while no
+-- directive sets it
 module _ (s : FopState SegmentView) where
   abbrev Goes : (FopState SegmentView → Type 0) → {A : Type 0} → FopOutcome SegmentView A → Type 0
   Goes P o = (o.after.limit ≡ s.limit) × (2 ≤ s.limit → P s → P o.after)
@@ -521,7 +522,7 @@ limit_stays w e calm =
     (λ is. ticked s (λ o. o.after.limit ≡ s.limit) (assumption)) (λ is. (pull_goes s).0)
     (λ told r. (report_goes s r).0) (λ d is. no_directive e calm d is) (λ value is. no_resumption e calm value is)
 
--- until the report is heard
+-- until the CLCW is heard
 abbrev pub IsBefore : Event → Type 0
 IsBefore e = IsCalm e × (e ≢ events.Tick) × (e ≢ events.DownDeliver)
 
@@ -544,7 +545,7 @@ module _ (w : World) (two : 2 ≤ w.ground_node.fop.limit) where
       (λ is. absurd (cc is)) (λ told r. (report_goes w.ground_node.fop r).1 two fine) (λ d is. absurd (cc is))
       (λ value is. absurd (cc is))
 
--- ---- the timer ends with no alert
+-- ---- the timer ends without an alert
 
 pub ends_silent : (s : FopState SegmentView) → s.ticks ≡ Some 1 → (s.state ≡ S1) ⊎ (s.state ≡ S2) → IsBelow s
     → (tick_step s).answer ≡ None

@@ -45,8 +45,8 @@ use Rattle.tc_link.proofs.ProgressNumbers.{known, Ends, ends_then, ends_repeat, 
 use Rattle.tc_link.proofs.ProgressNumbers.{idle_after, alerts_first, alerts_then, or_on, ends_times}
 use Rattle.tc_link.proofs.Promised.{promised_so, run_append}
 
--- What goes on the link next in an exchange, where what is not acknowledged is to be sent again: units with the
--- numbers from NN(R) on, one after another; and how the receiver takes them.
+-- What is sent next in an exchange, and how the receiver accepts it, while what is not acknowledged must be
+-- retransmitted. These are units with consecutive numbers from NN(R) on.
 
 -- ---- a pull
 
@@ -65,7 +65,7 @@ pub data NextPull (s : FopState SegmentView) (j : ℕ) : Type 0 where
 
 module _ (s : FopState SegmentView) (j : ℕ) (state : (s.state ≡ S1) ⊎ (s.state ≡ S2)) (idle : s.control ≡ Idle)
     (marked : MarkedFrom j s.sent) where
-  -- it goes on with the units
+  -- the sender continues with the units
   in_sequence : s.bypass ≡ [] → pull_step s ≡ pull_marked s (oldest_marked 0 s.sent)
   in_sequence nothing =
       ap (pull_control s) idle ∙ ap (λ us. pull_bypass s (oldest_of us)) nothing ∙ elim state [
@@ -96,7 +96,7 @@ module _ (s : FopState SegmentView) (j : ℕ) (state : (s.state ≡ S1) ⊎ (s.s
         again is some.0 oldest some.2 (in_sequence is ∙ ap (pull_marked s) oldest))
   ]
 
--- ---- frames on their way up: units with the numbers from one to another, one after another, and bypass units
+-- ---- frames in transit on the uplink: units with consecutive numbers, and bypass units
 
 abbrev pub Consecutive : Config → ℕ → List (List ℕ) → ℕ → Type 0
 Consecutive c v [] e = v ≡ e
@@ -128,7 +128,7 @@ pub accepts_expected : (s : FarmState) (free : Bool) → s.vr < 256 → s.state 
 accepts_expected s free octet opened is =
     let none : ahead_by s.vr s.vr ≡ 0 = omega (arith, octet) in rw (none, opened, is) refl
 
--- ---- a report that says that all was accepted
+-- ---- a CLCW that shows that all was accepted
 
 pub record Acknowledged (s : FopState SegmentView) (o : FopOutcome SegmentView (Option Alert)) : Type 0 where
   pub state : o.after.state ≡ S1
@@ -179,7 +179,7 @@ module _ (s : FopState SegmentView) (c : Clcw) (unlocked : locks c ≡ false) (f
 module _ (most k : ℕ) where
   -- ---- all is sent
 
-  -- what is left to be sent: nothing, but for what the window has no room for
+  -- what is left to be sent: nothing, except what the window has no room for
   abbrev IsThrough : GroundState → ℕ → Type 0
   IsThrough g j = (g.fop.bypass ≡ []) × (j ≡ length g.fop.sent)
       × ((unsent_segments g ≡ []) ⊎ (k ≤ length g.fop.sent))
@@ -211,7 +211,7 @@ module _ (most k : ℕ) where
     on : IsActive s.state
     on = p.bounds.active
 
-    -- another sender, and what is on its way then
+    -- the sender changes, and so does what is in transit
     goes_on_with : (f : FopState SegmentView) (up : List (List ℕ)) (j : ℕ) → HoldsNoMore s w.ground_node.pending f
         → f.state ≡ s.state → f.nn ≡ s.nn → length s.sent ≤ length f.sent → MarkedFrom j f.sent
         → Consecutive c w.spacecraft.farm.vr up ((s.nn + j) % 256)
@@ -347,14 +347,14 @@ module _ (most k : ℕ) where
     sends_on : Next (world_step w events.Send)
     sends_on = sends_next (next_pull s p.j p.state idle p.marked s.bypass refl)
 
-  -- what the ground holds then is sent, as far as the window has room
+  -- what the ground then holds is sent, as far as the window has room
   record Filled (g : GroundState) : Type 0 where
     bounds : IsBounded most k g
     state : (g.fop.state ≡ S1) ⊎ (g.fop.state ≡ S2)
     asked : g.fop.state ≡ S2 → 1 ≤ length g.fop.sent
     rest : (unsent_segments g ≡ []) ⊎ (k ≤ length g.fop.sent)
 
-  -- so many frames are on their way up, with the numbers from V(R) to V(S)
+  -- so many frames are in transit on the uplink, with the numbers from V(R) to V(S)
   record Coming (n : ℕ) (w : World) : Type 0 where
     filled : Filled w.ground_node
     down : w.down ≡ []
@@ -418,7 +418,7 @@ module _ (most k : ℕ) where
       → (spacecraft_take s ps).after.farm ≡ s.farm
   taken_farm s ps opened = grind (arith, opened)
 
-  -- the spacecraft is another, with the same receiver
+  -- the spacecraft changes, with the same receiver
   coming_as : (n : ℕ) (w : World) (s : SpacecraftState) → s.farm ≡ w.spacecraft.farm → Coming n w
       → Coming n (record w { spacecraft = s })
   coming_as n w s same p = record {
@@ -503,7 +503,7 @@ module _ (most k : ℕ) where
           | inr t ↦ arrived_as b bs (Bd t.0) t.1 (bypass_next t.0 bs count t.2)
         ]
 
-  -- ---- the spacecraft reports that all was accepted
+  -- ---- the spacecraft makes a CLCW that shows that all was accepted
 
   record Tells_all (w : World) : Type 0 where
     filled : Filled w.ground_node
@@ -539,9 +539,9 @@ module _ (most k : ℕ) where
         tells = rw h.holds.sound.ground_node.config (tells_now g.config w h.holds.sound);
       }))
 
-  -- ---- the report is heard, and all is acknowledged
+  -- ---- the CLCW is heard, and all is acknowledged
 
-  -- nothing is on its way, and by so much the ground holds less
+  -- nothing is in transit, and the ground holds so much less
   abbrev pub Advanced : World → Type 0
   Advanced w = Ready w × IsBounded (most - k) k w.ground_node
 
@@ -619,7 +619,7 @@ module _ (most k : ℕ) where
 -- Progress: exchanges end with an alert, or with all delivered.
 
 module _ (k : ℕ) where
-  -- the link is ready, and the ground holds no more than so many windows
+  -- the link is ready, and the ground holds at most so many windows of units
   abbrev Within : ℕ → World → Type 0
   Within n w = Ready w × IsBounded (n * k) k w.ground_node
 

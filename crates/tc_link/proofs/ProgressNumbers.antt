@@ -1,4 +1,4 @@
--- The numbers of the sender at every moment of a run, and how schedules are put together.
+-- The numbers of the sender at every moment of a run, and how schedules are composed.
 use Rattle.tc_link.proofs.Common.{ap, ◌≡◌, ◌<◌, ◌≤◌, ℕ, ◌+◌, ◌%◌, Bool, true, false, List, [], ◌∷◌, ◌++◌, length, drop}
 use Rattle.tc_link.proofs.Common.{Option, Some, None, Ok, refl, sym, subst, ◌∙◌, arith, cond_both, ltb-true, ltb-false}
 use Rattle.tc_link.proofs.Common.{length-append, length-drop, AllByRecursion, Clcw, On, SegmentView, BodyView, Ad, Bd}
@@ -67,8 +67,8 @@ use Rattle.tc_link.proofs.Repeated.{word_octet}
 use Rattle.tc_link.proofs.Downward.{apart}
 use Rattle.tc_link.proofs.ProgressSender.{report_timed, queued_timed}
 
--- The numbers of the sender, at every moment of a run, in any session: while it is on, those of the units that it sent
--- are the ones from NN(R) to V(S) - 1; and all numbers are octets, those that are on their way too.
+-- The numbers of the sender, at every moment of a run, in any session. While it is on, the units that it sent have the
+-- numbers from NN(R) to V(S) - 1. All numbers are octets, including those in transit.
 
 -- ---- the sender
 
@@ -98,7 +98,7 @@ module _ (s : FopState SegmentView) (k : Numbered s) where
     most = omega arith;
   }
 
-  -- as many are sent, with the same numbers
+  -- as many units are sent, with the same numbers
   same_numbers : (f : FopState SegmentView) → f.vs ≡ s.vs → f.nn ≡ s.nn → length f.sent ≡ length s.sent
       → (is_closed f.state ≡ false → is_closed s.state ≡ false) → IsOctetOf f.control → Numbered f
   same_numbers f vs nn sent on command = record {
@@ -152,7 +152,7 @@ module _ (s : FopState SegmentView) (k : Numbered s) where
           all_again = λ asking. again_numbers on;
         })
 
-    report_numbers : Numbers (clcw_step s r)
+    pub report_numbers : Numbers (clcw_step s r)
     report_numbers = report_cases s r (λ o. Numbers o) (record {
       active = λ active. active_numbers (active_on s.state active);
       alerted = λ is x cause. gives_up s refl k.nn;
@@ -167,7 +167,7 @@ module _ (s : FopState SegmentView) (k : Numbered s) where
   due_octet Idle is = is
   due_octet _ is = is
 
-  tick_numbers : Numbers (tick_step s)
+  pub tick_numbers : Numbers (tick_step s)
   tick_numbers =
       let repeats = same_numbers (after_repeat (after_stop s)) refl refl (marked_length s.sent) (λ t. t) k.command in
       let command = due_octet s.control k.command in
@@ -176,7 +176,7 @@ module _ (s : FopState SegmentView) (k : Numbered s) where
   sent_octet : (c : Command) → s.control ≡ Due c → IsOctetIn c
   sent_octet c is = let it : IsOctetOf (Due c) = rw is at k.command in it
 
-  pull_numbers : s.window ≤ 127 → Numbers (pull_step s)
+  pub pull_numbers : s.window ≤ 127 → Numbers (pull_step s)
   pull_numbers most = pulled_out s (λ o. Numbers o) (record {
     none = k;
     command = λ c is. let command = sent_octet c is in assumption (command, k);
@@ -215,7 +215,8 @@ module _ (s : FopState SegmentView) (k : Numbered s) where
   begun_numbers (InitSetVr x) is fits idle = begins_at x fits (begun s (InitSetVr x)) refl refl refl fits
   begun_numbers _ is fits idle = absurd cc
 
-  directive_numbers : (s.state ≡ S6 → s.control ≡ Idle) → (d : Directive) → IsDirective d → Numbers (directive_step s d)
+  pub directive_numbers : (s.state ≡ S6 → s.control ≡ Idle) → (d : Directive) → IsDirective d
+      → Numbers (directive_step s d)
   directive_numbers idle = obeyed s (λ d o. IsDirective d → Numbers o) (record {
     refused = λ d fault on fits. k;
     begins = λ d is off fits. begun_numbers d is fits (idle off);
@@ -230,8 +231,8 @@ module _ (s : FopState SegmentView) (k : Numbered s) where
     sets = λ d k' n ticks plain most fits. assumption k;
   })
 
--- whatever waits
-queued_numbers : (f : FopState SegmentView) (waiting : Option SegmentView) (bypass : List SegmentView) → Numbered f
+-- whatever is waiting
+pub queued_numbers : (f : FopState SegmentView) (waiting : Option SegmentView) (bypass : List SegmentView) → Numbered f
     → Numbered (record f { waiting = waiting; bypass = bypass })
 queued_numbers f waiting bypass k = assumption k
 
@@ -242,9 +243,9 @@ module _ (s : SpacecraftState) (octet : s.farm.vr < 256) where
   body_octet (Bc (SetVr x)) is = grind (arith, is)
   body_octet f is = grind arith
 
--- ---- what is on its way
+-- ---- what is in transit
 
--- a frame of the ground's, or a report of the spacecraft's, with octets
+-- a frame of the ground, or a CLCW of the spacecraft, with octets
 abbrev pub IsOctetFrame : Config → List ℕ → Type 0
 IsOctetFrame c b = (f : BodyView) × (frame_at On b ≡ Ok (frame_of c f)) × IsOctetBody f
 
@@ -353,7 +354,7 @@ module _ (c : Config) (w : World) (h : Holding c w) (k : HasOctets c w) where
   off_idle : s.state ≡ S6 → s.control ≡ Idle
   off_idle off = let idle : Commanded S6 s.control = rw off at h.sound.ground_node.fop.commanded in idle
 
-  -- a control word by itself does what its frame does, but for telemetry
+  -- a CLCW by itself does what its frame does, except for telemetry
   words : After (world_step w events.DownClcw)
   words =
       let heard : After (world_step w events.DownDeliver) = down_arrives w After k hears in
@@ -368,7 +369,7 @@ module _ (c : Config) (w : World) (h : Holding c w) (k : HasOctets c w) where
       (directive_numbers s k.sender off_idle d fits) in
       assumption (sender, k)
 
-  -- no frame is sent up or arrives there, and no report comes
+  -- no frame is sent on the uplink or arrives there, and no CLCW arrives
   others : (e : Event) → IsEvent e → ((value : ℕ) → e ≢ events.Resume value) → e ≢ events.Send → e ≢ events.UpDeliver
       → e ≢ events.Report → (BringsReport e → ⊥) → After (world_step w e)
   others e fits not_resumed not_sent not_come not_made not_told = record {
@@ -392,7 +393,7 @@ module _ (c : Config) (w : World) (h : Holding c w) (k : HasOctets c w) where
     down = down_after w (AllByRecursion (IsOctetReport c)) e not_made k.down (λ gone b bs is. (down_of b bs is).1);
   }
 
-  -- where it is known what resuming leads to
+  -- if it is known what a resumption leads to
   event_octets : ((value : ℕ) → value < 256 → HasOctets c (world_step w (events.Resume value)).after)
       → (e : Event) → IsEvent e → After (world_step w e)
   event_octets goes events.Send fits =
@@ -437,9 +438,10 @@ new_timed : (c : Config) → IsConfig c → Timed (new_ground c).fop
 new_timed c ranges =
     timed_empty _ refl (λ e. absurd cc) (λ e. absurd cc) ranges.timer.0 (omega arith) ranges.window.0
 
--- How schedules are put together: an alert comes in one of their parts, or each leads to what the next one starts from.
+-- How schedules are composed: an alert is raised in one of their parts, or each leads to the state from which the next
+-- starts.
 
--- ---- a session goes on
+-- ---- a session continues
 
 -- an event of an exchange, or of a dead link: no directive is given
 abbrev pub IsCalm : Event → Type 0
@@ -481,13 +483,13 @@ octet_step w e r fits = record {
 pub going_step : (w : World) → HasOctetPast w → (e : Event) → IsCalm e → HasOctetPast (world_step w e).after
 going_step w g e calm = octet_step w e g (calm_fits e calm)
 
--- what is known of it, at every moment of a run
+-- what is known of a world, at every moment of a run
 pub record Known (c : Config) (w : World) : Type 0 where
   pub holds : Holding c w
   pub sender : Timed w.ground_node.fop
   pub octets : HasOctets c w
 
--- and of it but for its sessions
+-- what is known of a world, except for its sessions
 record KnownOf (c : Config) (w : World) : Type 0 where
   sender : Timed w.ground_node.fop
   octets : HasOctets c w
@@ -620,7 +622,7 @@ known w r =
       octets = new_octets r.config;
     }))
 
--- ---- the session goes on
+-- ---- the session continues
 
 pub idle_step : (w : World) (e : Event) → IsCalm e → IsIdle w → IsIdle (world_step w e).after
 idle_step w e calm idle = idle_goes w e idle (calm_goes w e calm)
@@ -635,7 +637,7 @@ settled_step w g e calm idle settled =
     let h = (known w g).holds in
     settled_goes g.config w h.sound (h.session idle) e (calm_fits e calm) settled (calm_goes w e calm)
 
--- an alert comes first, or it goes on
+-- an alert is raised first, or the session continues
 pub or_on : {A B C : Type 0} → A ⊎ B → (B → A ⊎ C) → A ⊎ C
 or_on (inl a) on = inl a
 or_on (inr b) on = on b
@@ -653,7 +655,7 @@ pub alerts_then : (w : World) (es fs : List Event) → AlertsIn (world_run w es)
 alerts_then w [] fs a = a
 alerts_then w (e ∷ es) fs a = inr (alerts_then (world_step w e).after es fs a)
 
--- an alert is answered, or the session goes on and this holds
+-- an alert is returned, or the session continues and this holds
 abbrev pub Ends : (World → Type 0) → World → List Event → Type 0
 Ends P w es = AlertsIn w es ⊎ (HasOctetPast (world_run w es) × P (world_run w es))
 
@@ -700,12 +702,12 @@ ends_once P w e calm g one = elim one [
   | inr p ↦ inr (going_step w g e calm, p)
 ]
 
--- what holds then says more
+-- what holds then implies more
 pub ends_so : (P Q : World → Type 0) (w : World) (es : List Event) → Ends P w es
     → ((v : World) → HasOctetPast v → P v → Q v) → Ends Q w es
 ends_so P Q w es ends says = or_on ends (λ t. inr (t.0, says (world_run w es) t.0 t.1))
 
--- a round trip: all is sent, arrives and is taken, and a report is made and heard
+-- a round trip: all is sent, arrives and is taken, and a CLCW is made and heard
 pub ends_trip : (A B C D Q : World → Type 0) (w : World) → Ends A w (all_sent w)
     → ((v : World) → HasOctetPast v → A v → Ends B v (all_arrived v))
     → ((v : World) → HasOctetPast v → B v → Ends C v (all_taken v))
@@ -719,7 +721,7 @@ ends_trip A B C D Q w sent arrive take report hear =
     ends_then C Q all_taken after_taking v (take v g p) (λ v g p.
     ends_then D Q reported all_heard v (report v g p) hear)))
 
--- The events of an exchange, and that a session goes on with them.
+-- The events of an exchange, and that a session continues with them.
 
 -- ---- lists of events of one kind
 

@@ -1,4 +1,4 @@
--- What the sender does in an exchange, and what is so of it at every moment of a run, in any session.
+-- What the sender does in an exchange, and what holds of it at every moment of a run, in any session.
 use Rattle.tc_link.proofs.Common.{◌≡◌, ℕ, List, Option, Some, None, Result, Ok, Err, refl, SegmentView, Clcw, CopFault}
 use Rattle.tc_link.proofs.Common.{Alert, Directive, FopState, clcw_step, directive_step, pull_step, tick_step}
 use Rattle.tc_link.proofs.Common.{GroundState, with_fop, after_bypass, directive_outcome, Event, World, world_step}
@@ -37,7 +37,7 @@ use Rattle.tc_link.specs.Progress.{are_marked}
 use Rattle.tc_link.proofs.Refilled.{refilled_keeps}
 use Rattle.tc_link.proofs.Lists.{units-without}
 
--- What is so of the sender alone, whatever it queues, and stays so with each event.
+-- What holds of the sender only, whatever it queues, and is kept by each event.
 
 module _ (P : FopState SegmentView → Type 0)
     (queues : (f : FopState SegmentView) (waiting : Option SegmentView) (bypass : List SegmentView) → P f
@@ -66,7 +66,7 @@ module _ (P : FopState SegmentView → Type 0)
         let t : GroundState = (directed_by w (SetVs value)).ground_node in
         directed_kept t set_so InitUnlock (directive_step t.fop InitUnlock).answer _ (begins t.fop set_so)
 
-    -- where each report, tick, pull and directive keeps it
+    -- each CLCW, tick, pull and directive keeps it
     pub step_kept : (e : Event) → (e ≡ events.Tick → P (tick_step s).after) → (e ≡ events.Send → P (pull_step s).after)
         → (BringsReport e → (r : Clcw) → P (clcw_step s r).after)
         → ((d : Directive) → e ≡ events.Directive d → P (directive_step s d).after)
@@ -88,9 +88,9 @@ module _ (P : FopState SegmentView → Type 0)
 
 -- What the sender does in an exchange.
 
--- ---- a report that the receiver makes once all has arrived: it does not wait
+-- ---- a CLCW that the receiver makes once all has arrived, and that has no wait flag
 
--- the sender obeys it: NN(R) is its value
+-- the sender obeys the CLCW: NN(R) becomes its value
 pub record Obeys (s : FopState SegmentView) (c : Clcw) (t : FopState SegmentView) : Type 0 where
   pub state : (t.state ≡ S1) ⊎ (t.state ≡ S2)
   pub asked : t.state ≡ S2 → c.value ≢ t.vs
@@ -99,7 +99,7 @@ pub record Obeys (s : FopState SegmentView) (c : Clcw) (t : FopState SegmentView
   pub unlocked : locks c ≡ false
 
 module _ (s : FopState SegmentView) (c : Clcw) where
-  -- an alert comes, or the sender obeys
+  -- an alert is raised, or the sender obeys
   abbrev pub AlertsOrObeys : FopOutcome SegmentView (Option Alert) → Type 0
   AlertsOrObeys o = IsSome o.answer ⊎ Obeys s c o.after
 
@@ -205,7 +205,7 @@ marked_push zero (x ∷ us) u is e = absurd (omega (arith, e))
 marked_push (suc j) [] u is e = elim is [ ]
 marked_push (suc j) (x ∷ us) u is e = (is.0, marked_push j us u is.1 (omega (arith, e)))
 
--- the oldest marked unit is the one after those that are not
+-- the oldest marked unit is the one after those that are not marked
 abbrev pub NextMarked : ℕ → ℕ → List (SentUnit SegmentView) → Type 0
 NextMarked place j us =
     ((oldest_marked place us ≡ None) × (j ≡ length us))
@@ -262,7 +262,7 @@ module _ (s : FopState SegmentView) (pending : List SegmentView) (active : IsAct
     };
   })
 
-  -- ---- any report
+  -- ---- any CLCW
 
   abbrev AlertsOrHolds : FopOutcome SegmentView (Option Alert) → Type 0
   AlertsOrHolds o = IsSome o.answer ⊎ NoMore o.after
@@ -316,7 +316,7 @@ tick_on s n is =
     let left : suc (suc n) - 1 ≡ suc n = omega arith in
     ap (tick_with s) is ∙ rw (more, left) refl
 
--- what a sender is once its timer has ended: all that it sent is to be sent again
+-- the sender once its timer has ended: all that it sent must be retransmitted
 pub tick_end : (s : FopState SegmentView) → s.ticks ≡ Some 1 → (s.state ≡ S1) ⊎ (s.state ≡ S2)
     → IsSome (tick_step s).answer ⊎ (tick_step s ≡ goes_on (after_repeat (after_stop s)))
 tick_end s is state =
@@ -330,8 +330,8 @@ tick_end s is state =
       | inr two ↦ subst (λ m. P (timer_ended (after_stop s) m)) (sym two) below
     ])
 
--- What progress rests on, at every moment of a run, in any session: the timer runs where a unit is sent and not
--- acknowledged, and a receiver waits only where no buffer is free.
+-- What progress rests on, at every moment of a run, in any session. The timer runs while a unit is sent and not
+-- acknowledged, and a receiver waits only if no buffer is free.
 
 -- ---- the sender's timer
 
@@ -346,7 +346,7 @@ IsDueNow _ = ⊥
 pub record Timed (f : FopState SegmentView) : Type 0 where
   pub active : IsActive f.state ⊎ (f.sent ≡ [])
   pub running : (f.sent ≡ []) ⊎ Running f.ticks
-  -- in S4 the timer runs, and in S5 once the command is pulled
+  -- in S4 the timer runs, and in S5 it runs once the command is pulled
   pub check : f.state ≡ S4 → Running f.ticks
   pub command : f.state ≡ S5 → IsDueNow f.control ⊎ Running f.ticks
   pub timer : 1 ≤ f.timer
@@ -369,7 +369,7 @@ module _ (s : FopState SegmentView) (k : Timed s) where
   abbrev Times : {A : Type 0} → FopOutcome SegmentView A → Type 0
   Times o = Timed o.after
 
-  -- the sender is active, and none is sent that was not before
+  -- the sender is Active, and none is sent that was not sent before
   fewer : (f : FopState SegmentView) → IsActive f.state → (s.sent ≡ [] → f.sent ≡ []) → f.ticks ≡ s.ticks
       → f.timer ≡ s.timer → 1 ≤ f.count → f.window ≡ s.window → Timed f
   fewer f active sent ticks timer count window = record {
@@ -382,7 +382,7 @@ module _ (s : FopState SegmentView) (k : Timed s) where
     window = rw window k.window;
   }
 
-  -- with these settings it is as it was
+  -- with these settings, the sender is as it was
   same_as : (f : FopState SegmentView) → f.state ≡ s.state → f.sent ≡ s.sent → f.ticks ≡ s.ticks
       → f.control ≡ s.control → f.count ≡ s.count → 1 ≤ f.timer → 1 ≤ f.window → Timed f
   same_as f state sent ticks control count timer window = record {
@@ -413,14 +413,14 @@ module _ (s : FopState SegmentView) (k : Timed s) where
   gives_up f timer count window =
       timed_empty (after_alert f) refl (λ e. absurd cc) (λ e. absurd cc) (rw timer k.timer) count (rw window k.window)
 
-  -- in S4 to S6 none is sent
+  -- in S4 to S6 no unit is sent
   none_in : (m : FopMode) → s.state ≡ m → (IsActive m → ⊥) → s.sent ≡ []
   none_in m is not_active = elim k.active [
     | inl active ↦ absurd (not_active (rw is at active))
     | inr none ↦ none
   ]
 
-  -- ---- a report
+  -- ---- a CLCW
 
   moved_ticks : (sent : List (SentUnit SegmentView)) → (sent ≡ []) ⊎ Running (ticks_for (record s { sent = sent }))
   moved_ticks [] = inl refl
@@ -560,7 +560,7 @@ module _ (s : FopState SegmentView) (k : Timed s) where
         refl refl (omega (arith, set.timer, k.timer)) (omega (arith, set.window, k.window));
   })
 
--- whatever waits
+-- whatever is waiting
 pub queued_timed : (f : FopState SegmentView) (waiting : Option SegmentView) (bypass : List SegmentView) → Timed f
     → Timed (record f { waiting = waiting; bypass = bypass })
 queued_timed f waiting bypass k = assumption k
@@ -578,7 +578,7 @@ timed_step w k e =
 abbrev NoneFree : Bool → Verdict → Type 0
 NoneFree free v = v ≡ NoBuffer → free ≡ false
 
--- the verdict NoBuffer comes only where no buffer is free: one cell for each place
+-- the verdict NoBuffer is given only if no buffer is free: one cell for each place
 in_cells : (free : Bool) (m : FarmMode) → NoneFree free (ad_verdict (place_at 127 0) free m)
     × NoneFree free (ad_verdict (place_at 127 1) free m) × NoneFree free (ad_verdict (place_at 127 255) free m)
     × NoneFree free (ad_verdict (place_at 127 128) free m)

@@ -1,4 +1,4 @@
--- Exchanges while a session is not confirmed yet, and exchanges in which no alert comes.
+-- Exchanges while a session is not confirmed yet, and exchanges in which no alert is raised.
 use Rattle.tc_link.proofs.Common.{IsIdle, is_closed, ◌*◌, zero, S6, false, ◌≡◌, ◌<◌, ◌≤◌, ◌⊎◌, inl, inr, ℕ}
 use Rattle.tc_link.specs.Beside.{HasOctetPast}
 use Rattle.tc_link.proofs.Common.{suc, ◌+◌, ◌-◌, true, List, [], ◌∷◌, ◌++◌, length, Option, Some, None, refl, ap, sym}
@@ -36,8 +36,8 @@ use Rattle.tc_link.proofs.ProgressNumbers.{directive_stays, idle_step, settled_s
 use Rattle.tc_link.proofs.Linked.{early_off}
 use Rattle.tc_link.proofs.Promised.{promised_of_so, run_append}
 
--- Exchanges while a session is not confirmed yet, in S4 and S5: each ends with an alert or with the sender Active,
--- or one transmission less is left.
+-- Exchanges while a session is not confirmed yet, in S4 and S5. Each ends with an alert, or with the sender
+-- Active, or with one transmission fewer left.
 
 abbrev pub IsBeginning : FopMode → Type 0
 IsBeginning m = (m ≡ S4) ⊎ (m ≡ S5)
@@ -51,7 +51,7 @@ module _ (s : FopState SegmentView) (begins : IsBeginning s.state) where
     | inr five ↦ absurd (let no : IsActive S5 = rw five at active in no)
   ]
 
-  -- a pull leaves it in its state, with its count and its limit
+  -- a pull leaves the sender in its state, with its count and its limit
   pub record Stays (t : FopState SegmentView) : Type 0 where
     pub state : t.state ≡ s.state
     pub count : t.count ≡ s.count
@@ -75,7 +75,7 @@ module _ (s : FopState SegmentView) (begins : IsBeginning s.state) where
   bypass_control [] = in_control s.state begins
   bypass_control (u ∷ us) = refl
 
-  -- and no command is due then
+  -- no command is due then
   pub command_pulled : (control : Control) → s.control ≡ control → IsDueNow (pull_control s control).after.control → ⊥
   command_pulled (Due c) is due = due
   command_pulled Idle is due =
@@ -85,7 +85,7 @@ module _ (s : FopState SegmentView) (begins : IsBeginning s.state) where
       let same : (pull_control s (Sent c)).after.control ≡ Sent c = bypass_control s.bypass ∙ is in
       let it : IsDueNow (Sent c) = subst IsDueNow same due in it
 
-  -- ---- a report: in S4 an alert comes, or the sender is Active; in S5 it is, or nothing changes
+  -- ---- a CLCW: in S4 an alert, or the sender is Active; in S5 the sender is Active, or no change
   abbrev LedBy : FopOutcome SegmentView (Option Alert) → Type 0
   LedBy o = IsSome o.answer ⊎ (IsActive o.after.state ⊎ ((s.state ≡ S5) × (o ≡ goes_on s)))
 
@@ -108,7 +108,7 @@ module _ (s : FopState SegmentView) (begins : IsBeginning s.state) where
     | inr five ↦ subst (λ m. LedBy (report_in s r m)) (sym five) (in_S5 r five)
   ]
 
--- the timer ends in S5: an alert comes, or the command is due again, and counted
+-- the timer ends in S5: an alert is raised, or the command is due again, and counted
 retried : (s : FopState SegmentView) → s.ticks ≡ Some 1 → s.state ≡ S5
     → IsSome (tick_step s).answer ⊎ ((s.count < s.limit)
     × (tick_step s ≡ goes_on (record (after_count (after_stop s)) { control = due_again s.control })))
@@ -121,7 +121,7 @@ retried s is five =
     (λ t. inr (ltb-true s.count s.limit t, refl)) (λ t. inl refl) in
     subst P (sym (ap (tick_with s) is)) (subst (λ m. P (timer_ended (after_stop s) m)) (sym five) below)
 
--- a tick while it is Active
+-- a tick while the sender is Active
 tick_active : (s : FopState SegmentView) → IsActive s.state
     → IsSome (tick_step s).answer ⊎ IsActive (tick_step s).after.state
 tick_active s active =
@@ -183,9 +183,9 @@ module _ (count limit : ℕ) where
       (ends_repeat (Sends most) events.Send tt (λ n v h p. inr (sends_one most n v p)) (most_sent w) w g (b, inr refl))
       (λ v h p. (p.0, elim p.1 [ inl gone ↦ gone | inr more ↦ absurd (omega (arith, more)) ]))
 
-  -- ---- the reports are heard
+  -- ---- the CLCWs are heard
 
-  -- in S4 one is still to come
+  -- in S4 one CLCW is still to arrive
   abbrev Hears : ℕ → World → Type 0
   Hears n w = (length w.down ≡ n) × (Active w ⊎ (ReadyNow w × ((w.ground_node.fop.state ≡ S5) ⊎ (1 ≤ n))))
 
@@ -234,7 +234,7 @@ module _ (count limit : ℕ) where
           ])
         ])
 
-  -- Active, or in S5 with the command on its way
+  -- Active, or in S5 with the command in transit
   abbrev Asked : World → Type 0
   Asked w = Active w ⊎ (ReadyNow w × (w.ground_node.fop.state ≡ S5))
 
@@ -250,7 +250,7 @@ module _ (count limit : ℕ) where
 
   -- ---- the timer runs out
 
-  -- one transmission less is left
+  -- one transmission fewer is left
   record Again (w : World) : Type 0 where
     five : w.ground_node.fop.state ≡ S5
     less : suc (w.ground_node.fop.limit - w.ground_node.fop.count) ≤ limit - count
@@ -331,7 +331,8 @@ one_first Q w m so =
       | inr q ↦ inr (subst Q (sym (run_append w (exchange w) (times m exchange v))) q)
     ]
 
--- an alert comes, or the sender is Active, or one transmission less is left, and the next exchange begins
+-- an alert is raised, or the sender is Active, or one transmission fewer is left and the next exchange
+-- begins
 module _ (Leads : ℕ → World → ℕ → Type 0)
     (alert : (most : ℕ) (w : World) → AlertsIn w (exchange w) → Leads (suc most) w 1)
     (active : (most : ℕ) (w : World) → HasOctetPast w → Active w → (m : ℕ) × Leads most w m)
@@ -373,7 +374,7 @@ each_begins w reached begins =
 
 -- ---- and on to the end
 
--- with so many exchanges, or an alert comes
+-- after so many exchanges this holds, or an alert is raised
 abbrev Done : World → ℕ → Type 0
 Done w m = AlertsIn w (times m exchange w) ⊎ IsDone w (world_run w (times m exchange w))
 
@@ -389,7 +390,7 @@ no_less : (n k : ℕ) → 1 ≤ k → n ≤ n * k
 no_less zero k one = omega arith
 no_less (suc n) k one = omega (arith, no_less n k one, one)
 
--- while it is Active
+-- while the sender is Active
 ends_active : (w : World) → HasOctetPast w → Active w → (m : ℕ) × Done w m
 ends_active w reached active =
     let n = length (outstanding w.ground_node) in
@@ -410,8 +411,8 @@ each_ends w reached on = in_mode w.ground_node.fop.state refl on
     in_mode S6 is on = absurd cc
     in_mode _ is on = ends_active w reached (rw is tt)
 
--- No alert comes in exchanges, in a session begun by CLCW check, Unlock or Set V(R), where the count is below the
--- limit.
+-- No alert is raised in exchanges, in a session begun by CLCW check, Unlock or Set V(R), if the count is below
+-- the limit.
 
 -- ---- alerts
 
@@ -537,7 +538,7 @@ exchange_steady w k =
     (steady_run (timer_run_out v) v (steady_run (round_trip w) w k (talks_calm (round_trip w) (trip_talks w)))
     (timer_calm v))
 
--- ---- the count stays below the limit until the report is heard
+-- ---- the count stays below the limit until the CLCW is heard
 
 abbrev Below : World → Type 0
 Below w = IsBelow w.ground_node.fop × (2 ≤ w.ground_node.fop.limit)
@@ -585,7 +586,7 @@ trip_fine =
 
 -- ---- the exchanges
 
--- where no alert comes, what holds then does
+-- if no alert is raised, what holds then does
 sure : (P : World → Type 0) (w : World) (es : List Event) → (AlertsIn w es → ⊥) → Ends P w es
     → HasOctetPast (world_run w es) × P (world_run w es)
 sure P w es none ends = elim ends [ inl a ↦ absurd (none a) | inr t ↦ t ]

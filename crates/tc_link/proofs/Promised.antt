@@ -1,4 +1,4 @@
--- What a world that a run leads to promises, whatever came before; and a session's plain link is one link.
+-- What a world that a run leads to promises, whatever came before. A session's plain link is unique.
 use Rattle.tc_link.proofs.Common.{false, inl, inr, Config, Event, GoesOnByAStep, IsEvent, World, IsSettled}
 use Rattle.tc_link.proofs.Common.{BeginsNoSession, world_step, ◌≡◌, ℕ, ◌+◌, ◌-◌, ◌/◌, ◌%◌, ◌≤◌, Bool, List, []}
 use Rattle.tc_link.proofs.Common.{◌∷◌, map, Some, refl, sym, subst, arith, ◌==◌, AllByRecursion, cond_both, eqb-false}
@@ -44,9 +44,9 @@ goes_on_by_a_step c w k s e fits settled goes = elim s.session [
       })
 ]
 
--- What the reports on their way say of the segments that are not acknowledged.
+-- What the CLCWs in transit show of the segments that are not acknowledged.
 
--- each value between what is acknowledged and what was accepted
+-- each value lies between what is acknowledged and what was accepted
 each_value : (P : ℕ → Type 0) (base a r low : ℕ)
     → ((value v : ℕ) → value ≡ (base + v) % 256 → a ≤ v → v ≤ r → P value) → (rs : List Clcw) (vs : List ℕ)
     → a ≤ low → DownIs base rs vs → Rises low vs r → AllByRecursion P (map (λ (r : Clcw). r.value) rs)
@@ -66,7 +66,7 @@ module _ (c : Config) (w : World) (k : Sound c w) (early : Bool) (d : Directive)
     were : (i : ℕ) → g.plain.a + i ≤ g.plain.r → WereAccepted w i
     were = were_accepted early c d base w g k
 
-    -- where V(S) is NN(R) it says so of none
+    -- if V(S) is NN(R), the CLCW shows that none was accepted beyond the acknowledged ones
     none_said : w.ground_node.fop.vs ≡ w.ground_node.fop.nn → (value : ℕ) → SaysHowMany w value
     none_said one value =
         let s = w.ground_node.fop in (
@@ -177,7 +177,7 @@ reached_run c events ranges all = record { config = c; ranges = ranges; events =
 
 -- ---- as a call leaves it
 
--- of a call that lets an event happen, in a session that had an idle start
+-- what is promised of a call that lets an event happen, in a session that had an idle start
 pub record IsPromisedCall (w new : World) (e : Event) : Type 0 where
   pub history : IsSettled w → BeginsNoSession w e → GoesOnByAStep w new
   pub confirms : IsChecking (directive_of w) → ConfirmsExactly w new
@@ -237,7 +237,7 @@ pub reached_by : (c : Config) (events : List Event) (s : SimState) → s ≡ sim
 reached_by c events s ran ranges all =
     subst (λ (s : SimState). IsReached s.world) (sym ran) (reached_run c events ranges all)
 
--- one event more of a run was seen
+-- one more event of a run is seen
 pub one_more : (events : List Event) (i : ℕ) (d : Event) → i < length events → AllByRecursion IsEvent (take i events)
     → IsEvent (get_or events i d) → AllByRecursion IsEvent (take (i + 1) events)
 one_more events i d lt all is =

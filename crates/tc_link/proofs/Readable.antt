@@ -1,5 +1,5 @@
--- What the ground holds to be sent fits into frames, and each string on its way up is one of these and is read as
--- such.
+-- What the ground holds to be sent fits into frames. Each string of octets on the uplink is one of these frames,
+-- and is read as such.
 use Rattle.tc_link.proofs.Common.{◌≡◌, ◌≤◌, ℕ, zero, suc, true, List, [], ◌∷◌, length, Some, Ok, refl, subst, arith}
 use Rattle.tc_link.proofs.Common.{slice_get, AllByRecursion, On, SegmentView, BodyView, Ad, Bd, Bc, Config, IsConfig}
 use Rattle.tc_link.proofs.Common.{FitsFrame, frame_of, Bool, false, ◌++◌, drop, Option, None, Result, option_to_list}
@@ -47,9 +47,9 @@ use Rattle.nodes.specs.Spacecraft.{spacecraft_receive}
 use Rattle.nodes.proofs.Arrivals.{bypass_same}
 use Rattle.map_service.proofs.Groups.{behind-each}
 
--- What is put on the link is read from it.
+-- What is put on the link is read back from it.
 
--- a body that fits a frame
+-- a body that fits into a frame
 abbrev pub Goes : BodyView → Type 0
 Goes (Ad n s) = FitsFrame s
 Goes (Bd s) = FitsFrame s
@@ -116,7 +116,7 @@ module _ (s : FopState SegmentView) (pending : List SegmentView) (k : Fit s pend
       → units_of f.sent ≡ units_of s.sent → f.waiting ≡ s.waiting → Fit f pending
   same f on sent waiting = fewer f 0 on sent waiting
 
-  -- ---- a report
+  -- ---- a CLCW
 
   module _ (r : Clcw) (on : is_closed s.state ≡ false) where
     again : (repeats : Bool) → Fit (retransmits s repeats) pending
@@ -230,7 +230,8 @@ module _ (c : Config) (s : GroundState) (g : GroundNodeSteady c s) (k : GroundFi
             (all_append FitsFrame (unsent_segments s) (segments_on s m octets) (k.unsent running) added);
       })
 
--- Each string on its way up is a frame of the ground's, and what the ground holds to be sent fits into frames.
+-- Each string in transit on the uplink is a frame of the ground, and what the ground holds to be sent fits
+-- into frames.
 
 pub record Carried (c : Config) (w : World) : Type 0 where
   pub frames : List BodyView
@@ -361,9 +362,10 @@ all_readable c w k g t = record {
       (down_readable c w.down t.reports t.reporting);
 }
 
--- In S6, until a session begins, at most as many more segments are accepted as Type-AD frames are on their way up.
+-- In S6, until a session begins, at most as many more segments are accepted as Type-AD frames are in transit on
+-- the uplink.
 
--- ---- the Type-AD frames on their way
+-- ---- the Type-AD frames in transit
 
 abbrev numbers_in : Result FrameView TcFault → List ℕ
 numbers_in r = in_frame number_in r
@@ -406,7 +408,8 @@ heard_in : (f : FopState SegmentView) (r : Clcw) (m : FopMode) → m ≡ S6 → 
     → (report_in f r m).after.state ≡ S6
 heard_in f r m is off = rw is off
 
--- on board a frame adds a segment to those accepted only if it is of Type-AD, and then one at most
+-- on board, a frame adds a segment to those accepted only if it is a Type-AD frame, and then at
+-- most one
 module _ (s : SpacecraftState) where
   abbrev Adds : List ℕ → List SegmentView → Type 0
   Adds ns accepted = (us : List SegmentView) × (accepted ≡ s.accepted ++ us) × (length us ≤ length ns)
@@ -437,7 +440,7 @@ module _ (c : Config) (w : World) (k : Sound c w) (off : IsOff w) where
   abbrev s : FopState SegmentView
   s = w.ground_node.fop
 
-  -- ---- the sender stays in S6, and a directive lets no segment be accepted
+  -- ---- the sender stays in S6, and a directive causes no segment to be accepted
 
   abbrev Same : World → Type 0
   Same new = accepted new ≡ accepted w
@@ -473,7 +476,7 @@ module _ (c : Config) (w : World) (k : Sound c w) (off : IsOff w) where
         (λ waiting pending on closed. heard_in s r s.state off off);
   })
 
-  -- ---- a frame is sent: it is no Type-AD frame
+  -- ---- a frame is sent: it is not a Type-AD frame
 
   abbrev SendsSo : FopOutcome SegmentView (PulledUnit SegmentView) → Type 0
   SendsSo o = numbers_up (world_after_pull w (with_fop w.ground_node o.after)
@@ -500,7 +503,7 @@ module _ (c : Config) (w : World) (k : Sound c w) (off : IsOff w) where
     first = λ active u is room. not_active active;
   })
 
-  -- ---- the first frame on its way is there no more, or arrives on board
+  -- ---- the first frame in transit leaves the link, or arrives on board
 
   numbers_of : (b : List ℕ) (bs : List (List ℕ)) → w.up ≡ b ∷ bs
       → length (numbers_up w) ≡ length (numbers_in (reading.frame_at On b)) + length (numbers bs)
@@ -522,7 +525,7 @@ module _ (c : Config) (w : World) (k : Sound c w) (off : IsOff w) where
 
   -- ---- each event
 
-  -- nothing is accepted, and what is on its way up stays
+  -- nothing is accepted, and what is in transit on the uplink stays
   stays : (new : World) → Same new → new.up ≡ w.up → Fewer w new
   stays new same up = still w new same (omega (arith, ap (λ (way : List (List ℕ)). length (numbers way)) up))
 

@@ -29,7 +29,7 @@ use Rattle.tm_link.specs.Decoding.{frame_at}
 abbrev pub queued_as : GroundState → Option SegmentView → List SegmentView → GroundState
 queued_as s waiting pending = record s { fop = record s.fop { waiting = waiting }; pending = pending }
 
--- nothing is pending where the sender is off, or nothing waits
+-- nothing is pending if the sender is off, or nothing is waiting
 abbrev pub NonePends : Bool → Option SegmentView → List SegmentView → Type 0
 NonePends off waiting pending = (off ≡ true → pending ≡ []) × (waiting ≡ None → pending ≡ [])
 
@@ -128,7 +128,7 @@ module _ (early : Bool) (c : Config) (d : Directive) (base : ℕ) where
       g.stage)
 
   module _ (w : World) (g : In early c d base w) where
-    -- the sender is as it was but for what it holds, and other submissions may be known
+    -- the sender is as it was, except for what it holds, and other submissions may be known
     goes_keeps : (fates : Fates) (f : FopState SegmentView)
         → Held (is_closed f.state) base f.vs f.nn f.sent (option_to_list f.waiting ++ w.ground_node.pending) g.plain.a
         g.plain.n g.plain.units
@@ -159,13 +159,13 @@ module _ (early : Bool) (c : Config) (d : Directive) (base : ℕ) where
     off_keeps fates f state nn_octet fits kept =
         goes_keeps fates f (rw state kept) nn_octet (sender_off early c d base w g f.state f.control state fits)
 
--- What is known of the submissions is the same where a report comes again.
+-- What is known of the submissions is the same if a CLCW is repeated.
 
--- the number of submissions that are acknowledged is one modulo 2^64
+-- the number of acknowledged submissions is the same modulo 2^64
 abbrev pub Counts : Fates → Type 0
 Counts k = k.acknowledged < 2 ^ 64
 
--- no segment more is acknowledged
+-- no further segment is acknowledged
 pub counted_same : (n : ℕ) (k : Fates) → Counts k → after_acknowledging (moved_by n n) k ≡ k
 counted_same n k small =
     let none : moved_by n n ≡ 0 = rw (eq-eqb n n refl) refl in
@@ -177,7 +177,7 @@ refilled_counts s k = refilled_keeps (λ (g : GroundState). Counts g.fates) s (�
 
 -- What a call of the ground may do, by its kind.
 
--- it may bring a report
+-- the call may bring a CLCW
 abbrev pub IsHeard : GroundEvent → Type 0
 IsHeard (Telemetry octets) = Unit {0}
 IsHeard (ControlWord octets) = Unit {0}
@@ -186,9 +186,10 @@ IsHeard _ = ⊥
 pub record AtEachCall (s : GroundState) (e : GroundEvent) (P : GroundState → Type 0) : Type 0 where
   -- it is refused, or there is nothing to take
   pub same : P s
-  pub submits : (pending : List SegmentView) (n : ℕ)
-      → P (refill_step (record s { pending = pending; fates = with_submission n s.fates }))
-  pub bypasses : (us : List SegmentView) → P (record s { fop = record s.fop { bypass = us } })
+  pub submits : (m : ℕ) (octets : List ℕ) → e ≡ Submit m octets → submit_fault s m octets ≡ None
+      → P (after_submission s m octets)
+  pub bypasses : (m : ℕ) (octets : List ℕ) → e ≡ Bypass m octets → bypass_fault s m octets ≡ None
+      → P (after_bypass s m octets)
   pub directs : (d : Directive) → e ≡ Direct d
       → P (refill_step (record (obeying s d) { fop = (directive_step s.fop d).after }))
   pub resumes : (value : ℕ) → e ≡ Resume value → can_resume s value ≡ true → P (after_resuming s value)
@@ -200,8 +201,9 @@ pub record AtEachCall (s : GroundState) (e : GroundEvent) (P : GroundState → T
       → P (after_report (record s { extractor = x; telemetry = packets }) (clcw_step s.fop r))
 
 module _ (s : GroundState) (P : GroundState → Type 0) where
-  accepted_or : (fault : Option LinkFault) (next : GroundState) → P s → P next → P (unless_refused fault s next).after
-  accepted_or None next same taken = taken
+  accepted_or : (fault : Option LinkFault) (next : GroundState) → P s → (fault ≡ None → P next)
+      → P (unless_refused fault s next).after
+  accepted_or None next same taken = taken refl
   accepted_or (Some fault) next same taken = same
 
   obeyed_or : (d : Directive) (r : Result (Option Alert) CopFault) (f : FopState SegmentView) → P s
@@ -221,9 +223,9 @@ module _ (s : GroundState) (P : GroundState → Type 0) where
 
   pub called : (e : GroundEvent) → AtEachCall s e P → P (ground_step s e).after
   called (Submit m octets) each =
-      accepted_or (submit_fault s m octets) (after_submission s m octets) each.same (each.submits _ _)
+      accepted_or (submit_fault s m octets) (after_submission s m octets) each.same (each.submits m octets refl)
   called (Bypass m octets) each =
-      accepted_or (bypass_fault s m octets) (after_bypass s m octets) each.same (each.bypasses _)
+      accepted_or (bypass_fault s m octets) (after_bypass s m octets) each.same (each.bypasses m octets refl)
   called (Direct d) each = directed_so d each.same (each.directs d refl)
   called (Resume value) each =
       resumed_or s value (λ (o : GroundOutcome (Result ℕ LinkFault)). P o.after)
@@ -240,13 +242,13 @@ module _ (s : GroundState) (P : GroundState → Type 0) where
   called TakeTelemetry each = taken_or s.telemetry each.same (each.takes s.extractor)
   called ForgetTelemetry each = each.takes new_extractor s.telemetry
 
--- a call that brings none, and begins no session
+-- a call that brings no CLCW, and begins no session
 none_resumed : {A : Type 0} (s : GroundState) (e : GroundEvent) → BringsNoReport s e → (value : ℕ)
     → e ≡ Resume value → can_resume s value ≡ true → A
 none_resumed s e goes value is can =
     absurd (let refused : can_resume s value ≡ false = subst (BringsNoReport s) is goes in cc (can, refused))
 
--- what it may do: telemetry may be another, and nothing else comes of octets that arrive
+-- what such a call may do: telemetry may change, and nothing else comes of octets that arrive
 pub record AtEachQuietCall (s : GroundState) (e : GroundEvent) (P : GroundState → Type 0) : Type 0 where
   pub same : P s
   pub submits : (pending : List SegmentView) (n : ℕ)
@@ -285,8 +287,8 @@ called_quietly s P (ControlWord octets) goes each =
     word_unused s P each.takes s.extractor s.telemetry (clcw_at octets) goes
 called_quietly s P e goes each = called s P e (record {
   same = each.same;
-  submits = each.submits;
-  bypasses = each.bypasses;
+  submits = λ m octets is none. each.submits _ _;
+  bypasses = λ m octets is none. each.bypasses _;
   directs = each.directs;
   resumes = λ value is can. none_resumed s e goes value is can;
   pulls = each.pulls;

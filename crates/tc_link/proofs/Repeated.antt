@@ -1,4 +1,4 @@
--- A report that comes again, and no other since, changes nothing.
+-- A CLCW that is repeated, with no other since, changes nothing.
 use Rattle.tc_link.proofs.Common.{◌≡◌, ◌≢◌, ◌≤◌, ◌<◌, ℕ, Bool, true, false, List, [], ◌∷◌, Option, Some, None, refl}
 use Rattle.tc_link.proofs.Common.{Result, Ok, Err, Idle, not, ◌+◌, ◌%◌, ◌∙◌, sym, ap, subst, arith, cond_both, eqb-true}
 use Rattle.tc_link.proofs.Common.{eq-eqb, ne_eqb, not-false, ltb-true, nat_lt, ◌==◌, Clcw, ClcwFault, SegmentView}
@@ -121,8 +121,8 @@ directed_usual s k d = directed_so s (λ g. Usual g.fop) d k (refilled_usual _ (
 step_usual : (s : GroundState) → Usual s.fop → (e : GroundEvent) → Usual (ground_step s e).after.fop
 step_usual s k e = called s (λ g. Usual g.fop) e (record {
   same = k;
-  submits = λ pending n. refilled_usual _ k;
-  bypasses = λ us. assumption k;
+  submits = λ m octets is none. refilled_usual _ k;
+  bypasses = λ m octets is none. assumption k;
   directs = λ d is. refilled_usual _ (direct_usual s.fop k d);
   resumes = λ value is can. directed_usual (ground_directive s (SetVs value)).after (directed_usual s k (SetVs value))
       InitUnlock;
@@ -143,7 +143,7 @@ new_usual c ranges = record {
   even = λ starting. refl;
 }
 
--- ---- a report that says nothing new
+-- ---- a CLCW that shows nothing new
 
 record Told (nn : ℕ) (r : Clcw) : Type 0 where
   unlocked : locks r ≡ false
@@ -151,7 +151,7 @@ record Told (nn : ℕ) (r : Clcw) : Type 0 where
   waiting : waits r ≡ false
   at : r.value ≡ nn
 
--- units were asked for, with the wait flag or without
+-- retransmission was requested, with the wait flag or without
 record Asked (wait : Bool) (vs nn limit : ℕ) (r : Clcw) : Type 0 where
   unlocked : locks r ≡ false
   asking : asks r ≡ true
@@ -179,7 +179,7 @@ not_and_right : (a b : Bool) → a ≡ false → (not a && b) ≡ false → b �
 not_and_right false b is none = none
 not_and_right true b is none = absurd cc
 
--- it changes nothing
+-- the CLCW changes nothing
 module _ (s : FopState SegmentView) (r : Clcw) (octet : r.value < 256) where
   abbrev Nothing : FopOutcome SegmentView (Option Alert) → Type 0
   Nothing o = o ≡ goes_on s
@@ -235,13 +235,13 @@ module _ (s : FopState SegmentView) (r : Clcw) (octet : r.value < 256) where
   ignored : KnownTo s r → Nothing (clcw_step s r)
   ignored k = ignored_in s.state refl k
 
--- ---- a report is known once it was heard
+-- ---- a CLCW is known once it was heard
 
 module _ (s : FopState SegmentView) (k : Usual s) (r : Clcw) where
   abbrev KnownAfter : FopOutcome SegmentView (Option Alert) → Type 0
   KnownAfter o = KnownTo o.after r
 
-  -- the sender repeats what was asked for
+  -- the sender retransmits what was requested
   abbrev AskedFor : Bool → FopState SegmentView → Type 0
   AskedFor wait f = Asked wait f.vs f.nn f.limit r
 
@@ -320,7 +320,7 @@ module _ (s : FopState SegmentView) (k : Usual s) (r : Clcw) where
       (λ t. others_known l a apart)
       (λ at. all_known l a apart active (eqb-true r.value s.nn (not-false (r.value == s.nn) at)))))))))
 
-  -- the session begins with what is reported
+  -- the session begins with the number that is reported
   begun_known : IsStarting s.state → locks r ≡ false → waits r ≡ false → asks r ≡ false → r.value ≡ s.vs
       → Told s.nn r
   begun_known starting l w a at = record { unlocked = l; asking = a; waiting = w; at = at ∙ k.even starting }
@@ -347,7 +347,7 @@ module _ (s : FopState SegmentView) (k : Usual s) (r : Clcw) where
   report_known : KnownTo (clcw_step s r).after r
   report_known = known_in s.state refl
 
--- ---- it stays so
+-- ---- it stays known
 
 module _ (r : Clcw) (octet : r.value < 256) (s : FopState SegmentView) (usual : Usual s) (k : KnownTo s r) where
   first_known : (m : FopMode) (vs : ℕ) → IsActive m → (r.value ≡ s.nn → (r.value == vs) ≡ false)
@@ -435,8 +435,8 @@ module _ (c : Config) where
   step_config : (s : GroundState) → s.config ≡ c → (e : GroundEvent) → (ground_step s e).after.config ≡ c
   step_config s is e = called s (λ g. g.config ≡ c) e (record {
     same = is;
-    submits = λ pending n. refilled_config _ is;
-    bypasses = λ us. is;
+    submits = λ m octets call none. refilled_config _ is;
+    bypasses = λ m octets call none. is;
     directs = λ d same. refilled_config _ is;
     resumes = λ value same can. directed_config (ground_directive s (SetVs value)).after
         (directed_config s is (SetVs value)) InitUnlock;
@@ -450,7 +450,7 @@ module _ (c : Config) where
   run_config [] s is = is
   run_config (e ∷ es) s is = run_config es (ground_step s e).after (step_config s is e)
 
--- a report would change nothing
+-- the CLCW would change nothing
 record IsKnown (r : Clcw) (s : GroundState) : Type 0 where
   usual : Usual s.fop
   known : KnownTo s.fop r
@@ -497,7 +497,7 @@ module _ (r : Clcw) (octet : r.value < 256) where
   run_heard [] s all h = h
   run_heard (e ∷ es) s all h = run_heard es (ground_step s e).after all.1 (step_heard s h e all.0)
 
-  -- it was heard
+  -- the CLCW was heard
   uses_heard : (s : GroundState) → Usual s.fop → IsKnown r (after_report s (clcw_step s.fop r))
   uses_heard s usual =
       let o : FopOutcome SegmentView (Option Alert) = clcw_step s.fop r in
@@ -509,7 +509,7 @@ module _ (r : Clcw) (octet : r.value < 256) where
         counts = refilled_counts t (omega arith);
       }
 
-  -- it comes again
+  -- the CLCW arrives again
   abbrev using : GroundState → GroundOutcome HeardClcw
   using s = record {
     answer = record { report = Used; alert = (clcw_step s.fop r).answer };

@@ -40,7 +40,7 @@ module _ (s : GroundState) where
   abbrev kept : Bool
   kept = s.fates.kept
 
-  -- the ground's account is kept where a session is known
+  -- the ground's bookkeeping is kept while a session is known
   abbrev Keeps : {A : Type 0} → Bool → GroundOutcome A → Type 0
   Keeps known o = o.after.fates.kept ≡ known
 
@@ -126,10 +126,10 @@ run_known (e ∷ es) s =
     run_known es (ground_step s e).after
     ∙ ap (λ (known : Bool). known_by known (ground_step s e).after es) (call_known s e)
 
--- ---- what it says then
+-- ---- what it returns then
 
 module _ (s : GroundState) (value : ℕ) where
-  -- what is said of a report of the value
+  -- what a CLCW of this value shows
   said_so : IsSome (accepted_beyond s.fop.nn s.fop.vs value) ↔ MayBeReported s value
   said_so = (
     cond_both (s.fop.vs == s.fop.nn) _ _ (λ (o : Option ℕ). IsSome o → MayBeReported s value)

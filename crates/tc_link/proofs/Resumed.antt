@@ -54,11 +54,11 @@ packets_append xs ys m =
     ∙ flat_map-append (λ (p : PacketOn). packets_in p.octets) (filter (λ (p : PacketOn). p.on_map == m) xs)
     (filter (λ (p : PacketOn). p.on_map == m) ys)
 
-all_of_front : {X : Type 0} (P : X → Type 0) (xs ys : List X) → AllByRecursion P (xs ++ ys) → AllByRecursion P xs
+pub all_of_front : {X : Type 0} (P : X → Type 0) (xs ys : List X) → AllByRecursion P (xs ++ ys) → AllByRecursion P xs
 all_of_front P [] ys all = tt
 all_of_front P (x ∷ xs) ys all = (all.0, all_of_front P xs ys all.1)
 
--- ---- a run with one event more
+-- ---- a run with one more event
 
 lasts_push : (w : World) (steps : List LinkStep) (s : LinkStep) → SessionLasts w steps
     → LeavesSession (link_run w steps) s → SessionLasts w (steps ++ s ∷ [])
@@ -89,7 +89,7 @@ past_run c w p is [] fits = (p, is)
 past_run c w p is (s ∷ steps) fits =
     let q = past_push c w p is s fits.0 in past_run c (link_step w s) q.0 q.1 steps fits.1
 
--- ---- a session that goes on
+-- ---- a session that continues
 
 pub record Began (c : Config) (w : World) : Type 0 where
   start : World
@@ -105,7 +105,7 @@ pub record Began (c : Config) (w : World) : Type 0 where
   idle : IsIdle (world_step start initiation).after
   led : link_run (world_step start initiation).after since ≡ w
 
--- and has submitted what is wanted next
+-- the session has submitted what is wanted next
 pub record Leads (c : Config) (wanted : List PacketOn) (w : World) (done : ℕ) : Type 0 where
   pub began : Began c w
   pub submits : IsBeginning w.session.submissions (drop done wanted)
@@ -133,7 +133,7 @@ module _ (c : Config) (w : World) (l : Began c w) where
   config_now : w.ground_node.config ≡ c
   config_now = holds_now.sound.ground_node.config
 
-  -- with one step more
+  -- with one more step
   pub began_on : (s : LinkStep) → LeavesSession w s → LeavesNumbers w s → IsLinkStep s → Began c (link_step w s)
   began_on s goes quiet fits =
       let at : World = (world_step l.start l.initiation).after in
@@ -179,7 +179,7 @@ known_now s value more =
     (λ (o : Option ℕ). o ≡ Some more → known_on_board s value ≡ Some more) (λ off known. known)
     (λ on known. absurd (cc known))
 
--- what it answers is what is known then
+-- the answer of `resume` is what is known then
 answered_known : (s : GroundState) (value more : ℕ) → (ground_resume s value).answer ≡ Ok more
     → known_at_end s value ≡ Some more
 answered_known s value more = known (known_at_end s value) refl where
@@ -199,12 +199,12 @@ resumes_so w value more answered =
       leaves = ap (λ (o : GroundOutcome (Result ℕ LinkFault)). o.after) is;
     }
 
--- what the link answers is what the ground answers
+-- the link answers what the ground answers
 answered_by : (w : World) (value more : ℕ) (r : Result ℕ LinkFault)
     → (world_after_resuming w value r).answer ≡ Ok (Resumed more) → r ≡ Ok more
 answered_by w value more r is = grind (arith, is)
 
--- it answers what it knows
+-- the ground answers what it knows
 pub answer_is : (s : GroundState) (value more : ℕ) → (ground_resume s value).answer ≡ Ok more
     → known_on_board s value ≡ Some more
 answer_is s value more answered = known_now s value more (answered_known s value more answered)
@@ -247,7 +247,7 @@ module _ (c : Config) (wanted : List PacketOn) (w : World) (done : ℕ) (l : Lea
         (all_of_front (IsOneGroup c.part) w.session.submissions l.submits.0
         (subst (AllByRecursion (IsOneGroup c.part)) l.submits.1 (behind-each (IsOneGroup c.part) done wanted single)))
 
-    -- what is delivered is of the submissions that are wanted next
+    -- what is delivered belongs to the submissions that are wanted next
     delivered_is : (m : ℕ) → delivered w m ≡ packets_on_map (take (on_board w) (drop done wanted)) m
     delivered_is m =
         let front : take (on_board w) (drop done wanted) ≡ take (on_board w) w.session.submissions =
@@ -275,7 +275,7 @@ module _ (c : Config) (wanted : List PacketOn) (w : World) (done : ℕ) (l : Lea
 
 -- ---- the next session
 
--- with V(S) set to an octet the link is as idle
+-- with V(S) set to an octet, the link is as idle as before
 pub set_idle : (c : Config) (w : World) → Holding c w → (value : ℕ) → value < 256 → is_idle w ≡ true
     → is_idle (world_step w (events.Directive (SetVs value))).after ≡ true
 set_idle c w h value octet_is quiet =
@@ -318,7 +318,7 @@ module _ (c : Config) (wanted : List PacketOn) (w : World) (done : ℕ) (l : Lea
         );
       }
 
--- ---- the ground is lost, and another resumes: it is a new one whose V(S) is set, and that begins by Unlock
+-- ---- the ground is lost, and another resumes: a new one, in which V(S) is set and which begins by Unlock
 
 module _ (c : Config) (wanted : List PacketOn) (w : World) (done : ℕ) (l : Leads c wanted w done) (value more : ℕ)
     (quiet : is_idle w ≡ true) (octet_is : value < 256)
@@ -345,7 +345,7 @@ module _ (c : Config) (wanted : List PacketOn) (w : World) (done : ℕ) (l : Lea
         submits = (drop (done + more) wanted, refl);
       })
 
--- ---- another session, where nothing of this one was sent
+-- ---- another session, if nothing of this one was sent
 
 module _ (c : Config) (w : World) (h : Holding c w) (idle : IsIdle w) (none : w.session.sent ≡ []) (m : ℕ) where
   -- nothing of it was accepted
@@ -479,7 +479,7 @@ each_answers_resuming w e since r b lasts quiet none fits numbers idle off =
     resuming_answer now now.spacecraft.farm.vr (whole_first now (length (accepted now))) off
     ((knows_fates w e since r b lasts quiet fits numbers idle).1 none)
 
--- ---- and whether another ground does, that is opened at what was kept
+-- ---- and whether another ground resumes that is opened from its record
 
 pub each_fails_over : EachFailsOver
 each_fails_over w e since r b lasts quiet none fits numbers idle =

@@ -1,4 +1,4 @@
--- What a program takes on board, by what it sees of a link.
+-- What a program takes on board, in terms of what it sees of a link.
 use Rattle.tc_link.proofs.Common.{◌≡◌, ◌≢◌, ℕ, ◌≤◌, Bool, true, false, List, [], ◌∷◌, ◌++◌, length, take, drop}
 use Rattle.tc_link.proofs.Common.{Option, Some, None, Result, Ok, Err, refl, ap, sym, subst, ◌∙◌, arith, append-nil}
 use Rattle.tc_link.proofs.Common.{append_assoc, and_parts, ne_eqb, take-append-drop, option_map, AllByRecursion, inl}
@@ -16,6 +16,7 @@ use Rattle.std.proofs.Math.Seq.{drop-length, take-add}
 use Rattle.std.specs.Borrow.{Bor}
 use Rattle.std.specs.Prelude.{◌^◌, ◌&&◌, is_some}
 use Rattle.std.specs.List.{flat_map}
+use Rattle.std.proofs.lemmas.Grind.{flat_map-append}
 use Rattle.std.proofs.lemmas.Bool.{cases_Bool, eqb-true}
 use Rattle.octets.specs.Beginning.{IsBeginning}
 use Rattle.tc_frame.specs.Layout.{FrameView}
@@ -33,15 +34,17 @@ use Rattle.simulated_link.specs.World.{directed, resumed, world_after_resuming, 
 use Rattle.simulated_link.specs.World.{is_idle, Session, world_after_submission}
 use Rattle.simulated_link.specs.Replies.{ReplyView, Done, Sent, Reported, Packet, Resumed}
 use Rattle.tc_link.specs.AnyPast.{HasAnyPast, Happens}
-use Rattle.tc_link.specs.Seen.{IsWanted, IsSeenOnce, Seen, Part, seen_step, seen_from, seen, nothing_seen, begins}
+use Rattle.tc_link.specs.Seen.{IsWanted, Seen, Part, seen_step, seen_from, seen, nothing_seen, begins}
 use Rattle.tc_link.specs.Seen.{has_check, is_first, is_silent, all_packets, ArePrefixes, IsSeenInOrder, EachIsSeen}
 use Rattle.tc_link.specs.Seen.{is_made}
-use Rattle.tc_link.specs.Whole.{on_board}
+use Rattle.tc_link.specs.SeenBlocks.{EachBlockIsSeen}
+use Rattle.tc_link.specs.Whole.{on_board, IsOneGroup}
 use Rattle.tc_link.specs.Taken.{handed_out}
 use Rattle.tc_link.proofs.Linked.{zeros_run, In, run_to, IsGiven, units_of_all, Kept}
 use Rattle.simulated_link.proofs.Unchanged.{resumes, resumed_after}
 use Rattle.tc_link.proofs.Resumed.{set_idle, Began, Leads, began_on, began_first, past_push, more_is, board_most}
-use Rattle.tc_link.proofs.Resumed.{known_now}
+use Rattle.tc_link.proofs.Resumed.{known_now, all_of_front}
+use Rattle.map_service.proofs.Groups.{behind-each}
 use Rattle.tc_link.proofs.Invariant.{session_stays, begun_is, can_off, Holding, new_holds, step_holds, early_step}
 use Rattle.tc_link.proofs.Invariant.{late_step}
 use Rattle.tc_link.proofs.Whole.{AllHaveMore, step_none, given_first, all_single, cut, is_cut}
@@ -51,7 +54,7 @@ use Rattle.tc_link.proofs.Sound.{Sound}
 use Rattle.tc_link.proofs.SeenCounts.{CountsAt, counts_step, idle_seen}
 use Rattle.tc_link.proofs.SeenGround.{kept_stays, sets_none, off_stays}
 
--- ---- what an event that begins no session leaves of what was seen
+-- ---- what an event that begins no session changes of what was seen
 
 -- the submission that an event makes
 abbrev submitted_by : Event → Result ReplyView SimFault → List PacketOn
@@ -95,7 +98,7 @@ module _ (s : Seen) where
   keeps events.Take (Ok (Packet packet)) goes = assumption no_more
   keeps _ _ goes = assumption (none_out, no_more)
 
--- ---- with another opening of the session each event that begins none does the same
+-- ---- with another opening of the session, each event that begins none does the same
 
 module _ (o : Option Opening) where
   abbrev opened_as : World → World
@@ -231,7 +234,7 @@ no_front : {X : Type 0} (xs ys : List X) → xs ++ ys ≡ [] → xs ≡ []
 no_front [] ys is = refl
 no_front (x ∷ xs) ys is = absurd cc
 
--- what goes on after the first ones of a list, once they are all that a part of it has delivered
+-- what follows the first ones of a list, once they are all that a part of it has delivered
 pieces_on : (wanted parts : List PacketOn) (from n : ℕ) → n ≤ length parts → IsBeginning parts (drop from wanted)
     → take from wanted ++ take n parts ≡ take (from + n) wanted
 pieces_on wanted parts from n le begins =
@@ -249,7 +252,36 @@ all_one c without one (p ∷ ps) h =
     ap (λ (qs : List (List ℕ)). put_on_map p.on_map qs ++ flat_map (packets_of c one) ps) only
     ∙ ap (λ (qs : List PacketOn). p ∷ qs) (all_one c without one ps h.1)
 
--- segments after which more of their group comes make nothing
+-- How submissions that are wanted are counted as packets. Without blocking each submission is one packet. In any run,
+-- each may be one group.
+pub record Counting (c : Config) (wanted : List PacketOn) : Type 0 where
+  pub packets : List PacketOn → List PacketOn
+  pub none : packets [] ≡ []
+  pub append : (xs ys : List PacketOn) → packets (xs ++ ys) ≡ packets xs ++ packets ys
+  pub are : (ps : List PacketOn) → AllByRecursion (IsGiven c) ps → all_packets ps ≡ packets ps
+  pub single : (ps : List PacketOn) (from : ℕ) → AllByRecursion (IsGiven c) ps → IsBeginning ps (drop from wanted)
+      → AllByRecursion (IsOneGroup c.part) ps
+
+abbrev without_blocking : (c : Config) → c.blocking ≢ 1 → 1 ≤ c.part → (wanted : List PacketOn) → Counting c wanted
+without_blocking c without one wanted = record {
+  packets = λ ps. ps;
+  none = refl;
+  append = λ xs ys. refl;
+  are = all_one c without one;
+  single = λ ps from given begins. all_single c without ps given;
+}
+
+abbrev by_groups : (c : Config) (wanted : List PacketOn) → AllByRecursion (IsOneGroup c.part) wanted → Counting c wanted
+by_groups c wanted single = record {
+  packets = all_packets;
+  none = refl;
+  append = flat_map-append (λ (p : PacketOn). put_on_map p.on_map (packets_in p.octets));
+  are = λ ps given. refl;
+  single = λ ps from given begins. all_of_front (IsOneGroup c.part) ps begins.0
+      (subst (AllByRecursion (IsOneGroup c.part)) begins.1 (behind-each (IsOneGroup c.part) from wanted single));
+}
+
+-- segments whose group continues after them yield nothing
 made_none : (limits : Limits) (before segments : List SegmentView) → AllHaveMore segments
     → made limits before segments ≡ []
 made_none limits before [] h = refl
@@ -275,8 +307,8 @@ record Sessions (c : Config) (s : Seen) (w : World) : Type 0 where
   ready : s.taken ++ w.spacecraft.ready ≡ delivered ++ passed c w
   -- the ground knows what is on board only since the session began
   since : w.ground_node.fates.kept ≡ true → Began c w
-  once : c.blocking ≢ 1 → (wanted : List PacketOn) → Small wanted → AllByRecursion (IsWanted wanted) s.before
-      → s.resumed ≡ true → delivered ≡ take s.session.from wanted
+  once : (wanted : List PacketOn) (k : Counting c wanted) → Small wanted → AllByRecursion (IsWanted wanted) s.before
+      → s.resumed ≡ true → delivered ≡ k.packets (take s.session.from wanted)
   -- before the first session the sender is in S6, and nothing is submitted
   none_yet : s.before ≡ [] → (is_closed w.ground_node.fop.state ≡ true) × (s.session.submissions ≡ [])
 
@@ -316,64 +348,69 @@ module _ (c : Config) where
     (w.spacecraft.ready, sym t.ready),
   )
 
-module _ (c : Config) (without : c.blocking ≢ 1) where
-  -- without blocking they are the submissions
-  module _ (w : World) (k : Sound c w) (o : Option Opening) where
-    one_in : (early : Bool) (d : Directive) (base : ℕ) → In early c d base (opened_as o w)
-        → all_packets w.session.submissions ≡ w.session.submissions
-    one_in early d base g = all_one c without k.ranges.part.0 w.session.submissions g.linked.given
+module _ (c : Config) (wanted : List PacketOn) (k : Counting c wanted) where
+  -- the packets are those of the submissions that are on board whole
+  module _ (w : World) (sure : Sound c w) (o : Option Opening) where
+    counted_in : (early : Bool) (d : Directive) (base : ℕ) → In early c d base (opened_as o w)
+        → all_packets w.session.submissions ≡ k.packets w.session.submissions
+    counted_in early d base g = k.are w.session.submissions g.linked.given
 
-  are_one : (s : Seen) (w : World) → Sound c w → (t : Sessions c s w)
-      → all_packets s.session.submissions ≡ s.session.submissions
-  are_one s w k t =
-      rw t.submits (in_session t.session (λ early g. one_in w k t.opening early t.session.directive t.session.base g))
-
-  -- those of the submissions that are on board whole
-  module _ (w : World) (k : Sound c w) (o : Option Opening) where
-    whole_in : (early : Bool) (d : Directive) (base : ℕ) → In early c d base (opened_as o w)
-        → passed c w ≡ take (on_board w) w.session.submissions
-    whole_in early d base g =
+    whole_in : (from : ℕ) → IsBeginning w.session.submissions (drop from wanted) → (early : Bool) (d : Directive)
+        (base : ℕ) → In early c d base (opened_as o w)
+        → passed c w ≡ k.packets (take (on_board w) w.session.submissions)
+    whole_in from begins early d base g =
         let v : World = opened_as o w in
-        let sound : Sound c v = assumption k in
+        let sound : Sound c v = assumption sure in
         let t = cut early c d base v g sound in
         let ps : List PacketOn = take t.whole w.session.submissions in
         let was : List SegmentView = take w.session.before w.spacecraft.accepted in
-        let one = k.ranges.part.0 in
+        let one = sure.ranges.part.0 in
         let lims : Limits = limits_of c in
         let given = given_first c t.whole w.session.submissions g.linked.given in
-        let more = t.more (all_single c without w.session.submissions g.linked.given) in
+        let more = t.more (k.single w.session.submissions from g.linked.given begins) in
         ap (made lims was) (g.linked.accepted_is ∙ ap (take g.plain.r) g.linked.units_are ∙ t.taken)
         ∙ made-append lims was (units_of_all c ps) t.part
         ∙ ap (λ xs. made lims was (units_of_all c ps) ++ xs) (made_none lims (was ++ units_of_all c ps) t.part more)
         ∙ append-nil (made lims was (units_of_all c ps))
         ∙ all_made c one was ps given
-        ∙ all_one c without one ps given
-        ∙ ap (λ (n : ℕ). take n w.session.submissions) (sym (is_cut early c d base v g sound))
+        ∙ k.are ps given
+        ∙ ap (λ (n : ℕ). k.packets (take n w.session.submissions)) (sym (is_cut early c d base v g sound))
 
-  are_whole : (s : Seen) (w : World) → Sound c w → (t : Sessions c s w)
-      → passed c w ≡ take (on_board w) w.session.submissions
-  are_whole s w k t =
-      in_session t.session (λ early g. whole_in w k t.opening early t.session.directive t.session.base g)
+  are_counted : (s : Seen) (w : World) → Sound c w → (t : Sessions c s w)
+      → all_packets s.session.submissions ≡ k.packets s.session.submissions
+  are_counted s w sure t =
+      rw t.submits (in_session t.session (λ early g. counted_in w sure t.opening early t.session.directive
+      t.session.base g))
 
-  in_all : (s : Seen) (w : World) → Sound c w → Sessions c s w → (wanted : List PacketOn) → Small wanted
-      → IsSeenOnce wanted s
-  in_all s w k t wanted small all so =
+  are_whole : (s : Seen) (w : World) → Sound c w → (t : Sessions c s w) (from : ℕ)
+      → IsBeginning w.session.submissions (drop from wanted)
+      → passed c w ≡ k.packets (take (on_board w) w.session.submissions)
+  are_whole s w sure t from begins =
+      in_session t.session (λ early g. whole_in w sure t.opening from begins early t.session.directive t.session.base g)
+
+  -- what was taken is first packets of what is wanted
+  in_all : (s : Seen) (w : World) → Sound c w → Sessions c s w → Small wanted
+      → AllByRecursion (IsWanted wanted) (s.before ++ s.session ∷ []) → s.resumed ≡ true
+      → IsBeginning s.taken (k.packets wanted)
+  in_all s w sure t small all so =
       let parts = all_parts (IsWanted wanted) s.before s.session all in
-      let first : IsBeginning (passed c w) s.session.submissions =
-      subst (IsBeginning (passed c w)) (are_one s w k t) (are_first c s w k t) in
-      let given = t.once without wanted small parts.0 so in
-      let rest : List PacketOn = first.0 ++ parts.1.0 in (
+      let first : IsBeginning (passed c w) (k.packets s.session.submissions) =
+      subst (IsBeginning (passed c w)) (are_counted s w sure t) (are_first c s w sure t) in
+      let given = t.once wanted k small parts.0 so in
+      let later : List PacketOn = k.packets parts.1.0 in
+      let rest : List PacketOn = first.0 ++ later in (
         w.spacecraft.ready ++ rest,
-        sym (take-append-drop s.session.from wanted)
-            ∙ ap (λ xs. xs ++ drop s.session.from wanted) (sym given)
-            ∙ ap (λ xs. t.delivered ++ xs) (parts.1.1 ∙ ap (λ xs. xs ++ parts.1.0) first.1
-            ∙ append_assoc (passed c w) first.0 parts.1.0)
+        ap k.packets (sym (take-append-drop s.session.from wanted))
+            ∙ k.append (take s.session.from wanted) (drop s.session.from wanted)
+            ∙ ap (λ xs. xs ++ k.packets (drop s.session.from wanted)) (sym given)
+            ∙ ap (λ xs. t.delivered ++ xs) (ap k.packets parts.1.1 ∙ k.append s.session.submissions parts.1.0
+            ∙ ap (λ xs. xs ++ later) first.1 ∙ append_assoc (passed c w) first.0 later)
             ∙ sym (append_assoc t.delivered (passed c w) rest)
             ∙ ap (λ xs. xs ++ rest) (sym t.ready)
             ∙ append_assoc s.taken w.spacecraft.ready rest,
       )
 
--- ---- where a session begins
+-- ---- a session begins
 
 checked_idle : (w : World) (d : Directive) → is_initiation d ≡ true → has_check d ≡ true → is_idle w ≡ true
     → begins_idle w d ≡ true
@@ -453,9 +490,9 @@ module _ (c : Config) (s : Seen) (w : World) (t : Tracks c s w) where
             ∙ ap (λ (xs : List PacketOn). was.delivered ++ xs) (sym grown);
         since = λ kept.
             began_on c w (was.since (kept_stays w e goes kept)) (Happens e) goes (sets_none w e kept) fits;
-        once = λ without wanted small all so.
-            was.once without wanted small (subst (AllByRecursion (IsWanted wanted)) k.before all) (sym k.resumed ∙ so)
-            ∙ ap (λ (n : ℕ). take n wanted) (sym k.from);
+        once = λ wanted counting small all so.
+            was.once wanted counting small (subst (AllByRecursion (IsWanted wanted)) k.before all) (sym k.resumed ∙ so)
+            ∙ ap (λ (n : ℕ). counting.packets (take n wanted)) (sym k.from);
         none_yet = λ none.
             let off = was.none_yet (sym k.before ∙ none) in (
               off_stays w off.0 e goes,
@@ -465,11 +502,11 @@ module _ (c : Config) (s : Seen) (w : World) (t : Tracks c s w) where
       }
 
   abbrev NowOnce : ℕ → Bool → Sessions c s w → Type 0
-  NowOnce from resumed was = c.blocking ≢ 1 → (wanted : List PacketOn) → Small wanted
+  NowOnce from resumed was = (wanted : List PacketOn) (k : Counting c wanted) → Small wanted
       → AllByRecursion (IsWanted wanted) (s.before ++ s.session ∷ []) → s.resumed && resumed ≡ true
-      → was.delivered ++ passed c w ≡ take from wanted
+      → was.delivered ++ passed c w ≡ k.packets (take from wanted)
 
-  -- one begins at this world, with the receiver as it was
+  -- a session begins at this world, with the receiver as it was
   begun_sessions : (v : World) (d : Directive) (from : ℕ) (idle resumed : Bool) → v.spacecraft ≡ w.spacecraft
       → Holding c (directed v d) → is_initiation d ≡ true → is_closed v.ground_node.fop.state ≡ true
       → has_check d ≡ true → is_idle v ≡ true → s.idle ≡ true → (IsIdle (directed v d) → Began c (directed v d))
@@ -498,7 +535,7 @@ module _ (c : Config) (s : Seen) (w : World) (t : Tracks c s w) where
         none_yet = λ none. absurd (omega (arith, ap length none, length-append s.before (s.session ∷ [])));
       }
 
-  -- what was silent is idle
+  -- a silent link is idle
   idle_there : (idle : Bool) → s.idle && (idle && is_silent s) ≡ true
       → (s.idle ≡ true) × (idle ≡ true) × (is_idle w ≡ true)
   idle_there idle all =
@@ -507,16 +544,16 @@ module _ (c : Config) (s : Seen) (w : World) (t : Tracks c s w) where
       let none = and_parts (s.up == 0) (s.old == 0) rest.1 in
       (both.0, rest.0, idle_seen c s w t.holds t.counts (eqb-true s.up 0 none.0) (eqb-true s.old 0 none.1))
 
-  -- only before the first session nothing was to be delivered
+  -- before the first session nothing was delivered
   first_once : (was : Sessions c s w) → NowOnce 0 (is_first s) was
-  first_once was without wanted small all so =
+  first_once was wanted k small all so =
       let first = and_parts s.resumed (is_first s) so in
       let none : s.before ≡ [] = none_of s.before (eqb-true (length s.before) 0 first.1) in
       let gone : was.delivered ≡ [] = subst (ArePrefixes was.delivered) none was.prefixes in
       let front = are_first c s w t.holds.sound was in
       let nothing : passed c w ≡ [] =
       no_front (passed c w) front.0 (sym front.1 ∙ ap all_packets (was.none_yet none).1) in
-      ap (λ xs. xs ++ passed c w) gone ∙ nothing
+      ap (λ xs. xs ++ passed c w) gone ∙ nothing ∙ sym k.none
 
   directed_sessions : (d : Directive) → IsEvent (events.Directive d)
       → (seen_step s (events.Directive d) (world_step w (events.Directive d)).answer).idle ≡ true
@@ -547,7 +584,7 @@ module _ (c : Config) (s : Seen) (w : World) (t : Tracks c s w) where
       kept_now = known_kept w.ground_node value whole (known_now w.ground_node value whole known)
 
       resumed_once : (was : Sessions c s w) → NowOnce (s.session.from + whole) (is_made s.made value) was
-      resumed_once was without wanted small all so =
+      resumed_once was wanted k small all so =
           let both = and_parts s.resumed (is_made s.made value) so in
           let parts = all_parts (IsWanted wanted) s.before s.session all in
           let now = (t.counts.made_is value (made_value s.made value both.1)).1 in
@@ -556,11 +593,13 @@ module _ (c : Config) (s : Seen) (w : World) (t : Tracks c s w) where
           let l : Leads c wanted w s.session.from = record { began = was.since kept_now; submits = next } in
           let counted = more_is c wanted w s.session.from l small value whole now
           (ap (λ (o : Option ℕ). (resumed_from w.ground_node value o).answer) known) in
-          ap (λ xs. xs ++ passed c w) (was.once without wanted small parts.0 both.0)
-          ∙ ap (λ xs. take s.session.from wanted ++ xs) (are_whole c without s w t.holds.sound was)
-          ∙ pieces_on wanted w.session.submissions s.session.from (on_board w)
+          ap (λ xs. xs ++ passed c w) (was.once wanted k small parts.0 both.0)
+          ∙ ap (λ xs. k.packets (take s.session.from wanted) ++ xs)
+          (are_whole c wanted k s w t.holds.sound was s.session.from next)
+          ∙ sym (k.append (take s.session.from wanted) (take (on_board w) w.session.submissions))
+          ∙ ap k.packets (pieces_on wanted w.session.submissions s.session.from (on_board w)
           (board_most c wanted w s.session.from l small) next
-          ∙ ap (λ (n : ℕ). take (s.session.from + n) wanted) (sym counted)
+          ∙ ap (λ (n : ℕ). take (s.session.from + n) wanted) (sym counted))
 
       resumed_sessions : s.idle && (true && is_silent s) ≡ true
           → Sessions c (begins s (s.session.from + whole) true (is_made s.made value)) (resumed w value)
@@ -636,7 +675,7 @@ new_session c ranges =
       prefixes = refl;
       ready = refl;
       since = λ kept. cc kept;
-      once = λ without wanted small all so. refl;
+      once = λ wanted k small all so. sym k.none;
       none_yet = λ none. (refl, refl);
     }
 
@@ -655,10 +694,29 @@ run_tracks c (e ∷ es) s w fits t =
     run_tracks c es (seen_step s e (world_step w e).answer) (world_step w e).after fits.1
     (step_tracks c s w t e fits.0)
 
+-- of any run
+module _ (c : Config) (events : List Event) (ranges : IsConfig c) (all : AllByRecursion IsEvent events) where
+  abbrev was_seen : Seen
+  was_seen = seen events (run_answers (new_world c) events)
+
+  abbrev led : World
+  led = world_run (new_world c) events
+
+  tracked : Tracks c was_seen led
+  tracked = run_tracks c events nothing_seen (new_world c) all (new_tracks c ranges)
+
+  seen_once : (wanted : List PacketOn) (k : Counting c wanted) → was_seen.idle ≡ true → Small wanted
+      → AllByRecursion (IsWanted wanted) (was_seen.before ++ was_seen.session ∷ []) → was_seen.resumed ≡ true
+      → IsBeginning was_seen.taken (k.packets wanted)
+  seen_once wanted k idle = in_all c wanted k was_seen led tracked.holds.sound (tracked.sessions idle)
+
 pub each_is_seen : EachIsSeen
 each_is_seen c events ranges all idle =
-    let s : Seen = seen events (run_answers (new_world c) events) in
-    let t = run_tracks c events nothing_seen (new_world c) all (new_tracks c ranges) in (
-      in_order c s (world_run (new_world c) events) t.holds.sound (t.sessions idle),
-      λ without. in_all c without s (world_run (new_world c) events) t.holds.sound (t.sessions idle),
+    let t = tracked c events ranges all in (
+      in_order c (was_seen c events ranges all) (led c events ranges all) t.holds.sound (t.sessions idle),
+      λ without wanted. seen_once c events ranges all wanted (without_blocking c without ranges.part.0 wanted) idle,
     )
+
+pub each_block_is_seen : EachBlockIsSeen
+each_block_is_seen c events ranges all idle wanted small single =
+    seen_once c events ranges all wanted (by_groups c wanted single) idle small

@@ -1,4 +1,4 @@
--- What a program sees of a link counts what is on its way.
+-- A program counts what is in transit by what it sees of a link.
 use Rattle.tc_link.proofs.Common.{◌≡◌, ℕ, List, [], ◌∷◌, length, Option, Some, None, Result, Ok, Err}
 use Rattle.tc_link.proofs.Common.{true, refl, ◌==◌, eqb-true, ap, sym, subst, ◌∙◌, arith, length-append, cond_both}
 use Rattle.tc_link.proofs.Common.{nat_lt, Clcw, On}
@@ -30,7 +30,7 @@ use Rattle.tc_link.proofs.Silence.{tells_so}
 use Rattle.tc_link.proofs.Invariant.{Holding}
 use Rattle.tc_link.proofs.IdleStart.{tells_now}
 
--- the counts are of what is on its way, while the receiver would report so
+-- the counts are those of what is in transit, while the receiver would report the same
 pub record Counts (c : Config) (up down old : ℕ) (made : Option ℕ) (ups downs : List (List ℕ)) (now : Clcw) : Type 0
   where
     pub up_is : up ≡ length ups
@@ -54,7 +54,7 @@ module _ (c : Config) (s : Seen) (w : World) (h : Holding c w) (k : CountsAt c s
   abbrev now : Clcw
   now = report_now w
 
-  -- by an event that is answered so
+  -- by an event with this answer
   abbrev By : Event → WorldOutcome → Type 0
   By e o = CountsAt c (seen_step s e o.answer) o.after.up o.after.down (report_now o.after)
 
@@ -79,7 +79,7 @@ module _ (c : Config) (s : Seen) (w : World) (h : Holding c w) (k : CountsAt c s
     made_is = k.made_is;
   }
 
-  -- all that are on their way down are old
+  -- all frames in transit on the downlink are old
   all_old : (then : Clcw) → then.value ≡ now.value → Counts c s.up s.down s.down s.made w.up w.down then
   all_old then same = record {
     up_is = k.up_is;
@@ -183,7 +183,7 @@ module _ (c : Config) (s : Seen) (w : World) (h : Holding c w) (k : CountsAt c s
       cond_both (is_to_send octets.now) _ _
       (λ o. By (events.Telemetry octets) (world_after_queueing w o)) (λ t. k) (λ t. k)
 
-  -- where nothing is on its way up, and nothing old on its way down
+  -- nothing is in transit on the uplink, and nothing old is in transit on the downlink
   pub idle_seen : s.up ≡ 0 → s.old ≡ 0 → is_idle w ≡ true
   idle_seen up old =
       let none : w.up ≡ [] = no_up w.up (sym k.up_is ∙ up) in

@@ -1,4 +1,4 @@
--- Where no session begins, the ground forgets what it counted or keeps it, and one in S6 stays there.
+-- If no session begins, the ground forgets what it counted, or keeps it. A ground in S6 stays there.
 use Rattle.tc_link.proofs.Common.{◌≡◌, ℕ, true, false, List, Option, Result, refl, ap, sym, subst, ◌∙◌, inl, inr}
 use Rattle.tc_link.proofs.Common.{SegmentView, CopFault, Alert, Directive, InitWithoutCheck, InitWithCheck, InitUnlock}
 use Rattle.tc_link.proofs.Common.{InitSetVr, SetVs, is_initiation, is_closed, closed_not, closed_is, obeyed, ticked}
@@ -42,7 +42,7 @@ module _ (w : World) where
   by_fates d plain f kept =
       obeying_kept s.fates d plain (kept_as (obeying s d).fates _ (with_fates (obeying s d) f) kept)
 
-  -- a report is heard
+  -- a CLCW is heard
   abbrev heard : ExtractorState → List (List ℕ) → Clcw → GroundState
   heard x packets r = record s {
     extractor = x;
@@ -93,7 +93,7 @@ module _ (w : World) where
     | inr on ↦ on
   ]
 
-  -- ---- one in S6
+  -- ---- a ground in S6
 
   with_off : (t : GroundState) (f : FopState SegmentView) → is_closed f.state ≡ true
       → is_closed (with_fop t f).fop.state ≡ true

@@ -1,4 +1,4 @@
--- What a program sees of telemetry is what the downlink's history says.
+-- What a program sees of telemetry is what the downlink's history shows.
 use Rattle.tc_link.proofs.Common.{◌≡◌, List, [], ◌∷◌, ◌++◌, refl, sym, subst}
 use Rattle.tc_link.specs.Telemetry.{Downlink, DownlinkStep, Happens, TakeTelemetry, AreSomeOf, none, one, without}
 use Rattle.tc_link.specs.Telemetry.{new_downlink, downlink_step, downlink_run}
@@ -15,7 +15,7 @@ seen_is [] d = refl
 seen_is (Happens event ∷ more) d = seen_is more (downlink_step d (Happens event))
 seen_is (TakeTelemetry ∷ more) d = seen_is more (downlink_step d TakeTelemetry)
 
--- the first of some are some
+-- the empty list is some of any list
 none_of : {P : Type 0} (all : List P) → AreSomeOf [] all
 none_of [] = none
 none_of (p ∷ all) = without (none_of all)

@@ -1,4 +1,5 @@
--- In a session that began by Unlock or Set V(R), or by check and is confirmed, no alert shows a broken condition.
+-- In a session that began by Unlock or Set V(R), or by CLCW check and is confirmed, no alert shows a broken
+-- condition.
 use Rattle.tc_link.proofs.Common.{◌≡◌, true, false, List, [], ◌∷◌, Option, Some, None, Result, refl, ap, sym, subst}
 use Rattle.tc_link.proofs.Common.{◌∙◌, inl, inr, AllByRecursion, Directive, Alert, CopFault, FopOutcome, SegmentView}
 use Rattle.tc_link.proofs.Common.{Config, World, Event, world_step, is_closed, is_initiation, closed_not, obeyed}

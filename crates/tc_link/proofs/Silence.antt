@@ -1,4 +1,5 @@
--- While silence is kept the receiver's report stays, so the frames down that follow the first ones carry it.
+-- While silence is kept, the receiver's CLCW stays the same, so the frames on the downlink after the first
+-- ones carry it.
 use Rattle.tc_link.proofs.Common.{◌≡◌, ℕ, zero, suc, ◌-◌, ◌≤◌, true, false, List, [], ◌∷◌, ◌++◌, length, refl, arith}
 use Rattle.tc_link.proofs.Common.{◌∙◌, subst, AllByRecursion, list_all, Clcw, flags_number, ◌≢◌, FarmState, FarmMode}
 use Rattle.tc_link.proofs.Common.{after_release, report_of, Config, GroundState, Heard, Event, World, WorldOutcome}
@@ -23,13 +24,13 @@ use Rattle.tc_link.proofs.Invariant.{Holding}
 use Rattle.tc_link.proofs.Linked.{Tells}
 use Rattle.tc_link.proofs.IdleStart.{tells_now}
 
--- ---- the frames on their way down
+-- ---- the frames in transit on the downlink
 
--- octets are read as a frame that reports so
+-- octets are read as a frame with this CLCW
 abbrev pub Report_so : Clcw → ℕ → List ℕ → Type 0
 Report_so now total b = reports_as now (frame_at total b) ≡ true
 
--- each after the first k does
+-- each frame after the first k carries it
 abbrev pub AllLater : Clcw → ℕ → ℕ → List (List ℕ) → Type 0
 AllLater now total k [] = Unit {0}
 AllLater now total zero (b ∷ bs) = Report_so now total b × AllLater now total zero bs
@@ -76,7 +77,7 @@ record Quiet (c : Config) (k : ℕ) (w : World) : Type 0 where
   up_none : w.up ≡ []
   later : AllLater (report_now w) c.frame_length k w.down
 
--- so many of the first ones are left, and so many are gone
+-- so many of the first frames are left, and so many have gone
 record Left (c : Config) (k gone : ℕ) (w : World) : Type 0 where
   left : ℕ
   quiet : Quiet c left w
@@ -134,7 +135,7 @@ module _ (c : Config) (w : World) (h : Holding c w) (k : ℕ) (q : Quiet c k w) 
 
   -- ---- each step
 
-  -- an event by which no report is sent, and no frame is gone
+  -- an event that sends no CLCW, and removes no frame
   rest_kept : (e : Event) → IsSilent w (Happens e) → e ≢ events.Send → e ≢ events.Report → (TakesDown e → ⊥)
       → Left c k 0 (world_step w e).after
   rest_kept e silent not_sent not_made not_gone =

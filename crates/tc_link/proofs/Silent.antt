@@ -65,7 +65,7 @@ holds_what_is_not_acknowledged w past idle =
     let s = h.session idle in
     in_session s (λ early g. held_so early past.config s.directive s.base w h.sound g)
 
--- ---- the sender gives up with an alert
+-- ---- the sender gives up only with an alert
 
 abbrev Aloud : FopState SegmentView → Option Alert → FopState SegmentView → Type 0
 Aloud f alert after = is_closed f.state ≡ false → is_closed after.state ≡ true → IsSome alert
@@ -145,7 +145,7 @@ module _ (f : FopState SegmentView) where
 refilled_state : (s : GroundState) → (refill_step s).fop.state ≡ s.fop.state
 refilled_state s = refilled_keeps (λ t. t.fop.state ≡ s.fop.state) s (λ waiting pending on closed. refl)
 
--- what moves up changes no state
+-- moving up changes no state
 moved_aloud : (s t : GroundState) (alert : Option Alert) → Aloud s.fop alert t.fop
     → Aloud s.fop alert (refill_step t).fop
 moved_aloud s t alert is on off = is on (ap is_closed (sym (refilled_state t)) ∙ off)
@@ -229,7 +229,7 @@ module _ (w : World) where
     down = λ b bs is reply none. same_aloud s.fop (replied_alert reply);
   }
 
-  -- no alert is answered, and the sender goes on
+  -- no alert is returned, and the sender continues
   quiet_aloud : (e : Event) → (MayAlert e → ⊥) → (BringsReport e → ⊥)
       → Aloud s.fop None (world_step w e).after.ground_node.fop
   quiet_aloud e other none = ground_after w (λ t session. Aloud s.fop None t.fop) e (record {

@@ -37,7 +37,7 @@ use Rattle.tc_link.proofs.Linked.{Fits, fits_longer, In, IsGiven, units_of_all, 
 
 -- ---- the ground
 
--- a control command is there in S5 alone
+-- there is a control command only in S5
 abbrev pub Commanded : FopMode → Control → Type 0
 Commanded S5 control = Unit {0}
 Commanded _ control = control ≡ Idle
@@ -101,7 +101,7 @@ module _ (c : Config) (s : FopState SegmentView) (k : FopSteady c s) where
       → FopSteady c (after_alert f)
   gives_up f room window vs bypass = steady_so (after_alert f) room window (rw vs k.vs_octet) bypass refl
 
-  -- ---- a report
+  -- ---- a CLCW
 
   module _ (r : Clcw) (idle : s.control ≡ Idle) where
     again_so : (repeats : Bool) → FopSteady c (retransmits s repeats)
@@ -178,7 +178,7 @@ farm_so c s e k =
     let t = farm_fields s e k.farm_b in record
     { width = t.0 ∙ k.width; farm_b = t.1; flags = FlagsAgree-step s e k.flags }
 
--- Packets that are submitted keep what holds in a session.
+-- Submitting packets keeps what holds in a session.
 
 -- what is known of a submission that is not refused
 pub record Taken (c : Config) (s : GroundState) (m : ℕ) (octets : List ℕ) : Type 0 where
@@ -280,7 +280,7 @@ module _ (early : Bool) (c : Config) (d : Directive) (base : ℕ) (w : World) (k
 -- ---- the spacecraft
 
 module _ (c : Config) (s : SpacecraftState) (k : SpacecraftSteady c s) where
-  -- the receiver steps, and the spacecraft is as it was but for what no field speaks of
+  -- the receiver steps, and the spacecraft is as it was except in what no field mentions
   steps_so : (e : FarmEvent) (t : SpacecraftState) → t.config ≡ s.config → t.farm ≡ farm_step s.farm e
       → t.builder ≡ s.builder → SpacecraftSteady c t
   steps_so e t config farm builder =
@@ -299,7 +299,7 @@ module _ (c : Config) (s : SpacecraftState) (k : SpacecraftSteady c s) where
     accepts = λ n u. steps_so (AdArrives n (is_free s)) _ refl refl refl;
   }
 
-  -- the telemetry is another
+  -- telemetry changes
   builder_so : (b : BuilderState) → b.scid ≡ s.builder.scid → b.vcid ≡ s.builder.vcid → b.total ≡ s.builder.total
       → b.idle_left ≤ 6 → SpacecraftSteady c (record s { builder = b })
   builder_so b scid vcid total idle_left = record {
@@ -326,7 +326,7 @@ module _ (c : Config) (s : SpacecraftState) (k : SpacecraftSteady c s) where
 -- ---- the ground
 
 module _ (c : Config) (s : GroundState) (k : GroundNodeSteady c s) where
-  with_so : (f : FopState SegmentView) → FopSteady c f → GroundNodeSteady c (with_fop s f)
+  pub with_so : (f : FopState SegmentView) → FopSteady c f → GroundNodeSteady c (with_fop s f)
   with_so f so = refilled_so c (record s { fop = f }) k.config so
 
   obeys_so : (d : Directive) (f : FopState SegmentView) → FopSteady c f → GroundNodeSteady c (with_fop (obeying s d) f)
@@ -345,7 +345,7 @@ module _ (c : Config) (s : GroundState) (k : GroundNodeSteady c s) where
   abbrev Directed : Directive → FopOutcome SegmentView (Result (Option Alert) CopFault) → Type 0
   Directed d o = IsDirective d → GroundNodeSteady c (directive_outcome s d o).after
 
-  directive_so : (d : Directive) → Directed d (directive_step s.fop d)
+  pub directive_so : (d : Directive) → Directed d (directive_step s.fop d)
   directive_so = obeyed s.fop Directed (record {
     refused = λ d fault on fits. k;
     begins = λ d is off fits. obeys_so d (begun s.fop d) (begun_so d is fits off);
@@ -356,7 +356,7 @@ module _ (c : Config) (s : GroundState) (k : GroundNodeSteady c s) where
         obeys_so d (record s.fop { window = n; limit = limit; timer = ticks }) (assumption (window, k.fop));
   })
 
-  bypassed_so : IsConfig c → (m : ℕ) (octets : List ℕ) → bypass_fault s m octets ≡ None
+  pub bypassed_so : IsConfig c → (m : ℕ) (octets : List ℕ) → bypass_fault s m octets ≡ None
       → GroundNodeSteady c (after_bypass s m octets)
   bypassed_so ranges m octets none =
       let own : IsConfig s.config = rw k.config ranges in

@@ -40,9 +40,9 @@ use Rattle.tc_link.proofs.InOrder.{is_in_order, all_accepted}
 use Rattle.tc_link.proofs.AnyPast.{past_holds, link_run_holds, session_still}
 use Rattle.tc_link.proofs.Invariant.{opened, begun_is, step_holds, began_at}
 
--- The packets that segments make ready, each with its MAP, in the order in which they do.
+-- The packets that segments make ready, each with its MAP, in the order in which they become ready.
 
--- those that segments make ready which come after others
+-- the packets that segments make ready after other segments
 abbrev pub made : Limits → List SegmentView → List SegmentView → List PacketOn
 made limits before [] = []
 made limits before (s ∷ more) =
@@ -69,7 +69,7 @@ receives_made s = octets_come s (λ o t. t.ready ≡ s.ready ++ made (limits_of 
 
 -- ---- what was submitted
 
--- segments of one MAP make just those that are assembled on it
+-- segments of one MAP make ready just those packets that are assembled on it
 record MadeOn (limits : Limits) (m : ℕ) (before segments : List SegmentView) : Type 0 where
   packets : List (List ℕ)
   made_is : made limits before segments ≡ put_on_map m packets
@@ -109,7 +109,7 @@ module _ (c : Config) (one : 1 ≤ c.part) where
       ∙ ap (put_on_map p.on_map) (append_cancel_left (assembled limits p.on_map before) t.packets (packets_in p.octets)
       (sym t.assembled_is ∙ given-passed limits p.on_map before p.octets one h.opened h.cut))
 
-  -- all of them, in the order of submission
+  -- all packets, in the order of submission
   pub all_made : (before : List SegmentView) (ps : List PacketOn) → AllByRecursion (IsGiven c) ps
       → made (limits_of c) before (units_of_all c ps) ≡ flat_map packets_of ps
   all_made before [] h = refl
@@ -120,7 +120,7 @@ module _ (c : Config) (one : 1 ≤ c.part) where
 
 -- What is taken on board since a session began is what it has delivered.
 
--- from the one state to the other these packets were handed out, and some more were made ready
+-- from the one state to the other, these packets were taken, and some more were made ready
 pub record Passes (old : SpacecraftState) (out : List PacketOn) (new : SpacecraftState) : Type 0 where
   pub config : new.config ≡ old.config
   pub segments : List SegmentView
@@ -209,7 +209,7 @@ record Since (old : World) (out : List PacketOn) (new : World) : Type 0 where
   passes : Passes old.spacecraft out new.spacecraft
   same : opened new.session ≡ opened old.session
 
--- a Type-BD frame hands out none
+-- a Type-BD frame makes no packet ready, and none is taken
 bypass_passes : (s : SpacecraftState) (u : SegmentView) (kept : Bool) → Passes s [] (bypass_outcome s u kept).after
 bypass_passes s u true = passes_none s _ [] refl refl refl
 bypass_passes s u false = passes_none s _ [] refl refl refl
@@ -236,7 +236,7 @@ since_then w (s ∷ steps) lasts =
 
 module _ (old new : World) (out : List PacketOn) (m : ℕ) (s : Since old out new)
     (begins : old.session.before ≡ length old.spacecraft.accepted) where
-  -- what the session delivered was made ready since
+  -- what the session delivered was made ready since it began
   delivered_is : delivered new m ≡ packets_of_map m s.passes.more
   delivered_is =
       let before : new.session.before ≡ length old.spacecraft.accepted =

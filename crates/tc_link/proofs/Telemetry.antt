@@ -1,4 +1,4 @@
--- Telemetry over a run: what each event does to it, what holds at every moment, and that it is what is promised.
+-- Telemetry over a run: what each event does to it, what holds at every moment, and how the promises follow.
 use Rattle.tc_link.proofs.Common.{◌≡◌, ℕ, Bool, true, false, if◌then◌else◌, not, List, [], ◌∷◌, ◌++◌, length, drop}
 use Rattle.tc_link.proofs.Common.{refl, sym, ap, subst, ◌∙◌, arith, append_assoc, AllByRecursion, append-nil, ◌≢◌}
 use Rattle.tc_link.proofs.Common.{all_extracted, state_after, ExtractorState, without_idle, extract_step, choice}
@@ -49,9 +49,10 @@ use Rattle.tc_link.proofs.Sound.{all_push, step_sound, new_sound, Sound}
 use Rattle.tc_link.proofs.IdleStart.{data_length, reads_now}
 use Rattle.std.specs.Borrow.{Bor}
 
--- Frames that are sent and come one by one: those that came, and what an extractor makes of them.
+-- Frames that are sent and arrive one by one: those that arrived, and what an extractor makes of
+-- them.
 
--- ---- the frames that came, of those that are no longer on their way
+-- ---- the frames that arrived, of those that are no longer in transit
 
 pub choice_none : (frames : List FrameView) → choice frames [] ≡ []
 choice_none [] = refl
@@ -80,7 +81,7 @@ choice_whole (f ∷ frames) (c ∷ came) e all =
     rw all.0 (ap (λ (fs : List FrameView). f ∷ fs) (choice_whole frames came (omega arith) all.1))
 choice_whole _ _ e all = refl
 
--- ---- one frame more
+-- ---- one more frame
 
 pub extracted_more : (s : ExtractorState) (frames : List FrameView) (f : FrameView)
     → all_extracted s (frames ++ f ∷ []) ≡ all_extracted s frames ++ (extract_step (state_after s frames) f).packets
@@ -182,23 +183,23 @@ pub directed_extracts : (s : GroundState) (d : Directive) (r : Result (Option Al
 directed_extracts s d (Ok alert) fop = with_extracts (obeying s d) fop
 directed_extracts s d (Err fault) fop = (refl, refl)
 
--- ---- a report is heard, beside a frame or by itself
+-- ---- a CLCW is heard, with a frame or by itself
 
 pub report_extracts : (s : GroundState) (r : Result Clcw ClcwFault) → Extracts s (report_outcome s r).after
 report_extracts s = report_seen s (Extracts s) (refl, refl) (λ report.
     let o = clcw_step s.fop report in with_extracts (acknowledging s o) o.after)
 
--- Telemetry over a run: what holds at every moment, and that it is what is promised.
+-- Telemetry over a run: what holds at every moment, and how the promises follow.
 
--- a frame that was sent: of the link's channel, and read as it was sent
+-- a frame that was sent is of the link's channel, and is read as it was sent
 pub record IsSentBy (c : Config) (f : FrameView) : Type 0 where
   pub range : IsInRange f
   pub reads : frame_at c.frame_length (spelling f) ≡ Ok f
   pub scid : f.scid ≡ c.scid
   pub vcid : f.vcid ≡ c.tm_vcid
 
--- Of the frames that were sent the first are no longer on their way, and the others are. Those of them
--- that came led a new extractor to where it is, and gave the packets on the ground.
+-- The first of the frames that were sent are no longer in transit, and the others are. Those that
+-- arrived led a new extractor to its present state, and yielded the packets on the ground.
 pub record Came (sent : List FrameView) (came : List Bool) (down : List (List ℕ)) (extractor : ExtractorState)
     (packets : List (List ℕ)) : Type 0 where
   pub gone : List FrameView
@@ -227,14 +228,14 @@ new_downlink_laid c ranges = record {
 
 -- ---- what each event adds
 
--- The first frame on its way, where its octets are these.
-record First (c : Config) (d : Downlink) (gone : List FrameView) (b : List ℕ) (bs : List (List ℕ)) : Type 0 where
-  frame : FrameView
-  after : List FrameView
-  parts : d.sent ≡ (gone ++ frame ∷ []) ++ after
-  is : spelling frame ≡ b
-  rest : map spelling after ≡ bs
-  sent : IsSentBy c frame
+-- The first frame in transit, if its octets are these.
+pub record First (c : Config) (d : Downlink) (gone : List FrameView) (b : List ℕ) (bs : List (List ℕ)) : Type 0 where
+  pub frame : FrameView
+  pub after : List FrameView
+  pub parts : d.sent ≡ (gone ++ frame ∷ []) ++ after
+  pub is : spelling frame ≡ b
+  pub rest : map spelling after ≡ bs
+  pub sent : IsSentBy c frame
 
 each_at : (c : Config) (gone after : List FrameView) (f : FrameView) → AllByRecursion (IsSentBy c) (gone ++ f ∷ after)
     → IsSentBy c f
@@ -244,7 +245,7 @@ each_at c (x ∷ gone) after f each = each_at c gone after f each.1
 parts_of : (x y : List ℕ) (xs ys : List (List ℕ)) → x ∷ xs ≡ y ∷ ys → (x ≡ y) × (xs ≡ ys)
 parts_of x y xs ys e = (cc, cc)
 
-first_of : (c : Config) (d : Downlink) (gone going : List FrameView) (b : List ℕ) (bs : List (List ℕ))
+pub first_of : (c : Config) (d : Downlink) (gone going : List FrameView) (b : List ℕ) (bs : List (List ℕ))
     → AllByRecursion (IsSentBy c) d.sent → d.sent ≡ gone ++ going → map spelling going ≡ b ∷ bs → First c d gone b bs
 first_of c d gone [] b bs each parts e = absurd cc
 first_of c d gone (f ∷ after) b bs each parts e =
@@ -259,7 +260,7 @@ first_of c d gone (f ∷ after) b bs each parts e =
     }
 
 module _ (c : Config) (d : Downlink) (g : Laid c d) where
-  -- in another world, where these were queued, sent and marked besides
+  -- another world, after these packets were queued too, these frames sent and these arrivals noted
   abbrev Grown : World → List (List ℕ) → List FrameView → List Bool → Type 0
   Grown new queued sent came = Laid c (record {
     world = new;
@@ -335,13 +336,13 @@ module _ (c : Config) (d : Downlink) (g : Laid c d) where
   abbrev Keeps : Event → WorldOutcome → Type 0
   Keeps e o = Sound c o.after → Laid c (after_event d e o)
 
-  -- ---- the first frame on its way down is there no more
+  -- ---- the first frame in transit on the downlink leaves it
 
   module _ (b : List ℕ) (bs : List (List ℕ)) (is : d.world.down ≡ b ∷ bs) where
     first : First c d g.way.gone b bs
     first = first_of c d g.way.gone g.way.going b bs g.each g.way.parts (g.way.down_is ∙ is)
 
-    -- the frames that came, this one too or not
+    -- the frames that arrived, with this one or without it
     abbrev came_with : Bool → List FrameView
     came_with came = choice (g.way.gone ++ first.frame ∷ []) (d.came ++ came ∷ [])
 
@@ -366,7 +367,7 @@ module _ (c : Config) (d : Downlink) (g : Laid c d) where
           };
         })
 
-    -- it is lost, or its control word alone reaches the ground
+    -- the frame is lost, or only its CLCW reaches the ground
     unseen : (new : World) → Sound c new → new.spacecraft.builder ≡ d.world.spacecraft.builder → new.down ≡ bs
         → Extracts d.world.ground_node new.ground_node → Grown new [] [] (false ∷ [])
     unseen new sound builder down ground =

@@ -1,4 +1,4 @@
--- FARM-B counts the frames of Type-B that arrive.
+-- FARM-B counts the Type-B frames that arrive.
 use Rattle.tc_link.proofs.Common.{◌≡◌, ◌∙◌, ℕ, ◌+◌, ◌%◌, ◌<◌, Bool, true, false, List, [], ◌∷◌, Result, Ok}
 use Rattle.tc_link.proofs.Common.{Err, refl, ap, arith}
 use Rattle.tc_link.proofs.Common.{cond_both, AllByRecursion, TcFault, On, SegmentView, BodyView, Ad, Bd, Bc, FarmState}
@@ -56,7 +56,7 @@ command_counts f (SetVr x) = set_counts f x f.state
 
 -- ---- octets that arrive on board
 
--- FARM-B after so many were counted
+-- FARM-B after so many frames were counted
 abbrev By : SpacecraftState → ℕ → ℕ → Type 0
 By s n farm_b = farm_b ≡ (s.farm.farm_b + n) % 4
 
@@ -98,7 +98,7 @@ module _ (w : World) (small : w.spacecraft.farm.farm_b < 4) where
   same_board : (new : World) → new.spacecraft ≡ s → By s 0 new.spacecraft.farm.farm_b
   same_board new same = none s small new.spacecraft.farm.farm_b (ap (λ (t : SpacecraftState). t.farm.farm_b) same)
 
-  -- an event by which no frame arrives on board
+  -- an event with no frame arriving on board
   rest_counted : (e : Event) → (e ≡ events.UpDeliver → ⊥) → By s 0 (world_step w e).after.spacecraft.farm.farm_b
   rest_counted e other = none s small (world_step w e).after.spacecraft.farm.farm_b
       (board_after w (λ t. t.farm.farm_b ≡ s.farm.farm_b) e (record {

@@ -1,4 +1,5 @@
--- What the ground sends, and a frame that arrives on board or doesn't, keep what holds in a session.
+-- What the ground sends, and a frame that arrives on board or does not, keep what holds in a
+-- session.
 use Rattle.tc_link.proofs.Common.{◌≡◌, ℕ, ◌⊎◌, inl, inr, Bool, true, false, refl, ◌∙◌, Command, Unlock, SetVr}
 use Rattle.tc_link.proofs.Common.{SegmentView, Bc, FarmMode, Open, Wait, Directive, InitWithCheck, InitUnlock}
 use Rattle.tc_link.proofs.Common.{InitSetVr, FarmState, after_unlock, after_set_vr, after_release, SpacecraftState}
@@ -42,13 +43,13 @@ use Rattle.tc_link.proofs.Sound.{Sound, Commanded}
 use Rattle.tc_link.proofs.Refilled.{same_keeps as ground_same, session_refilled, held_same, off_keeps}
 use Rattle.tc_link.proofs.Readable.{Goes, reads_back, fits_at}
 
--- What a frame past the sequence control and a release do to the receiver: no flag comes up.
+-- What a Type-BD frame and a buffer release do to the receiver: no further flag is set.
 
--- what a report says, but for the wait flag, is the same
+-- what a CLCW shows, except for the wait flag, is the same
 abbrev pub SaysTheSame : FarmState → FarmState → Type 0
 SaysTheSame s t = (t.lockout ≡ s.lockout) × (t.retransmit ≡ s.retransmit) × (t.vr ≡ s.vr)
 
--- the control command of a session that counts from `base` on came before any Type-AD frame
+-- the control command of a session that counts from `base` arrived before any Type-AD frame
 abbrev pub IsCommanded : Directive → ℕ → Bool → FarmState → FarmState → Type 0
 IsCommanded d base front s t = (front ≡ true) × (d ≡ InitWithCheck → ⊥) × ((t.vr ≡ s.vr) ⊎ (t.vr ≡ base))
 
@@ -103,7 +104,7 @@ module _ (d : Directive) (base : ℕ) (front : Bool) (s : SpacecraftState) where
       → Eases d base front s.farm (body_outcome s (Bc command)).after.farm
   control_eases command ahead fits = control_by command d refl ahead fits
 
--- What the receiver's table says of a number within the window.
+-- The receiver's table for a number within the window.
 
 abbrev pub VerdictFits : ℕ → ℕ → Verdict → Type 0
 VerdictFits r i Accepted = i ≡ r
@@ -129,7 +130,8 @@ judged base h r i d free mode most low high e here ahead behind =
     (λ t. behind (omega (arith, leb-true (256 - h) d t)))
     (λ k. absurd (omega (arith, apart, ltb-false d h g, leb-false (256 - h) d k)))))
 
--- the table's row for a number that is the expected one, or in the positive or the negative window
+-- the table's row for a number that is the expected one, or lies in the positive or the negative
+-- window
 in_mode : (r i : ℕ) (free : Bool) (mode : FarmMode)
     → (i ≡ r → VerdictFits r i (ad_verdict (place_at 127 0) free mode))
     × (r < i → VerdictFits r i (ad_verdict (place_at 127 1) free mode))
@@ -147,7 +149,7 @@ verdict_in_window s base h r i n free half most vr number low high =
     let row = in_mode r i free s.state in
     rw half (judged base h r i (ahead_by n s.vr) free s.state most low high (rw (vr, number) refl) row.0 row.1 row.2)
 
--- A frame that arrives, or doesn't, keeps what holds in a session.
+-- A frame that arrives, or does not, keeps what holds in a session.
 
 bit_most : (b : Bool) → bit b ≤ 1
 bit_most b = grind arith
@@ -170,7 +172,7 @@ judged_is : (s : SpacecraftState) (n : ℕ) (u : SegmentView) (v : Verdict) → 
     → (sequence_outcome s n u v).after ≡ after_judging s u v
 judged_is s n u v e = grind (arith, e)
 
--- what a stage says of a receiver that is eased
+-- what a stage states of a receiver with no further flag set
 eased : (early : Bool) (c : Config) (d : Directive) (base : ℕ) (w : World) (g : In early c d base w) (farm : FarmState)
     → Eases d base g.front w.spacecraft.farm farm → WithReceiver g farm
 eased true c d base w g farm e =
@@ -206,11 +208,11 @@ eased false c d base w g farm e =
     } in
     assumption (vr_is, calm, s)
 
--- ---- a Type-AD frame comes once the session is settled
+-- ---- a Type-AD frame arrives once the session is settled
 
 module _ (c : Config) (d : Directive) (base : ℕ) (w : World) (k : Sound c w) (g : Late c d base w) (bs : List (List ℕ))
     (fs : List BodyView) (rest : Carries c bs fs) where
-  -- the first pair is no longer on its way, and the receiver may ask for repetition
+  -- the first pair is no longer in transit, and the receiver may request retransmission
   left_keeps : (i : ℕ) (x : SegmentView) (qs : List (ℕ × SegmentView)) (farm : FarmState) → g.plain.up ≡ (i, x) ∷ qs
       → UpIs d base false fs qs → Fits (c.width / 2) g.plain.n g.plain.units g.plain.r ((i, x) ∷ qs)
       → farm.vr ≡ w.spacecraft.farm.vr → farm.lockout ≡ w.spacecraft.farm.lockout
@@ -310,7 +312,7 @@ module _ (c : Config) (d : Directive) (base : ℕ) (w : World) (k : Sound c w) (
 
 module _ (early : Bool) (c : Config) (d : Directive) (base : ℕ) (w : World) (k : Sound c w) (g : In early c d base w)
     (bs : List (List ℕ)) (fs : List BodyView) (rest : Carries c bs fs) where
-  -- the receiver is eased
+  -- no further flag of the receiver is set
   pub other_keeps : (spacecraft : SpacecraftState) → UpIs d base g.front fs g.plain.up
       → spacecraft.accepted ≡ w.spacecraft.accepted → Eases d base g.front w.spacecraft.farm spacecraft.farm
       → Next early c d base g.plain (record w { up = bs; spacecraft = spacecraft })
@@ -328,13 +330,13 @@ module _ (early : Bool) (c : Config) (d : Directive) (base : ℕ) (w : World) (k
         stage = eased early c d base w g spacecraft.farm eases;
       }
 
-  -- it is lost
+  -- the frame is lost
   lost_keeps : UpIs d base g.front fs g.plain.up → Next early c d base g.plain (record w { up = bs })
   lost_keeps up =
       other_keeps w.spacecraft up refl
       (eased_same d base g.front w.spacecraft.farm w.spacecraft.farm refl refl refl refl)
 
--- before that none comes
+-- before that, no Type-AD frame arrives
 module _ (c : Config) (d : Directive) (base : ℕ) (w : World) (k : Sound c w) (bs : List (List ℕ)) (fs : List BodyView)
     (rest : Carries c bs fs) (n : ℕ) (u : SegmentView) (i : ℕ) (x : SegmentView) (qs : List (ℕ × SegmentView)) where
   unit_keeps : (early : Bool) (g : In early c d base w) → g.plain.up ≡ (i, x) ∷ qs
@@ -402,7 +404,7 @@ module _ (early : Bool) (c : Config) (d : Directive) (base : ℕ) (w : World) (k
     pub up_delivers : Next early c d base g.plain (up_deliver_step w w.up).after
     up_delivers = delivers w.up g.frames g.linked.carries g.linked.up_is
 
-    -- ---- what is taken and queued on board keeps what holds
+    -- ---- taking and queuing packets on board keep what holds
 
     pub eases_keep : (spacecraft : SpacecraftState) → spacecraft.accepted ≡ w.spacecraft.accepted
         → Eases d base g.front w.spacecraft.farm spacecraft.farm
@@ -426,14 +428,14 @@ module _ (early : Bool) (c : Config) (d : Directive) (base : ℕ) (w : World) (k
 
 -- The ground sends a frame in a session.
 
--- ---- what a stage says of a frame that is sent
+-- ---- what a stage states of a frame that is sent
 
 none_fit : (h n : ℕ) (units : List SegmentView) (r : ℕ) (qs : List (ℕ × SegmentView)) → n ≡ 0 → Fits h n units r qs
     → qs ≡ []
 none_fit h n units r [] none fit = refl
 none_fit h n units r (q ∷ qs) none fit = absurd (omega (arith, none, fit.1))
 
--- before the confirmation no Type-AD frame is on its way
+-- before the confirmation no Type-AD frame is in transit
 none_up : (c : Config) (d : Directive) (base : ℕ) (w : World) (g : Begun c d base w) → g.plain.up ≡ []
 none_up c d base w g =
     none_fit (c.width / 2) g.plain.n g.plain.units g.plain.r g.plain.up g.stage.none_sent g.linked.fits
@@ -445,7 +447,7 @@ idle : (m : FopMode) (control : Control) → IsLate m → Commanded m control �
 idle S5 control late is = elim late [ ]
 idle _ control late is = is
 
--- a control command is the session's own, and comes before the confirmation alone
+-- a control command is the session's own, and is sent only before the confirmation
 commanded : (early : Bool) (c : Config) (d : Directive) (base : ℕ) (w : World) (k : Sound c w)
     (g : In early c d base w) (command : Command) → w.ground_node.fop.control ≡ Due command
     → UpIs d base g.front (g.frames ++ Bc command ∷ []) g.plain.up
@@ -460,7 +462,7 @@ commanded false c d base w k g command is =
     absurd (let none : w.ground_node.fop.control ≡ Idle =
     idle w.ground_node.fop.state w.ground_node.fop.control g.stage.late k.ground_node.fop.commanded in cc (none, is))
 
--- a unit is sent after it alone
+-- a unit is sent only after it
 one_more : (early : Bool) (c : Config) (d : Directive) (base : ℕ) (w : World) (g : In early c d base w)
     → IsActive w.ground_node.fop.state
     → Stage early d base w.ground_node.fop.state w.ground_node.fop.control w.spacecraft.farm w.session.confirmed g.front
@@ -488,7 +490,7 @@ module _ (early : Bool) (c : Config) (d : Directive) (base : ℕ) (w : World) (k
         carries_push c (spelling On (frame_of w.ground_node.config f)) f w.up g.frames
         (rw k.ground_node.config (reads_back c f k.ranges goes)) g.linked.carries
 
-    -- a frame that is no Type-AD frame, from a sender that holds the same
+    -- a frame that is not a Type-AD frame, from a sender that holds the same
     sends : (f : BodyView) (fop : FopState SegmentView) → fop.vs ≡ w.ground_node.fop.vs → fop.nn ≡ w.ground_node.fop.nn
         → fop.state ≡ w.ground_node.fop.state → fop.sent ≡ w.ground_node.fop.sent
         → fop.waiting ≡ w.ground_node.fop.waiting → Goes f → UpIs d base g.front (g.frames ++ f ∷ []) g.plain.up
@@ -581,7 +583,7 @@ module _ (early : Bool) (c : Config) (d : Directive) (base : ℕ) (w : World) (k
             stage = one_more early c d base w g active;
           })
 
-      -- a unit that is sent again is one of those that were sent, and not the next one
+      -- a unit that is retransmitted is one of those that were sent, and not the next one
       was_sent : (x : ℕ × SegmentView) → oldest_marked 0 w.ground_node.fop.sent ≡ Some x
           → (g.plain.a + x.0 < g.plain.n) × (slice_get g.plain.units (g.plain.a + x.0) ≡ Some x.1)
       was_sent x is =
@@ -605,7 +607,7 @@ module _ (early : Bool) (c : Config) (d : Directive) (base : ℕ) (w : World) (k
           ne_eqb ((w.ground_node.fop.nn + x.0) % 256) w.ground_node.fop.vs
           (λ e. omega (arith, was.nn_is, was.vs_is, below, l.n_a, k.ranges.width))
 
-      -- a unit is sent again
+      -- a unit is retransmitted
       again_keeps : (x : ℕ × SegmentView) → oldest_marked 0 w.ground_node.fop.sent ≡ Some x
           → Leaves (pulls (record (after_restart w.ground_node.fop)
           { sent = without_oldest_mark w.ground_node.fop.sent })
@@ -668,7 +670,7 @@ module _ (early : Bool) (c : Config) (d : Directive) (base : ℕ) (w : World) (k
           first = first_keeps;
         })
 
--- A tick and a directive within a session keep what holds in it.
+-- A tick, and a directive within a session, keep what holds in it.
 
 due_fits : (d : Directive) (base : ℕ) (control : Control) → ControlFits d base control
     → ControlFits d base (due_again control)

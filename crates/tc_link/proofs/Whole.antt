@@ -40,7 +40,7 @@ less_total [] = omega arith
 less_total (suc (suc n) ∷ ns) = omega arith
 less_total (_ ∷ ns) = omega arith
 
--- what is submitted later is left whole
+-- submissions made later are left over as they are
 pub left_with : (k : ℕ) (ns more : List ℕ) → k ≤ total ns → left_after k (ns ++ more) ≡ left_after k ns ++ more
 left_with zero ns more le = refl
 left_with (suc k) [] more le = absurd (omega (arith, le))
@@ -57,7 +57,7 @@ pub whole_more : (j k m : ℕ) (ns : List ℕ) → m ≡ j + k
 whole_more j k m ns is =
     omega (arith, ap length (left_more j k m ns is), (fewer_left j ns).0, (fewer_left k (left_after j ns)).0)
 
--- with more segments there are no fewer
+-- with more segments, at least as many submissions are whole
 pub whole_rises : (j k : ℕ) (ns : List ℕ) → j ≤ k → whole_within j ns ≤ whole_within k ns
 whole_rises j k ns le = omega (arith, whole_more j (k - j) k ns (omega (arith, le)))
 
@@ -66,17 +66,18 @@ whole_rises j k ns le = omega (arith, whole_more j (k - j) k ns (omega (arith, l
 needs : (n : ℕ) → 1 ≤ n → Needs n n
 needs n some = (some, omega arith, λ h. omega arith, λ h. h)
 
--- within it none is whole
+-- within its segments, none is whole
 pub whole_first : (k n : ℕ) (ns : List ℕ) → k < n → 0 ≡ whole_within k (n ∷ ns)
 whole_first k n ns lt = sym (none_whole k n n ns (needs n (omega (arith, lt))) lt)
 
--- past it there is one more than within the others
+-- beyond its segments, there is one more whole than within the others
 pub whole_past : (k n : ℕ) (ns : List ℕ) → 1 ≤ n → n ≤ k → suc (whole_within (k - n) ns) ≡ whole_within k (n ∷ ns)
 whole_past k n ns some le = omega (arith, one_whole k n n ns (needs n some) le)
 
--- In a session that had an idle start what is delivered is the packets of the submissions that are on board whole.
+-- In a session that had an idle start, what is delivered is the packets of the submissions that are on board
+-- whole.
 
--- ---- segments after which more of their group comes hand nothing out
+-- ---- segments whose group continues after them deliver nothing
 
 abbrev pub HasMore : SegmentFlags → Type 0
 HasMore First = Unit {0}
@@ -126,7 +127,7 @@ all_none limits m before (s ∷ segments) h =
     ∙ all_none limits m (before ++ s ∷ []) segments h.1
     ∙ one_none limits m before s (eqb s.header.map m) refl h.0
 
--- ---- a proper beginning of the segments of one group
+-- ---- a proper prefix of the segments of one group
 
 flagged_more : (front single : SegmentFlags) (m : ℕ) (pieces : List (List ℕ)) (i : ℕ) → HasMore front
     → i < length (flagged_segments front single m pieces)
@@ -169,7 +170,7 @@ given_first c _ _ h = tt
 abbrev pub each : ℕ → List PacketOn → List ℕ
 each part ps = map (λ (p : PacketOn). length (segments_of part p.on_map p.octets)) ps
 
--- without blocking each is one packet
+-- without blocking each submission is one group, since it is one packet
 pub all_single : (c : Config) → c.blocking ≢ 1 → (ps : List PacketOn) → AllByRecursion (IsGiven c) ps
     → AllByRecursion (IsOneGroup c.part) ps
 all_single c without [] h = tt
@@ -180,7 +181,8 @@ all_single c without (p ∷ ps) h =
     ap (λ (packets : List (List ℕ)). length (groups_of c.part packets)) one ∙ lone_group c.part p.octets in
     (single, all_single c without ps h.1)
 
--- The first k segments are those of the first whole submissions, and a part of the next one's.
+-- The first k segments are those of the first whole submissions, and a part of the next
+-- submission's.
 pub record CutAt (c : Config) (k : ℕ) (ps : List PacketOn) : Type 0 where
   pub whole : ℕ
   pub whole_is : whole ≡ whole_within k (each c.part ps)
@@ -282,7 +284,7 @@ module _ (early : Bool) {Reached : PlainLink → Type 0} (c : Config) (d : Direc
     abbrev olds : List SegmentView
     olds = take w.session.before w.spacecraft.accepted
 
-    -- the segments of the first submissions give their packets
+    -- the segments of the first submissions yield their packets
     first_give : (j : ℕ) → assembled lims m (olds ++ units_of_all c (take j ps)) ≡ assembled lims m olds
         ++ submitted_first j w m
     first_give j = all_given c m k.ranges.part.0 olds (take j ps) (given_first c j ps linked.given)

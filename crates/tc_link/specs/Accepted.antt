@@ -1,5 +1,5 @@
--- What the reports on their way say of the segments that were sent and are not acknowledged. They
--- say it after an alert too, when the sender obeys no report.
+-- What the CLCWs in transit show of the segments that were sent and are not acknowledged. They show
+-- it after an alert too, when the sender uses no CLCW.
 use Rattle.std.specs.Prelude.{◌≡◌, ◌≢◌, ◌≤◌, ◌⊎◌, ℕ, ◌+◌, List, [], length, take, Option, Some}
 use Rattle.std.specs.List.{AllByRecursion}
 use Rattle.cop1.specs.Accepted.{accepted_beyond}
@@ -10,8 +10,8 @@ use Rattle.tc_link.specs.InTransit.{numbers_up, values_down}
 use Rattle.tc_link.specs.Reached.{IsEvent}
 use Rattle.simulated_link.specs.World.{World, world_run, IsSettled, KeepsSession, accepted}
 
--- V(S) and NN(R) are those of the session: the sender is Active, or they differ. (A directive that
--- sets V(S) sets NN(R) to the same number.)
+-- V(S) and NN(R) are the session's: the sender is Active, or the two differ. (A directive that sets
+-- V(S) sets NN(R) to the same number.)
 abbrev pub KeepsNumbers : World → Type 0
 KeepsNumbers w =
     IsActive w.ground_node.fop.state ⊎ (w.ground_node.fop.vs ≢ w.ground_node.fop.nn)
@@ -23,11 +23,11 @@ WereAccepted w k =
     × (take (w.session.acknowledged + k) w.session.sent
     ≡ take (w.session.acknowledged + k) (accepted w))
 
--- the number of them that a report of this value says were accepted
+-- how many of these segments were accepted, according to a CLCW of this value
 abbrev pub said_by : World → ℕ → Option ℕ
 said_by w value = accepted_beyond w.ground_node.fop.nn w.ground_node.fop.vs value
 
--- it says a number, and that many were accepted
+-- the value gives a number, and that many segments were accepted
 abbrev pub SaysHowMany : World → ℕ → Type 0
 SaysHowMany w value = (k : ℕ) × (said_by w value ≡ Some k) × WereAccepted w k
 
@@ -38,14 +38,14 @@ AcceptsNoMore w =
     → accepted (world_run w events) ≡ accepted w
 
 pub record SaysWhatWasAccepted (w : World) : Type 0 where
-  -- each report says a number, and what it says was accepted was: in any state, whatever the
-  -- directives; while the numbers are the session's, it is by `HasPlainHistory` exactly the number
-  -- of those that were accepted when the report was made
+  -- Each CLCW gives a number, and that many segments were accepted, in any state and whatever the
+  -- directives. While V(S) and NN(R) are the session's, `HasPlainHistory` states that this is
+  -- exactly the number accepted when the CLCW was made.
   pub each : IsSettled w → AllByRecursion (SaysHowMany w) (values_down w)
-  -- while they are, V(R), which a report made now has, says how many are accepted now, which are
-  -- all
+  -- while they are the session's, V(R), the value of a CLCW made now, gives exactly the number
+  -- accepted so far
   pub now : IsSettled w → KeepsNumbers w
       → (k : ℕ) × (said_by w w.spacecraft.farm.vr ≡ Some k)
       × (w.session.acknowledged + k ≡ length (accepted w))
-  -- in S6, with no Type-AD frame on its way up, these are all that ever will be
+  -- in S6, with no Type-AD frame in transit on the uplink, this number is final
   pub no_more : w.ground_node.fop.state ≡ S6 → numbers_up w ≡ [] → AcceptsNoMore w

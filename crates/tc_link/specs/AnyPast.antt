@@ -1,5 +1,5 @@
--- A run of the link in which more may happen than its events: octets from outside the link reach a
--- node, and a new node takes the place of one.
+-- A run of the link in which more may happen than its events. Octets from outside the link may
+-- reach a node, and a new node may replace one.
 use Rattle.std.specs.Prelude.{◌≡◌, ◌<◌, ◌==◌, ℕ, List, [], ◌∷◌, length, map, Result, Ok, Err}
 use Rattle.std.specs.Prelude.{Bool, true, false, not, ◌&&◌, if◌then◌else◌}
 use Rattle.std.specs.List.{AllByRecursion}
@@ -34,21 +34,21 @@ pub data LinkStep : Type 0 where
   Happens : (event : Event) → LinkStep
   -- a packet of telemetry is taken on the ground
   TakeTelemetry : LinkStep
-  -- any octets from outside the link reach the spacecraft, or the ground: noise, damage that a
-  -- decoder does not see, a frame out of its order, one that came before, or another's
+  -- any octets from outside the link reach the spacecraft or the ground: noise, damage that a
+  -- decoder does not detect, a frame out of order or repeated, a frame of another sender
   Receives : (octets : List ℕ) → LinkStep
   Hears : (octets : List ℕ) → LinkStep
-  -- a control word from outside the link reaches the ground by itself, or one that came before
+  -- a CLCW from outside the link, or a repeated one, reaches the ground by itself
   HearsReport : (octets : List ℕ) → LinkStep
-  -- the ground begins anew to take packets out of telemetry
+  -- the ground begins again to extract packets from telemetry
   ForgetTelemetry : LinkStep
-  -- a new node takes the place of the ground, or of the spacecraft: it begins anew, or another is
-  -- handed the link. The spacecraft goes on with any numbers: those that were kept of the one
-  -- before, as where it was restarted on purpose, or zeros, as a new one has
+  -- A new node replaces the ground or the spacecraft: the node restarts, or another takes over the
+  -- link. The new spacecraft may have any numbers. They may be those kept of the previous one, as
+  -- after a restart on purpose, or zeros, as in a new one.
   NewGround : LinkStep
   NewSpacecraft : (kept : KeptNumbers) → LinkStep
 
--- what a spacecraft's numbers may be
+-- the numbers that a spacecraft may have
 pub record AreNumbers (kept : KeptNumbers) : Type 0 where
   pub vr : kept.vr < 256
   pub farm_b : kept.farm_b < 4
@@ -60,7 +60,7 @@ IsLinkStep (Happens event) = IsEvent event
 IsLinkStep (NewSpacecraft kept) = AreNumbers kept
 IsLinkStep _ = Unit {0}
 
--- these nodes are on the link, and no session goes on; what is on its way stays
+-- these nodes are on the link, with no session; what is in transit stays
 abbrev pub with_nodes : World → GroundState → SpacecraftState → World
 with_nodes w ground_node spacecraft = record w {
   ground_node = ground_node;
@@ -68,7 +68,7 @@ with_nodes w ground_node spacecraft = record w {
   session = record no_session { before = length spacecraft.accepted };
 }
 
--- a receiver has this state, and a flag this value
+-- whether the receiver has this state, and a flag this value
 abbrev pub is_mode : FarmMode → FarmMode → Bool
 is_mode Open Open = true
 is_mode Wait Wait = true
@@ -79,20 +79,20 @@ abbrev pub is_flag : Bool → Bool → Bool
 is_flag true flag = flag
 is_flag false flag = not flag
 
--- the receiver is as it was but for FARM-B: V(R), its state, which the lockout flag and the wait
--- flag give, and the retransmit flag
+-- whether the receiver is as it was except for FARM-B: V(R), its state, which the lockout flag and
+-- the wait flag determine, and the retransmit flag
 abbrev pub is_left : FarmState → FarmState → Bool
 is_left old new =
     (new.vr == old.vr) && (is_mode old.state new.state && is_flag old.retransmit new.retransmit)
 
--- a session goes on beside octets that leave the receiver so; they change nothing on board but
--- FARM-B and the packets that go past the sequence control
+-- A session continues with octets that leave the receiver so. On board, they change nothing except
+-- FARM-B and the bypass packets.
 abbrev pub after_receiving : World → SpacecraftState → World
 after_receiving w after =
     if is_left w.spacecraft.farm after.farm then record w { spacecraft = after }
     else with_nodes w w.ground_node after
 
--- and beside a report that does not reach the sender
+-- a session continues with a CLCW that does not reach the sender
 abbrev pub after_report : World → GroundState → HeardReport → World
 after_report w after Used = with_nodes w after w.spacecraft
 after_report w after _ = record w { ground_node = after }
@@ -107,7 +107,7 @@ received w o = after_receiving w o.after
 abbrev pub heard : World → GroundOutcome Heard → World
 heard w o = after_hearing w o.after o.answer
 
--- what the ground makes of a control word by itself
+-- what the ground makes of a CLCW by itself
 abbrev pub word_step : World → List ℕ → GroundOutcome HeardClcw
 word_step w octets = ground_step w.ground_node (ground_calls.ControlWord octets)
 
@@ -140,14 +140,14 @@ pub record HasAnyPast (w : World) : Type 0 where
   pub numbers : AllByRecursion IsLinkStep steps
   pub led : link_run (new_world config) steps ≡ w
 
--- for every configuration in its ranges, list of such steps and event that comes next
+-- for every configuration in its ranges, list of such steps and next event
 abbrev pub HoldsAfterAnyPast : Type 0
 HoldsAfterAnyPast =
     (c : Config) (steps : List LinkStep) (event : Event) → IsConfig c
     → AllByRecursion IsLinkStep steps → IsEvent event
     → HoldsAt (link_run (new_world c) steps) event
 
--- a run of events alone is one of these
+-- a run of events only is one of these
 abbrev pub RunsAsEvents : Type 0
 RunsAsEvents =
     (c : Config) (events : List Event)
@@ -158,8 +158,8 @@ RunsAsEvents =
 abbrev pub restarted_as_kept : SpacecraftState → SpacecraftState
 restarted_as_kept s = restarted_spacecraft s.config (kept_numbers s)
 
--- Whatever it held: the next telemetry frame has the counts that were next, so of the frames that
--- follow one another none is missing, and it reports the number that was expected next, and FARM-B.
+-- Whatever the spacecraft held, the next telemetry frame has the counts that were next, so no frame
+-- is missing between it and the previous one. It reports the same V(R) and FARM-B as before.
 pub record GoesOnAsKept (s : SpacecraftState) : Type 0 where
   pub mc_count : (spacecraft_report (restarted_as_kept s)).answer.mc_count
       ≡ (spacecraft_report s).answer.mc_count
@@ -173,16 +173,17 @@ pub record GoesOnAsKept (s : SpacecraftState) : Type 0 where
 abbrev pub EachGoesOnAsKept : Type 0
 EachGoesOnAsKept = (s : SpacecraftState) → GoesOnAsKept s
 
--- ---- a report by itself
+-- ---- a CLCW by itself
 
--- what a telemetry frame is answered says the same of its report; or both are refused
+-- the answer to a telemetry frame and the answer to its CLCW agree about the CLCW, or both are
+-- refused
 abbrev pub SaysAs : (frame word : Result ReplyView SimFault) → Type 0
 SaysAs (Ok (Down (heard_cases.Frame gap packets report alert))) (Ok (DownClcw word)) =
     (word.report ≡ report) × (word.alert ≡ alert)
 SaysAs (Err fault) (Err other) = other ≡ fault
 SaysAs _ _ = ⊥
 
--- the world but for telemetry, which is as in another
+-- the world, with telemetry as in another world
 abbrev pub with_telemetry_of : World → World → World
 with_telemetry_of v w = record w {
   ground_node = record w.ground_node {
@@ -191,8 +192,8 @@ with_telemetry_of v w = record w {
   };
 }
 
--- After any past, a report that arrives by itself does what the telemetry frame would that carries
--- it, but for telemetry, and is answered so.
+-- After any past, a CLCW that arrives by itself does what its telemetry frame would do, except for
+-- telemetry, and is answered accordingly.
 pub record DoesAsItsFrame (w : World) : Type 0 where
   pub after : (world_step w events.DownClcw).after
       ≡ with_telemetry_of w (world_step w events.DownDeliver).after

@@ -1,5 +1,5 @@
--- What happens on a link while a session goes on: the events that begin none, and what leaves the
--- session as it is.
+-- What may happen on a link while a session continues: events that begin no session, and steps that
+-- leave the session as it is.
 use Rattle.std.specs.Prelude.{◌≡◌, List, [], ◌∷◌, true, false}
 use Rattle.std.specs.List.{AllByRecursion}
 use Rattle.octets.specs.Number.{IsOctets}
@@ -21,19 +21,20 @@ use Rattle.tc_link.specs.AnyPast.{is_left, link_run, word_step}
 use Rattle.tc_link.specs.FalseAlarms.{alert_in}
 use Rattle.tc_link.specs.Known.{SetsNoNumber}
 
--- a report does not reach the sender
+-- a CLCW does not reach the sender
 abbrev pub IsUnused : HeardReport → Type 0
 IsUnused Used = ⊥
 IsUnused _ = Unit {0}
 
--- octets that reach the ground are no frame, or one of another channel, or one with such a report
+-- octets that reach the ground do not form a frame, or form a frame of another channel, or a frame
+-- with such a CLCW
 abbrev pub BringsNone : Heard → Type 0
 BringsNone (heard_cases.Frame gap packets report alert) = IsUnused report
 BringsNone _ = Unit {0}
 
--- the session goes on with a step: it is an event that begins none, or it takes telemetry or begins
--- anew to; or octets come from outside the link that leave the receiver as it was but for FARM-B,
--- or bring the ground no report that is used
+-- The session continues with a step. The step is an event that begins no session, takes telemetry,
+-- or begins the extraction of telemetry again. Or octets come from outside the link that leave the
+-- receiver as it was except for FARM-B, or that bring the ground no CLCW that is used.
 abbrev pub LeavesSession : World → LinkStep → Type 0
 LeavesSession w (Happens event) = BeginsNoSession w event
 LeavesSession w TakeTelemetry = Unit {0}
@@ -48,12 +49,12 @@ LeavesSession w (HearsReport octets) = IsUnused (word_step w octets).answer.repo
 LeavesSession w NewGround = ⊥
 LeavesSession w (NewSpacecraft kept) = ⊥
 
--- so it does with each of these
+-- the session continues with each of these steps
 abbrev pub SessionLasts : World → List LinkStep → Type 0
 SessionLasts w [] = Unit {0}
 SessionLasts w (step ∷ more) = LeavesSession w step × SessionLasts (link_step w step) more
 
--- a step sets no V(S), and none of these does
+-- a step does not set V(S), and none of these steps does
 abbrev pub LeavesNumbers : World → LinkStep → Type 0
 LeavesNumbers w (Happens event) = SetsNoNumber w event
 LeavesNumbers w _ = Unit {0}
@@ -62,7 +63,7 @@ abbrev pub SetsNone : World → List LinkStep → Type 0
 SetsNone w [] = Unit {0}
 SetsNone w (step ∷ more) = LeavesNumbers w step × SetsNone (link_step w step) more
 
--- a step is answered no alert that shows a broken condition, and none of these is
+-- a step is not answered with an alert that shows a broken condition, and none of these steps is
 abbrev pub ShowsNothing : World → LinkStep → Type 0
 ShowsNothing w (Happens event) = shows_one (alert_in (world_step w event).answer) ≡ false
 ShowsNothing w _ = Unit {0}
@@ -73,7 +74,7 @@ ShowsNone w (step ∷ more) = ShowsNothing w step × ShowsNone (link_step w step
 
 -- ---- a run in which octets from outside the link are octets
 
--- octets that come from outside are whole numbers from 0 to 255
+-- octets from outside the link are whole numbers from 0 to 255
 abbrev pub CarriesOctets : LinkStep → Type 0
 CarriesOctets (Receives octets) = IsOctets octets
 CarriesOctets (Hears octets) = IsOctets octets

@@ -1,4 +1,4 @@
--- Packets that go past the sequence control: which were accepted to be sent so, and where they are.
+-- Bypass packets: which packets the ground accepted for bypass, and where they are.
 use Rattle.std.specs.Prelude.{List, [], ◌∷◌, ◌++◌, map, flat_map, Result, Ok}
 use Rattle.std.specs.List.{AllByRecursion}
 use Rattle.tc_frame.specs.declared.frame.Check.TheVariants.{On}
@@ -15,9 +15,9 @@ use Rattle.tc_link.specs.AnyPast.{link_run}
 use Rattle.tc_link.specs.InTransit.{in_frame}
 use Rattle.tc_link.specs.Telemetry.{AreSomeOf}
 
--- ---- where they are: on board, on their way up, on the ground
+-- ---- where they are: on board, in transit on the uplink, on the ground
 
--- the packet of a segment that stands alone
+-- the packet of an unsegmented segment
 abbrev pub packet_of : SegmentView → PacketOn
 packet_of segment = packet_on segment.header.map segment.payload
 
@@ -26,21 +26,21 @@ packet_in (Ad n segment) = []
 packet_in (Bd segment) = packet_of segment ∷ []
 packet_in (Bc command) = []
 
--- the packets of the Type-BD frames on their way up
+-- the packets of the Type-BD frames in transit on the uplink
 abbrev pub bypass_up : World → List PacketOn
 bypass_up w = flat_map (λ octets. in_frame packet_in (command.frame_at On octets)) w.up
 
--- those that wait on the ground to be sent
+-- the packets that wait on the ground to be sent
 abbrev pub bypass_queued : World → List PacketOn
 bypass_queued w = map packet_of w.ground_node.fop.bypass
 
--- those that wait on board to be taken, those on their way, and those on the ground
+-- the packets that wait on board to be taken, those in transit, and those on the ground
 abbrev pub bypass_held : World → List PacketOn
 bypass_held w = w.spacecraft.bypass ++ (bypass_up w ++ bypass_queued w)
 
--- ---- which were accepted on the ground, and which were taken on board
+-- ---- which packets were accepted on the ground, and which were taken on board
 
--- by an event that is answered so
+-- by an event with this answer
 abbrev pub bypass_accepted_by : Event → Result ReplyView SimFault → List PacketOn
 bypass_accepted_by (events.Bypass m octets) (Ok Done) = packet_on m octets.now ∷ []
 bypass_accepted_by _ _ = []
@@ -55,7 +55,7 @@ abbrev pub by_step : (Event → Result ReplyView SimFault → List PacketOn) →
 by_step packets w (Happens event) = packets event (world_step w event).answer
 by_step packets w _ = []
 
--- by such steps
+-- by these steps
 abbrev pub bypass_accepted : World → List LinkStep → List PacketOn
 bypass_accepted w [] = []
 bypass_accepted w (step ∷ more) =
@@ -73,8 +73,8 @@ abbrev pub ReceivesNothingElse : LinkStep → Type 0
 ReceivesNothingElse (Receives octets) = ⊥
 ReceivesNothingElse _ = Unit {0}
 
--- Since any moment, after any past: the packets that were taken, followed by those that are held,
--- are in order some of those that were held then, followed by those that were accepted since.
+-- Since any moment, after any past: the packets taken, followed by those held now, are, in order,
+-- some of those held at that moment, followed by some of those accepted since.
 abbrev pub BypassKeepsOrder : Type 0
 BypassKeepsOrder =
     (w : World) (since : List LinkStep) → HasAnyPast w → AllByRecursion IsLinkStep since

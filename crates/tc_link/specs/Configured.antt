@@ -1,4 +1,4 @@
--- Which managed parameters both nodes read, and which one of them alone.
+-- Which managed parameters both nodes read, and which only one of them reads.
 use Rattle.std.specs.Prelude.{◌≡◌}
 use Rattle.nodes.specs.declared.config.Config.{Config}
 use Rattle.nodes.specs.Ground.{GroundState, GroundOutcome, GroundEvent, new_ground, ground_step}
@@ -6,15 +6,15 @@ use Rattle.nodes.specs.Parameters.{IsConfig}
 use Rattle.nodes.specs.Spacecraft.{SpacecraftState, SpacecraftOutcome, SpacecraftEvent}
 use Rattle.nodes.specs.Spacecraft.{new_spacecraft, spacecraft_step}
 
--- one configuration, made of both: the slots on board are the spacecraft's, and all else is the
--- ground's
+-- one configuration made of both: the slots on board are the spacecraft's, and everything else is
+-- the ground's
 abbrev pub made_of : Config → Config → Config
 made_of at_ground on_board = record at_ground {
   ready_slots = on_board.ready_slots;
   bypass_slots = on_board.bypass_slots;
 }
 
--- the spacecraft's configuration, with the ground's values of what the ground alone reads
+-- the spacecraft's configuration, with the ground's values of the fields that only the ground reads
 abbrev pub seen_on_board : Config → Config → Config
 seen_on_board at_ground on_board = record on_board {
   window = at_ground.window;
@@ -24,11 +24,11 @@ seen_on_board at_ground on_board = record on_board {
   queue_slots = at_ground.queue_slots;
 }
 
--- the configurations of both nodes agree in the fields that both read, which are all others
+-- the configurations agree in the fields that both nodes read, which are all other fields
 abbrev pub AreAlike : Config → Config → Type 0
 AreAlike at_ground on_board = seen_on_board at_ground on_board ≡ made_of at_ground on_board
 
--- a node with another configuration, and what it answers then
+-- a node with another configuration, and its answers then
 abbrev pub ground_with : Config → GroundState → GroundState
 ground_with c s = record s { config = c }
 
@@ -42,7 +42,8 @@ abbrev pub spacecraft_outcome_with : {A : Type 0} → Config → SpacecraftOutco
     → SpacecraftOutcome A
 spacecraft_outcome_with c o = record { answer = o.answer; after = spacecraft_with c o.after }
 
--- a node answers each call as with another configuration, and is left the same but for it
+-- a node answers each call as with another configuration, and its state afterwards is the same
+-- except for its configuration
 pub record IsGroundAs (own other : Config) : Type 0 where
   pub new : new_ground own ≡ ground_with own (new_ground other)
   pub steps : (s : GroundState) (event : GroundEvent)
@@ -55,7 +56,7 @@ pub record IsSpacecraftAs (own other : Config) : Type 0 where
       → spacecraft_step (spacecraft_with own s) event
       ≡ spacecraft_outcome_with own (spacecraft_step (spacecraft_with other s) event)
 
--- two nodes that are configured alike are as two with one configuration
+-- two nodes that are configured alike behave as two with one configuration
 pub record IsAsOne (at_ground on_board : Config) : Type 0 where
   pub ranges : IsConfig at_ground → IsConfig on_board → IsConfig (made_of at_ground on_board)
   pub as_ground : IsGroundAs at_ground (made_of at_ground on_board)

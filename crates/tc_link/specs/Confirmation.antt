@@ -1,4 +1,4 @@
--- The confirmation of a session, by the report that takes the ground from S4 or S5 to S1.
+-- The confirmation of a session, by the CLCW that takes the ground from S4 or S5 to S1.
 use Rattle.std.specs.Prelude.{◌≡◌, ◌≢◌, ℕ, [], true, false, Option, Some, None}
 use Rattle.std.specs.List.{AllByRecursion}
 use Rattle.tc_frame.specs.declared.frame.Command.{Command}
@@ -11,7 +11,7 @@ use Rattle.cop1.specs.FopVariables.{IsActive}
 use Rattle.tc_link.specs.InTransit.{commands_up}
 use Rattle.simulated_link.specs.World.{World, accepted, directive_of}
 
--- a session that this directive begins has to be confirmed: by check, Unlock or Set V(R)
+-- a session that this directive begins must be confirmed: by CLCW check, Unlock or Set V(R)
 abbrev pub IsChecked : Directive → Type 0
 IsChecked directive = (is_initiation directive ≡ true) × (directive ≢ InitWithoutCheck)
 
@@ -24,7 +24,7 @@ abbrev pub AllAgree : World → Type 0
 AllAgree w =
     (w.spacecraft.farm.vr ≡ w.ground_node.fop.vs) × (w.ground_node.fop.nn ≡ w.ground_node.fop.vs)
 
--- where the event brings the confirmation they agree, though nothing was assumed of V(R)
+-- if the event confirms the session, the three agree, though nothing was assumed of V(R)
 abbrev pub ConfirmsExactly : World → World → Type 0
 ConfirmsExactly old new =
     old.session.confirmed ≡ false → new.session.confirmed ≡ true → AllAgree new
@@ -37,11 +37,11 @@ pub record IsConfirmedExactly (w : World) : Type 0 where
   -- nothing is sent before the confirmation
   pub nothing_before : IsChecking (directive_of w) → w.session.confirmed ≡ false
       → (w.session.sent ≡ []) × (accepted w ≡ [])
-  -- from then on they agree until the first Type-AD frame is sent
+  -- from then on the three agree until the first Type-AD frame is sent
   pub exact : w.session.confirmed ≡ true → IsActive w.ground_node.fop.state → w.session.sent ≡ []
       → AllAgree w
-  -- and each control frame that is still on its way leaves V(R) as it is
+  -- from then on each control frame still in transit leaves V(R) as it is
   pub commands : w.session.confirmed ≡ true
       → AllByRecursion (LeavesVr w.spacecraft.farm.vr) (commands_up w)
-  -- and the receiver is not in Lockout
+  -- from then on the receiver is not in Lockout
   pub unlocked : w.session.confirmed ≡ true → w.spacecraft.farm.state ≢ Lockout

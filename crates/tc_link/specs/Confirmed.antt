@@ -13,8 +13,8 @@ use Rattle.tc_link.specs.Progress.{exchange, AlertsIn}
 use Rattle.tc_link.specs.Reached.{IsEvent}
 use Rattle.tc_link.specs.Resumed.{IsOfNow}
 
--- the receiver as it is lets this initiation be confirmed: Unlock where V(R) = V(S), Set V(R)
--- outside Lockout, CLCW check where V(R) = V(S) and neither flag asks for anything
+-- The receiver as it is lets this initiation be confirmed: Unlock if V(R) = V(S), Set V(R) outside
+-- Lockout, and CLCW check if V(R) = V(S) and neither the lockout nor the retransmit flag is set.
 abbrev pub MayConfirm : World → Directive → Type 0
 MayConfirm w InitUnlock = w.spacecraft.farm.vr ≡ w.ground_node.fop.vs
 MayConfirm w (InitSetVr value) = w.spacecraft.farm.lockout ≡ false
@@ -23,7 +23,7 @@ MayConfirm w InitWithCheck =
     × (w.spacecraft.farm.retransmit ≡ false)
 MayConfirm w _ = ⊥
 
--- after one exchange in which nothing is lost the session is confirmed, with no alert
+-- after one exchange in which nothing is lost, the session is confirmed, without an alert
 pub record IsConfirmedAtOnce (w : World) : Type 0 where
   pub active : (world_run w (exchange w)).ground_node.fop.state ≡ S1
   pub confirmed : (world_run w (exchange w)).session.confirmed ≡ true
@@ -37,7 +37,7 @@ EachIsConfirmed =
     → IsEvent (events.Directive directive) → MayConfirm w directive
     → IsConfirmedAtOnce (world_step w (events.Directive directive)).after
 
--- so is a resumption by the value of a report that is made now
+-- the same for a resumption by the value of a CLCW made now
 abbrev pub EachResumptionIsConfirmed : Type 0
 EachResumptionIsConfirmed =
     (w : World) (value more : ℕ) → HasOctetPast w → IsOfNow w value

@@ -13,17 +13,17 @@ all_lost w = replicate (length w.up) events.UpLose
 abbrev pub timer_ends : Schedule
 timer_ends w = replicate (ticks_left w.ground_node.fop.ticks) events.Tick
 
--- the ground sends all that its sender lets go, all of it is lost, and the timer runs out
+-- the ground sends all that its sender releases, all of it is lost, and the timer runs out
 abbrev pub dead : Schedule
 dead = followed_by all_sent (followed_by all_lost timer_ends)
 
--- the sender waits for an answer: to its initiation, or to a unit that was sent
+-- the sender waits for an answer to its initiation, or to a unit that was sent
 abbrev pub IsUnanswered : FopState SegmentView → Type 0
 IsUnanswered f = (is_initialising f.state ≡ true) ⊎ (1 ≤ length f.sent)
 
--- In any session, whatever came before: where the sender waits for an answer once all is sent, an
--- alert comes when the timer has run out as often as transmissions are left, the one that was just
--- made included.
+-- In any session, whatever came before: suppose that the sender waits for an answer once all is
+-- sent. An alert is then raised by the time the timer has run out as often as transmissions are
+-- left, the one just made included.
 abbrev pub EachNoticesSilence : Type 0
 EachNoticesSilence =
     (w : World) → HasOctetPast w → IsUnanswered (world_run w (all_sent w)).ground_node.fop

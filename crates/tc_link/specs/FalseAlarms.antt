@@ -1,4 +1,4 @@
--- No false alarm: the receiver does not lock, and each alert has its cause.
+-- No false alarm: the receiver does not enter Lockout, and each alert has its cause.
 use Rattle.std.specs.Prelude.{◌≡◌, ◌≢◌, ℕ, List, [], ◌∷◌, true, false, Option, Some, None, Result}
 use Rattle.std.specs.Prelude.{Ok, Err}
 use Rattle.clcw.specs.declared.word.Clcw.{Clcw}
@@ -17,28 +17,28 @@ use Rattle.tc_link.specs.InTransit.{report_carried}
 use Rattle.simulated_link.specs.Replies.{ReplyView, replied_alert}
 use Rattle.simulated_link.specs.World.{World, world_step, directive_of}
 
--- the alert that is answered
+-- the alert in an answer
 abbrev pub alert_in : Result ReplyView SimFault → Option Alert
 alert_in (Ok reply) = replied_alert reply
 alert_in (Err fault) = None
 
 -- ---- its cause
 
--- begun by check, and not confirmed yet
+-- begun by CLCW check, and not confirmed yet
 abbrev pub IsUnderCheck : World → Type 0
 IsUnderCheck w = (directive_of w ≡ Some InitWithCheck) × (w.session.confirmed ≡ false)
 
--- there is a report, with the retransmit flag
+-- there is a CLCW, with the retransmit flag
 abbrev pub AsksAgain : List Clcw → Type 0
 AsksAgain [] = ⊥
 AsksAgain (report ∷ more) = asks report ≡ true
 
--- the first frame on its way down carries such a report
+-- the first frame in transit on the downlink carries such a CLCW
 abbrev pub FirstAsks : Config → List (List ℕ) → Type 0
 FirstAsks c [] = ⊥
 FirstAsks c (octets ∷ more) = AsksAgain (report_carried c octets)
 
--- a report comes, in its telemetry frame or by itself
+-- a CLCW arrives, in its telemetry frame or by itself
 abbrev pub IsReport : Event → Type 0
 IsReport events.DownDeliver = Unit {0}
 IsReport events.DownClcw = Unit {0}
@@ -60,8 +60,8 @@ pub record HasNoFalseAlarm (w : World) (event : Event) : Type 0 where
   -- the receiver does not enter Lockout
   pub not_locked : w.spacecraft.farm.state ≢ farm.Lockout
       → (world_step w event).after.spacecraft.farm.state ≢ farm.Lockout
-  -- and is not there once the session is confirmed
+  -- the receiver is not in Lockout once the session is confirmed
   pub unlocked : w.session.confirmed ≡ true → w.spacecraft.farm.state ≢ farm.Lockout
-  -- and each alert that the ground answers has its cause
+  -- each alert that the ground returns has its cause
   pub alerts : (alert : Alert) → alert_in (world_step w event).answer ≡ Some alert
       → HasCause w event alert

@@ -7,9 +7,9 @@ use Rattle.simulated_link.specs.World.{World, submitted, accepted, delivered}
 
 -- Packets are delivered in order, each once.
 pub record IsInOrder (w : World) : Type 0 where
-  -- on each MAP what is delivered is a prefix of what was submitted
+  -- on each MAP, what is delivered is a prefix of what was submitted
   pub in_order : (m : ℕ) → IsBeginning (delivered w m) (submitted w m)
-  -- what the ground holds acknowledged was accepted on board
+  -- what the ground counts as acknowledged was accepted on board
   pub acknowledged : take w.session.acknowledged w.session.sent
       ≡ take w.session.acknowledged (accepted w)
   pub counted : (w.session.acknowledged ≤ length w.session.sent)

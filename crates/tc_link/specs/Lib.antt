@@ -36,3 +36,8 @@ pub mod Telemetry
 pub mod Whole
 pub mod Resumed
 pub mod Resumable
+pub mod GroundSession
+pub mod Gaps
+pub mod SeenBlocks
+pub mod SentOnce
+pub mod Separate

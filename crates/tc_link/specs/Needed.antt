@@ -1,5 +1,5 @@
--- Runs that show that each condition of a link is needed: what goes wrong where one is not kept.
--- Their link lets more happen than `AnyPast` does within a session.
+-- Each condition of a link is needed: these runs show what goes wrong if one is not kept. Within a
+-- session, more may happen on the link of these runs than `AnyPast` allows.
 use Rattle.std.specs.Prelude.{◌≡◌, ◌≢◌, ℕ, zero, suc, List, [], ◌∷◌, ◌++◌, take, drop, Bool, true}
 use Rattle.std.specs.Prelude.{Some, map, option_map}
 use Rattle.std.specs.Borrow.{Bor}
@@ -27,7 +27,7 @@ use Rattle.simulated_link.specs.World.{world_after_queueing, submitted, delivere
 use Rattle.simulated_link.specs.World.{directive_of, IsIdle}
 use Rattle.tc_link.specs.Seen.{Part, Seen}
 
--- ---- a link that lets more happen
+-- ---- a link on which more may happen
 
 pub data LooseStep : Type 0 where
   -- an event happens
@@ -35,19 +35,21 @@ pub data LooseStep : Type 0 where
   -- a packet is submitted on MAP 4, or a packet of telemetry is queued on board
   Submits : (octets : List ℕ) → LooseStep
   Queues : (octets : List ℕ) → LooseStep
-  -- the second frame on its way up, or down, overtakes the first
+  -- the second frame in transit on the uplink, or on the downlink, overtakes the first
   UpOvertakes : LooseStep
   DownOvertakes : LooseStep
-  -- a frame of another sender goes up
+  -- a frame of another sender joins the uplink
   UpJoins : (octets : List ℕ) → LooseStep
-  -- the spacecraft, or the ground, begins anew
+  -- the spacecraft, or the ground, restarts
   Restarts : LooseStep
   GroundRestarts : LooseStep
 
+-- what is in transit, with the first two frames exchanged
 abbrev pub overtaken : List (List ℕ) → List (List ℕ)
 overtaken (first ∷ (second ∷ more)) = second ∷ (first ∷ more)
 overtaken few = few
 
+-- the world after one of these steps, and after several
 abbrev pub loose_step : World → LooseStep → World
 loose_step w (Happens event) = (world_step w event).after
 loose_step w (Submits octets) =
@@ -72,8 +74,9 @@ two_new below on_board = record (new_world below) { spacecraft = new_spacecraft 
 
 -- ---- what goes wrong
 
--- All seems well: the sender is Active with nothing outstanding. The session had an idle start or
--- not, these packets were submitted in it on MAP 4, and those were delivered.
+-- All seems well: the sender is Active with nothing outstanding. `idle` states whether or not the
+-- session had an idle start. In the session, on MAP 4, the packets `these` were submitted, and the
+-- packets `those` were delivered.
 pub record EndsWith (w : World) (idle : Bool) (these those : List (List ℕ)) : Type 0 where
   pub active : w.ground_node.fop.state ≡ S1
   pub nothing : outstanding w.ground_node ≡ []
@@ -81,13 +84,13 @@ pub record EndsWith (w : World) (idle : Bool) (these those : List (List ℕ)) : 
   pub submitted : submitted w 4 ≡ these
   pub delivered : delivered w 4 ≡ those
 
--- the receiver is locked in a session that began by Unlock with an idle start
+-- the receiver is in Lockout, in a session that began by Unlock with an idle start
 pub record IsFalseAlarm (w : World) : Type 0 where
   pub idle : IsIdle w
   pub directive : directive_of w ≡ Some InitUnlock
   pub locked : w.spacecraft.farm.lockout ≡ true
 
--- a run never submits these octets
+-- no step of the run submits these octets
 abbrev pub IsNeverSubmitted : List ℕ → List LooseStep → Type 0
 IsNeverSubmitted octets [] = Unit {0}
 IsNeverSubmitted octets (Submits other ∷ more) = (other ≢ octets) × IsNeverSubmitted octets more
@@ -95,7 +98,7 @@ IsNeverSubmitted octets (step ∷ more) = IsNeverSubmitted octets more
 
 -- ---- the configuration, the packets
 
--- the least window, and a timer that ends at the first tick
+-- the smallest window, and a timer that runs out at the first tick
 abbrev pub small : Config
 small = record default_config { width = 2; window = 1; timer = 1; frame_length = 16 }
 
@@ -103,7 +106,7 @@ small = record default_config { width = 2; window = 1; timer = 1; frame_length =
 abbrev pub wide : Config
 wide = record small { window = 2 }
 
--- a ground that puts seven octets into a segment
+-- a ground that puts at most seven octets into a segment
 abbrev pub parted : Config
 parted = record small { part = 7 }
 
@@ -111,7 +114,7 @@ parted = record small { part = 7 }
 abbrev pub closed : Config
 closed = record small { maps = 0 }
 
--- a ground that puts several packets into a segment
+-- a ground that may put several packets into one segment
 abbrev pub blocking : Config
 blocking = record small { blocking = 1 }
 
@@ -121,7 +124,7 @@ command = 0x10 ∷ 0x05 ∷ 0xc0 ∷ 0 ∷ 0 ∷ 0 ∷ 0xaa ∷ []
 abbrev pub another : List ℕ
 another = 0x10 ∷ 0x05 ∷ 0xc0 ∷ 0x01 ∷ 0 ∷ 0 ∷ 0xbb ∷ []
 
--- two commands, each of which has two segments there
+-- two commands, each of which a ground with the configuration `parted` cuts into two segments
 abbrev pub long : List ℕ
 long = 0x10 ∷ 0x05 ∷ 0xc0 ∷ 0 ∷ 0 ∷ 1 ∷ 0x01 ∷ 0xa1 ∷ []
 
@@ -137,17 +140,18 @@ queued_later = 0 ∷ 0x05 ∷ 0xc0 ∷ 1 ∷ 0 ∷ 1 ∷ 0xbb ∷ 0xbb ∷ []
 
 -- ---- the runs
 
+-- a directive is given to the ground
 abbrev pub begins : Directive → LooseStep
 begins directive = Happens (events.Directive directive)
 
--- a frame that arrives, and a report that does
+-- a frame that is sent and arrives, and a CLCW that is made and arrives
 abbrev pub up : List LooseStep
 up = Happens events.Send ∷ (Happens events.UpDeliver ∷ [])
 
 abbrev pub down : List LooseStep
 down = Happens events.Report ∷ (Happens events.DownDeliver ∷ [])
 
--- a frame that is lost, and so many reports that are
+-- a frame that is sent and lost, and this many lost CLCWs
 abbrev pub up_lost : List LooseStep
 up_lost = Happens events.Send ∷ (Happens events.UpLose ∷ [])
 
@@ -155,51 +159,53 @@ abbrev pub down_lost : ℕ → List LooseStep
 down_lost zero = []
 down_lost (suc n) = Happens events.Report ∷ (Happens events.DownLose ∷ down_lost n)
 
--- A frame out of its order: Set V(R), which the timer sent twice, comes the second time after the
--- command. The command is sent again, since no report came.
+-- A frame out of order. The timer sends Set V(R) twice, and the second one arrives after the
+-- command. The ground retransmits the command, because no CLCW arrived.
 abbrev pub frame_overtaken : List LooseStep
 frame_overtaken =
     begins (InitSetVr 0) ∷ Happens events.Send ∷ Happens events.Tick ∷ up ++ down
     ++ Submits command ∷ Happens events.Send ∷ UpOvertakes ∷ Happens events.UpDeliver
     ∷ Happens events.UpDeliver ∷ Happens events.Tick ∷ up ++ down
 
--- A report out of its order: one that was made before Set V(R) came arrives after one made since.
+-- A CLCW out of order. A CLCW that was made before Set V(R) arrived is delivered after a CLCW that
+-- was made later.
 abbrev pub report_overtaken : List LooseStep
 report_overtaken =
     begins (InitSetVr 255) ∷ Happens events.Report ∷ up ++ Happens events.Report ∷ DownOvertakes
     ∷ Happens events.DownDeliver ∷ Submits command ∷ up_lost ++ Happens events.DownDeliver ∷ []
 
--- No idle start: a frame of the session before is on its way up.
+-- No idle start: a frame of the previous session is in transit on the uplink.
 abbrev pub frame_left : List LooseStep
 frame_left =
     begins InitWithoutCheck ∷ Submits another ∷ Happens events.Send ∷ begins Terminate
     ∷ begins (SetVs 0) ∷ begins InitWithoutCheck ∷ Submits command ∷ up
     ++ Happens events.UpDeliver ∷ down
 
--- No idle start: a frame with the first part of a command is on its way up, and this command is no
--- longer wanted. The second part of the next one is joined to it.
+-- No idle start: a frame with the first part of a command is in transit on the uplink, and this
+-- command is no longer wanted. On board, the second part of the next command is joined to this
+-- first part.
 abbrev pub part_left : List LooseStep
 part_left =
     begins InitWithoutCheck ∷ Submits long ∷ Happens events.Send ∷ begins Terminate
     ∷ begins (SetVs 0) ∷ begins InitWithoutCheck ∷ Submits long_later ∷ up
     ++ Happens events.UpDeliver ∷ down ++ up ++ down
 
--- the first segment of one command, and the second of the other
+-- the first segment of one command, and the second segment of the other
 abbrev pub mixed : List ℕ
 mixed = take 7 long ++ drop 7 long_later
 
--- No idle start: a report of the session before is on its way down.
+-- No idle start: a CLCW of the previous session is in transit on the downlink.
 abbrev pub report_left : List LooseStep
 report_left =
     begins InitWithoutCheck ∷ Submits another ∷ up ++ Happens events.Report ∷ begins Terminate
     ∷ begins (InitSetVr 0) ∷ up ++ begins Terminate ∷ begins InitWithoutCheck ∷ Submits command
     ∷ up_lost ++ Happens events.DownDeliver ∷ []
 
--- No check, and V(S) is one below V(R).
+-- No check, and V(S) one below V(R).
 abbrev pub other_number : List LooseStep
 other_number = begins (SetVs 255) ∷ begins InitWithoutCheck ∷ Submits command ∷ up ++ down
 
--- A second sender on the channel; also damage that the FECF does not show.
+-- A second sender on the channel. Damage that the FECF does not show has the same effect.
 abbrev pub second_sender : List LooseStep
 second_sender =
     begins InitWithoutCheck ∷ Submits command ∷ up_lost
@@ -211,26 +217,27 @@ abbrev pub restarted : List LooseStep
 restarted =
     begins (InitSetVr 255) ∷ up ++ down ++ Submits command ∷ up_lost ++ Restarts ∷ down
 
--- The ground begins anew, while a frame that it sent before is on its way up.
+-- The ground restarts while a frame that it sent before is in transit on the uplink.
 abbrev pub ground_restarted : List LooseStep
 ground_restarted =
     begins InitWithoutCheck ∷ Submits another ∷ Happens events.Send ∷ GroundRestarts
     ∷ begins InitWithoutCheck ∷ Submits command ∷ up ++ Happens events.UpDeliver ∷ down
 
--- Two nodes that are not configured alike: the command, or both in one segment.
+-- Two runs for nodes that are not configured alike. One submits the command, and the other submits
+-- both commands together.
 abbrev pub one_sent : List LooseStep
 one_sent = begins InitWithoutCheck ∷ Submits command ∷ up ++ down
 
 abbrev pub both_sent : List LooseStep
 both_sent = begins InitWithoutCheck ∷ Submits (command ++ another) ∷ up ++ down
 
--- A sender's window of one more than half the width: of two frames the first is lost.
+-- A sender's window of one more than half the width. Of two frames, the first is lost.
 abbrev pub over_the_window : List LooseStep
 over_the_window =
     begins InitUnlock ∷ up ++ down ++ Submits command ∷ up_lost ++ Submits another ∷ up
 
--- 256 frames of telemetry are lost in a row: one with the second half of a packet, 254 of idle
--- data, and one with the first half of another.
+-- 256 telemetry frames are lost in a row. The first has the second half of a packet, 254 have idle
+-- data, and the last has the first half of another packet.
 abbrev pub frames_lost : List LooseStep
 frames_lost =
     Queues queued ∷ down ++ down_lost 255 ++ Queues queued_later ∷ down_lost 1 ++ down
@@ -239,13 +246,14 @@ frames_lost =
 abbrev pub joined : List ℕ
 joined = take 4 queued ++ drop 4 queued_later
 
--- ---- what a program sees where it resumes by a value that no report has
+-- ---- what a program sees if it resumes by a value that no CLCW has
 
 abbrev pub lent : List ℕ → Bor (List ℕ)
 lent octets = record { ref_ptr = (0, 0); now = octets }
 
--- The command is lost. The program resumes by 1, as if it had come; this session is never
--- confirmed. Then it resumes by the value of a report, which is 0, and goes on after the command.
+-- The command is lost. The program resumes by 1, as if the command had arrived. The session that
+-- begins is never confirmed. The program then resumes by the value of a CLCW, which is 0, and
+-- continues after the command.
 abbrev pub resumed_by_another : List Event
 resumed_by_another =
     events.Directive InitUnlock ∷ events.Send ∷ events.UpDeliver ∷ events.Report
@@ -255,11 +263,12 @@ resumed_by_another =
     ∷ events.DownDeliver ∷ events.Submit 4 (lent another) ∷ events.Send ∷ events.UpDeliver
     ∷ events.Take ∷ []
 
+-- a session that submitted these packets on MAP 4, after the first `from` wanted submissions
 abbrev pub part_of : ℕ → List (List ℕ) → Part
 part_of from packets = record { from = from; submissions = map (packet_on 4) packets }
 
--- each session began after silence, and submitted what is wanted next of both commands, but the
--- first was left out
+-- Each session began after silence and submitted the next wanted command. Both commands are wanted,
+-- and yet only the second was taken.
 pub record SkipsTheFirst (s : Seen) : Type 0 where
   pub idle : s.idle ≡ true
   pub parts : s.before ++ s.session ∷ []

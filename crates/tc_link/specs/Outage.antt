@@ -7,8 +7,8 @@ use Rattle.nodes.specs.Parameters.{IsConfig}
 use Rattle.tc_link.specs.Telemetry.{Downlink, DownlinkStep, IsDownlinkStep, AreSomeOf}
 use Rattle.tc_link.specs.Telemetry.{new_downlink, downlink_run, packets_down}
 
--- Since a moment at most one packet came down, and then packets that were queued, in order, each
--- once.
+-- Since a moment, at most one packet was delivered, and then packets that were queued, in order,
+-- each once.
 pub record HasComeSince (moment now : Downlink) : Type 0 where
   pub first : List (List ℕ)
   pub others : List (List ℕ)
@@ -16,7 +16,7 @@ pub record HasComeSince (moment now : Downlink) : Type 0 where
   pub parts : packets_down now ≡ packets_down moment ++ (first ++ others)
   pub in_order : AreSomeOf others now.queued
 
--- So it is after any steps, whatever was lost before, while since then fewer than 256 frames are
+-- This holds after any steps, whatever was lost before, while since then fewer than 256 frames are
 -- lost between two that arrive.
 abbrev pub AtMostTheFirst : Type 0
 AtMostTheFirst =

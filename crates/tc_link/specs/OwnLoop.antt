@@ -1,6 +1,6 @@
--- A loop of one's own: a program calls the ground on one machine and the spacecraft on another, and
--- octets are on their way between them. It is said by the calls of the two nodes and by two lists;
--- there is no simulated link, and there are no records of a session.
+-- A loop of your own: a program calls the ground on one machine and the spacecraft on another, and
+-- octets are in transit between them. The loop is defined by the calls of the two nodes and by two
+-- lists. There is no simulated link, and there are no records of a session.
 use Rattle.std.specs.Prelude.{◌≡◌, ℕ, List, [], ◌∷◌, ◌++◌, Option, Some, None, Result, Ok, Err}
 use Rattle.std.specs.Prelude.{IsErr}
 use Rattle.std.specs.List.{AllByRecursion}
@@ -43,7 +43,7 @@ use Rattle.tc_link.specs.SeenTelemetry.{telemetry_seen}
 use Rattle.tc_link.specs.Telemetry.{DownlinkStep, IsDownlinkStep}
 use Rattle.tc_link.specs.Telemetry as downlink
 
--- the two nodes, and the octets on their way between them, the oldest first
+-- the two nodes, and the octets in transit between them, the oldest first
 pub record Loop : Type 0 where
   pub ground_node : GroundState
   pub spacecraft : SpacecraftState
@@ -58,12 +58,12 @@ new_loop c = record {
   down = [];
 }
 
--- what is answered, and the loop after it
+-- the answer, and the loop after it
 pub record LoopOutcome : Type 0 where
   pub answer : Result ReplyView SimFault
   pub after : Loop
 
--- ---- what a call answers, as a reply
+-- ---- the answer of a call, as a reply
 
 abbrev pub reply_to_resuming : Result ℕ LinkFault → ReplyView
 reply_to_resuming (Ok whole) = Resumed whole
@@ -73,7 +73,7 @@ abbrev pub reply_to_pull : Option FrameView → ReplyView
 reply_to_pull None = Nothing
 reply_to_pull (Some frame) = Sent (spelling On frame)
 
--- of the report that a telemetry frame carries
+-- the reply with the CLCW that a telemetry frame carries
 abbrev pub reply_to_report : Result Clcw ClcwFault → ReplyView
 reply_to_report (Ok report) = Reported report
 reply_to_report (Err fault) = Nothing
@@ -88,7 +88,7 @@ abbrev pub on_board : {A : Type 0} → Loop → (A → ReplyView) → Spacecraft
 on_board l reply o =
     record { answer = Ok (reply o.answer); after = record l { spacecraft = o.after } }
 
--- the frame that a pull answers goes to the end of the way up
+-- the frame that a pull returns goes to the end of the uplink
 abbrev pub pulled : Loop → Option FrameView → Loop
 pulled l None = l
 pulled l (Some frame) = record l { up = l.up ++ spelling On frame ∷ [] }
@@ -99,7 +99,7 @@ on_pull l o = record {
   after = pulled (record l { ground_node = o.after }) o.answer;
 }
 
--- a telemetry frame goes to the end of the way down
+-- a telemetry frame goes to the end of the downlink
 abbrev pub on_report : Loop → SpacecraftOutcome telemetry.FrameView → LoopOutcome
 on_report l o = record {
   answer = Ok (reply_to_report (clcw_at o.answer.ocf));
@@ -109,22 +109,23 @@ on_report l o = record {
   };
 }
 
--- octets come to a node
+-- octets arrive at a node
 abbrev pub comes_up : Loop → List ℕ → LoopOutcome
 comes_up l octets = on_board l Up (spacecraft_step l.spacecraft (spacecraft_calls.Receive octets))
 
 abbrev pub comes_down : Loop → List ℕ → LoopOutcome
 comes_down l octets = on_ground l Down (ground_step l.ground_node (ground_calls.Telemetry octets))
 
--- the control word alone of a telemetry frame comes to the ground; octets of no frame have none
+-- only the CLCW of a telemetry frame arrives at the ground; octets that do not form a frame have
+-- none
 abbrev pub word_comes : Loop → Result telemetry.FrameView TmFault → LoopOutcome
 word_comes l (Ok frame) =
     on_ground l DownClcw (ground_step l.ground_node (ground_calls.ControlWord frame.ocf))
 word_comes l (Err fault) = record { answer = Ok (Down (heard_cases.Invalid fault)); after = l }
 
--- ---- what is on its way
+-- ---- what is in transit
 
--- the first octets on their way, and those after them; where there are none, nothing comes
+-- the first octets in transit, and those after them; if there are none, nothing arrives
 abbrev pub first_of : Loop → List (List ℕ) → (List ℕ → List (List ℕ) → LoopOutcome) → LoopOutcome
 first_of l [] comes = record { answer = Err NothingInTransit; after = l }
 first_of l (octets ∷ way) comes = comes octets way
@@ -203,7 +204,7 @@ loop_answers l [] = []
 loop_answers l (event ∷ more) =
     (loop_event l event).answer ∷ loop_answers (loop_event l event).after more
 
--- with takes of telemetry on the ground among the events
+-- takes of telemetry on the ground may come among the events
 abbrev pub as_link_step : DownlinkStep → LinkStep
 as_link_step (downlink.Happens event) = Happens event
 as_link_step downlink.TakeTelemetry = TakeTelemetry
@@ -218,7 +219,7 @@ loop_downlink_answers l [] = []
 loop_downlink_answers l (step ∷ more) =
     loop_answer l step ∷ loop_downlink_answers (loop_step l (as_link_step step)) more
 
--- ---- what the link has to keep: damage is seen by the decoder of its receiver
+-- ---- the premise of the link: damage is detected by the receiver's decoder
 
 abbrev pub IsDetected : Config → Event → Type 0
 IsDetected c (events.UpDamage damaged) = IsErr (command.frame_at On damaged.now)
@@ -232,7 +233,7 @@ IsDetectedAt c _ = Unit {0}
 
 -- ---- it is the link of the promises
 
--- the nodes of a world, and what is on its way, without the records of its session
+-- the nodes of a world and what is in transit, without the records of its session
 abbrev pub without_records : World → Loop
 without_records w = record {
   ground_node = w.ground_node;
@@ -241,15 +242,15 @@ without_records w = record {
   down = w.down;
 }
 
--- Wherever such steps lead, the nodes and what is on its way are those of the world to which they
--- lead. So each promise of any past is one of the nodes of such a loop.
+-- Wherever such steps lead, the nodes and what is in transit are those of the world to which they
+-- lead. So each promise after any past holds of the nodes of such a loop.
 abbrev pub EachLoopIsALink : Type 0
 EachLoopIsALink =
     (c : Config) (steps : List LinkStep) → IsConfig c → AllByRecursion IsLinkStep steps
     → AllByRecursion (IsDetectedAt c) steps
     → loop_run (new_loop c) steps ≡ without_records (link_run (new_world c) steps)
 
--- Each event there is answered by the calls as by the world.
+-- The calls answer each event as the world does.
 abbrev pub EachAnswersAsALink : Type 0
 EachAnswersAsALink =
     (c : Config) (steps : List LinkStep) (event : Event) → IsConfig c
@@ -258,8 +259,8 @@ EachAnswersAsALink =
     → (loop_event (loop_run (new_loop c) steps) event).answer
     ≡ (world_step (link_run (new_world c) steps) event).answer
 
--- So what is promised of what a program sees holds of the answers of its own calls, of commands and
--- of telemetry.
+-- So what is promised in terms of what a program sees holds of the answers of its own calls, for
+-- commands and for telemetry.
 abbrev pub EachLoopIsSeen : Type 0
 EachLoopIsSeen =
     (c : Config) (events : List Event) → IsConfig c → AllByRecursion IsEvent events

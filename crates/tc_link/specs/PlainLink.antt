@@ -1,10 +1,11 @@
--- The same link with whole numbers that have no bound. There is no window, modulus, flag, timer or
+-- The same link with whole numbers without a bound. It has no window, modulus, flag, timer or
 -- state.
 use Rattle.std.specs.Prelude.{◌≡◌, ◌⊎◌, ◌<◌, ◌≤◌, ℕ, ◌+◌, List, [], ◌∷◌, ◌++◌, slice_get, Some}
 use Rattle.tc_frame.specs.Layout.{SegmentView}
 
--- The units to be sent; how many first ones are held acknowledged, were accepted and were sent; the
--- numbered units on their way up and the numbers on their way down, the oldest first.
+-- The units to be sent; how many of them, from the first, are acknowledged, were accepted and were
+-- sent; the numbered units in transit on the uplink and the numbers in transit on the downlink, the
+-- oldest first.
 pub record PlainLink : Type 0 where
   pub units : List SegmentView
   pub a : ℕ
@@ -20,25 +21,25 @@ pub data PlainStep : PlainLink → PlainLink → Type 0 where
   -- units are added at the end
   adds : {p : PlainLink} (more : List SegmentView)
       → PlainStep p (record p { units = p.units ++ more })
-  -- the next unit is put up for the first time
+  -- the next unit is sent for the first time
   puts_next : {p : PlainLink} {u : SegmentView} → slice_get p.units p.n ≡ Some u
       → PlainStep p (record p { n = p.n + 1; up = p.up ++ (p.n, u) ∷ [] })
-  -- one that was put up, and is not acknowledged, is put up again
+  -- a unit that was sent, and is not acknowledged, is retransmitted
   puts_again : {p : PlainLink} {i : ℕ} {u : SegmentView} → p.a ≤ i → i < p.n
       → slice_get p.units i ≡ Some u
       → PlainStep p (record p { up = p.up ++ (i, u) ∷ [] })
   loses_up : {p : PlainLink} {x : ℕ × SegmentView} {up : List (ℕ × SegmentView)} → p.up ≡ x ∷ up
       → PlainStep p (record p { up = up })
-  -- the unit that is expected arrives, and is taken
+  -- the expected unit arrives, and is accepted
   takes : {p : PlainLink} {u : SegmentView} {up : List (ℕ × SegmentView)} → p.up ≡ (p.r, u) ∷ up
       → PlainStep p (record p { r = p.r + 1; up = up })
-  -- any unit arrives, and is left
+  -- any unit arrives, and is not accepted
   leaves : {p : PlainLink} {x : ℕ × SegmentView} {up : List (ℕ × SegmentView)} → p.up ≡ x ∷ up
       → PlainStep p (record p { up = up })
   reports : {p : PlainLink} → PlainStep p (record p { down = p.down ++ p.r ∷ [] })
   loses_down : {p : PlainLink} {v : ℕ} {down : List ℕ} → p.down ≡ v ∷ down
       → PlainStep p (record p { down = down })
-  -- a number arrives, up to which all is acknowledged then
+  -- a number arrives, and all units before it are then acknowledged
   hears : {p : PlainLink} {v : ℕ} {down : List ℕ} → p.down ≡ v ∷ down
       → PlainStep p (record p { a = v; down = down })
   -- a number arrives, and nothing changes

@@ -28,23 +28,23 @@ pub record IsPromised (w : World) : Type 0 where
 
 -- of an event in such a session
 pub record IsPromisedOf (w : World) (event : Event) : Type 0 where
-  -- once the session is settled, and while it goes on
+  -- once the session is settled, and while it lasts
   pub history : IsSettled w → BeginsNoSession w event → GoesOnByAStep w (world_step w event).after
-  -- V(S) and NN(R) change with the records alone, at an alert too
+  -- V(S) and NN(R) change only with the records, at an alert too
   pub numbers : BeginsNoSession w event → SetsNoNumber w event
       → MovesWithRecords w (world_step w event).after
-  -- in a session begun by check, Unlock or Set V(R)
+  -- in a session begun by CLCW check, Unlock or Set V(R)
   pub confirms : IsChecking (directive_of w) → ConfirmsExactly w (world_step w event).after
   pub no_false_alarm : IsChecking (directive_of w) → HasNoFalseAlarm w event
 
--- of a world, and of the event that comes next
+-- of a world, and of the next event
 pub record HoldsAt (w : World) (event : Event) : Type 0 where
   -- in a session that began clean
   pub clean : IsClean w → IsPromised w × IsPromisedOf w event
-  -- and in any other that had an idle start, as one that began clean had
+  -- in any other session that had an idle start, as one that began clean had
   pub from_idle : IsIdle w → IsPromised w × IsPromisedOf w event
   pub clean_is_idle : IsClean w → IsIdle w
-  -- in any session each frame on its way can be read
+  -- in any session, each frame in transit can be read
   pub readable : AllReadable w
 
 -- this holds in the world that each prefix of a list of events leads to, and of the next event

@@ -1,4 +1,4 @@
--- What is on its way can be read by the node that it goes to.
+-- Each string of octets in transit can be read by the node to which it is sent.
 use Rattle.std.specs.Prelude.{◌≡◌, List, ℕ, length, Ok}
 use Rattle.std.specs.List.{AllByRecursion}
 use Rattle.clcw.specs.declared.word.Clcw.{Clcw}
@@ -18,8 +18,8 @@ pub record IsCommandOf (c : Config) (octets : List ℕ) : Type 0 where
   pub scid : frame.scid ≡ c.scid
   pub vcid : frame.vcid ≡ c.vcid
 
--- octets of a telemetry frame of its spacecraft, virtual channel and length, with a report on its
--- telecommand channel
+-- octets of a telemetry frame of the link's spacecraft, virtual channel and length, with a CLCW
+-- about its telecommand channel
 pub record IsTelemetryOf (c : Config) (octets : List ℕ) : Type 0 where
   pub size : length octets ≡ c.frame_length
   pub frame : telemetry.FrameView

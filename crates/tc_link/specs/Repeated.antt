@@ -1,4 +1,4 @@
--- A report that the ground hears again.
+-- A CLCW that the ground hears again.
 use Rattle.std.specs.Prelude.{◌≡◌, ◌≢◌, List, ℕ, [], ◌∷◌, true, false, None, Ok}
 use Rattle.octets.specs.Number.{IsOctets}
 use Rattle.cop1.specs.FopDirective.{is_initiation}
@@ -21,8 +21,8 @@ abbrev pub ground_run : GroundState → List GroundEvent → GroundState
 ground_run s [] = s
 ground_run s (event ∷ more) = ground_run (ground_step s event).after more
 
--- a call brings no report that is used, begins no session, and does not set the transmission limit
--- to 1
+-- a call brings no CLCW that is used, begins no session, and does not set the transmission limit to
+-- 1
 abbrev pub BringsNoReport : GroundState → GroundEvent → Type 0
 BringsNoReport s (Direct directive) =
     (is_initiation directive ≡ true → is_closed s.fop.state ≡ false) × (directive ≢ SetLimit 1)
@@ -32,22 +32,23 @@ BringsNoReport s (ControlWord octets) =
     IsUnused (ground_step s (ControlWord octets)).answer.report
 BringsNoReport s _ = Unit {0}
 
--- so does each of these calls
+-- each of these calls does the same
 abbrev pub BringNoReport : GroundState → List GroundEvent → Type 0
 BringNoReport s [] = Unit {0}
 BringNoReport s (event ∷ more) =
     BringsNoReport s event × BringNoReport (ground_step s event).after more
 
--- the octets come again: the answer says the same of the report, without an alert, and nothing else
--- comes of them
+-- the octets arrive again: the answer is the same about the CLCW, without an alert, and nothing
+-- else changes
 abbrev pub repeated_outcome : GroundState → HeardClcw → GroundOutcome HeardClcw
 repeated_outcome s once = record {
   answer = record { report = once.report; alert = None };
   after = s;
 }
 
--- After any calls of the ground: a control word that it was given by itself changes nothing when it
--- comes again, as long as no other report was used and no session began.
+-- After any calls, the ground is given a CLCW by itself. The CLCW changes nothing when it is
+-- repeated, as long as no other CLCW was used, no session began, and no directive set the
+-- transmission limit to 1.
 abbrev pub RepeatsNothing : Type 0
 RepeatsNothing =
     (c : Config) (before since : List GroundEvent) (octets : List ℕ) → IsConfig c → IsOctets octets
@@ -57,13 +58,13 @@ RepeatsNothing =
     BringNoReport once.after since
     → ground_step now (ControlWord octets) ≡ repeated_outcome now once.answer
 
--- what is answered of a report by itself, where a telemetry frame carried it
+-- the answer about a CLCW by itself, if a telemetry frame carried it
 abbrev pub word_of : Heard → HeardClcw
 word_of (Frame gap packets report alert) = record { report = report; alert = alert }
 word_of (Invalid fault) = record { report = OtherChannel; alert = None }
 word_of Foreign = record { report = OtherChannel; alert = None }
 
--- So it is where a telemetry frame of the ground's channel carried the word at first.
+-- The same holds if a telemetry frame of the ground's channel carried the CLCW at first.
 abbrev pub RepeatsNothingOfFrames : Type 0
 RepeatsNothingOfFrames =
     (c : Config) (before since : List GroundEvent) (octets : List ℕ) (frame : FrameView)

@@ -1,5 +1,5 @@
--- A program that goes on by `Ground::resume` after each alert: session after session it submits
--- what it wants delivered, from where the session before has got to.
+-- A program that continues by `Ground::resume` after each alert. In each session it submits what it
+-- wants delivered, from where the previous session stopped.
 use Rattle.std.specs.Prelude.{◌≡◌, ◌≢◌, ◌⊎◌, ◌<◌, ℕ, ◌+◌, ◌^◌, ◌/◌, List, [], ◌++◌, length, drop}
 use Rattle.std.specs.Prelude.{flat_map}
 use Rattle.std.specs.Prelude.{filter}
@@ -25,52 +25,54 @@ use Rattle.tc_link.specs.Reached.{IsEvent}
 use Rattle.tc_link.specs.Taken.{BeginsSession}
 use Rattle.tc_link.specs.Whole.{IsOneGroup}
 
--- the packets on a MAP of these submissions
+-- the packets of these submissions on a MAP
 abbrev pub packets_on_map : List PacketOn → ℕ → List (List ℕ)
 packets_on_map submissions m =
     flat_map (λ (p : PacketOn). packets_in p.octets)
     (filter (λ (p : PacketOn). p.on_map == m) submissions)
 
--- the ground is lost, and another is opened at what was kept of it last
+-- the ground is lost, and another is opened from its last record
 abbrev pub with_another : World → World
 with_another w = record w { ground_node = failed_over w.ground_node }
 
--- with nothing on its way up, and on its way down no report but such as are made now, this is the
--- value of one
+-- Nothing is in transit on the uplink, and only CLCWs equal to one made now are in transit on the
+-- downlink. `value` is the value of a CLCW made now.
 pub record IsOfNow (w : World) (value : ℕ) : Type 0 where
   pub quiet : is_idle w ≡ true
   pub small : value < 256
   pub same : value ≡ w.spacecraft.farm.vr
 
--- The sessions of a program that wants these submissions delivered, in this order: the link now,
--- how many of the submissions the sessions before this one have brought on board, and what these
--- have delivered on each MAP.
+-- The sessions of a program that wants these submissions delivered, in this order. The arguments
+-- are the link now, and what the earlier sessions have done. The number counts the submissions that
+-- the earlier sessions have brought on board. The function returns what those sessions have
+-- delivered on each MAP.
 pub data Sessions (wanted : List PacketOn) : World → ℕ → (ℕ → List (List ℕ)) → Type 0 where
-  -- the first has an idle start, whatever came before
+  -- the first session has an idle start, whatever came before
   first : {w : World} (initiation : Event) → HasAnyPast w → BeginsSession w initiation
       → IsEvent initiation → IsIdle (world_step w initiation).after
       → Sessions wanted (world_step w initiation).after 0 (λ m. [])
-  -- the session goes on with a step of the link; all that was submitted in it is wanted next, in
-  -- its order
+  -- The session continues with a step of the link that does not set V(S). All that was submitted in
+  -- the session is wanted next, in order.
   goes_on : {w : World} {done : ℕ} {before : ℕ → List (List ℕ)} (step : LinkStep)
       → Sessions wanted w done before → LeavesSession w step → LeavesNumbers w step
       → IsLinkStep step → IsBeginning (link_step w step).session.submissions (drop done wanted)
       → Sessions wanted (link_step w step) done before
-  -- the program resumes by the value of a report that is made now, and goes on after as many more
-  -- as `resume` answers
+  -- the program resumes by the value of a CLCW made now, and continues after as many more
+  -- submissions as `resume` returns
   resumes : {w : World} {done : ℕ} {before : ℕ → List (List ℕ)} (value more : ℕ)
       → Sessions wanted w done before → IsOfNow w value
       → (world_step w (events.Resume value)).answer ≡ Ok (Resumed more)
       → Sessions wanted (world_step w (events.Resume value)).after (done + more)
       (λ m. before m ++ delivered w m)
-  -- so it does where the ground was lost: another is opened at what was kept of it, and resumes
+  -- The ground was lost, and another ground is opened from the lost ground's record. The program
+  -- resumes on the new ground, and continues in the same way.
   fails_over : {w : World} {done : ℕ} {before : ℕ → List (List ℕ)} (value more : ℕ)
       → Sessions wanted w done before → IsOfNow w value
       → (world_step (with_another w) (events.Resume value)).answer ≡ Ok (Resumed more)
       → Sessions wanted (world_step (with_another w) (events.Resume value)).after (done + more)
       (λ m. before m ++ delivered w m)
-  -- nothing of the session was sent: another begins by an idle start, and goes on from the same
-  -- submission; meanwhile V(S) may be set, and any alert may come
+  -- Nothing of the session was sent. Another session begins by an idle start, and the program
+  -- continues from the same submission. Meanwhile V(S) may be set, and any alert may be raised.
   begins_anew : {w : World} {done : ℕ} {before : ℕ → List (List ℕ)} (since : List LinkStep)
       (initiation : Event) → Sessions wanted w done before → SessionLasts w since
       → AllByRecursion IsLinkStep since → (link_run w since).session.sent ≡ []
@@ -79,7 +81,8 @@ pub data Sessions (wanted : List PacketOn) : World → ℕ → (ℕ → List (Li
       → Sessions wanted (world_step (link_run w since) initiation).after done
       (λ m. before m ++ delivered (link_run w since) m)
 
--- Over all its sessions together it has on each MAP a prefix of what it wants, each packet once.
+-- Over all sessions together, what is delivered on each MAP is a prefix of what the program wants,
+-- each packet once.
 abbrev pub ResumesInOrder : Type 0
 ResumesInOrder =
     (wanted : List PacketOn) (w : World) (done : ℕ) (before : ℕ → List (List ℕ)) (m : ℕ)
@@ -87,7 +90,8 @@ ResumesInOrder =
     → AllByRecursion (IsOneGroup w.ground_node.config.part) wanted
     → IsBeginning (before m ++ delivered w m) (packets_on_map wanted m)
 
--- what `resume` answers and leaves is so in that link: V(S) is set, and a session begins by Unlock
+-- The event Resume returns what an accepted `resume` returns. Both leave what two directives leave:
+-- V(S) is set to the value, and a session begins by Unlock.
 pub record ResumesAs (w : World) (value more : ℕ) : Type 0 where
   pub answer : (world_step w (events.Resume value)).answer ≡ Ok (Resumed more)
   pub after : (world_step w (events.Resume value)).after ≡ resumed w value
@@ -100,16 +104,15 @@ ResumesSo =
 
 -- ---- whether `resume` is accepted
 
--- By the value of a report that is made now `resume` answers how many submissions are on board
--- whole.
+-- By the value of a CLCW made now, `resume` returns how many submissions are on board whole.
 abbrev pub AnswersResuming : World → Type 0
 AnswersResuming w =
     (world_step w (events.Resume w.spacecraft.farm.vr)).answer
     ≡ Ok (Resumed (whole_first w (length (accepted w))))
 
--- So it does in S6, since a session with an idle start began, whatever came before it, whether the
--- session was confirmed or not, while no directive sets V(S) and no alert shows that a condition is
--- broken: after Timer, Limit and Terminated.
+-- `resume` returns this number in S6, in any session that had an idle start, whatever came before
+-- the session, confirmed or not. This holds until a directive sets V(S), and while no alert shows
+-- that a condition is broken, that is, after Timer, Limit and Terminated.
 abbrev pub EachAnswersResuming : Type 0
 EachAnswersResuming =
     (w : World) (initiation : Event) (since : List LinkStep) → HasAnyPast w
@@ -120,7 +123,7 @@ EachAnswersResuming =
     → let now : World = link_run (world_step w initiation).after since in
     is_closed now.ground_node.fop.state ≡ true → AnswersResuming now
 
--- In each state, the same is so of another ground that is opened at what was kept of this one.
+-- In each state, the same holds of another ground that is opened from this one's record.
 abbrev pub EachFailsOver : Type 0
 EachFailsOver =
     (w : World) (initiation : Event) (since : List LinkStep) → HasAnyPast w
@@ -130,14 +133,15 @@ EachFailsOver =
     → AllByRecursion IsLinkStep since → IsIdle (world_step w initiation).after
     → AnswersResuming (with_another (link_run (world_step w initiation).after since))
 
--- After any past a ground is one to a receiver of the width that is configured, so what is kept of
--- it is a record that its configuration takes.
+-- After any past, the sender's room is half the configured width, so the ground's configuration
+-- accepts what is kept of it.
 abbrev pub EachHasRoom : Type 0
 EachHasRoom =
     (w : World) → HasAnyPast w → w.ground_node.fop.room ≡ w.ground_node.config.width / 2
 
--- While the link keeps its conditions no alert shows that one is broken: after any past, in a
--- session with an idle start that began by Unlock or Set V(R), or began by check and is confirmed.
+-- While the link keeps its conditions, no alert shows that a condition is broken. This holds after
+-- any past, in a session that had an idle start by Unlock or Set V(R). In a session that had an
+-- idle start by CLCW check, the same holds once the session is confirmed.
 abbrev pub ShowsNoneByItself : Type 0
 ShowsNoneByItself =
     (w : World) (since : List LinkStep) → HasAnyPast w → IsIdle w → IsChecking (directive_of w)

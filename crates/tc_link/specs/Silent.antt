@@ -1,4 +1,4 @@
--- Loss is never silent: until an alert is answered, what was submitted is acknowledged or
+-- Loss is never silent: until an alert is returned, what was submitted is acknowledged or
 -- outstanding.
 use Rattle.std.specs.Prelude.{◌≡◌, drop, true, false, Option, None, IsSome, Ok}
 use Rattle.cop1.specs.declared.vocabulary.Alert.{Alert}
@@ -11,14 +11,14 @@ use Rattle.tc_link.specs.AnyPast.{HasAnyPast}
 use Rattle.tc_link.specs.FalseAlarms.{alert_in}
 use Rattle.tc_link.specs.History.{units_submitted}
 
--- After any past, in a session that had an idle start: until the sender gives up, what the ground
--- holds outstanding is exactly what was submitted in the session, but for what is acknowledged.
+-- After any past, in a session that had an idle start: until the sender gives up, the ground holds
+-- outstanding exactly what was submitted in the session and is not acknowledged.
 abbrev pub HoldsWhatIsNotAcknowledged : Type 0
 HoldsWhatIsNotAcknowledged =
     (w : World) → HasAnyPast w → IsIdle w → is_closed w.ground_node.fop.state ≡ false
     → outstanding w.ground_node ≡ drop w.session.acknowledged (units_submitted w)
 
--- the alert that a call of the ground answers
+-- the alert that a call of the ground returns
 abbrev pub alert_of : (event : GroundEvent) → GroundAnswer event → Option Alert
 alert_of (Direct directive) (Ok alert) = alert
 alert_of Tick alert = alert
@@ -26,8 +26,8 @@ alert_of (Telemetry octets) heard = heard_alert heard
 alert_of (ControlWord octets) heard = heard.alert
 alert_of event answer = None
 
--- It gives up with an alert that is answered: each ground, whatever it was called with, and so each
--- link.
+-- The sender gives up only with an alert that is returned. This holds of each ground, whatever
+-- calls it has had, and so of each link.
 pub record GivesUpAloud : Type 0 where
   pub ground : (s : GroundState) (event : GroundEvent) → is_closed s.fop.state ≡ false
       → is_closed (ground_step s event).after.fop.state ≡ true

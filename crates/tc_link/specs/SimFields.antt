@@ -1,4 +1,4 @@
--- How the fields of a simulation stand for its state.
+-- How the fields of a simulation represent its state.
 use Rattle.std.specs.Prelude.{map}
 use Rattle.octets.specs.Outcome.{map_ok}
 use Rattle.tc_link.specs.declared.sim.Sim.TheInside.{Inside}

@@ -1,4 +1,4 @@
--- A simulated link with the answers of a run.
+-- A simulated link, with the answers of a run.
 use Rattle.std.specs.Prelude.{ℕ, List, [], ◌∷◌, ◌++◌, Option, Some, None, Result, Ok, Err}
 use Rattle.nodes.specs.declared.config.Config.{Config}
 use Rattle.nodes.specs.declared.event.Event.{Event}
@@ -9,7 +9,7 @@ use Rattle.simulated_link.specs.World.{World, new_world, world_step, world_run, 
 
 pub record SimState : Type 0 where
   pub world : World
-  -- what was answered to each event of the run
+  -- the answer to each event of the run
   pub answers : List (Result ReplyView SimFault)
 
 abbrev pub new_sim : Config → SimState

@@ -1,4 +1,4 @@
--- What is taken on board in a session, and what it has to do with what is delivered.
+-- What is taken on board in a session, and how it relates to what is delivered.
 use Rattle.std.specs.Prelude.{◌≡◌, ◌≤◌, length, ℕ, List, [], ◌∷◌, ◌++◌, flat_map, true, Result, Ok}
 use Rattle.std.specs.List.{AllByRecursion}
 use Rattle.octets.specs.Beginning.{IsBeginning}
@@ -18,20 +18,20 @@ use Rattle.tc_link.specs.Reached.{IsEvent}
 use Rattle.simulated_link.specs.Replies.{ReplyView, Packet}
 use Rattle.simulated_link.specs.World.{World, IsIdle, accepted, submitted, delivered, world_step}
 
--- a session begins with an event: it is an initiation, and comes while the sender is in S6; or it
--- is a resumption that is not refused
+-- The event begins a session. It is an initiation while the sender is in S6, or a resumption that
+-- is not refused.
 abbrev pub BeginsSession : World → Event → Type 0
 BeginsSession w (events.Directive directive) =
     (is_initiation directive ≡ true) × (is_closed w.ground_node.fop.state ≡ true)
 BeginsSession w (events.Resume value) = can_resume w.ground_node value ≡ true
 BeginsSession w _ = ⊥
 
--- the packet that an event hands out from those that are ready
+-- the packet that an event takes from those that are ready
 abbrev pub handed_out : Event → Result ReplyView SimFault → List PacketOn
 handed_out events.Take (Ok (Packet packet)) = packet ∷ []
 handed_out _ _ = []
 
--- the packets that a step of the link hands out, and these steps, in order
+-- the packets that one step of the link takes, and the packets that several steps take, in order
 abbrev pub handed_by : World → LinkStep → List PacketOn
 handed_by w (Happens event) = handed_out event (world_step w event).answer
 handed_by w _ = []
@@ -40,35 +40,35 @@ abbrev pub taken : World → List LinkStep → List PacketOn
 taken w [] = []
 taken w (step ∷ more) = handed_by w step ++ taken (link_step w step) more
 
--- those that were taken since this moment on a MAP, in order
+-- the packets that were taken since this moment on a MAP, in order
 abbrev pub taken_since : World → List LinkStep → ℕ → List (List ℕ)
 taken_since w since m = packets_of_map m (taken w since)
 
--- those that wait to be taken on a MAP, the oldest first
+-- the packets that wait to be taken on a MAP, the oldest first
 abbrev pub ready_on : World → ℕ → List (List ℕ)
 ready_on w m = packets_of_map m w.spacecraft.ready
 
--- On a MAP the packets that were taken since this moment, followed by those that are ready, are
--- those that were ready then, followed by those that the session has delivered.
+-- Let R be the packets on a MAP that were ready at this moment, T those taken since, and N those
+-- ready after these steps. T followed by N is R followed by what the session has delivered.
 abbrev pub HandsOut : World → List LinkStep → ℕ → Type 0
 HandsOut w since m =
     taken_since w since m ++ ready_on (link_run w since) m
     ≡ ready_on w m ++ delivered (link_run w since) m
 
--- so it is on each MAP since the moment at which a session began, whatever came before
+-- `HandsOut` holds on each MAP from the beginning of a session on, whatever came before
 abbrev pub HandsOutWhatIsDelivered : Type 0
 HandsOutWhatIsDelivered =
     (w : World) (initiation : Event) (since : List LinkStep) (m : ℕ) → BeginsSession w initiation
     → SessionLasts (world_step w initiation).after since
     → HandsOut (world_step w initiation).after since m
 
--- The packets on a MAP that were taken since this moment are a prefix of those that were ready
--- then, followed by those that were submitted in the session.
+-- The packets taken on a MAP since this moment are a prefix of those that were ready then, followed
+-- by those submitted in the session.
 abbrev pub HandsOutInOrder : World → List LinkStep → ℕ → Type 0
 HandsOutInOrder w since m =
     IsBeginning (taken_since w since m) (ready_on w m ++ submitted (link_run w since) m)
 
--- so it is after any past, where the session had an idle start
+-- this holds after any past, if the session had an idle start
 abbrev pub HandsOutWhatIsSubmitted : Type 0
 HandsOutWhatIsSubmitted =
     (w : World) (initiation : Event) (since : List LinkStep) (m : ℕ) → HasAnyPast w
@@ -83,9 +83,8 @@ abbrev pub all_submitted : World → List PacketOn
 all_submitted w =
     flat_map (λ (p : PacketOn). put_on_map p.on_map (packets_in p.octets)) w.session.submissions
 
--- Over all MAPs the packets that were taken since this moment, followed by those that are ready,
--- are those that were ready then, followed by the first ones of those that were submitted; in S1,
--- with nothing outstanding, by all of them.
+-- Let R, T and N be as in `HandsOut`, but over all MAPs. T followed by N is R followed by a prefix
+-- of the packets submitted. In S1 with nothing outstanding, this prefix is everything submitted.
 pub record HandsOutInOneOrder (w : World) (since : List LinkStep) : Type 0 where
   pub passed : List PacketOn
   pub order : taken w since ++ (link_run w since).spacecraft.ready
@@ -95,7 +94,7 @@ pub record HandsOutInOneOrder (w : World) (since : List LinkStep) : Type 0 where
       → outstanding (link_run w since).ground_node ≡ []
       → passed ≡ all_submitted (link_run w since)
 
--- so it is after any past, where the session had an idle start
+-- this holds after any past, if the session had an idle start
 abbrev pub HandsOutAsSubmitted : Type 0
 HandsOutAsSubmitted =
     (w : World) (initiation : Event) (since : List LinkStep) → HasAnyPast w
@@ -104,15 +103,15 @@ HandsOutAsSubmitted =
     → IsIdle (world_step w initiation).after
     → HandsOutInOneOrder (world_step w initiation).after since
 
--- from one world to another, at most as many more segments are accepted as Type-AD frames were on
--- their way up
+-- From one world to another, the spacecraft accepts at most as many more segments as Type-AD frames
+-- were in transit on the uplink.
 pub record AcceptsAtMost (old new : World) : Type 0 where
   pub more : List (List ℕ)
   pub after : accepted new ≡ accepted old ++ more
   pub most : length more ≤ length (numbers_up old)
 
--- After any past: in S6, so it is until a session begins. So with no Type-AD frame on its way up,
--- no more is delivered.
+-- `AcceptsAtMost` holds in S6, after any past, until a session begins. With no Type-AD frame in
+-- transit on the uplink, nothing more is therefore delivered.
 abbrev pub EachAcceptsAtMost : Type 0
 EachAcceptsAtMost =
     (w : World) (since : List LinkStep) → HasAnyPast w → w.ground_node.fop.state ≡ S6

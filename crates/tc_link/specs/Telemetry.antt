@@ -1,4 +1,4 @@
--- Telemetry on a simulated link: what was queued and sent, what came of it, and what is promised.
+-- Telemetry on a simulated link: what was queued and sent, what became of it, and what is promised.
 use Rattle.std.specs.Prelude.{◌≡◌, ◌≤◌, ℕ, List, [], ◌∷◌, ◌++◌, length, drop, map, option_to_list}
 use Rattle.std.specs.Prelude.{Bool, true, false, Option, Result, Ok}
 use Rattle.std.specs.List.{AllByRecursion}
@@ -21,13 +21,13 @@ use Rattle.simulated_link.specs.World.{World, WorldOutcome, new_world, world_ste
 
 -- ---- the history of a link's telemetry
 
--- a link, and what it has done of telemetry
+-- a link, and the history of its telemetry
 pub record Downlink : Type 0 where
   pub world : World
   -- the packets that were queued on board, and the frames that were sent
   pub queued : List (List ℕ)
   pub sent : List FrameView
-  -- for each frame that is no longer on its way whether it arrived
+  -- for each frame that is no longer in transit, whether it arrived
   pub came : List Bool
   -- the packets that were taken on the ground
   pub taken : List (List ℕ)
@@ -44,7 +44,7 @@ abbrev pub IsDownlinkStep : DownlinkStep → Type 0
 IsDownlinkStep (Happens event) = IsEvent event
 IsDownlinkStep TakeTelemetry = Unit {0}
 
--- by an event that is answered so: the packet that is queued, and the frame that is sent
+-- the packet that an event with this answer queues, and the frame that it sends
 abbrev pub queued_by : Event → Result ReplyView SimFault → List (List ℕ)
 queued_by (events.Telemetry octets) (Ok Done) = octets.now ∷ []
 queued_by _ _ = []
@@ -53,8 +53,8 @@ abbrev pub sent_by : World → Event → List FrameView
 sent_by w events.Report = (spacecraft_step w.spacecraft spacecraft_calls.Report).answer ∷ []
 sent_by w _ = []
 
--- whether the frame arrived that is no longer on its way; where its report alone reached the
--- ground, the rest of it is lost
+-- whether the frame that is no longer in transit arrived; if only its CLCW reached the ground, the
+-- rest of it is lost
 abbrev pub came_by : Event → Result ReplyView SimFault → List Bool
 came_by events.DownDeliver (Ok reply) = true ∷ []
 came_by events.DownLose (Ok reply) = false ∷ []
@@ -101,25 +101,27 @@ pub data AreSomeOf {P : Type 0} : List P → List P → Type 0 where
 pub record IsTelemetryInOrder (d : Downlink) : Type 0 where
   -- the frames that were sent lay out the packets that were queued, up to what the builder holds
   pub laid : IsLaidOut d.queued d.sent (held_by d.world.spacecraft.builder)
-  -- those on their way are the last of them
+  -- the frames in transit are the last of them
   pub down : map spelling (drop (length d.came) d.sent) ≡ d.world.down
   pub counted : length d.came ≤ length d.sent
   -- while fewer than 256 frames are lost between two that arrive, the packets on the ground are
   -- those all of whose octets arrived
   pub arrived : IsClose d.came → packets_down d ≡ arrived_packets laid.all d.sent d.came
-  -- and so are packets that were queued, in order, each once, octet for octet
+  -- the packets on the ground then are packets that were queued, in order, each once, octet for
+  -- octet
   pub in_order : IsClose d.came → AreSomeOf (packets_down d) d.queued
-  -- where no frame was lost, none is on its way and the builder holds nothing, they are all
+  -- if no frame was lost, none is in transit and the builder holds nothing, they are all the
+  -- packets that were queued
   pub complete : AllByRecursion (λ (came : Bool). came ≡ true) d.came → d.world.down ≡ []
       → held_by d.world.spacecraft.builder ≡ [] → packets_down d ≡ d.queued
 
--- so it is at every moment of a run
+-- this holds at every moment of a run
 abbrev pub TelemetryComesDown : Type 0
 TelemetryComesDown =
     (c : Config) (steps : List DownlinkStep) → IsConfig c → AllByRecursion IsDownlinkStep steps
     → IsTelemetryInOrder (downlink_run (new_downlink c) steps)
 
--- a run of events alone
+-- a run of events only
 abbrev pub downlink_of : Config → List Event → Downlink
 downlink_of c events = downlink_run (new_downlink c) (map (λ event. Happens event) events)
 

@@ -1,5 +1,5 @@
--- What FARM-B counts: the frames of Type-B that arrive on board (CCSDS 232.1-B-2, 6.1.8). By this a
--- program sees that a bypass packet or a control command arrived.
+-- What FARM-B counts: the Type-B frames that arrive on board (CCSDS 232.1-B-2, 6.1.8). So a program
+-- sees in a CLCW that a bypass packet or a control command arrived.
 use Rattle.std.specs.Prelude.{◌≡◌, ℕ, ◌+◌, ◌%◌, List, [], ◌∷◌, Result, Ok}
 use Rattle.std.specs.List.{AllByRecursion}
 use Rattle.nodes.specs.Spacecraft.{spacecraft_receive}
@@ -13,7 +13,7 @@ use Rattle.simulated_link.specs.World.{World, world_step}
 use Rattle.tc_link.specs.AnyPast.{LinkStep, Happens, Receives, NewSpacecraft, HasAnyPast}
 use Rattle.tc_link.specs.AnyPast.{link_step, link_run}
 
--- whether a frame of Type-B arrived, by what the spacecraft answers: 1 or 0
+-- whether a Type-B frame arrived, according to the spacecraft's answer: 1 or 0
 abbrev pub type_b_in : Received → ℕ
 type_b_in (Bypass kept) = 1
 type_b_in (Control command) = 1
@@ -29,12 +29,12 @@ type_b_at w (Happens event) = type_b_by event (world_step w event).answer
 type_b_at w (Receives octets) = type_b_in (spacecraft_receive w.spacecraft octets).answer
 type_b_at w _ = 0
 
--- and by these steps
+-- how many arrive by these steps
 abbrev pub type_b : World → List LinkStep → ℕ
 type_b w [] = 0
 type_b w (step ∷ more) = type_b_at w step + type_b (link_step w step) more
 
--- no new spacecraft takes the place of this one
+-- no new spacecraft replaces this one
 abbrev pub KeepsSpacecraft : LinkStep → Type 0
 KeepsSpacecraft (NewSpacecraft kept) = ⊥
 KeepsSpacecraft _ = Unit {0}

@@ -1,11 +1,11 @@
-// What may happen on a simulated link, and the numbers of it.
+// The events of a simulated link: the numbers that they set are octets.
 
 ghost use Rattle.tc_link.specs.Reached.{IsEvent};
 
 use cop1::Directive;
 use nodes::Event;
 
-// The numbers that an event sets are octets; this does nothing.
+// Does nothing. Its contract states that the numbers that an event sets are octets.
 pub(crate) fn keeps_octets(event: Event<'_>)
     ensures { IsEvent event.entry }
 {

@@ -1,4 +1,4 @@
-// What holds of each run, whatever a program keeps of it.
+// What holds of each run of a link, whatever a program records of the run.
 
 ghost use Rattle.tc_link.specs.AnyPast.{HoldsAfterAnyPast, EachGoesOnAsKept, ReportsDoAsFrames, RunsAsEvents};
 ghost use Rattle.tc_link.specs.Bypass.{BypassKeepsOrder};
@@ -8,6 +8,8 @@ ghost use Rattle.tc_link.specs.CountsOn.{KeepsWhatIsKnown};
 ghost use Rattle.tc_link.specs.DeadLink.{EachNoticesSilence};
 ghost use Rattle.tc_link.specs.Fates.{KnowsFates};
 ghost use Rattle.tc_link.specs.FramesAgain.{EachComesAgain, EachGoesOnAgain, EachGoesOnUnchanged, EachIsAnswered};
+ghost use Rattle.tc_link.specs.GroundSession.{EachCountsItsSubmissions, EachCountsSegments};
+ghost use Rattle.tc_link.specs.GroundSession.{EachHoldsWhatIsNotAcknowledged};
 ghost use Rattle.tc_link.specs.OneLink.{EachGoesOnAsOne, EachHasOneLink};
 ghost use Rattle.tc_link.specs.OwnLoop.{EachAnswersAsALink, EachLoopIsALink, EachLoopIsSeen};
 ghost use Rattle.tc_link.specs.OwnLoop.{EachLoopSeesTelemetry};
@@ -19,27 +21,40 @@ ghost use Rattle.tc_link.specs.Resumable.{EachKnowsExactly};
 ghost use Rattle.tc_link.specs.Resumed.{EachAnswersResuming, EachFailsOver, EachHasRoom};
 ghost use Rattle.tc_link.specs.Resumed.{ResumesInOrder, ResumesSo, ShowsNoneByItself};
 ghost use Rattle.tc_link.specs.Seen.{EachIsSeen};
+ghost use Rattle.tc_link.specs.SeenBlocks.{EachBlockIsSeen};
+ghost use Rattle.tc_link.specs.SentOnce.{EachIsSentOnce};
+ghost use Rattle.tc_link.specs.Separate.{EachIsSeparate};
 ghost use Rattle.tc_link.specs.Silence.{SilenceIsIdle};
 ghost use Rattle.tc_link.specs.Silent.{GivesUpAloud, HoldsWhatIsNotAcknowledged};
 ghost use Rattle.tc_link.specs.TypeB.{CountsTypeB};
 ghost use Rattle.tc_link.specs.Taken.{EachAcceptsAtMost, HandsOutAsSubmitted, HandsOutWhatIsDelivered, HandsOutWhatIsSubmitted};
 
-/// For each configuration in its ranges and each list of events, what `run` promises of each event holds
-/// by the rules of the nodes and the link themselves. So it holds of a program with a loop of its own,
-/// whose calls of the two nodes are such events. Nothing is run, and no memory is taken.
+/// What `run` promises for each event holds for every configuration in its ranges and every list of events.
+///
+/// The rules of the two nodes and the link are enough, and no simulation needs to run. The promises therefore
+/// hold of a program with a loop of its own, whose calls of the two nodes are events. The law takes no
+/// memory.
 pub fn law_of_sessions()
     ensures { HoldsOfAllRuns }
 {}
 
-/// What `run` promises of each event holds whatever came before: a run of events and takes of
-/// telemetry, among which any octets from outside the link reach either node, and a new node takes the
-/// place of one, a spacecraft with any kept numbers, at any moment and with anything on its way
-/// (`promised`). A new node ends the session, and so do octets but for those that `after_receiving` and
-/// `after_hearing` name; a session that begins later by an idle start has every promise. A run of
-/// events alone is one of these (`runs`). A report that arrives by itself, as from a front end that
-/// hands on control words, does what its telemetry frame would but for telemetry, and is answered so
-/// (`reports`). A spacecraft that is restarted with its own numbers goes on with the counts of telemetry
-/// frames, V(R) and FARM-B (`restarts`).
+/// What `run` promises for each event holds whatever came before the event (`promised`).
+///
+/// The past is a list of steps: events, takes of telemetry, and calls of `Ground::forget_telemetry`. Any
+/// octets from outside the link may also reach either node. At any moment, and with anything in transit, a
+/// new node may replace either node. A new spacecraft may have any kept numbers.
+///
+/// A new node ends the session. Octets from outside also end the session, except those that
+/// `after_receiving`, `after_hearing` and `after_report` name. A session that begins later by an idle start
+/// has every promise.
+///
+/// A list of events only is one of these lists of steps, and leads to the same world (`runs`).
+///
+/// A CLCW may arrive by itself, for example from a front end that passes on only CLCWs. This event does what
+/// the CLCW's telemetry frame would do, except for telemetry, and is answered accordingly (`reports`).
+///
+/// A spacecraft that is restarted with its own numbers continues with the counts of telemetry frames, V(R)
+/// and FARM-B (`restarts`).
 pub fn law_of_any_past()
     ensures promised { HoldsAfterAnyPast }
     ensures reports { ReportsDoAsFrames }
@@ -47,18 +62,28 @@ pub fn law_of_any_past()
     ensures restarts { EachGoesOnAsKept }
 {}
 
-/// Since a session began, on each MAP: the packets that `take` has handed out, followed by those that are
-/// ready, are those that were ready then, followed by those that the session has delivered. So it is in each
-/// run, whatever came before the session, until the next one begins. Beside events of the link, telemetry
-/// may be taken, and octets may come from outside the link that leave the session as it is: a report that is
-/// not used, and on board what leaves the receiver as it was but for FARM-B, as noise, frames of another
-/// channel, Type-BD frames, Type-AD frames that are left as behind or discarded, and the frame that has just
-/// arrived, again (`delivered`). In a session that had an idle start, what `take` hands out on a MAP
-/// after the packets that were ready is therefore a prefix of what is submitted on it (`submitted`). Over
-/// all MAPs too: in such a session what `take` hands out, each packet with its MAP, followed by what is
-/// ready, is what was ready then, followed by a prefix of what is submitted, in the order of submission; by
-/// all of it in S1 with nothing outstanding (`order`). In S6 at most as many more segments are accepted by
-/// such steps as Type-AD frames are on their way up, so none where there are none (`at_most`).
+/// What is taken on board is what was delivered.
+///
+/// Let R be what was ready when a session began, T what `take` has delivered since, and N what is ready now.
+/// On each MAP, T followed by N is R followed by what the session has delivered (`delivered`). This holds in
+/// each run, whatever came before the session, until the next session begins.
+///
+/// Meanwhile telemetry may be taken, its extraction may begin again, and octets may come from outside the
+/// link that leave the session as it is. On the ground, these octets bring no CLCW that the sender uses. On
+/// board, these octets change nothing in the receiver except FARM-B. Examples are noise, frames of another
+/// channel, Type-BD frames, and Type-AD frames that are answered Behind or Discarded. The frame that has just
+/// arrived may also be repeated.
+///
+/// In a session that had an idle start, on each MAP, T is therefore a prefix of R followed by what is
+/// submitted (`submitted`).
+///
+/// In a session that had an idle start, all MAPs have one order (`order`). Over all MAPs, each packet with
+/// its MAP, T followed by N is R followed by a prefix of what is submitted. This prefix is in the order of
+/// submission. In S1 with nothing outstanding, the prefix is everything submitted.
+///
+/// In S6, until a session begins, the spacecraft accepts at most as many more segments as Type-AD frames are
+/// in transit on the uplink (`at_most`). This limit holds during the steps named above. With no Type-AD frame
+/// in transit, the spacecraft accepts no more segments.
 pub fn law_of_taking()
     ensures delivered { HandsOutWhatIsDelivered }
     ensures submitted { HandsOutWhatIsSubmitted }
@@ -66,35 +91,64 @@ pub fn law_of_taking()
     ensures at_most { EachAcceptsAtMost }
 {}
 
-/// The plain link whose history a settled session is, is one link: the records of the session and
-/// what is on its way leave no choice of it, and its base is one modulo 256 (`one`). While the
-/// session goes on so does that one link, at each event by at most one step, and by a run over any steps of
-/// those that `law_of_taking` names (`goes_on`).
+/// A settled session is the history of only one plain link.
+///
+/// The records of the session and what is in transit determine this plain link, and its base modulo 256
+/// (`one`).
+///
+/// While a settled session that had an idle start continues, its one plain link continues too (`goes_on`).
+/// Each event advances the plain link by at most one step. Any steps that `law_of_taking` names advance the
+/// plain link by a run.
 pub fn law_of_plain_links()
     ensures one { EachHasOneLink }
     ensures goes_on { EachGoesOnAsOne }
 {}
 
-/// Since a session with an idle start began, whatever came before it, and until a directive sets
-/// V(S): V(S) is what it was then plus the number of segments sent since, and NN(R) is that plus the
-/// number of those that are acknowledged, modulo 256. So an alert keeps what is known: in S6 V(S) is
-/// NN(R) only where all that was sent is acknowledged. Meanwhile may happen what `law_of_taking` names.
+/// An alert keeps what is known: V(S) and NN(R) still count the segments that were sent and acknowledged.
+///
+/// The law holds from the beginning of a session that had an idle start, whatever came before the session,
+/// until a directive sets V(S) (`link`). Meanwhile, the steps that `law_of_taking` names may happen. Let B be
+/// V(S) at the beginning of the session. V(S) is B plus the number of segments sent since, modulo 256. NN(R)
+/// is B plus the number of those segments that are acknowledged, modulo 256. V(S) therefore equals NN(R), in
+/// S6 too, only if all that was sent is acknowledged.
+///
+/// The same holds of each ground by itself, in each session, until a directive sets V(S) (`each`). The
+/// session may have begun in any way, and any CLCWs may reach the ground, from any spacecraft. What is
+/// acknowledged is then as many segments as CLCWs have moved NN(R).
 pub fn law_of_numbers()
-    ensures { KeepsWhatIsKnown }
+    ensures link { KeepsWhatIsKnown }
+    ensures each { EachCountsSegments }
 {}
 
-/// There is no deadlock, in any session. Wherever a run leads while the sender is Active, exchanges in which
-/// nothing is lost end with an alert, or with nothing outstanding; in a session that had an idle start all
-/// that was submitted is delivered then. The run is as in `law_of_any_past`: any octets may have come from
-/// outside the link, and new nodes may have taken the place of others. One exchange more than the window
-/// needs for what the ground holds is enough (`progress`): each after the first acknowledges as many units
-/// as the window has room for, or all (`acknowledges`). No alert comes in a session that had an idle start
-/// by CLCW check, Unlock or Set V(R), where the transmission count is below its limit (`delivered`). Before
-/// the confirmation such exchanges end with an alert, or the sender is Active (`begins`). So from any state
-/// but S6 they end with an alert or with nothing outstanding (`ends`). One such exchange confirms an
-/// initiation by an idle start, and no alert is raised: Unlock if V(R) = V(S), Set V(R) if the receiver
-/// is not in Lockout, CLCW check if V(R) = V(S) and neither the lockout nor the retransmit flag is set
-/// (`confirmed`). It also confirms a resumption by the value of a report that is made now (`resumed`).
+/// There is no deadlock, in any session. Once nothing more is lost, the ground returns an alert, or nothing
+/// remains outstanding.
+///
+/// The law is about *exchanges*, in which nothing is lost (`exchange`). The exchanges begin in any world that
+/// a run leads to. The run is as in `law_of_any_past`: any octets may have come from outside the link, and
+/// new nodes may have replaced others.
+///
+/// While the sender is in S1 to S3, exchanges end with an alert, or with the sender in S1 and nothing
+/// outstanding (`progress`). With nothing outstanding, in a session that had an idle start, everything
+/// submitted is delivered. One exchange more than the window needs for what the ground holds is enough. Each
+/// exchange after the first acknowledges as many units as the window has room for, or all, unless an alert is
+/// raised (`acknowledges`).
+///
+/// Suppose that the session had an idle start by CLCW check, Unlock or Set V(R). Suppose also that the sender
+/// is in S1 to S3, with its transmission count below its limit. Then no alert is raised, and everything
+/// submitted is delivered (`delivered`).
+///
+/// Before the confirmation, exchanges end with an alert, or with the sender in S1 to S3 (`begins`). From any
+/// state except S6, exchanges therefore end with an alert, or with the sender in S1 and nothing outstanding
+/// (`ends`).
+///
+/// One exchange confirms an initiation by an idle start, and no alert is raised in this exchange
+/// (`confirmed`). This holds of Unlock if V(R) = V(S), and of Set V(R) if the receiver is not in Lockout.
+/// CLCW check requires that V(R) = V(S) and that neither the lockout nor the retransmit flag is set. One
+/// exchange likewise confirms a resumption by the value of a CLCW that is made now (`resumed`).
+///
+/// In a session that had an idle start by CLCW check, Unlock or Set V(R), each segment is sent once (`once`).
+/// The conditions are that no frame is lost or damaged on the uplink, no tick passes and the receiver never
+/// waits.
 pub fn law_of_progress()
     ensures progress { EachMakesProgress }
     ensures acknowledges { EachAcknowledges }
@@ -103,51 +157,80 @@ pub fn law_of_progress()
     ensures ends { EachEnds }
     ensures confirmed { EachIsConfirmed }
     ensures resumed { EachResumptionIsConfirmed }
+    ensures once { EachIsSentOnce }
 {}
 
-/// Silence makes an idle start. After any past, once nothing is on its way up: no frame is sent up,
-/// no octets from outside reach the spacecraft, no new one takes its place, and no packet is taken from
-/// it while its wait flag stands. When as many frames are gone as were on their way down at first, by
-/// arriving, being lost or damaged, then an initiation begins a session by an idle start; one without a
-/// check does so where V(R) = V(S). Reports, ticks, submissions, directives, telemetry and a new ground
-/// node may come meanwhile.
+/// Silence makes an idle start, after any past.
+///
+/// When the silence begins, nothing is in transit on the uplink. From then on the ground sends no frame, and
+/// no octets from outside reach the spacecraft. The spacecraft is not replaced, and no packet is taken from
+/// it while its wait flag is set. Anything else may happen, for example CLCWs, ticks, submissions,
+/// directives, telemetry and a new ground node.
+///
+/// The link is idle when as many frames have arrived, or been lost or damaged, as were in transit on the
+/// downlink at first. If an initiation then begins a session, the session has an idle start; without CLCW
+/// check, this requires V(R) = V(S).
 pub fn law_of_silence()
     ensures { SilenceIsIdle }
 {}
 
-/// A packet that goes past the sequence control comes at most once, and in order. After any past, and since
-/// any moment: the packets that `take_bypass` has handed out, those that wait on board, those in Type-BD
-/// frames on their way up and those that wait on the ground are together, in this order and each with its
-/// MAP, some of those that were on board, on their way and on the ground then, followed by those that the
-/// ground has accepted since. In a new link there are none then. No octets from outside the link reach
-/// the spacecraft since; no session is needed, and any frame may be lost (`order`). FARM-B moves by the
-/// number of Type-B frames that arrive, modulo 4, whatever else arrives (`counted`).
+/// A bypass packet is delivered at most once, and in order (`order`).
+///
+/// The law holds after any past and since any moment. The premise is that since that moment no octets from
+/// outside the link reach the spacecraft. No session is needed, and any frame may be lost.
+///
+/// The packets *held* are those that wait on board, those in Type-BD frames in transit on the uplink, and
+/// those that wait on the ground. The three groups come in this order. A new link holds none. Consider the
+/// packets that `take_bypass` has delivered since some moment, followed by the packets held now. In order,
+/// each with its MAP, these are some of the packets held at that moment, followed by some that the ground has
+/// accepted since.
+///
+/// FARM-B increases by the number of Type-B frames that arrive, modulo 4 (`counted`). This holds whatever
+/// else arrives, until a new spacecraft replaces this one.
+///
+/// Bypass packets and telemetry leave commanding as it is, after any past (`apart`). When a bypass packet is
+/// submitted, sent, received or taken, the nodes change only in the bypass queue, the bypass packets on board
+/// and FARM-B. When telemetry is queued or sent, they change only in what builds telemetry frames. So V(S),
+/// NN(R), V(R), the flags, the segments and the records of the session stay the same.
 pub fn law_of_bypass()
     ensures order { BypassKeepsOrder }
     ensures counted { CountsTypeB }
+    ensures apart { EachIsSeparate }
 {}
 
-/// A CLCW that comes again, and no other since, changes nothing. Of every ground, whatever it was called
-/// with: `clcw` is given four octets, and is given them again after other calls. Between the two no other
-/// report is used, no session begins, and the transmission limit is not set to 1; telemetry may come whose
-/// report is not used, as noise or of another channel. Then the second call leaves
-/// the ground as it was, raises no alert, and answers the same of the report (`words`). So it is where they
-/// came at first in a telemetry frame of the ground's channel (`frames`). So a front end that hands on its
-/// last CLCW again, until there is another, does no harm to a session.
+/// The last CLCW, when repeated, changes nothing.
+///
+/// A ground is given a CLCW by `clcw` after any calls. Other calls follow, and then `clcw` is given the same
+/// four octets again (`words`). The second time, the ground is left as it was, raises no alert, and answers
+/// the same about the CLCW.
+///
+/// The premise is that no call in between brings a CLCW that is used, begins a session, or sets the
+/// transmission limit to 1. Noise, and frames and CLCWs of another channel, may arrive.
+///
+/// The same holds if the octets first arrived in a telemetry frame of the ground's channel (`frames`).
+///
+/// A front end that passes on its last CLCW again, until there is another, therefore does no harm to a
+/// session.
 pub fn law_of_repetition()
     ensures words { RepeatsNothing }
     ensures frames { RepeatsNothingOfFrames }
 {}
 
-/// A frame that comes again at once, as where a station sends each CLTU twice in a row, changes FARM-B and
-/// the bypass packets alone. After any past: octets reach the spacecraft, and reach it again before anything
-/// else happens there. A Type-AD frame then changes nothing; a frame of Type-B is counted again by FARM-B;
-/// the packet of a Type-BD frame is kept again, and so comes twice, or has the oldest one dropped (`again`).
-/// So a session goes on, however often the frame that has just arrived comes again (`goes_on`). It does while
-/// the receiver has not changed since the octets came: meanwhile reports may be made, and packets be taken
-/// where it does not wait (`unchanged`). What holds beside the steps that `law_of_taking` names, and after
-/// any past, holds of such a run too. Of other octets those leave the session as it is that are no frame, or
-/// a frame for another, one of Type-BD, or one of Type-AD that is answered Behind or Discarded (`answered`).
+/// A frame that is repeated at once changes only FARM-B and the bypass packets. A station may, for example,
+/// send each CLTU twice in a row.
+///
+/// After any past, octets reach the spacecraft, and reach it again before anything else happens there
+/// (`again`). A Type-AD frame then changes nothing. FARM-B counts a Type-B frame again. The packet of a
+/// Type-BD frame is kept again: the packet is delivered twice, or the oldest packet is dropped for it.
+///
+/// A session therefore continues, however often the frame that has just arrived is repeated (`goes_on`). A
+/// session also continues if octets are repeated later, while the receiver has not changed since they arrived
+/// (`unchanged`). Meanwhile CLCWs may be made, and packets may be taken if the receiver does not wait. What
+/// holds after any past, and during the steps that `law_of_taking` names, holds with these repetitions too.
+///
+/// A session also continues with octets that do not form a frame, and with a frame for another receiver
+/// (`answered`). The same is true of a Type-BD frame, and of a Type-AD frame that is answered Behind or
+/// Discarded.
 pub fn law_of_frames_again()
     ensures again { EachComesAgain }
     ensures goes_on { EachGoesOnAgain }
@@ -155,51 +238,82 @@ pub fn law_of_frames_again()
     ensures answered { EachIsAnswered }
 {}
 
-/// Two nodes need not have one configuration. Where those of the ground and of the spacecraft have the same
-/// values of the fields that both read (`AreAlike`), each node answers each call as with one configuration
-/// that is made of both (`made_of`), and is left the same but for its own.
+/// Two nodes with configurations that are alike behave as two nodes with one configuration.
+///
+/// Alike means that the fields that both nodes read have the same values in both configurations (`AreAlike`).
+/// Each node then answers each call as it would with one configuration made of both (`made_of`). Its state
+/// afterwards is the same too, except that the node has its own configuration.
 pub fn law_of_configurations()
     ensures { AlikeIsAsOne }
 {}
 
-/// What the ground says of its submissions is so. Since a session with an idle start began, whatever came
-/// before it, and until a directive sets V(S), in each state and after each alert: the numbers of
-/// submissions, of those that were sent whole and of those that are acknowledged whole are those of the
-/// records, modulo 2^64; and by the value of a report that is made now, so is that of those that are on
-/// board whole, while no alert has shown that a condition is broken. Meanwhile may happen what
-/// `law_of_taking` names.
+/// What the ground states about its submissions is true.
+///
+/// The law holds from the beginning of a session that had an idle start, whatever came before the session,
+/// until a directive sets V(S) (`link`). The law holds in each state and after each alert. Meanwhile, the
+/// steps that `law_of_taking` names may happen.
+///
+/// The ground's numbers of submissions, of those sent whole and of those acknowledged whole are those of the
+/// records, modulo 2^64. By the value of a CLCW made now, the ground's number of submissions that are on
+/// board whole is also that of the records. This fourth number is promised while no alert has shown that a
+/// condition is broken.
+///
+/// The first three numbers are those of the calls, in each session of each ground, until a directive sets
+/// V(S) (`each`). The session may have begun in any way, and anything may reach the ground. The calls show
+/// which submissions were accepted, which Type-AD frames were sent for the first time, and how far CLCWs
+/// moved NN(R).
 pub fn law_of_submissions()
-    ensures { KnowsFates }
+    ensures link { KnowsFates }
+    ensures each { EachCountsItsSubmissions }
 {}
 
-/// One way on after an alert. A program that resumes after each alert, by the value of a report that is made
-/// when nothing is on its way up, and submits again exactly the submissions from the one on that `resume`
-/// answers, session after session, has on each MAP over all its sessions together a prefix of what it wants
-/// delivered, each packet once. So it is where nothing of a session was sent, and it begins another by an
-/// idle start from the same submission (`in_order`). Each of its submissions is one packet, or packets that
-/// fit into one segment together. Meanwhile may happen what `law_of_taking` names. What `resume` leaves is
-/// the ground once V(S) is set to the value and Unlock begins a session, and so it is with the event Resume
-/// of the link and its records (`ground`).
+/// If a program resumes after each alert, what is delivered on each MAP is a prefix of what the program
+/// wants, each packet once.
 ///
-/// Where the ground is lost, and another is opened at what was kept of it last (`Ground::kept`,
-/// `Ground::open_at`), that one may resume in its place, whatever its state was (`in_order`). Since a session
-/// with an idle start began, whether it was confirmed or not, it answers how many submissions are on board
-/// whole, until a directive sets V(S), or an alert shows that a condition is broken (`fails_over`). After any
-/// past the ground's sender is one to a receiver of the width that is configured, so its configuration takes
-/// what is kept of it (`room`).
+/// The program works through a list of what it wants delivered, session after session (`in_order`). The first
+/// session has an idle start. In each session the program submits what it wants next, in order. Each
+/// submission is one packet, or packets that fit into one segment together. After each alert the program
+/// resumes by the value of a CLCW made now. At that moment nothing is in transit on the uplink, and on the
+/// downlink only CLCWs equal to one made now. The program then continues after as many more submissions as
+/// `resume` returns. The prefix is what all its sessions together deliver. If nothing of a session was sent,
+/// the program may instead begin another by an idle start, and continue from the same submission. Only in
+/// this case may a directive set V(S) before the next session begins. Meanwhile, the steps that
+/// `law_of_taking` names may happen.
 ///
-/// In S6, since a session with an idle start began, whether it was confirmed or not, `resume` by the value
-/// of a report that is made now is accepted, and answers how many submissions are on board whole: until a
-/// directive sets V(S), or an alert shows that a condition is broken (`answers`). Such an alert does not
-/// come while the link keeps its conditions, in a session by Unlock or Set V(R), nor in one by CLCW check
-/// once it is confirmed (`quiet`). Whatever a ground was called with: `known_on_board` says a number exactly
-/// where a session is known by what the calls were answered, and the value lies from NN(R) to V(S) or these
-/// are equal; `resume` is accepted exactly where it says one in S6, and else refuses by 10 NotKnown and
-/// changes nothing. In a new ground, once V(S) is set, and after an alert that shows a broken condition, no
-/// session is known until one begins; in a ground that is opened at kept numbers one is known where the
-/// record says so (`exactly`).
+/// In terms of what a program sees, with blocking or without, what `take` delivers is a prefix of the packets
+/// of these submissions (`blocks`). This prefix is in one order over all MAPs. The conditions are those of
+/// `law_of_seen`.
+///
+/// An accepted `resume` does what two directives do: one sets V(S) to the value, and the next begins a
+/// session by Unlock (`ground`). The event Resume does the same to the link and its records.
+///
+/// In S6, in a session that had an idle start, confirmed or not, `resume` accepts the value of a CLCW made
+/// now (`answers`). `resume` then returns how many submissions are on board whole. This holds until a
+/// directive sets V(S), or an alert shows that a condition is broken.
+///
+/// The ground may be lost, in any state, and another opened from its last record (`Ground::kept`,
+/// `Ground::open_at`). The program may then resume on the new ground instead (`in_order`). In a session that
+/// had an idle start, confirmed or not, `resume` of the new ground returns how many submissions are on board
+/// whole (`fails_over`). This holds until a directive sets V(S), or an alert shows that a condition is
+/// broken. After any past, the sender's room is half the configured width (`room`). The configuration
+/// therefore accepts what is kept of the ground.
+///
+/// While the link keeps its conditions, no alert shows that a condition is broken (`quiet`). This holds in a
+/// session that had an idle start by Unlock or Set V(R). In a session that had an idle start by CLCW check,
+/// the same holds once the session is confirmed.
+///
+/// The conditions under which `resume` is refused are exact, whatever calls a ground has had (`exactly`).
+/// `known_on_board` returns a number exactly when two conditions hold. First, a session is known by the
+/// answers to the calls. Second, the value lies from NN(R) to V(S), or these two are equal. `resume` is
+/// accepted exactly when `known_on_board` returns a number in S6. Otherwise `resume` refuses with 10
+/// NotKnown, and changes nothing.
+///
+/// A session is known once an initiation or a resumption was accepted, until V(S) is set or an alert shows a
+/// broken condition. In a new ground no session is known. In a ground that is opened from a record, a session
+/// is known at first exactly if the record has `known`.
 pub fn law_of_resuming()
     ensures in_order { ResumesInOrder }
+    ensures blocks { EachBlockIsSeen }
     ensures ground { ResumesSo }
     ensures answers { EachAnswersResuming }
     ensures fails_over { EachFailsOver }
@@ -208,39 +322,62 @@ pub fn law_of_resuming()
     ensures exactly { EachKnowsExactly }
 {}
 
-/// Loss is never silent. After any past, in a session with an idle start, from its initiation until an alert
-/// leads to S6: what the ground holds outstanding is exactly what was submitted, but for what is
-/// acknowledged, in the order of submission (`held`). S6 comes only with an alert that the call answers, of
-/// each ground, whatever it was called with, and of each link (`aloud`). A dead link is noticed in any
-/// session: if the ground waits for an answer, every frame that it sends is lost and nothing is heard, an
-/// alert is raised once the timer has run out as often as transmissions are left (`noticed`).
+/// Loss is never silent: until an alert leads to S6, each submitted segment is acknowledged or outstanding.
+///
+/// After any past, consider a session that had an idle start, in any state except S6. The ground holds
+/// outstanding exactly the unacknowledged segments of what was submitted, in the order of submission
+/// (`held`).
+///
+/// The same holds of each ground by itself, in each session (`each`). The session may have begun in any way,
+/// and any CLCWs may reach the ground, from any spacecraft. What is acknowledged is then as many segments as
+/// CLCWs have moved NN(R).
+///
+/// A call that leads from another state to S6 returns an alert (`aloud`). This holds of each ground, whatever
+/// calls it has had, and of each link.
+///
+/// A dead uplink is noticed, in any session (`noticed`). Suppose that the ground has sent all that its sender
+/// releases, and then waits for an answer to its initiation or to a unit. If every frame is lost and nothing
+/// is heard, an alert is raised by the time the timer has run out L - c + 1 times. Here L is the transmission
+/// limit, and c the transmission count once all is sent.
 pub fn law_of_loss()
     ensures held { HoldsWhatIsNotAcknowledged }
+    ensures each { EachHoldsWhatIsNotAcknowledged }
     ensures aloud { GivesUpAloud }
     ensures noticed { EachNoticesSilence }
 {}
 
-/// What a program takes on board, by what it sees alone: the events of a run, and what each was answered.
-/// Each session begins by CLCW check, Unlock, Set V(R) or `resume`, after a silence that is counted: no frame
-/// is on its way up, and each that is on its way down was sent since none is, and since a packet was taken.
-/// Then what `take` hands out over all MAPs is a prefix of D1 ++ .. ++ Dk, each Di a prefix of the packets
-/// that session i submitted; with blocking a submission may have several. In a run without blocking, where
-/// each session but the first is resumed, by the value of a report that is made since no frame is on its way
-/// up, and submits what is wanted next, what `take` hands out is a prefix of what is wanted, over all MAPs
-/// too.
+/// `take` delivers packets in the order in which sessions submitted them. The law mentions only what a
+/// program sees: the events of a run, and the answers to them.
+///
+/// The condition is that each session begins by CLCW check, Unlock, Set V(R) or `resume`, after a counted
+/// silence. In a counted silence no frame is in transit on the uplink. Every frame in transit on the downlink
+/// was sent after the last frame had left the uplink, and after the last packet was taken.
+///
+/// What `take` delivers over all MAPs is a prefix of D1 ++ .. ++ Dk (`IsSeenInOrder`). Each Di is a prefix of
+/// the packets that session i submitted. With blocking, a submission may have several packets.
+///
+/// In a run without blocking, what `take` delivers is a prefix of what is wanted, over all MAPs, on two
+/// conditions (`IsSeenOnce`). Each session except the first is resumed, by the value of a CLCW that was made
+/// after the last frame had left the uplink. Each session submits what is wanted next.
 pub fn law_of_seen()
     ensures { EachIsSeen }
 {}
 
-/// A loop of one's own has all that is promised. A program calls the ground on one machine and the spacecraft
-/// on another, and octets go between them; there is no simulated link, and nothing of a session is recorded.
-/// It begins with two new nodes, and with nothing on its way. Each way keeps its order. What is first on it
-/// arrives, is lost, or comes as other octets, which the receiver's decoder refuses. Octets may also come
-/// from outside to a node, and a new node may take the place of one. Wherever such steps lead, the nodes and
-/// what is on its way are those of the link to which the same steps lead, so what is promised of these after
-/// any past is so (`nodes`). Each event is answered by the calls of the nodes as on that link (`answers`). So
-/// what `law_of_seen` says holds of what the program's own calls answer (`seen`), and so does what
-/// `law_of_telemetry` says of what is seen (`telemetry`).
+/// All promises hold of a loop of your own.
+///
+/// A program calls the ground on one machine and the spacecraft on another, and octets go between them. The
+/// program has no simulated link, and keeps no records of a session.
+///
+/// The loop begins with two new nodes and with nothing in transit. Each direction keeps its order. The first
+/// string of octets in transit arrives, is lost, or is replaced by other octets that its receiver's decoder
+/// refuses. Octets from outside may also reach a node, and a new node may replace one.
+///
+/// Wherever these steps lead, the nodes and what is in transit are those of the link to which the same steps
+/// lead (`nodes`). What is promised of that link after any past therefore holds of the loop.
+///
+/// The calls of the nodes answer each event as that link does (`answers`). `law_of_seen` therefore holds of
+/// the answers of the program's own calls (`seen`). What `law_of_telemetry` states in terms of what a program
+/// sees also holds of these answers (`telemetry`).
 pub fn law_of_own_loops()
     ensures nodes { EachLoopIsALink }
     ensures answers { EachAnswersAsALink }

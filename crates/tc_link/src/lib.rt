@@ -1,8 +1,9 @@
-//! The simulated telecommand link with COP-1 (CCSDS 232.0-B-4, 232.1-B-2), as docs/PROFILE.md has it.
+//! The simulated telecommand link with COP-1 (CCSDS 232.0-B-4, 232.1-B-2), as docs/PROFILE.md defines
+//! it.
 //!
-//! A `Sim` is a world of `simulated_link`, both nodes with a link between them, to which events happen,
-//! and keeps records of the session. What is promised of a session is said of these records, by `run`
-//! and by each step.
+//! A `Sim` is a world of `simulated_link`, that is, both nodes with a link between them. Events happen
+//! to it, and it keeps the records of the session. `run` and each step state in terms of these records
+//! what is promised of a session.
 #![tactic(auto)]
 
 mod event;

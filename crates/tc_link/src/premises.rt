@@ -1,4 +1,4 @@
-// What goes wrong where a condition of the link is not kept.
+// What goes wrong if a condition of the link is not kept.
 
 ghost use Rattle.std.specs.Prelude.{◌≡◌, [], ◌∷◌, true, false};
 ghost use Rattle.nodes.specs.Parameters.{IsConfig};
@@ -11,19 +11,28 @@ ghost use Rattle.tc_link.specs.Needed.{parted, part_left, long_later, mixed, IsN
 ghost use Rattle.tc_link.specs.Needed.{SkipsTheFirst, resumed_by_another};
 ghost use Rattle.tc_link.specs.Seen.{seen};
 
-/// Each condition of the link is needed: for each there is a run that keeps the others and goes wrong.
-/// In eleven of them the ground is Active with nothing outstanding at the end, so that all seems well,
-/// and a command is lost, comes twice, or is not the one that was submitted: one frame out of its order
-/// (`frame`), one report out of its order (`report`), a frame or a report on its way when the session
-/// begins (`up`, `down`), the first part of a command on its way then, so that the board takes one that
-/// nobody submitted (`never_submitted`), V(S) one below V(R) and no check (`number`), a second sender
-/// (`sender`), a spacecraft that restarts (`restart`), a ground that does so while its frame is on its way
-/// (`ground_restart`), a MAP that is closed on board alone (`maps`), blocking on the ground alone
-/// (`blocks`). A program that resumes by a value that no report has leaves a command out, though each
-/// session begins after silence, and submits what is wanted next (`value`). With a sender's window of one
-/// more than half the width the receiver locks (`window`). After 256 telemetry frames lost in a row a packet
-/// comes down that was never queued (`outage`). The configurations are in their ranges, but for that window
-/// (`ranges`).
+/// Each condition of the link is needed: for each condition there is a run that keeps all the others and goes
+/// wrong.
+///
+/// In eleven of these runs all seems well at the end, because the ground is Active (S1) with nothing
+/// outstanding. Yet a command is lost, is delivered twice, or is not the one that was submitted. Each of
+/// these runs breaks one condition, as follows.
+///
+/// One frame is out of order (`frame`), or one CLCW (`report`). A frame or a CLCW is in transit when the
+/// session begins (`up`, `down`). Or the first part of a command is in transit when the session begins, and
+/// the board takes a command that nobody submitted (`never_submitted`).
+///
+/// V(S) is one below V(R) and there is no check (`number`). There is a second sender (`sender`). The
+/// spacecraft restarts (`restart`), or the ground restarts while its frame is in transit (`ground_restart`).
+///
+/// A MAP is closed on board only (`maps`), or only the ground blocks (`blocks`).
+///
+/// Three more runs go wrong in other ways. A program that resumes by a value that no CLCW has leaves a
+/// command out (`value`). In this run each session begins after silence and submits what is wanted next. With
+/// a sender's window of one more than half the width, the receiver enters Lockout (`window`). After 256
+/// telemetry frames lost in a row, a packet is delivered that was never queued (`outage`).
+///
+/// The configurations are in their ranges, except for the window of `window` (`ranges`).
 pub fn law_of_premises()
     ensures frame { EndsWith (loose_run (new_world small) frame_overtaken) true
         (command ∷ []) (command ∷ command ∷ []) }

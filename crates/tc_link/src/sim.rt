@@ -10,9 +10,9 @@ use simulated_link::{Reply, SimFault, World};
 use std::alloc::Global;
 use std::marker::Model;
 
-/// A ground, a spacecraft and the link between them, which keeps its order in each direction, and
-/// loses or damages frames only so that the receiver sees it. It keeps records of the session, which
-/// begins with each initiation directive that the ground accepts.
+/// A ground, a spacecraft and the link between them. The link keeps the order of frames in each
+/// direction, and loses or damages frames only so that the receiver detects it. The records of the
+/// session begin again with each initiation directive that the ground accepts.
 #[derive(Drop)]
 pub struct Sim {
     world: World,
@@ -50,8 +50,8 @@ impl Sim {
     ghost use Rattle.tc_link.specs.Readable.{AllReadable};
     ghost use Rattle.simulated_link.specs.World.{world_step, submitted, accepted, delivered, directive_of, BeginsNoSession, IsClean, IsIdle, IsSettled};
 
-    /// Two new nodes, and nothing between them. The fault 9 has the name of the first field that is out
-    /// of its range.
+    /// Creates two new nodes, with nothing in transit. The fault 9 contains the name of the first field
+    /// that is out of range.
     /// Faults: 9 Config, then 6 Memory. Memory: yes.
     pub fn new(alloc: Global, config: Config) -> Result<Sim, SimFault>
         ensures made { IfOk result (λ sim. sim ≡ new_sim config) }
@@ -73,16 +73,17 @@ impl Sim {
         })
     }
 
-    /// Lets an event happen. Refuses by 7 an event that needs a frame on its way where there is none,
-    /// and by 8 octets of a damaged frame that the receiver's decoder accepts. Nothing has changed
-    /// then. Any other refusal of a node is a reply.
+    /// Lets an event happen, and returns the reply to it. Refuses by 7 an event that needs a frame in
+    /// transit if there is none, and by 8 a damaged frame whose octets the receiver's decoder accepts. If
+    /// it refuses, nothing has changed. Any other refusal of a node is a reply.
     ///
-    /// Whatever the events of a session that began clean: packets are delivered in order, each once;
-    /// what the ground holds acknowledged was accepted on board; and where it was begun by check,
-    /// Unlock or Set V(R), no alert is a false one. All of this holds of a session that had an idle
-    /// start too, as a clean one had; and what is delivered there is, without blocking, the packets all
-    /// of whose segments were accepted (`from_idle`). In any session the node that a frame is on its way
-    /// to can read it. docs/PROMISES.md states each of these.
+    /// Three promises hold whatever the events of a session that began clean. Packets are delivered in
+    /// order, each once. What the ground counts as acknowledged was accepted on board. If the session
+    /// began with CLCW check, Unlock or Set V(R), no alert is a false one. All of this also holds of a
+    /// session that had an idle start, as a clean one had. In such a session, without blocking, the
+    /// packets delivered are exactly those all of whose segments were accepted (`from_idle`). In any
+    /// session, the node to which a frame in transit is sent can read it. docs/PROMISES.md states each of
+    /// these in full.
     /// Faults: 7 NothingInTransit, then 8 NotDetectable, then 6 Memory. Memory: as of `World::step`. Cost:
     /// that of the nodes' calls; where a session begins also the records released.
     pub fn step(&mut self, event: Event<'_>) -> Result<Reply, SimFault>
@@ -115,43 +116,43 @@ impl Sim {
         self.world.step(event)
     }
 
-    /// What was answered to each event of `run`.
+    /// Returns the answer to each event of `run`.
     pub fn answers(&self) -> &[Result<Reply, SimFault>]
         ensures { map (λ a. map_ok reply_view a) result.now ≡ self.now.answers }
     {
         self.answers.as_slice()
     }
 
-    /// The node on the ground.
+    /// Returns the node on the ground.
     pub fn ground(&self) -> &Ground
         ensures { result.now ≡ self.now.world.ground_node }
     {
         self.world.ground_node()
     }
 
-    /// The node on board.
+    /// Returns the node on board.
     pub fn spacecraft(&self) -> &Spacecraft
         ensures { result.now ≡ self.now.world.spacecraft }
     {
         self.world.spacecraft()
     }
 
-    /// The state of the ground's sender.
+    /// Returns the state of the ground's sender.
     pub fn state(&self) -> FopMode
         ensures { result ≡ self.now.world.ground_node.fop.state }
     {
         self.world.ground_node().state()
     }
 
-    /// How many segments were submitted and are not acknowledged.
+    /// Returns the number of segments that were submitted and are not acknowledged.
     pub fn outstanding(&self) -> usize
         ensures { result ≡ length (outstanding self.now.world.ground_node) }
     {
         self.world.ground_node().outstanding()
     }
 
-    /// Whether the session began clean: with nothing on its way and, for an initiation without a check,
-    /// with V(R) = V(S). None before any session.
+    /// Returns whether the session began clean: with nothing in transit and, for an initiation without
+    /// CLCW check, with V(R) = V(S). None before any session.
     pub fn clean(&self) -> Option<bool>
         ensures { result ≡ option_map (λ o. o.clean) self.now.world.session.opening }
     {
@@ -161,9 +162,10 @@ impl Sim {
         }
     }
 
-    /// Whether the session had an idle start: nothing was on its way up, each frame on its way down
-    /// carried the report that the receiver would have made then (FARM-B may differ), and, for an
-    /// initiation without a check, V(R) was V(S). A clean session had one. None before any session.
+    /// Returns whether the session had an idle start. At its initiation nothing was in transit on
+    /// the uplink. Each frame in transit on the downlink carried the CLCW that the receiver would
+    /// have made then (FARM-B may differ). For an initiation without CLCW check, V(R) was V(S). A
+    /// clean session had an idle start. None before any session.
     pub fn idle(&self) -> Option<bool>
         ensures { result ≡ option_map (λ o. o.idle) self.now.world.session.opening }
     {
@@ -173,7 +175,7 @@ impl Sim {
         }
     }
 
-    /// The initiation directive that began the session. None before any.
+    /// Returns the initiation directive that began the session. None before any session.
     pub fn begun(&self) -> Option<Directive>
         ensures { result ≡ option_map (λ o. o.directive) self.now.world.session.opening }
     {
@@ -183,50 +185,53 @@ impl Sim {
         }
     }
 
-    /// Whether a report has taken the ground from S4 or S5 to S1 in the session.
+    /// Returns whether a CLCW has taken the ground from S4 or S5 to S1 in the session.
     pub fn confirmed(&self) -> bool
         ensures { result ≡ self.now.world.session.confirmed }
     {
         self.world.confirmed()
     }
 
-    /// The octets of each submission that was accepted in the session, with its MAP.
+    /// Returns the octets of each submission that was accepted in the session, with its MAP.
     pub fn submissions(&self) -> &[(u8, Vec<u8>)]
         ensures { map packet_view result.now ≡ self.now.world.session.submissions }
     {
         self.world.submissions()
     }
 
-    /// The packets of these submissions on a MAP, in their order; above MAP 63 there are none.
+    /// Returns the packets of these submissions on a MAP, in their order; none for a MAP above 63.
     pub fn submitted(&self, map: u8) -> &[Vec<u8>]
         ensures { octets_of result.now ≡ submitted self.now.world map }
     {
         self.world.submitted(map)
     }
 
-    /// The packets that are ready on board on a MAP since the session began, taken or not, in their
-    /// order; above MAP 63 there are none.
+    /// Returns the packets that were made ready on board on a MAP since the session began, taken or
+    /// not, in their order; none for a MAP above 63.
     pub fn delivered(&self, map: u8) -> &[Vec<u8>]
         ensures { octets_of result.now ≡ delivered self.now.world map }
     {
         self.world.delivered(map)
     }
 
-    /// The data fields of the session's Type-AD frames, in the order in which they were first sent.
+    /// Returns the data fields of the session's Type-AD frames, in the order in which they were
+    /// first sent.
     pub fn sent(&self) -> &[Vec<u8>]
         ensures { octets_of result.now ≡ self.now.world.session.sent }
     {
         self.world.sent()
     }
 
-    /// The data fields of the Type-AD frames that were accepted on board since the session began.
+    /// Returns the data fields of the Type-AD frames that were accepted on board since the session
+    /// began.
     pub fn accepted(&self) -> &[Vec<u8>]
         ensures { octets_of result.now ≡ accepted self.now.world }
     {
         self.world.accepted()
     }
 
-    /// How many of the first ones of `sent` the ground holds acknowledged.
+    /// Returns the number of data fields, from the first of `sent`, that the ground counts as
+    /// acknowledged.
     pub fn acknowledged(&self) -> usize
         ensures { result ≡ self.now.world.session.acknowledged }
     {

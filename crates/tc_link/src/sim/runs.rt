@@ -14,10 +14,10 @@ use nodes::{Config, Event};
 use simulated_link::SimFault;
 use std::alloc::Global;
 
-/// Lets the events happen one after another, and keeps what was answered to each. The fault 9 has the
-/// name of the first field that is out of its range. No answer to an event but want of memory ends the
-/// run. What `Sim::step` promises holds at each event, and so does what it promises of the state after
-/// it.
+/// Lets the events happen one after another, and keeps the answer to each. The fault 9 contains the
+/// name of the first field that is out of range. The run ends at an event only if memory runs out.
+/// What `Sim::step` promises holds at each event, and so does what it promises of the state after the
+/// event.
 /// Faults: 9 Config, then 6 Memory. Memory: yes. Cost: that of the events.
 pub fn run(alloc: Global, config: Config, events: &[Event<'_>]) -> Result<Sim, SimFault>
     ensures ran { IfOk result (λ sim. sim ≡ sim_run config events.now) }
@@ -42,7 +42,7 @@ impl Sim {
     ghost use Rattle.tc_link.specs.Reached.{IsEvent};
     ghost use Rattle.tc_link.specs.Simulation.{record_step};
 
-    // Lets an event happen, and keeps what was answered.
+    // Lets an event happen, and keeps the answer to it.
     fn record_step(&mut self, event: Event<'_>) -> Result<(), SimFault>
         ensures ok { OnOk result (self.new ≡ record_step self.old event.entry) }
         ensures fault { IsOkUnless result SimFault.Memory }

@@ -1,6 +1,7 @@
 use Rattle.tc_link.proofs.Resumed.{resumes_in_order, resumes_so, each_answers_resuming, each_fails_over, each_has_room}
 use Rattle.tc_link.proofs.Resumable.{each_knows_exactly}
 use Rattle.tc_link.proofs.Shown.{shows_none_by_itself}
+use Rattle.tc_link.proofs.Seen.{each_block_is_seen}
 use Rattle.tc_link.proofs.laws.law_of_resuming.Goals as goal
 
 pub returns-clause-in_order : goal.returns-clause-in_order
@@ -23,3 +24,6 @@ returns-clause-fails_over c = each_fails_over
 
 pub returns-clause-room : goal.returns-clause-room
 returns-clause-room c = each_has_room
+
+pub returns-clause-blocks : goal.returns-clause-blocks
+returns-clause-blocks c = each_block_is_seen

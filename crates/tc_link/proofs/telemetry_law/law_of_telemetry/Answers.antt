@@ -1,3 +1,4 @@
+use Rattle.tc_link.proofs.Gaps.{each_gap_is_loss}
 use Rattle.tc_link.proofs.SeenTelemetry.{telemetry_is_seen}
 use Rattle.tc_link.proofs.Telemetry.{comes_down, runs_as_the_link}
 use Rattle.tc_link.proofs.telemetry_law.law_of_telemetry.Goals as goal
@@ -10,3 +11,6 @@ returns-clause-runs c = runs_as_the_link
 
 pub returns-clause-seen : goal.returns-clause-seen
 returns-clause-seen c = telemetry_is_seen
+
+pub returns-clause-gap : goal.returns-clause-gap
+returns-clause-gap c = each_gap_is_loss

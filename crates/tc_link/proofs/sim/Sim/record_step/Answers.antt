@@ -15,7 +15,7 @@ invariant_of-self-2 c =
     reached_after c.self.inside.world c.step-answer.new.self c.args.event c.step-answer.result c.self.invariant
     c.keeps_octets.ensures c.step-answer.ensures.after c.step-answer.ensures.err
 
--- a step that had memory, and its answer
+-- a step that did not run out of memory, and its answer
 module _ (w new : World) (answers : List (Result ReplyView SimFault)) where
   abbrev with : World → Result ReplyView SimFault → SimState
   with world answer = record { world = world; answers = answers ++ answer ∷ [] }

@@ -27,7 +27,7 @@ was_idle c is = idle_of (old c) c.self.invariant is
 pub invariant_of-self : goal.invariant_of-self
 invariant_of-self c = reached c
 
--- what is promised of the call, where the session began clean
+-- what is promised of the call, if the session began clean
 called : (c : goal.After-step) → IsClean c.args.self.now.world
     → IsPromisedCall c.args.self.now.world c.step.new.self c.args.event
 called c =

@@ -14,7 +14,7 @@ use Rattle.tc_link.specs.Seen.{seen, IsPromisedOfSeen}
 use Rattle.tc_link.proofs.Seen.{each_is_seen}
 use Rattle.tc_link.proofs.sim.runs.run.Goals as goal
 
--- A run with its answers, from steps that record theirs.
+-- A run with its answers, from steps that record their answers.
 
 from_is : (s : SimState) (events : List Event)
     → run_from s events ≡ record { world = world_run s.world events; answers = s.answers ++ run_answers s.world events }
@@ -79,7 +79,7 @@ returns-clause-seen c =
     subst (λ (s : SimState). IsPromisedOfSeen config.blocking (seen events s.answers)) (sym (returns-clause-ran c))
     (each_is_seen config events (config_is config (sym c.in_ok-sim.ensures.range)) (fits c))
 
--- what a step was refused for is handed on
+-- the refusal of a step is passed on
 refused_alike : {A : Type 0} (r : Result A SimFault) (e : SimFault) → IsErrAnd r (λ it. it ≡ e) → e ≡ Memory
     → refused_field r ≡ None
 refused_alike (Ok x) e is memory = absurd is
